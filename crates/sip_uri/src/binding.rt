@@ -1,0 +1,81 @@
+//! Which contacts are one binding.
+
+ghost use Rattle.std.specs.Prelude.{◌≡◌, ◌==◌};
+ghost use Rattle.std.specs.Option.{option_copied};
+ghost use Rattle.std.specs.Str.{str_eq_ignore_ascii_case};
+ghost use Rattle.sip_uri.specs.Binding.{same_text, same_host, param_named, same_value, same_param, same_binding};
+
+use crate::uri::{Host, Param, Uri};
+use text::Text;
+
+fn same_user(a: Option<&Text>, b: Option<&Text>) -> bool
+    ensures { result ≡ same_text (option_copied a.entry) (option_copied b.entry) }
+{
+    match (a, b) {
+        (None, None) => true,
+        (Some(a), Some(b)) => a == b,
+        _ => false,
+    }
+}
+
+fn same_without_case(a: &Text, b: &Text) -> bool
+    ensures { result ≡ str_eq_ignore_ascii_case a.now b.now }
+{
+    a.as_bytes().eq_ignore_ascii_case(b.as_bytes())
+}
+
+fn same_host(a: &Host, b: &Host) -> bool
+    ensures { result ≡ same_host a.now b.now }
+{
+    match (a, b) {
+        (Host::Ip4(a), Host::Ip4(b)) => a == b,
+        (Host::Name(a), Host::Name(b)) => same_without_case(a, b),
+        _ => false,
+    }
+}
+
+fn param_named<'a>(params: &'a [Param], name: &[u8]) -> Option<&'a Param>
+    ensures { option_copied result ≡ param_named name.now params.now }
+{
+    params
+        .iter()
+        .find(|p| p.name.as_bytes().eq_ignore_ascii_case(name))
+}
+
+fn same_value(a: &Param, b: &Param) -> bool
+    ensures { result ≡ same_value a.now.value b.now.value }
+{
+    match (&a.value, &b.value) {
+        (None, None) => true,
+        (Some(a), Some(b)) => same_without_case(a, b),
+        _ => false,
+    }
+}
+
+fn same_param(a: &[Param], b: &[Param], name: &[u8]) -> bool
+    ensures { result ≡ same_param name.now a.now b.now }
+{
+    match (param_named(a, name), param_named(b, name)) {
+        (None, None) => true,
+        (Some(a), Some(b)) => same_value(a, b),
+        _ => false,
+    }
+}
+
+/// Whether two contacts are one binding: user, host and port as written agree, the host without case, and the
+/// parameters `user`, `ttl`, `method`, `maddr` and `transport` are there alike and equal without case. Nothing else
+/// is looked at, which differs from RFC 3261 section 19.1.4 and makes this an equivalence.
+#[tactic(auto, unfolding(crate::specs::Binding::same_binding))]
+pub fn same_binding(a: &Uri, b: &Uri) -> bool
+    ensures test { result ≡ same_binding a.now b.now }
+{
+    let (ps, qs) = (a.params.as_slice(), b.params.as_slice());
+    same_user(a.user.as_ref(), b.user.as_ref())
+        && same_host(&a.host, &b.host)
+        && a.port == b.port
+        && same_param(ps, qs, b"user")
+        && same_param(ps, qs, b"ttl")
+        && same_param(ps, qs, b"method")
+        && same_param(ps, qs, b"maddr")
+        && same_param(ps, qs, b"transport")
+}
