@@ -1,0 +1,15 @@
+mod LabelLaws
+pub mod HostLaws
+mod RawLaws
+pub mod GrammarLaws
+mod Escapes
+pub mod RoundTrip
+mod FieldLaws
+pub mod QuotedLaws
+pub mod BlankLaws
+pub mod UriBytes
+mod NameCuts
+mod NameSpelling
+pub mod NameLaws
+pub mod FieldTrip
+pub mod NameTrip

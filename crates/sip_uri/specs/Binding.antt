@@ -52,3 +52,28 @@ same_binding a b =
     && same_param (codes "method") a.params b.params
     && same_param (codes "maddr") a.params b.params
     && same_param (codes "transport") a.params b.params
+
+-- ---- as equations
+
+-- the host without case
+abbrev pub host_key : Host → Host
+host_key (Ip4 octets) = Ip4 octets
+host_key (Name name) = Name (str_to_ascii_lowercase name)
+
+-- the value without case, if there is one
+abbrev pub param_key : Param → Option (List ℕ)
+param_key p = option_map str_to_ascii_lowercase p.value
+
+-- both missing, or there with one value
+abbrev pub SameParam : List ℕ → List Param → List Param → Type 0
+SameParam name ps qs = option_map param_key (param_named name ps) ≡ option_map param_key (param_named name qs)
+
+pub record SameBinding (a b : Uri) : Type 0 where
+  pub user : a.user ≡ b.user
+  pub host : host_key a.host ≡ host_key b.host
+  pub port : a.port ≡ b.port
+  pub user_param : SameParam (codes "user") a.params b.params
+  pub ttl : SameParam (codes "ttl") a.params b.params
+  pub method : SameParam (codes "method") a.params b.params
+  pub maddr : SameParam (codes "maddr") a.params b.params
+  pub transport : SameParam (codes "transport") a.params b.params

@@ -1,1 +1,11 @@
+pub mod Classes
+pub mod Hosts
+pub mod RawUri
+pub mod Reading
+pub mod Grammar
+pub mod Writing
 pub mod Binding
+pub mod Quoted
+pub mod FieldParams
+pub mod NameParts
+pub mod NameAddr

@@ -1,15 +1,16 @@
 //! Which contacts are one binding.
 
-ghost use Rattle.std.specs.Prelude.{◌≡◌, ◌==◌};
+ghost use Rattle.std.specs.Prelude.{◌≡◌, ◌↔◌, IsTrue};
 ghost use Rattle.std.specs.Option.{option_copied};
-ghost use Rattle.std.specs.Str.{str_eq_ignore_ascii_case};
-ghost use Rattle.sip_uri.specs.Binding.{same_text, same_host, param_named, same_value, same_param, same_binding};
+ghost use Rattle.std.specs.Str.{str_eq_ignore_ascii_case, str_to_ascii_lowercase};
+ghost use Rattle.sip_uri.specs.Binding.{same_text, same_host, param_named, same_value, same_param, same_binding, host_key, param_key, SameParam, SameBinding};
 
 use crate::uri::{Host, Param, Uri};
 use text::Text;
 
 fn same_user(a: Option<&Text>, b: Option<&Text>) -> bool
-    ensures { result ≡ same_text (option_copied a.entry) (option_copied b.entry) }
+    ensures test { result ≡ same_text (option_copied a.entry) (option_copied b.entry) }
+    ensures relation { IsTrue result ↔ (option_copied a.entry ≡ option_copied b.entry) }
 {
     match (a, b) {
         (None, None) => true,
@@ -19,13 +20,15 @@ fn same_user(a: Option<&Text>, b: Option<&Text>) -> bool
 }
 
 fn same_without_case(a: &Text, b: &Text) -> bool
-    ensures { result ≡ str_eq_ignore_ascii_case a.now b.now }
+    ensures test { result ≡ str_eq_ignore_ascii_case a.now b.now }
+    ensures relation { IsTrue result ↔ (str_to_ascii_lowercase a.now ≡ str_to_ascii_lowercase b.now) }
 {
     a.as_bytes().eq_ignore_ascii_case(b.as_bytes())
 }
 
 fn same_host(a: &Host, b: &Host) -> bool
-    ensures { result ≡ same_host a.now b.now }
+    ensures test { result ≡ same_host a.now b.now }
+    ensures relation { IsTrue result ↔ (host_key a.now ≡ host_key b.now) }
 {
     match (a, b) {
         (Host::Ip4(a), Host::Ip4(b)) => a == b,
@@ -34,7 +37,8 @@ fn same_host(a: &Host, b: &Host) -> bool
     }
 }
 
-fn param_named<'a>(params: &'a [Param], name: &[u8]) -> Option<&'a Param>
+/// The first parameter of this name, without case.
+pub fn param_named<'a>(params: &'a [Param], name: &[u8]) -> Option<&'a Param>
     ensures { option_copied result ≡ param_named name.now params.now }
 {
     params
@@ -43,7 +47,8 @@ fn param_named<'a>(params: &'a [Param], name: &[u8]) -> Option<&'a Param>
 }
 
 fn same_value(a: &Param, b: &Param) -> bool
-    ensures { result ≡ same_value a.now.value b.now.value }
+    ensures test { result ≡ same_value a.now.value b.now.value }
+    ensures relation { IsTrue result ↔ (param_key a.now ≡ param_key b.now) }
 {
     match (&a.value, &b.value) {
         (None, None) => true,
@@ -53,7 +58,8 @@ fn same_value(a: &Param, b: &Param) -> bool
 }
 
 fn same_param(a: &[Param], b: &[Param], name: &[u8]) -> bool
-    ensures { result ≡ same_param name.now a.now b.now }
+    ensures test { result ≡ same_param name.now a.now b.now }
+    ensures relation { IsTrue result ↔ SameParam name.now a.now b.now }
 {
     match (param_named(a, name), param_named(b, name)) {
         (None, None) => true,
@@ -68,6 +74,7 @@ fn same_param(a: &[Param], b: &[Param], name: &[u8]) -> bool
 #[tactic(auto, unfolding(crate::specs::Binding::same_binding))]
 pub fn same_binding(a: &Uri, b: &Uri) -> bool
     ensures test { result ≡ same_binding a.now b.now }
+    ensures relation { IsTrue result ↔ SameBinding a.now b.now }
 {
     let (ps, qs) = (a.params.as_slice(), b.params.as_slice());
     same_user(a.user.as_ref(), b.user.as_ref())

@@ -2,7 +2,28 @@
 #![tactic(auto)]
 
 mod binding;
+mod class;
+mod error;
+mod field_params;
+mod hosts;
+mod laws;
+mod name_addr;
+mod name_parts;
+mod parts;
+mod quoted;
+mod read;
 mod uri;
+mod write;
 
-pub use binding::same_binding;
+pub use binding::{param_named, same_binding};
+pub use error::UriError;
+pub use field_params::read_field_params;
+pub use hosts::{ip4, is_host};
+pub use laws::{binding_is_equivalence, one_value};
+pub use name_addr::{read_name_addr, write_name_addr};
+pub use read::{read_host, read_uri};
 pub use uri::{Addr, Host, NameAddr, Param, Params, Uri};
+pub use write::{put_host, put_ip4, put_param, put_params, write_uri};
+
+#[cfg(test)]
+mod tests;

@@ -12,9 +12,12 @@ mod texts;
 mod trimming;
 
 pub use class::{is_blank, is_run_of_digits, is_run_of_token, is_token_byte};
-pub use cutting::cut;
+pub use cutting::{cut, cut_word};
 pub use number::number_upto;
 pub use splitting::{Within, pieces};
 pub use text::{Text, same_without_case};
 pub use texts::Texts;
 pub use trimming::{trimmed, without_blanks};
+
+#[cfg(test)]
+mod tests;

@@ -1,0 +1,5 @@
+pub mod PresentLaws
+pub mod LineLaws
+pub mod Standing
+pub mod RefreshLaws
+pub mod OrderLaws

@@ -1,0 +1,108 @@
+-- The lines of the registrar: one for each user.
+use Rattle.std.proofs.Common.{◌≡◌, ◌||◌, ◌∙◌, ℕ, ◌<◌, ◌+◌, Bool, true, false, cond, not, List, [], ◌∷◌, length, get_or, set, find, map, position, Some, None, option_map, unwrap_or, is_some, nat_eq, ltb, refl, sym, ap, subst, arith}
+use Prim.Native.Nat.{zero, suc}
+use Rattle.std.specs.List.{position_or_len, list_any}
+use Rattle.std.specs.Cmp.Lexicographic.{pointwise, bytes_decides}
+use Rattle.std.proofs.lemmas.Bool.Decides.{nat_tests}
+use Rattle.std.proofs.lemmas.List.Quantifiers.{position-Some}
+use Rattle.registrar.specs.declared.binding.Binding.{Binding}
+use Rattle.registrar.specs.declared.registrar.Line.{Line}
+use Rattle.registrar.specs.Bound.{is_one_of, is_known}
+use Rattle.registrar.specs.Registrar.{Contents, rules_of, is_for, bindings_of, lines_with, with_bindings, without_bindings}
+
+-- two texts that are the same are one
+pub same_text : (a b : List ℕ) → pointwise nat_eq a b ≡ true → a ≡ b
+same_text a b e = (bytes_decides a b).0 e
+
+pub own_text : (a : List ℕ) → pointwise nat_eq a a ≡ true
+own_text a = (bytes_decides a a).1 refl
+
+-- ---- a look-up by place, and a test of any
+
+pub list_any-map : {X Y : Type 0} (p : Y → Bool) (f : X → Y) (xs : List X) → list_any p (map f xs) ≡ list_any (λ x. p (f x)) xs
+list_any-map p f [] = refl
+list_any-map p f (x ∷ xs) = ap (λ b. p (f x) || b) (list_any-map p f xs)
+
+ltb-suc : (m n : ℕ) → ltb m n ≡ ltb (1 + m) (suc n)
+ltb-suc m n = grind (arith, nat_tests)
+
+list_any_is : {X : Type 0} (p : X → Bool) (xs : List X) → list_any p xs ≡ ltb (position_or_len p xs) (length xs)
+list_any_is p [] = refl
+list_any_is p (x ∷ xs) =
+    elim (p x) as (λ b. b || list_any p xs ≡ ltb (cond (not b) (1 + position_or_len p xs) 0) (suc (length xs))) [
+      | true ↦ grind (arith, nat_tests)
+      | false ↦ list_any_is p xs ∙ ltb-suc (position_or_len p xs) (length xs)
+    ]
+
+pub is_some-position : {X : Type 0} (p : X → Bool) (xs : List X) → is_some (position p xs) ≡ list_any p xs
+is_some-position p xs =
+    elim (ltb (position_or_len p xs) (length xs)) as (λ b. is_some (cond b (Some (position_or_len p xs)) None) ≡ b) [ true ↦ refl | false ↦ refl ]
+    ∙ sym (list_any_is p xs)
+
+-- who has a line is one of the users
+pub one_of_lines : (lines : List Line) (user : List ℕ) → is_one_of (map (λ l. l.user) lines) user ≡ is_some (position (is_for user) lines)
+one_of_lines lines user = list_any-map (λ u. pointwise nat_eq u user) (λ l. l.user) lines ∙ sym (is_some-position (is_for user) lines)
+
+pub known : (r : Contents) (user : List ℕ) → is_known (rules_of r) user ≡ is_some (position (is_for user) r.lines)
+known r user = one_of_lines r.lines user
+
+-- ---- a change of one line
+
+-- a write at the place of a user's first line
+set_line : (user : List ℕ) (bs : List Binding) (lines : List Line) (i : ℕ) (d : Line) → i < length lines → is_for user (get_or lines i d) ≡ true
+    → ((k : ℕ) → k < i → is_for user (get_or lines k d) ≡ false) → set lines i (with_bindings bs (get_or lines i d)) ≡ lines_with user bs lines
+set_line user bs [] i d within is none_before = absurd (omega arith)
+set_line user bs (l ∷ ls) zero d within is none_before = rw is refl
+set_line user bs (l ∷ ls) (suc i) d within is none_before =
+    let other : is_for user l ≡ false = none_before 0 (omega arith) in
+    rw other (ap (λ rest. l ∷ rest) (set_line user bs ls i d (omega arith) is (λ k below. none_before (suc k) (omega arith))))
+
+pub set_at_position : (user : List ℕ) (bs : List Binding) (lines : List Line) (i : ℕ) (d : Line) → position (is_for user) lines ≡ Some i
+    → set lines i (with_bindings bs (get_or lines i d)) ≡ lines_with user bs lines
+set_at_position user bs lines i d found =
+    let at = position-Some (is_for user) lines i d found in
+    set_line user bs lines i d at.0 at.1 at.2
+
+pub own_line : (lines : List Line) (user : List ℕ) (bs : List Binding) → list_any (is_for user) lines ≡ true → bindings_of (lines_with user bs lines) user ≡ bs
+own_line [] user bs some = cc
+own_line (l ∷ ls) user bs some =
+    elim (is_for user l) as (λ b. is_for user l ≡ b → bindings_of (lines_with user bs (l ∷ ls)) user ≡ bs) [
+      | true ↦ λ e. simp e
+      | false ↦ λ e. simp e (own_line ls user bs (rw e at some))
+    ] refl
+
+pub other_line : (lines : List Line) (user other : List ℕ) (bs : List Binding) → pointwise nat_eq user other ≡ false
+    → bindings_of (lines_with user bs lines) other ≡ bindings_of lines other
+other_line [] user other bs differ = refl
+other_line (l ∷ ls) user other bs differ =
+    elim (is_for user l) as (λ b. is_for user l ≡ b → bindings_of (lines_with user bs (l ∷ ls)) other ≡ bindings_of (l ∷ ls) other) [
+      | true ↦ λ e.
+          let not_other : is_for other l ≡ false = subst (λ u. pointwise nat_eq u other ≡ false) (sym (same_text l.user user e)) differ in
+          simp (e, not_other)
+      | false ↦ λ e. rw e (elim (is_for other l) as (λ b. unwrap_or (option_map (λ x. x.bindings) (cond b (Some l) (find (is_for other) (lines_with user bs ls)))) [] ≡ unwrap_or (option_map (λ x. x.bindings) (cond b (Some l) (find (is_for other) ls))) []) [
+        | true ↦ refl
+        | false ↦ other_line ls user other bs differ
+      ])
+    ] refl
+
+pub same_users : (lines : List Line) (user : List ℕ) (bs : List Binding) → map (λ l. l.user) (lines_with user bs lines) ≡ map (λ l. l.user) lines
+same_users [] user bs = refl
+same_users (l ∷ ls) user bs =
+    elim (is_for user l) as (λ b. map (λ x. x.user) (cond b (with_bindings bs l ∷ ls) (l ∷ lines_with user bs ls)) ≡ l.user ∷ map (λ x. x.user) ls) [
+      | true ↦ refl
+      | false ↦ ap (λ us. l.user ∷ us) (same_users ls user bs)
+    ]
+
+-- ---- lines without bindings
+
+pub users-without_bindings : (users : List (List ℕ)) → map (λ l. l.user) (map without_bindings users) ≡ users
+users-without_bindings [] = refl
+users-without_bindings (u ∷ us) = ap (λ vs. u ∷ vs) (users-without_bindings us)
+
+pub none-without_bindings : (users : List (List ℕ)) (user : List ℕ) → bindings_of (map without_bindings users) user ≡ []
+none-without_bindings [] user = refl
+none-without_bindings (u ∷ us) user =
+    elim (pointwise nat_eq u user) as (λ b. unwrap_or (option_map (λ x. x.bindings) (cond b (Some (without_bindings u)) (find (is_for user) (map without_bindings us)))) [] ≡ []) [
+      | true ↦ refl
+      | false ↦ none-without_bindings us user
+    ]

@@ -1,0 +1,42 @@
+-- The bindings that are not over, one by one.
+use Rattle.std.proofs.Common.{◌≡◌, ◌&&◌, ◌||◌, not, find, Some, ℕ, ◌<◌, ◌+◌, ◌∙◌, Bool, true, false, cond, List, [], ◌∷◌, ◌++◌, length, get_or, take, map, filter, nat_lt, ap, sym, refl, arith}
+use Prim.Native.Nat.{zero, suc}
+use Rattle.std.proofs.lemmas.List.Elements.{filter_more}
+use Rattle.std.specs.List.{list_all}
+use Rattle.registrar.specs.declared.binding.Binding.{Binding}
+use Rattle.registrar.specs.Registering.{present}
+
+-- one more that passes a test, behind a change
+pub kept_more : {X Y : Type 0} (p : Y → Bool) (f : X → Y) (xs : List X) (i : ℕ) (x : X) → i < length xs → x ≡ get_or xs i x → p (f x) ≡ true
+    → filter p (map f (take (suc i) xs)) ≡ filter p (map f (take i xs)) ++ f x ∷ []
+kept_more p f [] i x within at passes = absurd (omega arith)
+kept_more p f (y ∷ ys) zero x within at passes = rw (sym at) (rw passes refl)
+kept_more p f (y ∷ ys) (suc i) x within at passes =
+    elim (p (f y)) as (λ b. cond b (f y ∷ filter p (map f (take (suc i) ys))) (filter p (map f (take (suc i) ys))) ≡ cond b (f y ∷ filter p (map f (take i ys))) (filter p (map f (take i ys))) ++ f x ∷ []) [
+      | true ↦ ap (λ zs. f y ∷ zs) (kept_more p f ys i x (omega arith) at passes)
+      | false ↦ kept_more p f ys i x (omega arith) at passes
+    ]
+
+-- one more binding that is not over
+pub present_more : (now : ℕ) (bs : List Binding) (i : ℕ) (b : Binding) → i < length bs → b ≡ get_or bs i b → nat_lt now b.expires_at ≡ true
+    → present now (take (i + 1) bs) ≡ present now (take i bs) ++ b ∷ []
+present_more now bs i b within at lasts =
+    filter_more (λ b. nat_lt now b.expires_at) bs i b within ∙ rw (sym at) (rw lasts refl)
+
+-- a test of all that pass another test
+pub list_all-filter : {X : Type 0} (p q : X → Bool) (xs : List X) → list_all p (filter q xs) ≡ list_all (λ x. not (q x) || p x) xs
+list_all-filter p q [] = refl
+list_all-filter p q (x ∷ xs) =
+    elim (q x) as (λ b. list_all p (cond b (x ∷ filter q xs) (filter q xs)) ≡ ((not b || p x) && list_all (λ y. not (q y) || p y) xs)) [
+      | true ↦ ap (λ b. p x && b) (list_all-filter p q xs)
+      | false ↦ list_all-filter p q xs
+    ]
+
+-- the first that passes two tests
+pub find-filter : {X : Type 0} (p q : X → Bool) (xs : List X) → find p (filter q xs) ≡ find (λ x. q x && p x) xs
+find-filter p q [] = refl
+find-filter p q (x ∷ xs) =
+    elim (q x) as (λ b. find p (cond b (x ∷ filter q xs) (filter q xs)) ≡ cond (b && p x) (Some x) (find (λ y. q y && p y) xs)) [
+      | true ↦ ap (λ o. cond (p x) (Some x) o) (find-filter p q xs)
+      | false ↦ find-filter p q xs
+    ]

@@ -1,0 +1,4 @@
+pub mod Limits
+pub mod Registering
+pub mod Bound
+pub mod Registrar

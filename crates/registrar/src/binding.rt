@@ -1,0 +1,70 @@
+//! The bindings of a user.
+
+use sip_uri::Uri;
+use std::marker::Model;
+use text::Text;
+
+/// A contact of a user, with the moment in milliseconds at which it is over, and the Call-ID and number of the
+/// REGISTER that made or refreshed it last. Of two bindings of a user, the one whose `refreshed` is greater was
+/// refreshed later; the numbers are given anew by each REGISTER.
+#[derive(Clone, Debug, Drop)]
+pub struct Binding {
+    pub uri: Uri,
+    pub expires_at: u64,
+    pub call_id: Text,
+    pub cseq: u32,
+    pub refreshed: u32,
+}
+
+impl Binding {
+    ghost use Rattle.std.specs.Prelude.{◌≡◌, ◌+◌, ◌-◌, ◌*◌, ◌<◌, ◌≤◌, nat_lt};
+    ghost use Rattle.std.specs.Int.{div_ceil};
+
+    /// Whether it is not over: it is over at its very moment of expiry.
+    pub fn is_present(&self, now: u64) -> bool
+        ensures { result ≡ nat_lt now self.now.expires_at }
+    {
+        now < self.expires_at
+    }
+
+    /// The rest of its life in whole seconds, rounded up (RFC 3261 section 10.3, step 8).
+    pub fn seconds_left(&self, now: u64) -> u64
+        requires { now < self.now.expires_at }
+        ensures seconds { result ≡ div_ceil (self.now.expires_at - now) 1000 }
+        ensures covers { self.now.expires_at ≤ now + result * 1000 }
+        ensures least { now + (result - 1) * 1000 < self.now.expires_at }
+    {
+        (self.expires_at - now).div_ceil(1000)
+    }
+}
+
+/// Bindings, oldest first, which contracts see as a list.
+#[derive(Debug, Drop)]
+pub(crate) struct Bindings {
+    entries: Vec<Binding>,
+}
+
+impl Model for Bindings {
+    ghost use Rattle.std.specs.Prelude.{List};
+    ghost use Rattle.registrar.specs.declared.binding.Binding.{Binding};
+
+    ghost Value = { List Binding };
+
+    ghost view = { λ b. b.entries.items };
+}
+
+impl Bindings {
+    ghost use Rattle.std.specs.Prelude.{◌≡◌};
+
+    pub(crate) fn from_vec(entries: Vec<Binding>) -> Bindings
+        ensures { result ≡ entries.items }
+    {
+        Bindings { entries }
+    }
+
+    pub(crate) fn as_slice(&self) -> &[Binding]
+        ensures { result.now ≡ self.now }
+    {
+        &self.entries
+    }
+}

@@ -1,0 +1,65 @@
+//! What a REGISTER asks.
+
+use sip_uri::Uri;
+use std::marker::Model;
+use text::Text;
+
+/// A value of Contact that is no star: its URI, none where the value cannot be read as a URI of the scheme `sip`, and
+/// the seconds that its own parameter `expires` gives.
+#[derive(Clone, Debug, Drop)]
+pub struct Contact {
+    pub uri: Option<Uri>,
+    pub expires: Option<u32>,
+}
+
+/// Contacts in order, which contracts see as a list.
+#[derive(Clone, Debug, Drop)]
+pub struct Contacts {
+    entries: Vec<Contact>,
+}
+
+impl Model for Contacts {
+    ghost use Rattle.std.specs.Prelude.{List};
+    ghost use Rattle.registrar.specs.declared.register.Contact.{Contact};
+
+    ghost Value = { List Contact };
+
+    ghost view = { λ c. c.entries.items };
+}
+
+impl Contacts {
+    ghost use Rattle.std.specs.Prelude.{◌≡◌};
+
+    /// The list of these contacts. Takes no memory.
+    pub fn from_vec(entries: Vec<Contact>) -> Contacts
+        ensures { result ≡ entries.items }
+    {
+        Contacts { entries }
+    }
+
+    /// The contacts. Takes no memory.
+    pub fn into_vec(self) -> Vec<Contact>
+        ensures { result.items ≡ self }
+    {
+        self.entries
+    }
+
+    /// The contacts, lent.
+    pub fn as_slice(&self) -> &[Contact]
+        ensures { result.now ≡ self.now }
+    {
+        &self.entries
+    }
+}
+
+/// A REGISTER (RFC 3261 section 10.2): the user that its To names, whether `*` stands among its contacts, the other
+/// contacts, the seconds of its header Expires, and its Call-ID and number.
+#[derive(Clone, Debug, Drop)]
+pub struct Register {
+    pub user: Option<Text>,
+    pub star: bool,
+    pub contacts: Contacts,
+    pub expires: Option<u32>,
+    pub call_id: Text,
+    pub cseq: u32,
+}

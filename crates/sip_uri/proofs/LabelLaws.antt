@@ -1,0 +1,32 @@
+-- The ends of texts and of lists of labels.
+use Rattle.std.proofs.Common.{◌≡◌, ℕ, Bool, true, false, ◌&&◌, cond, eqb, List, [], ◌∷◌, ◌++◌, length, refl, ap, ◌∙◌, arith}
+use Rattle.std.proofs.lemmas.Bool.{ne_eqb}
+use Rattle.std.proofs.lemmas.List.{length-append}
+use Rattle.sip_uri.specs.Hosts.{ends_with, without_dot, top_label}
+
+pub ends_at : (p : ℕ → Bool) (xs : List ℕ) (b : ℕ) → ends_with p (xs ++ b ∷ []) ≡ p b
+ends_at p [] b = refl
+ends_at p (x ∷ []) b = refl
+ends_at p (x ∷ y ∷ xs) b = ends_at p (y ∷ xs) b
+
+more_than_nothing : (xs : List ℕ) (b : ℕ) → eqb (length (xs ++ b ∷ [])) 0 ≡ false
+more_than_nothing xs b = ne_eqb (length (xs ++ b ∷ [])) 0 (λ e. omega (arith, length-append xs (b ∷ [])))
+
+inner : (x : ℕ) (rest : List ℕ) → eqb (length rest) 0 ≡ false → without_dot (x ∷ rest) ≡ x ∷ without_dot rest
+inner x rest h = step (eqb x 46) (eqb (length rest) 0) h where
+  step : (e f : Bool) → f ≡ false → cond (e && f) [] (x ∷ without_dot rest) ≡ x ∷ without_dot rest
+  step true false k = refl
+  step true true k = absurd cc
+  step false f k = refl
+
+pub dot_at_end : (xs : List ℕ) → without_dot (xs ++ 46 ∷ []) ≡ xs
+dot_at_end [] = refl
+dot_at_end (x ∷ xs) = inner x (xs ++ 46 ∷ []) (more_than_nothing xs 46) ∙ ap (λ (t : List ℕ). x ∷ t) (dot_at_end xs)
+
+pub other_at_end : (xs : List ℕ) (b : ℕ) → eqb b 46 ≡ false → without_dot (xs ++ b ∷ []) ≡ xs ++ b ∷ []
+other_at_end [] b h = rw h refl
+other_at_end (x ∷ xs) b h = inner x (xs ++ b ∷ []) (more_than_nothing xs b) ∙ ap (λ (t : List ℕ). x ∷ t) (other_at_end xs b h)
+
+pub top_at_end : (first : List ℕ) (ls : List (List ℕ)) (last : List ℕ) → top_label first (ls ++ last ∷ []) ≡ last
+top_at_end first [] last = refl
+top_at_end first (l ∷ ls) last = top_at_end l ls last

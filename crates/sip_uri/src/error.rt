@@ -1,0 +1,42 @@
+//! Why a text is no URI.
+
+ghost use Rattle.std.specs.Prelude.{◌≡◌};
+ghost use Rattle.sip_uri.specs.declared.error.UriError.TheVariants.{OutOfMemory};
+
+use std::alloc::{AllocError, AllocFailed};
+use thiserror::Error;
+
+/// Why a text is no URI (RFC 3261 section 25.1): the first fault in the order of the variants, or want of memory.
+#[derive(Clone, Copy, Debug, PartialEq, Eq, Error)]
+pub enum UriError {
+    #[error("out of memory")]
+    OutOfMemory,
+    /// The text does not begin with `sip:`, without case.
+    #[error("U1: other scheme")]
+    Scheme,
+    /// The text has not the form of a URI, also where each `%` is let through.
+    #[error("U2: malformed")]
+    Malformed,
+    /// A `%` has not two hexadecimal digits behind it.
+    #[error("U3: bad escape")]
+    BadEscape,
+    /// The port is 0 or above 65535.
+    #[error("U4: port not in 1 to 65535")]
+    Port,
+}
+
+impl From<AllocError> for UriError {
+    ghost from_gives = { λ _ e. e ≡ OutOfMemory };
+
+    fn from(_e: AllocError) -> UriError {
+        UriError::OutOfMemory
+    }
+}
+
+impl<T: Drop> From<AllocFailed<T>> for UriError {
+    ghost from_gives = { λ _ e. e ≡ OutOfMemory };
+
+    fn from(_e: AllocFailed<T>) -> UriError {
+        UriError::OutOfMemory
+    }
+}

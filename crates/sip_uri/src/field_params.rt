@@ -1,0 +1,112 @@
+//! The parameters of a header field (RFC 3261 section 25.1, generic-param).
+
+ghost use Rattle.std.specs.Prelude.{◌≡◌, map, Some, IfOk};
+ghost use Rattle.std.specs.List.{list_all};
+ghost use Rattle.std.specs.Option.{option_copied};
+ghost use Rattle.text.specs.Class.{is_run_of};
+ghost use Rattle.sip_uri.specs.FieldParams.{is_bracket_byte, is_bracketed, is_field_value, is_field_param, field_param_of, field_params_read};
+
+use crate::quoted::is_quoted;
+use crate::uri::{Param, Params};
+use std::alloc::{AllocError, Global};
+use text::{Text, cut, is_run_of_token, pieces, trimmed};
+
+fn is_bracket_byte(b: u8) -> bool
+    ensures { result ≡ is_bracket_byte b }
+{
+    b.is_ascii_hexdigit() || b":.".contains(&b)
+}
+
+fn all_bracket(text: &[u8]) -> bool
+    ensures { result ≡ list_all is_bracket_byte text.now }
+{
+    text.iter().all(|b| is_bracket_byte(*b))
+}
+
+fn is_run_of_bracket(text: &[u8]) -> bool
+    ensures { result ≡ is_run_of is_bracket_byte text.now }
+{
+    !text.is_empty() && all_bracket(text)
+}
+
+#[tactic(auto, unfolding(crate::specs::FieldParams::is_bracketed))]
+fn is_bracketed(text: &[u8]) -> bool
+    ensures { result ≡ is_bracketed text.now }
+{
+    let [b'[', rest @ ..] = text else {
+        return false;
+    };
+    match cut(rest, b']') {
+        (address, Some(after)) => is_run_of_bracket(address) && after.is_empty(),
+        (_, None) => false,
+    }
+}
+
+#[tactic(auto, unfolding(crate::specs::FieldParams::is_field_value))]
+fn is_field_value(text: &[u8]) -> bool
+    ensures { result ≡ is_field_value text.now }
+{
+    is_run_of_token(text) || is_quoted(text) || is_bracketed(text)
+}
+
+#[tactic(auto, unfolding(crate::specs::FieldParams::is_field_param))]
+fn is_field_param(piece: &[u8]) -> bool
+    ensures { result ≡ is_field_param piece.now }
+{
+    let (name, value) = cut(piece, b'=');
+    is_run_of_token(trimmed(name))
+        && match value {
+            Some(value) => is_field_value(trimmed(value)),
+            None => true,
+        }
+}
+
+fn are_field_params(pieces: &[&[u8]]) -> bool
+    ensures { result ≡ list_all (λ p. is_field_param p.now) pieces.now }
+{
+    pieces.iter().all(|p| is_field_param(p))
+}
+
+fn field_param(alloc: Global, piece: &[u8]) -> Result<Param, AllocError>
+    ensures { IfOk result (λ p. p ≡ field_param_of piece.now) }
+{
+    let (name, value) = cut(piece, b'=');
+    let name = Text::from_slice(alloc, trimmed(name))?;
+    let value = match value {
+        Some(value) => Some(Text::from_slice(alloc, trimmed(value))?),
+        None => None,
+    };
+    Ok(Param { name, value })
+}
+
+fn list_of_field_params(alloc: Global, pieces: &[&[u8]]) -> Result<Vec<Param>, AllocError>
+    ensures { IfOk result (λ ps. ps.items ≡ map field_param_of (map (λ p. p.now) pieces.now)) }
+{
+    let mut params = Vec::new(alloc);
+    for piece in pieces {
+        params.push(field_param(alloc, piece)?)?;
+    }
+    Ok(params)
+}
+
+fn field_params(alloc: Global, text: &[u8]) -> Result<Option<Params>, AllocError>
+    ensures { IfOk result (λ o. o ≡ field_params_read (Some text.now)) }
+{
+    let pieces = pieces(alloc, text, b';')?;
+    if !are_field_params(&pieces) {
+        return Ok(None);
+    }
+    Ok(Some(Params::from_vec(list_of_field_params(alloc, &pieces)?)))
+}
+
+/// The parameters of a header field, each `name` or `name=value` with blanks round its parts and semicolons between
+/// them. `None` where the text has another form. A value in quotation marks keeps them.
+#[tactic(auto, unfolding(crate::specs::FieldParams::field_params_read))]
+pub fn read_field_params(alloc: Global, text: Option<&[u8]>) -> Result<Option<Params>, AllocError>
+    ensures { IfOk result (λ o. o ≡ field_params_read (option_copied text.entry)) }
+{
+    match text {
+        Some(text) => field_params(alloc, text),
+        None => Ok(Some(Params::from_vec(Vec::new(alloc)))),
+    }
+}

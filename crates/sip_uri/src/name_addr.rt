@@ -1,0 +1,114 @@
+//! Reading and writing of a name and an address, as in From, To and Contact (RFC 3261 sections 20.10 and 25.1).
+
+ghost use Rattle.std.specs.Prelude.{◌≡◌, ◌++◌, ℕ, List, OnOk, IfOk, IfErr, Ok};
+ghost use Rattle.std.specs.Option.{option_copied};
+ghost use Rattle.sip_uri.specs.declared.uri.NameAddr.{NameAddr};
+ghost use Rattle.sip_uri.specs.NameAddr.{name_params, name_addr_of, ReadsNameAddr, RefusesName, display_part, name_addr_text};
+ghost use Rattle.sip_uri.specs.Reading.{Gives};
+
+use crate::error::UriError;
+use crate::field_params::read_field_params;
+use crate::name_parts::{NameParts, parts_of};
+use crate::read::read_uri;
+use crate::uri::{NameAddr, Params};
+use crate::write::{put_params, write_uri};
+use std::alloc::{AllocError, Global};
+use text::Text;
+
+/// The header's parameters, where the whole is of its form but for the URI.
+#[tactic(auto, unfolding(crate::specs::NameAddr::name_params))]
+fn name_params(alloc: Global, parts: &NameParts) -> Result<Option<Params>, AllocError>
+    ensures { IfOk result (λ o. o ≡ name_params parts.now) }
+{
+    if !parts.stands_well() {
+        return Ok(None);
+    }
+    read_field_params(alloc, parts.params)
+}
+
+fn copied(alloc: Global, text: Option<&[u8]>) -> Result<Option<Text>, AllocError>
+    ensures { IfOk result (λ o. o ≡ option_copied text.entry) }
+{
+    match text {
+        Some(text) => Ok(Some(Text::from_slice(alloc, text)?)),
+        None => Ok(None),
+    }
+}
+
+#[tactic(auto, unfolding(crate::specs::NameAddr::name_addr_of))]
+fn read(alloc: Global, bytes: &[u8]) -> Result<NameAddr, UriError>
+    ensures { Gives result (name_addr_of bytes.now) }
+{
+    let Some(parts) = parts_of(bytes) else {
+        return Err(UriError::Malformed);
+    };
+    let uri = match read_uri(alloc, parts.uri) {
+        Err(UriError::Scheme) => return Err(UriError::Scheme),
+        Err(UriError::OutOfMemory) => return Err(UriError::OutOfMemory),
+        uri => uri,
+    };
+    let Some(params) = name_params(alloc, &parts)? else {
+        return Err(UriError::Malformed);
+    };
+    let uri = uri?;
+    let display = copied(alloc, parts.display)?;
+    Ok(NameAddr {
+        display,
+        uri,
+        params,
+    })
+}
+
+/// The name and address that the bytes are: `"display" <uri>;params`, `display <uri>;params`, `<uri>;params` or
+/// `uri;params`, where the parameters are the header's. A display in quotation marks is given as written between them,
+/// one in tokens without the blanks at its ends.
+///
+/// Another scheme of the URI is the first fault, where the outer form could be cut; then comes the form of the whole,
+/// then the URI's escapes and its port.
+pub fn read_name_addr(alloc: Global, bytes: &[u8]) -> Result<NameAddr, UriError>
+    // What is read is a name and an address with this value.
+    ensures found { IfOk result (λ name. ReadsNameAddr bytes.now name) }
+    // A name and an address is read, unless memory runs out.
+    ensures only { (name : NameAddr) → ReadsNameAddr bytes.now name → Gives result (Ok name) }
+    // Each refusal has its reason.
+    ensures refused { IfErr result (λ e. RefusesName bytes.now e) }
+    // All of this at once, as a function of the bytes.
+    ensures exact { Gives result (name_addr_of bytes.now) }
+{
+    read(alloc, bytes)
+}
+
+fn put_display(out: &mut Vec<u8>, display: Option<&Text>) -> Result<(), AllocError>
+    ensures { OnOk result (out.new.items ≡ out.old.items ++ display_part (option_copied display.entry)) }
+{
+    if let Some(display) = display {
+        out.push(b'"')?;
+        out.extend_from_slice(display.as_bytes())?;
+        out.extend_from_slice(b"\" ")?;
+    }
+    Ok(())
+}
+
+#[tactic(auto, unfolding(crate::specs::NameAddr::name_addr_text))]
+fn write(alloc: Global, name: &NameAddr) -> Result<Text, AllocError>
+    ensures { IfOk result (λ t. t ≡ name_addr_text name.now) }
+{
+    let uri = write_uri(alloc, &name.uri)?;
+    let mut out = Vec::new(alloc);
+    put_display(&mut out, name.display.as_ref())?;
+    out.push(b'<')?;
+    out.extend_from_slice(uri.as_bytes())?;
+    out.push(b'>')?;
+    put_params(&mut out, name.params.as_slice(), b';', b';')?;
+    Ok(Text::from_vec(out))
+}
+
+/// The text of a name and an address: `"display" <uri>;name=value`, without the display where there is none.
+pub fn write_name_addr(alloc: Global, name: &NameAddr) -> Result<Text, AllocError>
+    // The text itself.
+    ensures text { IfOk result (λ t. t ≡ name_addr_text name.now) }
+    // What is written for a value that was read from some text is read again as that value.
+    ensures again { (from : List ℕ) → ReadsNameAddr from name.now → IfOk result (λ t. ReadsNameAddr t name.now) }
+{
+    write(alloc, name)
+}

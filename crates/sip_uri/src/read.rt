@@ -1,0 +1,144 @@
+//! Reading of URIs.
+
+ghost use Rattle.std.specs.Prelude.{◌≡◌, ◌==◌, ◌≤◌, IsTrue, IfOk, IfErr, map, length};
+ghost use Rattle.std.specs.List.{slice_split};
+ghost use Rattle.std.specs.Option.{option_copied};
+ghost use Rattle.percent_encoding.specs.Percent.{percent_decode};
+ghost use Rattle.sip_uri.specs.Reading.{Gives, uri_of, value_of, host_of, host_read, param_of, fields_of, is_sip};
+ghost use Rattle.sip_uri.specs.Grammar.{ReadsUri, Refuses};
+ghost use Rattle.sip_uri.specs.declared.uri.Uri.{Uri};
+
+use crate::error::UriError;
+use crate::hosts::{ip4, is_host};
+use crate::parts::Parts;
+use crate::uri::{Host, Param, Params, Uri};
+use std::alloc::{AllocError, Global};
+use text::{Text, cut, number_upto};
+
+fn host(alloc: Global, text: &[u8]) -> Result<Host, AllocError>
+    ensures { IfOk result (λ h. h ≡ host_of text.now) }
+{
+    match ip4(text) {
+        Some(octets) => Ok(Host::Ip4(octets)),
+        None => Ok(Host::Name(Text::from_slice(alloc, text)?)),
+    }
+}
+
+/// The host that the bytes are, as in a URI and in a Via (RFC 3261 section 25.1): an IPv4 address by its octets, or a host
+/// name as written. `None` for others.
+#[tactic(auto, unfolding(crate::specs::Reading::host_read))]
+pub fn read_host(alloc: Global, text: &[u8]) -> Result<Option<Host>, AllocError>
+    ensures { IfOk result (λ o. o ≡ host_read text.now) }
+{
+    if !is_host(text) {
+        return Ok(None);
+    }
+    Ok(Some(host(alloc, text)?))
+}
+
+fn param(alloc: Global, text: &[u8]) -> Result<Param, AllocError>
+    ensures { IfOk result (λ p. p ≡ param_of text.now) }
+{
+    let (name, value) = cut(text, b'=');
+    let name = Text::from_slice(alloc, name)?;
+    let value = match value {
+        Some(value) => Some(Text::from_slice(alloc, value)?),
+        None => None,
+    };
+    Ok(Param { name, value })
+}
+
+fn list_of_params(alloc: Global, text: &[u8], separator: u8) -> Result<Vec<Param>, AllocError>
+    ensures { IfOk result (λ ps. ps.items ≡ map param_of (slice_split (λ b. b == separator) text.now)) }
+{
+    let mut params = Vec::new(alloc);
+    for piece in text.split(|b| *b == separator) {
+        params.push(param(alloc, piece)?)?;
+    }
+    Ok(params)
+}
+
+/// The parameters of a part whose pieces stand between separators.
+fn params(alloc: Global, text: Option<&[u8]>, separator: u8) -> Result<Params, AllocError>
+    ensures { IfOk result (λ ps. ps ≡ fields_of separator (option_copied text.entry)) }
+{
+    match text {
+        Some(text) => Ok(Params::from_vec(list_of_params(alloc, text, separator)?)),
+        None => Ok(Params::from_vec(Vec::new(alloc))),
+    }
+}
+
+fn user(alloc: Global, text: &[u8]) -> Result<Text, AllocError>
+    ensures { IfOk result (λ t. t ≡ percent_decode text.now) }
+{
+    let mut user = Vec::new(alloc);
+    percent_encoding::percent_decode(text).append_to(&mut user)?;
+    Ok(Text::from_vec(user))
+}
+
+#[tactic(auto, unfolding(crate::specs::Reading::value_of))]
+fn value(alloc: Global, parts: &Parts) -> Result<Uri, AllocError>
+    ensures { IfOk result (λ u. u ≡ value_of parts.now) }
+{
+    let user = match parts.user {
+        Some(text) => Some(user(alloc, text)?),
+        None => None,
+    };
+    let host = host(alloc, parts.host)?;
+    let port = match parts.port {
+        Some(port) => number_upto(65535, port).map(|n| n as u16),
+        None => None,
+    };
+    let list = params(alloc, parts.params, b';')?;
+    let headers = params(alloc, parts.headers, b'&')?;
+    Ok(Uri {
+        user,
+        host,
+        port,
+        params: list,
+        headers,
+    })
+}
+
+#[tactic(auto, unfolding(crate::specs::Reading::is_sip))]
+fn is_sip(text: &[u8]) -> bool
+    ensures test { result ≡ is_sip text.now }
+    ensures long { IsTrue result → 4 ≤ length text.now }
+{
+    text.len() >= 4 && text[..4].eq_ignore_ascii_case(b"sip:")
+}
+
+#[tactic(auto, unfolding(crate::specs::Reading::uri_of))]
+fn read(alloc: Global, bytes: &[u8]) -> Result<Uri, UriError>
+    ensures { Gives result (uri_of bytes.now) }
+{
+    if !is_sip(bytes) {
+        return Err(UriError::Scheme);
+    }
+    let parts = Parts::of(&bytes[4..]);
+    if !parts.is_well_formed() {
+        return Err(UriError::Malformed);
+    }
+    if !parts.has_good_escapes() {
+        return Err(UriError::BadEscape);
+    }
+    if !parts.has_good_port() {
+        return Err(UriError::Port);
+    }
+    Ok(value(alloc, &parts)?)
+}
+
+/// The URI that the bytes are (RFC 3261 section 25.1, SIP-URI). Of several faults the first in the order of `UriError`
+/// is given: the scheme, the form with `%` let through, the escapes of the whole URI, the port.
+pub fn read_uri(alloc: Global, bytes: &[u8]) -> Result<Uri, UriError>
+    // What is read is a URI with this value.
+    ensures found { IfOk result (λ uri. ReadsUri bytes.now uri) }
+    // A URI is read, unless memory runs out.
+    ensures only { (uri : Uri) → ReadsUri bytes.now uri → Gives result (Ok uri) }
+    // Each refusal has its reason.
+    ensures refused { IfErr result (λ e. Refuses bytes.now e) }
+    // All of this at once, as a function of the bytes.
+    ensures exact { Gives result (uri_of bytes.now) }
+{
+    read(alloc, bytes)
+}

@@ -1,0 +1,127 @@
+//! Writing of URIs.
+
+ghost use Rattle.std.specs.Prelude.{◌≡◌, ◌++◌, ℕ, List, OnOk, IfOk, decimal};
+ghost use Rattle.sip_uri.specs.declared.uri.Uri.{Uri};
+ghost use Rattle.sip_uri.specs.Grammar.{ReadsUri};
+ghost use Rattle.sip_uri.specs.Writing.{escaped_byte, escaped, ip4_text, host_text, param_text, params_text, user_part, port_part, uri_text};
+
+use crate::class::is_plain_user;
+use crate::uri::{Host, Param, Uri};
+use itoa::Buffer;
+use std::alloc::{AllocError, Global};
+use text::Text;
+
+fn put_number(out: &mut Vec<u8>, number: u16) -> Result<(), AllocError>
+    ensures { OnOk result (out.new.items ≡ out.old.items ++ decimal number) }
+{
+    let mut buffer = Buffer::new();
+    out.extend_from_slice(buffer.format(number).as_bytes())?;
+    Ok(())
+}
+
+fn put_user_byte(out: &mut Vec<u8>, b: u8) -> Result<(), AllocError>
+    ensures { OnOk result (out.new.items ≡ out.old.items ++ escaped_byte b) }
+{
+    if is_plain_user(b) {
+        out.push(b)?;
+    } else {
+        out.extend_from_slice(percent_encoding::percent_encode_byte(b).as_bytes())?;
+    }
+    Ok(())
+}
+
+#[tactic(auto, unfolding(crate::specs::Writing::escaped))]
+fn put_escaped(out: &mut Vec<u8>, user: &[u8]) -> Result<(), AllocError>
+    ensures { OnOk result (out.new.items ≡ out.old.items ++ escaped user.now) }
+{
+    for b in user {
+        put_user_byte(out, *b)?;
+    }
+    Ok(())
+}
+
+/// Writes an IPv4 address in plain decimals behind what is there. Where memory runs out, a part may be written.
+pub fn put_ip4(out: &mut Vec<u8>, octets: &[u8; 4]) -> Result<(), AllocError>
+    ensures { OnOk result (out.new.items ≡ out.old.items ++ ip4_text octets.now) }
+{
+    put_number(out, u16::from(octets[0]))?;
+    out.push(b'.')?;
+    put_number(out, u16::from(octets[1]))?;
+    out.push(b'.')?;
+    put_number(out, u16::from(octets[2]))?;
+    out.push(b'.')?;
+    put_number(out, u16::from(octets[3]))?;
+    Ok(())
+}
+
+/// Writes a host behind what is there: an IPv4 address in plain decimals, or a name as it stands. Where memory runs
+/// out, a part may be written.
+pub fn put_host(out: &mut Vec<u8>, host: &Host) -> Result<(), AllocError>
+    ensures { OnOk result (out.new.items ≡ out.old.items ++ host_text host.now) }
+{
+    match host {
+        Host::Ip4(octets) => put_ip4(out, octets)?,
+        Host::Name(name) => out.extend_from_slice(name.as_bytes())?,
+    }
+    Ok(())
+}
+
+/// Writes `name` or `name=value` behind what is there. Where memory runs out, a part may be written.
+pub fn put_param(out: &mut Vec<u8>, param: &Param) -> Result<(), AllocError>
+    ensures { OnOk result (out.new.items ≡ out.old.items ++ param_text param.now) }
+{
+    out.extend_from_slice(param.name.as_bytes())?;
+    if let Some(value) = &param.value {
+        out.push(b'=')?;
+        out.extend_from_slice(value.as_bytes())?;
+    }
+    Ok(())
+}
+
+/// Writes parameters behind what is there, the first behind one byte and each other behind another. Where memory runs
+/// out, a part may be written.
+pub fn put_params(
+    out: &mut Vec<u8>,
+    params: &[Param],
+    first: u8,
+    next: u8,
+) -> Result<(), AllocError>
+    ensures { OnOk result (out.new.items ≡ out.old.items ++ params_text first next params.now) }
+{
+    let mut mark = first;
+    for param in params {
+        out.push(mark)?;
+        put_param(out, param)?;
+        mark = next;
+    }
+    Ok(())
+}
+
+#[tactic(auto, unfolding(crate::specs::Writing::uri_text, crate::specs::Writing::user_part))]
+fn write(alloc: Global, uri: &Uri) -> Result<Text, AllocError>
+    ensures { IfOk result (λ t. t ≡ uri_text uri.now) }
+{
+    let mut out = Vec::from_slice(alloc, b"sip:")?;
+    if let Some(user) = &uri.user {
+        put_escaped(&mut out, user.as_bytes())?;
+        out.push(b'@')?;
+    }
+    put_host(&mut out, &uri.host)?;
+    if let Some(port) = uri.port {
+        out.push(b':')?;
+        put_number(&mut out, port)?;
+    }
+    put_params(&mut out, uri.params.as_slice(), b';', b';')?;
+    put_params(&mut out, uri.headers.as_slice(), b'?', b'&')?;
+    Ok(Text::from_vec(out))
+}
+
+/// The text of a URI. Bytes of its user that may not stand in one are written as `%` and two upper-case digits.
+pub fn write_uri(alloc: Global, uri: &Uri) -> Result<Text, AllocError>
+    // The text itself.
+    ensures text { IfOk result (λ t. t ≡ uri_text uri.now) }
+    // What is written for a URI that was read from some text is read again as that URI.
+    ensures again { (from : List ℕ) → ReadsUri from uri.now → IfOk result (λ t. ReadsUri t uri.now) }
+{
+    write(alloc, uri)
+}
