@@ -1,0 +1,15 @@
+-- What is kept of an input.
+use Rattle.std.specs.Prelude.{◌≡◌, ℕ, List, take, Option}
+use Rattle.std.specs.Io.KnownBytes.{Consumes, IsAtEnd}
+
+-- of what is read, no more is kept than shows that a datagram is too long
+abbrev pub most_kept : ℕ
+most_kept = 16385
+
+-- these bytes were taken, and the first of them are kept
+abbrev pub Takes : Option (List ℕ) → Option (List ℕ) → List ℕ → Type 0
+Takes left left_after kept = (whole : List ℕ) × Consumes left left_after whole × (kept ≡ take most_kept whole)
+
+-- all bytes were taken, and the first of them are kept
+abbrev pub Reads : Option (List ℕ) → Option (List ℕ) → List ℕ → Type 0
+Reads left left_after kept = Takes left left_after kept × IsAtEnd left_after

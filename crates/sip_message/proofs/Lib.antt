@@ -1,0 +1,17 @@
+pub mod LineLaws
+pub mod HeaderLineLaws
+pub mod FieldLoop
+pub mod FieldLaws
+pub mod HeadLaws
+pub mod ValueLaws
+pub mod HeadRoundTrip
+pub mod ReadWritten
+pub mod LookupLaws
+pub mod FaultLaws
+pub mod ReplyLaws
+pub mod ViaLaws
+pub mod StartLaws
+pub mod SaysLaws
+pub mod FaultOrder
+pub mod MessageLaws
+pub mod MessageRoundTrip

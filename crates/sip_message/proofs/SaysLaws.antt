@@ -1,0 +1,339 @@
+-- What the header fields of a request say is what is read of them.
+use Rattle.std.proofs.Common.{◌≡◌, ℕ, ◌+◌, ◌≤◌, Bool, true, false, cond, leb, List, [], ◌∷◌, ◌++◌, length, map, take, drop, Option, Some, None, Result, Ok, Err, refl, sym, ap, subst, ◌∙◌, codes, arith}
+use Rattle.std.specs.Prelude.{nat_eq}
+use Rattle.std.specs.Cmp.Lexicographic.{pointwise}
+use Rattle.std.specs.Char.{is_ascii_digit}
+use Rattle.std.proofs.lemmas.Bool.{leb-true, le-leb}
+use Rattle.std.proofs.lemmas.List.{take-append-drop, take_at, length-take-le, length-append}
+use Rattle.text.specs.Class.{is_run_of}
+use Rattle.text.specs.Number.{number_upto}
+use Rattle.sip_uri.specs.declared.uri.NameAddr.{NameAddr}
+use Rattle.sip_message.specs.declared.cseq.CSeq.{CSeq}
+use Rattle.sip_message.specs.declared.cseq.Sequence.{Sequence}
+use Rattle.sip_message.specs.declared.error.HeaderName.{HeaderName}
+use Rattle.sip_message.specs.declared.error.HeaderName.TheVariants as Names
+use Rattle.sip_message.specs.declared.error.MessageError.{MessageError}
+use Rattle.sip_message.specs.declared.error.MessageError.TheVariants.{Missing, Unreadable, Short}
+use Rattle.sip_message.specs.declared.headers.Header.{Header}
+use Rattle.sip_message.specs.declared.message.Parts.{Parts}
+use Rattle.sip_message.specs.declared.party.Party.{Party}
+use Rattle.sip_message.specs.declared.read.Contents.{Contents}
+use Rattle.sip_message.specs.declared.values.Values.{Values}
+use Rattle.sip_message.specs.declared.via.Via.{Via}
+use Rattle.sip_message.specs.CSeq.{cseq_of}
+use Rattle.sip_message.specs.Faults.{and_then, readable}
+use Rattle.sip_message.specs.Form.{is_call_id, is_media_type, max_forwards_of}
+use Rattle.sip_message.specs.Grammar.{SaysParts, SaysHops, SaysType, SaysBody, Says}
+use Rattle.sip_message.specs.Lookup.{values_named}
+use Rattle.sip_message.specs.Named.{at_most_one, exactly_one}
+use Rattle.sip_message.specs.Party.{has_tag, party_of}
+use Rattle.sip_message.specs.Reading.{contents_of}
+use Rattle.sip_message.specs.Values.{with_via, each_via, via_texts, some_vias, if_tagged, with_text, from_of, to_of, call_id_of, of_method, with_number, cseq_for, hops_by, hops_of, type_by, type_of, parts_of, values_of, greatest_length, long_enough, body_by, body_of}
+use Rattle.sip_message.specs.Via.{via_of}
+use Rattle.sip_message.proofs.ValueLaws.{same_text, text_same}
+
+-- ---- steps
+
+abbrev ok : {X : Type 0} → X → Result X MessageError
+ok x = Ok x
+
+abbrev failed : {X : Type 0} → MessageError → Result X MessageError
+failed e = Err e
+
+ok_is : {X : Type 0} (x y : X) → ok x ≡ ok y → x ≡ y
+ok_is x y h = cc
+
+no_ok : {X : Type 0} (e : MessageError) (x : X) → failed {X = X} e ≡ ok x → ⊥
+no_ok e x h = cc
+
+abbrev some : {X : Type 0} → X → Option X
+some x = Some x
+
+some_is : {X : Type 0} (x y : X) → some x ≡ some y → x ≡ y
+some_is x y h = cc
+
+pub then_ok : {X Y : Type 0} (r : Result X MessageError) (next : X → Result Y MessageError) (y : Y) → and_then r next ≡ Ok y → (x : X) × (r ≡ Ok x) × (next x ≡ Ok y)
+then_ok (Ok x) next y h = (x, refl, h)
+then_ok (Err e) next y h = absurd (no_ok e y h)
+
+readable_is : {X : Type 0} (name : HeaderName) (o : Option X) (x : X) → readable name o ≡ Ok x → o ≡ Some x
+readable_is name None x h = absurd (no_ok (Unreadable name) x h)
+readable_is name (Some y) x h = ap (λ z. some z) (ok_is y x h)
+
+one_is : (name : HeaderName) (values : List (List ℕ)) (v : List ℕ) → exactly_one name values ≡ Ok v → values ≡ v ∷ []
+one_is name [] v h = absurd (no_ok (Missing name) v h)
+one_is name (w ∷ []) v h = ap (λ (t : List ℕ). t ∷ []) (ok_is w v h)
+one_is name (w ∷ x ∷ more) v h = absurd (no_ok (Unreadable name) v h)
+
+-- ---- Via
+
+head_is : (a b : Option Via) (more rest : List (Option Via)) → a ∷ more ≡ b ∷ rest → (a ≡ b) × (more ≡ rest)
+head_is a b more rest h = (cc, cc)
+
+vias_are : (texts : List (List ℕ)) (vias : List Via) → each_via texts ≡ Some vias → map via_of texts ≡ map (λ via. some via) vias
+vias_are [] vias h = let none : [] ≡ vias = some_is [] vias h in rw (← none) refl
+vias_are (text ∷ texts) vias h = step (via_of text) (each_via texts) refl refl h (λ vs k. vias_are texts vs k) where
+  step : (o : Option Via) (p : Option (List Via)) → via_of text ≡ o → each_via texts ≡ p → with_via o p ≡ Some vias → ((vs : List Via) → each_via texts ≡ Some vs → map via_of texts ≡ map (λ via. some via) vs)
+      → map via_of (text ∷ texts) ≡ map (λ via. some via) vias
+  step None p e k is others = absurd cc
+  step (Some via) None e k is others = absurd cc
+  step (Some via) (Some more) e k is others =
+      let all : via ∷ more ≡ vias = some_is (via ∷ more) vias is in
+      rw (← all, e) (ap (λ (os : List (Option Via)). some via ∷ os) (others more k))
+
+vias_again : (texts : List (List ℕ)) (vias : List Via) → map via_of texts ≡ map (λ via. some via) vias → each_via texts ≡ Some vias
+vias_again [] [] h = refl
+vias_again [] (via ∷ vias) h = absurd cc
+vias_again (text ∷ texts) [] h = absurd cc
+vias_again (text ∷ texts) (via ∷ vias) h =
+    let parts = head_is (via_of text) (Some via) (map via_of texts) (map (λ v. some v) vias) h in
+    rw (parts.0, vias_again texts vias parts.1) refl
+
+record SomeVias (texts : List (List ℕ)) (vias : List Via) : Type 0 where
+  there : vias ≡ [] → ⊥
+  each : map via_of texts ≡ map (λ via. some via) vias
+
+some_vias_are : (texts : List (List ℕ)) (vias : List Via) → some_vias texts ≡ Ok vias → SomeVias texts vias
+some_vias_are [] vias h = absurd (no_ok (Missing Names.Via) vias h)
+some_vias_are (text ∷ texts) vias h =
+    let each = vias_are (text ∷ texts) vias (readable_is Names.Via (each_via (text ∷ texts)) vias h) in
+    record { there = λ none. no_text (each ∙ ap (map (λ via. some via)) none); each = each } where
+      no_text : via_of text ∷ map via_of texts ≡ [] → ⊥
+      no_text e = cc
+
+some_vias_again : (texts : List (List ℕ)) (vias : List Via) → (vias ≡ [] → ⊥) → map via_of texts ≡ map (λ via. some via) vias → some_vias texts ≡ Ok vias
+some_vias_again [] [] there each = absurd (there refl)
+some_vias_again [] (via ∷ vias) there each = absurd cc
+some_vias_again (text ∷ texts) vias there each = ap (readable Names.Via) (vias_again (text ∷ texts) vias each)
+
+-- ---- From and To
+
+record IsParty (values : List (List ℕ)) (p : Party) : Type 0 where
+  one : values ≡ p.text ∷ []
+  name : party_of p.text ≡ Some p.name
+
+text_is : (text : List ℕ) (r : Result NameAddr MessageError) (p : Party) → with_text text r ≡ Ok p → (text ≡ p.text) × (r ≡ Ok p.name)
+text_is text (Ok name) p h =
+    let same : record { text = text; name = name } ≡ p = ok_is (record { text = text; name = name }) p h in
+    (ap (λ (q : Party). q.text) same, ap (λ (q : Party). ok q.name) same)
+text_is text (Err e) p h = absurd (no_ok e p h)
+
+tagged_is : (o : Option NameAddr) (name : NameAddr) → if_tagged o ≡ Some name → (o ≡ Some name) × (has_tag name.params ≡ true)
+tagged_is None name h = absurd cc
+tagged_is (Some n) name h = step (has_tag n.params) refl h where
+  step : (b : Bool) → has_tag n.params ≡ b → cond b (some n) None ≡ Some name → (some n ≡ some name) × (has_tag name.params ≡ true)
+  step true e k = (k, ap (λ (x : NameAddr). has_tag x.params) (sym (some_is n name k)) ∙ e)
+  step false e k = absurd cc
+
+from_is : (fields : List Header) (p : Party) → from_of fields ≡ Ok p → IsParty (values_named (codes "From") fields) p × (has_tag p.name.params ≡ true)
+from_is fields p h =
+    let t = then_ok (exactly_one Names.From (values_named (codes "From") fields)) (λ text. with_text text (readable Names.From (if_tagged (party_of text)))) p h in
+    let is = text_is t.0 (readable Names.From (if_tagged (party_of t.0))) p t.2 in
+    let tagged = tagged_is (party_of t.0) p.name (readable_is Names.From (if_tagged (party_of t.0)) p.name is.1) in
+    (record { one = one_is Names.From (values_named (codes "From") fields) t.0 t.1 ∙ ap (λ (x : List ℕ). x ∷ []) is.0; name = ap party_of (sym is.0) ∙ tagged.0 }, tagged.1)
+
+to_is : (fields : List Header) (p : Party) → to_of fields ≡ Ok p → IsParty (values_named (codes "To") fields) p
+to_is fields p h =
+    let t = then_ok (exactly_one Names.To (values_named (codes "To") fields)) (λ text. with_text text (readable Names.To (party_of text))) p h in
+    let is = text_is t.0 (readable Names.To (party_of t.0)) p t.2 in
+    record { one = one_is Names.To (values_named (codes "To") fields) t.0 t.1 ∙ ap (λ (x : List ℕ). x ∷ []) is.0; name = ap party_of (sym is.0) ∙ readable_is Names.To (party_of t.0) p.name is.1 }
+
+-- ---- Call-ID
+
+call_id_is : (fields : List Header) (id : List ℕ) → call_id_of fields ≡ Ok id → (values_named (codes "Call-ID") fields ≡ id ∷ []) × (is_call_id id ≡ true)
+call_id_is fields id h =
+    let t = then_ok (exactly_one Names.CallId (values_named (codes "Call-ID") fields)) (λ text. cond (is_call_id text) (ok text) (failed (Unreadable Names.CallId))) id h in
+    let is = step t.0 (is_call_id t.0) refl t.2 in
+    (one_is Names.CallId (values_named (codes "Call-ID") fields) t.0 t.1 ∙ ap (λ (x : List ℕ). x ∷ []) is.0, ap is_call_id (sym is.0) ∙ is.1) where
+      step : (text : List ℕ) (b : Bool) → is_call_id text ≡ b → cond b (ok text) (failed (Unreadable Names.CallId)) ≡ Ok id → (text ≡ id) × (is_call_id text ≡ true)
+      step text true e k = (ok_is text id k, e)
+      step text false e k = absurd (no_ok (Unreadable Names.CallId) id k)
+
+-- ---- CSeq
+
+record IsSequence (method : List ℕ) (values : List (List ℕ)) (s : Sequence) : Type 0 where
+  one : values ≡ s.text ∷ []
+  cseq : cseq_of s.text ≡ Some s.cseq
+  same : s.cseq.method ≡ method
+
+number_is : (text : List ℕ) (r : Result CSeq MessageError) (s : Sequence) → with_number text r ≡ Ok s → (text ≡ s.text) × (r ≡ Ok s.cseq)
+number_is text (Ok cseq) s h =
+    let same : record { text = text; cseq = cseq } ≡ s = ok_is (record { text = text; cseq = cseq }) s h in
+    (ap (λ (q : Sequence). q.text) same, ap (λ (q : Sequence). ok q.cseq) same)
+number_is text (Err e) s h = absurd (no_ok e s h)
+
+method_is : (method : List ℕ) (o : Option CSeq) (c : CSeq) → of_method method o ≡ Some c → (o ≡ Some c) × (c.method ≡ method)
+method_is method None c h = absurd cc
+method_is method (Some d) c h = step (pointwise nat_eq d.method method) refl h where
+  step : (b : Bool) → pointwise nat_eq d.method method ≡ b → cond b (some d) None ≡ Some c → (some d ≡ some c) × (c.method ≡ method)
+  step true e k = (k, ap (λ (x : CSeq). x.method) (sym (some_is d c k)) ∙ same_text d.method method e)
+  step false e k = absurd cc
+
+cseq_is : (method : List ℕ) (fields : List Header) (s : Sequence) → cseq_for method fields ≡ Ok s → IsSequence method (values_named (codes "CSeq") fields) s
+cseq_is method fields s h =
+    let t = then_ok (exactly_one Names.CSeq (values_named (codes "CSeq") fields)) (λ text. with_number text (readable Names.CSeq (of_method method (cseq_of text)))) s h in
+    let is = number_is t.0 (readable Names.CSeq (of_method method (cseq_of t.0))) s t.2 in
+    let m = method_is method (cseq_of t.0) s.cseq (readable_is Names.CSeq (of_method method (cseq_of t.0)) s.cseq is.1) in
+    record { one = one_is Names.CSeq (values_named (codes "CSeq") fields) t.0 t.1 ∙ ap (λ (x : List ℕ). x ∷ []) is.0; cseq = ap cseq_of (sym is.0) ∙ m.0; same = m.1 }
+
+-- ---- the parts
+
+abbrev parts_from : List Via → Party → Party → List ℕ → Sequence → Parts
+parts_from vias from to call_id cseq = record {
+  vias = vias;
+  from = from.name;
+  to = to.name;
+  call_id = call_id;
+  cseq = cseq.cseq;
+  from_text = from.text;
+  to_text = to.text;
+  cseq_text = cseq.text;
+}
+
+parts_are : (method : List ℕ) (fields : List Header) (parts : Parts) → parts_of method fields ≡ Ok parts → SaysParts method fields parts
+unfolding parts_of
+parts_are method fields parts h =
+    let vias = then_ok (some_vias (via_texts fields)) _ parts h in
+    let from = then_ok (from_of fields) _ parts vias.2 in
+    let to = then_ok (to_of fields) _ parts from.2 in
+    let id = then_ok (call_id_of fields) _ parts to.2 in
+    let cseq = then_ok (cseq_for method fields) _ parts id.2 in
+    let v = some_vias_are (via_texts fields) vias.0 vias.1 in
+    let f = from_is fields from.0 from.1 in
+    let t = to_is fields to.0 to.1 in
+    let i = call_id_is fields id.0 id.1 in
+    let c = cseq_is method fields cseq.0 cseq.1 in
+    subst (λ (p : Parts). SaysParts method fields p) (ok_is (parts_from vias.0 from.0 to.0 id.0 cseq.0) parts cseq.2) (record {
+      some_via = v.there;
+      each_via = v.each;
+      one_from = f.0.one;
+      from = f.0.name;
+      from_tag = f.1;
+      one_to = t.one;
+      to = t.name;
+      one_call_id = i.0;
+      call_id = i.1;
+      one_cseq = c.one;
+      cseq = c.cseq;
+      cseq_method = c.same;
+    })
+
+parts_again : (method : List ℕ) (fields : List Header) (parts : Parts) → SaysParts method fields parts → parts_of method fields ≡ Ok parts
+unfolding parts_of
+parts_again method fields parts h =
+    rw (
+      some_vias_again (via_texts fields) parts.vias h.some_via h.each_via,
+      h.one_from,
+      h.from,
+      h.from_tag,
+      h.one_to,
+      h.to,
+      h.one_call_id,
+      h.call_id,
+      h.one_cseq,
+      h.cseq,
+      text_same parts.cseq.method method h.cseq_method,
+    ) refl
+
+-- ---- Max-Forwards, Content-Type, Content-Length
+
+hops_are : (values : List (List ℕ)) (hops : ℕ) → and_then (at_most_one Names.MaxForwards values) hops_by ≡ Ok hops → SaysHops values hops
+hops_are [] hops h = sym (ok_is 70 hops h)
+hops_are (text ∷ []) hops h = readable_is Names.MaxForwards (max_forwards_of text) hops h
+hops_are (one ∷ two ∷ more) hops h = no_ok (Unreadable Names.MaxForwards) hops h
+
+hops_again : (values : List (List ℕ)) (hops : ℕ) → SaysHops values hops → and_then (at_most_one Names.MaxForwards values) hops_by ≡ Ok hops
+hops_again [] hops h = ap (λ (n : ℕ). ok n) (sym h)
+hops_again (text ∷ []) hops h = ap (readable Names.MaxForwards) h
+hops_again (one ∷ two ∷ more) hops h = absurd h
+
+type_is : (values : List (List ℕ)) (t : Option (List ℕ)) → and_then (at_most_one Names.ContentType values) type_by ≡ Ok t → SaysType values
+type_is [] t h = tt
+type_is (text ∷ []) t h = step (is_media_type text) h where
+  step : (b : Bool) → cond b (ok (some text)) (failed (Unreadable Names.ContentType)) ≡ Ok t → b ≡ true
+  step true k = refl
+  step false k = absurd (no_ok (Unreadable Names.ContentType) t k)
+type_is (one ∷ two ∷ more) t h = no_ok (Unreadable Names.ContentType) t h
+
+type_again : (values : List (List ℕ)) → SaysType values → (t : Option (List ℕ)) × (and_then (at_most_one Names.ContentType values) type_by ≡ Ok t)
+type_again [] h = (None, refl)
+type_again (text ∷ []) h = (Some text, rw h refl)
+type_again (one ∷ two ∷ more) h = absurd h
+
+long_is : (o : Option ℕ) (raw body : List ℕ) → long_enough o raw ≡ Ok body → (o ≡ Some (length body)) × ((behind : List ℕ) × (raw ≡ body ++ behind))
+long_is None raw body h = absurd (no_ok Short body h)
+long_is (Some n) raw body h = step (leb n (length raw)) (λ e. leb-true n (length raw) e) h where
+  step : (b : Bool) → (b ≡ true → n ≤ length raw) → cond b (ok (take n raw)) (failed Short) ≡ Ok body → (some n ≡ Some (length body)) × ((behind : List ℕ) × (raw ≡ body ++ behind))
+  step true le k =
+      let is : take n raw ≡ body = ok_is (take n raw) body k in
+      let size : n ≡ length body = sym (length-take-le n raw (le refl)) ∙ ap length is in
+      (ap (λ (m : ℕ). some m) size, (drop n raw, sym (take-append-drop n raw) ∙ ap (λ (t : List ℕ). t ++ drop n raw) is))
+  step false le k = absurd (no_ok Short body k)
+
+body_is : (values : List (List ℕ)) (raw body : List ℕ) → and_then (at_most_one Names.ContentLength values) (body_by raw) ≡ Ok body → SaysBody values raw body
+body_is [] raw body h = sym (ok_is raw body h)
+body_is (text ∷ []) raw body h = step (is_run_of is_ascii_digit text) h where
+  step : (b : Bool) → cond b (long_enough (number_upto greatest_length text) raw) (failed (Unreadable Names.ContentLength)) ≡ Ok body
+      → (b ≡ true) × (number_upto greatest_length text ≡ Some (length body)) × ((behind : List ℕ) × (raw ≡ body ++ behind))
+  step true k = let is = long_is (number_upto greatest_length text) raw body k in (refl, is.0, is.1)
+  step false k = absurd (no_ok (Unreadable Names.ContentLength) body k)
+body_is (one ∷ two ∷ more) raw body h = no_ok (Unreadable Names.ContentLength) body h
+
+body_again : (values : List (List ℕ)) (raw body : List ℕ) → SaysBody values raw body → and_then (at_most_one Names.ContentLength values) (body_by raw) ≡ Ok body
+body_again [] raw body h = ap (λ (t : List ℕ). ok t) (sym h)
+body_again (text ∷ []) raw body h =
+    let behind : List ℕ = h.2.0 in
+    let whole : raw ≡ body ++ behind = h.2.1 in
+    let size : length raw ≡ length body + length behind = ap length whole ∙ length-append body behind in
+    let front : take (length body) raw ≡ body = ap (take (length body)) whole ∙ take_at body behind (length body) refl in
+    rw (h.0, h.1, le-leb (length body) (length raw) (omega (arith, size))) (ap (λ (t : List ℕ). ok t) front)
+body_again (one ∷ two ∷ more) raw body h = absurd h
+
+-- ---- all
+
+abbrev values : Parts → ℕ → Values
+values parts hops = record { parts = parts; max_forwards = hops }
+
+values_are : (method : List ℕ) (fields : List Header) (v : Values) → values_of method fields ≡ Ok v
+    → SaysParts method fields v.parts × SaysHops (values_named (codes "Max-Forwards") fields) v.max_forwards × SaysType (values_named (codes "Content-Type") fields)
+unfolding values_of
+values_are method fields v h =
+    let parts = then_ok (parts_of method fields) _ v h in
+    let hops = then_ok (hops_of fields) _ v parts.2 in
+    let kind = then_ok (type_of fields) _ v hops.2 in
+    let same : values parts.0 hops.0 ≡ v = ok_is (values parts.0 hops.0) v kind.2 in (
+      subst (λ (x : Values). SaysParts method fields x.parts) same (parts_are method fields parts.0 parts.1),
+      subst (λ (x : Values). SaysHops (values_named (codes "Max-Forwards") fields) x.max_forwards) same (hops_are (values_named (codes "Max-Forwards") fields) hops.0 hops.1),
+      type_is (values_named (codes "Content-Type") fields) kind.0 kind.1,
+    )
+
+values_again : (method : List ℕ) (fields : List Header) (v : Values) → SaysParts method fields v.parts → SaysHops (values_named (codes "Max-Forwards") fields) v.max_forwards → SaysType (values_named (codes "Content-Type") fields)
+    → values_of method fields ≡ Ok v
+unfolding values_of
+values_again method fields v parts hops kind =
+    let t = type_again (values_named (codes "Content-Type") fields) kind in
+    rw (parts_again method fields v.parts parts, hops_again (values_named (codes "Max-Forwards") fields) v.max_forwards hops, t.1) refl
+
+abbrev contents : Values → List ℕ → Contents
+contents v body = record { values = v; body = body }
+
+-- what is read of the header fields is what they say
+pub contents_are : (method : List ℕ) (fields : List Header) (raw : List ℕ) (c : Contents) → contents_of method fields raw ≡ Ok c → Says method fields raw c.values.parts c.values.max_forwards c.body
+unfolding contents_of body_of
+contents_are method fields raw c h =
+    let v = then_ok (values_of method fields) _ c h in
+    let b = then_ok (body_of fields raw) _ c v.2 in
+    let said = values_are method fields v.0 v.1 in
+    let same : contents v.0 b.0 ≡ c = ok_is (contents v.0 b.0) c b.2 in
+    subst (λ (x : Contents). Says method fields raw x.values.parts x.values.max_forwards x.body) same (record {
+      says_parts = said.0;
+      says_hops = said.1;
+      says_type = said.2;
+      says_body = body_is (values_named (codes "Content-Length") fields) raw b.0 b.1;
+    })
+
+-- and what they say is read
+pub contents_again : (method : List ℕ) (fields : List Header) (raw : List ℕ) (c : Contents) → Says method fields raw c.values.parts c.values.max_forwards c.body → contents_of method fields raw ≡ Ok c
+unfolding contents_of body_of
+contents_again method fields raw c h =
+    rw (values_again method fields c.values h.says_parts h.says_hops h.says_type, body_again (values_named (codes "Content-Length") fields) raw c.body h.says_body) refl

@@ -1,0 +1,156 @@
+-- Texts without blanks at their ends, and the classes of their bytes.
+use Rattle.std.proofs.Common.{◌≡◌, ℕ, suc, Bool, true, false, ◌&&◌, cond, eqb, List, [], ◌∷◌, ◌++◌, length, map, Some, refl, ap, ◌∙◌}
+use Rattle.std.specs.Prelude.{nat_eq, unwrap_or}
+use Rattle.std.specs.List.{list_all}
+use Rattle.std.specs.Cmp.Lexicographic.{pointwise}
+use Rattle.std.proofs.lemmas.Bool.{and_parts, and_from, eqb-true, eq-eqb, ne_eqb}
+use Rattle.text.specs.Class.{is_blank, is_token_byte}
+use Rattle.text.specs.Cut.{after}
+use Rattle.text.specs.Trim.{without_blanks, kept, without_end, trimmed}
+use Rattle.text.proofs.CutLaws.{differs}
+use Rattle.sip_message.specs.Lines.{is_text_byte, is_clean}
+use Rattle.sip_message.specs.Fields.{begins_blank, begun_value, glue, unfolded}
+
+-- ---- equal texts
+
+pub same_text : (a b : List ℕ) → pointwise nat_eq a b ≡ true → a ≡ b
+same_text [] [] h = refl
+same_text [] (y ∷ b) h = absurd cc
+same_text (x ∷ a) [] h = absurd cc
+same_text (x ∷ a) (y ∷ b) h =
+    let parts = and_parts (nat_eq x y) (pointwise nat_eq a b) h in
+    ap (λ (z : ℕ). z ∷ a) (eqb-true x y parts.0) ∙ ap (λ (t : List ℕ). y ∷ t) (same_text a b parts.1)
+
+pub text_same : (a b : List ℕ) → a ≡ b → pointwise nat_eq a b ≡ true
+text_same a b e = rw e (again b) where
+  again : (t : List ℕ) → pointwise nat_eq t t ≡ true
+  again [] = refl
+  again (x ∷ t) = and_from (nat_eq x x) (pointwise nat_eq t t) (eq-eqb x x refl) (again t)
+
+-- ---- bytes of a token
+
+pub token_not_blank : (b : ℕ) → is_token_byte b ≡ true → is_blank b ≡ false
+token_not_blank b h = rw (differs is_token_byte 32 b refl h, differs is_token_byte 9 b refl h) refl
+
+pub token_text_byte : (b : ℕ) → is_token_byte b ≡ true → is_text_byte b ≡ true
+token_text_byte b h = rw (differs is_token_byte 13 b refl h, differs is_token_byte 10 b refl h, differs is_token_byte 0 b refl h) refl
+
+pub token_clean : (t : List ℕ) → list_all is_token_byte t ≡ true → is_clean t ≡ true
+token_clean [] h = refl
+token_clean (b ∷ t) h =
+    let parts = and_parts (is_token_byte b) (list_all is_token_byte t) h in
+    and_from (is_text_byte b) (is_clean t) (token_text_byte b parts.0) (token_clean t parts.1)
+
+-- ---- texts without blanks at their ends
+
+pub record IsTrim (t : List ℕ) : Type 0 where
+  pub front : begins_blank t ≡ false
+  pub back : without_end t ≡ t
+
+without_same : (t : List ℕ) → begins_blank t ≡ false → without_blanks t ≡ t
+without_same [] h = refl
+without_same (b ∷ t) h = rw h refl
+
+pub trim_same : (t : List ℕ) → IsTrim t → trimmed t ≡ t
+trim_same t h = ap without_end (without_same t h.front) ∙ h.back
+
+without_front : (t : List ℕ) → begins_blank (without_blanks t) ≡ false
+without_front [] = refl
+without_front (b ∷ t) = step (is_blank b) refl (without_front t) where
+  step : (e : Bool) → is_blank b ≡ e → begins_blank (without_blanks t) ≡ false → begins_blank (cond e (without_blanks t) (b ∷ t)) ≡ false
+  step true same h = h
+  step false same h = same
+
+end_front : (t : List ℕ) → begins_blank t ≡ false → begins_blank (without_end t) ≡ false
+end_front [] h = refl
+end_front (b ∷ t) h = rw h h
+
+end_again : (t : List ℕ) → without_end (without_end t) ≡ without_end t
+end_again [] = refl
+end_again (b ∷ t) = step (is_blank b && eqb (length (without_end t)) 0) refl (end_again t) where
+  step : (e : Bool) → (is_blank b && eqb (length (without_end t)) 0) ≡ e → without_end (without_end t) ≡ without_end t → without_end (cond e [] (b ∷ without_end t)) ≡ cond e [] (b ∷ without_end t)
+  step true tested h = refl
+  step false tested h = ap (kept b) h ∙ rw tested refl
+
+pub trimmed_is : (t : List ℕ) → IsTrim (trimmed t)
+trimmed_is t = record { front = end_front (without_blanks t) (without_front t); back = end_again (without_blanks t) }
+
+token_end : (t : List ℕ) → list_all is_token_byte t ≡ true → without_end t ≡ t
+token_end [] h = refl
+token_end (b ∷ t) h =
+    let parts = and_parts (is_token_byte b) (list_all is_token_byte t) h in
+    ap (kept b) (token_end t parts.1) ∙ rw (token_not_blank b parts.0) refl
+
+pub token_front : (t : List ℕ) → list_all is_token_byte t ≡ true → begins_blank t ≡ false
+token_front [] h = refl
+token_front (b ∷ t) h = token_not_blank b (and_parts (is_token_byte b) (list_all is_token_byte t) h).0
+
+pub token_trimmed : (t : List ℕ) → list_all is_token_byte t ≡ true → trimmed t ≡ t
+token_trimmed t h = trim_same t (record { front = token_front t h; back = token_end t h })
+
+-- ---- pieces of a value
+
+kept_before : (x y : ℕ) (t : List ℕ) → kept x (y ∷ t) ≡ x ∷ y ∷ t
+kept_before x y t = step (is_blank x) where
+  step : (e : Bool) → cond (e && eqb (suc (length t)) 0) [] (x ∷ y ∷ t) ≡ x ∷ y ∷ t
+  step true = rw (ne_eqb (suc (length t)) 0 (λ e. cc)) refl
+  step false = refl
+
+end_behind : (a : List ℕ) (y : ℕ) (b : List ℕ) → without_end (y ∷ b) ≡ y ∷ b → without_end (a ++ y ∷ b) ≡ a ++ y ∷ b
+end_behind [] y b h = h
+end_behind (x ∷ []) y b h = ap (kept x) h ∙ kept_before x y b
+end_behind (x ∷ z ∷ a) y b h = ap (kept x) (end_behind (z ∷ a) y b h) ∙ kept_before x z (a ++ y ∷ b)
+
+pub glue_trim : (a b : List ℕ) → IsTrim a → IsTrim b → IsTrim (glue a b)
+glue_trim [] b h k = k
+glue_trim (x ∷ a) [] h k = h
+glue_trim (x ∷ a) (y ∷ b) h k =
+    let space : without_end (32 ∷ y ∷ b) ≡ 32 ∷ y ∷ b = ap (kept 32) k.back ∙ kept_before 32 y b in
+    record { front = h.front; back = end_behind (x ∷ a) 32 (y ∷ b) space }
+
+pub unfolded_trim : (ps : List (List ℕ)) → IsTrim (unfolded (map trimmed ps))
+unfolded_trim [] = record { front = refl; back = refl }
+unfolded_trim (p ∷ ps) = glue_trim (trimmed p) (unfolded (map trimmed ps)) (trimmed_is p) (unfolded_trim ps)
+
+-- ---- clean texts
+
+pub clean_joined : (a b : List ℕ) → is_clean a ≡ true → is_clean b ≡ true → is_clean (a ++ b) ≡ true
+clean_joined [] b h k = k
+clean_joined (x ∷ a) b h k =
+    let parts = and_parts (is_text_byte x) (is_clean a) h in
+    and_from (is_text_byte x) (is_clean (a ++ b)) parts.0 (clean_joined a b parts.1 k)
+
+clean_front : (t : List ℕ) → is_clean t ≡ true → is_clean (without_blanks t) ≡ true
+clean_front [] h = refl
+clean_front (b ∷ t) h = step (is_blank b) (clean_front t (and_parts (is_text_byte b) (is_clean t) h).1) where
+  step : (e : Bool) → is_clean (without_blanks t) ≡ true → is_clean (cond e (without_blanks t) (b ∷ t)) ≡ true
+  step true k = k
+  step false k = h
+
+clean_end : (t : List ℕ) → is_clean t ≡ true → is_clean (without_end t) ≡ true
+clean_end [] h = refl
+clean_end (b ∷ t) h = step (is_blank b && eqb (length (without_end t)) 0) (clean_end t (and_parts (is_text_byte b) (is_clean t) h).1) where
+  step : (e : Bool) → is_clean (without_end t) ≡ true → is_clean (cond e [] (b ∷ without_end t)) ≡ true
+  step true k = refl
+  step false k = and_from (is_text_byte b) (is_clean (without_end t)) (and_parts (is_text_byte b) (is_clean t) h).0 k
+
+pub trimmed_clean : (t : List ℕ) → is_clean t ≡ true → is_clean (trimmed t) ≡ true
+trimmed_clean t h = clean_end (without_blanks t) (clean_front t h)
+
+pub begun_clean : (t : List ℕ) → is_clean t ≡ true → is_clean (begun_value t) ≡ true
+begun_clean [] h = refl
+begun_clean (b ∷ t) h = step (eqb b 58) (and_parts (is_text_byte b) (is_clean t) h).1 (begun_clean t (and_parts (is_text_byte b) (is_clean t) h).1) where
+  step : (e : Bool) → is_clean t ≡ true → is_clean (begun_value t) ≡ true → is_clean (unwrap_or (cond e (Some t) (after 58 t)) []) ≡ true
+  step true k more = k
+  step false k more = more
+
+glue_clean : (a b : List ℕ) → is_clean a ≡ true → is_clean b ≡ true → is_clean (glue a b) ≡ true
+glue_clean [] b h k = k
+glue_clean (x ∷ a) [] h k = h
+glue_clean (x ∷ a) (y ∷ b) h k = clean_joined (x ∷ a) (32 ∷ y ∷ b) h k
+
+pub unfolded_clean : (ps : List (List ℕ)) → list_all is_clean ps ≡ true → is_clean (unfolded (map trimmed ps)) ≡ true
+unfolded_clean [] h = refl
+unfolded_clean (p ∷ ps) h =
+    let parts = and_parts (is_clean p) (list_all is_clean ps) h in
+    glue_clean (trimmed p) (unfolded (map trimmed ps)) (trimmed_clean p parts.0) (unfolded_clean ps parts.1)

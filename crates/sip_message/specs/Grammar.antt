@@ -1,0 +1,165 @@
+-- Which texts are messages, by what they are made of, to be read beside RFC 3261. No limit is part of it: how long a text may be,
+-- and how many header lines it may have, stand apart.
+use Rattle.std.specs.Prelude.{◌≡◌, ℕ, Bool, ◌≤◌, ◌<◌, not, ◌==◌, IsTrue, List, [], ◌∷◌, ◌++◌, length, map, codes, Some, Ok, Err}
+use Rattle.std.specs.Char.{is_ascii_digit}
+use Rattle.std.specs.List.{list_all}
+use Rattle.text.specs.Class.{is_run_of, is_token_byte}
+use Rattle.text.specs.Number.{number_upto}
+use Rattle.sip_uri.specs.declared.uri.Uri.{Uri}
+use Rattle.sip_uri.specs.Reading.{uri_of}
+use Rattle.sip_message.specs.declared.error.MessageError.{MessageError}
+use Rattle.sip_message.specs.declared.error.MessageError.TheVariants.{OutOfMemory, StartLine, Version, HeaderLine, Missing, Unreadable, Short, TooLong}
+use Rattle.sip_message.specs.declared.headers.Header.{Header}
+use Rattle.sip_message.specs.declared.message.Message.{Message}
+use Rattle.sip_message.specs.declared.message.Message.TheVariants as Kinds
+use Rattle.sip_message.specs.declared.message.Parts.{Parts}
+use Rattle.sip_message.specs.declared.message.Request.{Request}
+use Rattle.sip_message.specs.CSeq.{cseq_of}
+use Rattle.sip_message.specs.Form.{is_call_id, is_media_type, max_forwards_of}
+use Rattle.sip_message.specs.Heads.{ReadsHead, line_count}
+use Rattle.sip_message.specs.Lines.{before_line_end, is_clean}
+use Rattle.sip_message.specs.Lookup.{values_named}
+use Rattle.sip_message.specs.Party.{has_tag, party_of}
+use Rattle.sip_message.specs.Reading.{contents_of, greatest_datagram, greatest_lines}
+use Rattle.sip_message.specs.Start.{is_known_method, is_part, is_version}
+use Rattle.sip_message.specs.Values.{via_texts, without_length, greatest_length}
+use Rattle.sip_message.specs.Via.{via_of}
+
+-- ---- the start line
+
+abbrev pub has_no_space : List ℕ → Bool
+has_no_space text = list_all (λ b. not (b == 32)) text
+
+-- Method SP Request-URI SP SIP-Version (section 7.1), of any version: the method is a token that the server knows, and the
+-- Request-URI a URI without a space
+pub record HasRequestForm (line method : List ℕ) (uri : Uri) (version : List ℕ) : Type 0 where
+  pub uri_part : List ℕ
+  pub whole : line ≡ method ++ 32 ∷ (uri_part ++ 32 ∷ version)
+  pub token : IsTrue (is_run_of is_token_byte method)
+  pub known : IsTrue (is_known_method method)
+  pub unbroken : IsTrue (has_no_space uri_part)
+  pub reads : uri_of uri_part ≡ Ok uri
+  pub some_version : IsTrue (is_part version)
+
+-- a request line (section 7.1): its version is SIP/2.0 without case
+pub record IsRequestLine (line method : List ℕ) (uri : Uri) : Type 0 where
+  pub version : List ℕ
+  pub form : HasRequestForm line method uri version
+  pub sip_2 : IsTrue (is_version version)
+
+-- ---- start line, header fields and what is left
+
+-- the text is a clean request line, these header fields, an empty line and these bytes (section 7)
+pub record Opens (text method : List ℕ) (uri : Uri) (fields : List Header) (raw : List ℕ) : Type 0 where
+  pub line : List ℕ
+  pub rest : List ℕ
+  pub whole : text ≡ line ++ 13 ∷ 10 ∷ rest
+  pub clean : IsTrue (is_clean line)
+  pub start : IsRequestLine line method uri
+  pub head : ReadsHead rest fields raw
+
+-- how many header lines it has, lines that continue others included
+abbrev pub lines_of : {text method : List ℕ} {uri : Uri} {fields : List Header} {raw : List ℕ} → Opens text method uri fields raw → ℕ
+lines_of opens = line_count opens.head
+
+-- ---- header fields
+
+-- what an answer repeats is what the header fields say (section 8.1.1)
+pub record SaysParts (method : List ℕ) (fields : List Header) (parts : Parts) : Type 0 where
+  -- one Via at least, and each is read, in order (section 20.42)
+  pub some_via : parts.vias ≡ [] → ⊥
+  pub each_via : map via_of (via_texts fields) ≡ map (λ via. Some via) parts.vias
+  -- From stands once, and has a tag (section 20.20)
+  pub one_from : values_named (codes "From") fields ≡ parts.from_text ∷ []
+  pub from : party_of parts.from_text ≡ Some parts.from
+  pub from_tag : IsTrue (has_tag parts.from.params)
+  -- To stands once (section 20.39)
+  pub one_to : values_named (codes "To") fields ≡ parts.to_text ∷ []
+  pub to : party_of parts.to_text ≡ Some parts.to
+  -- Call-ID stands once (section 20.8)
+  pub one_call_id : values_named (codes "Call-ID") fields ≡ parts.call_id ∷ []
+  pub call_id : IsTrue (is_call_id parts.call_id)
+  -- CSeq stands once, and its method is the request's (section 20.16)
+  pub one_cseq : values_named (codes "CSeq") fields ≡ parts.cseq_text ∷ []
+  pub cseq : cseq_of parts.cseq_text ≡ Some parts.cseq
+  pub cseq_method : parts.cseq.method ≡ method
+
+-- the values of Max-Forwards, of which there is one at most: it is 0 to 255 (section 20.22), and 70 where there is none (section 8.1.1.6)
+abbrev pub SaysHops : List (List ℕ) → ℕ → Type 0
+SaysHops [] hops = hops ≡ 70
+SaysHops (text ∷ []) hops = max_forwards_of text ≡ Some hops
+SaysHops (one ∷ two ∷ more) hops = ⊥
+
+-- the values of Content-Type, of which there is one at most: it is a media type (section 20.15)
+abbrev pub SaysType : List (List ℕ) → Type 0
+SaysType [] = Unit {0}
+SaysType (text ∷ []) = IsTrue (is_media_type text)
+SaysType (one ∷ two ∷ more) = ⊥
+
+-- the values of Content-Length, of which there is one at most (section 20.14): as many bytes are the body as it says, and others may
+-- stand behind them; where there is none, all bytes are the body (section 18.3)
+abbrev pub SaysBody : List (List ℕ) → List ℕ → List ℕ → Type 0
+SaysBody [] raw body = body ≡ raw
+SaysBody (text ∷ []) raw body = IsTrue (is_run_of is_ascii_digit text) × (number_upto greatest_length text ≡ Some (length body)) × ((behind : List ℕ) × (raw ≡ body ++ behind))
+SaysBody (one ∷ two ∷ more) raw body = ⊥
+
+-- values and body are what the header fields, and the bytes behind them, say
+pub record Says (method : List ℕ) (fields : List Header) (raw : List ℕ) (parts : Parts) (hops : ℕ) (body : List ℕ) : Type 0 where
+  pub says_parts : SaysParts method fields parts
+  pub says_hops : SaysHops (values_named (codes "Max-Forwards") fields) hops
+  pub says_type : SaysType (values_named (codes "Content-Type") fields)
+  pub says_body : SaysBody (values_named (codes "Content-Length") fields) raw body
+
+-- ---- messages
+
+-- the text is this request (section 7.1)
+pub record ReadsRequest (text : List ℕ) (request : Request) : Type 0 where
+  pub fields : List Header
+  pub raw : List ℕ
+  pub opens : Opens text request.method request.uri fields raw
+  pub says : Says request.method fields raw request.parts request.max_forwards request.body
+  pub headers : request.headers ≡ without_length fields
+
+-- the text is this message; no text is an answer so far
+abbrev pub ReadsMessage : List ℕ → Message → Type 0
+ReadsMessage text (Kinds.Request request) = ReadsRequest text request
+ReadsMessage text (Kinds.Response response) = ⊥
+
+-- how many header lines it has
+abbrev pub header_lines : (text : List ℕ) (message : Message) → ReadsMessage text message → ℕ
+header_lines text (Kinds.Request request) reads = lines_of reads.opens
+header_lines text (Kinds.Response response) reads = 0
+
+-- ---- limits and refusals
+
+abbrev pub IsShort : List ℕ → Type 0
+IsShort text = length text ≤ greatest_datagram
+
+abbrev pub IsWithin : (text : List ℕ) (message : Message) → ReadsMessage text message → Type 0
+IsWithin text message reads = IsShort text × (header_lines text message reads ≤ greatest_lines)
+
+-- start line and header fields stand, and the first header field, in the order of `HeaderName`, that does not say its value, or then
+-- the body, has this fault
+pub record RefusesContents (text : List ℕ) (fault : MessageError) : Type 0 where
+  pub short : IsShort text
+  pub method : List ℕ
+  pub uri : Uri
+  pub fields : List Header
+  pub raw : List ℕ
+  pub opens : Opens text method uri fields raw
+  pub few : lines_of opens ≤ greatest_lines
+  pub first : contents_of method fields raw ≡ Err fault
+
+-- the text has this fault, and none before it
+abbrev pub Refuses : List ℕ → MessageError → Type 0
+Refuses text OutOfMemory = Unit {0}
+Refuses text TooLong = greatest_datagram < length text
+Refuses text StartLine = IsShort text × ((method : List ℕ) (uri : Uri) (version : List ℕ) → HasRequestForm (before_line_end text) method uri version → ⊥)
+Refuses text Version =
+    IsShort text × ((method : List ℕ) × (uri : Uri) × (version : List ℕ) × HasRequestForm (before_line_end text) method uri version × ¬ (IsTrue (is_version version)))
+Refuses text HeaderLine =
+    IsShort text × ((method : List ℕ) × (uri : Uri) × IsRequestLine (before_line_end text) method uri)
+    × ((method : List ℕ) (uri : Uri) (fields : List Header) (raw : List ℕ) (opens : Opens text method uri fields raw) → lines_of opens ≤ greatest_lines → ⊥)
+Refuses text (Missing name) = RefusesContents text (Missing name)
+Refuses text (Unreadable name) = RefusesContents text (Unreadable name)
+Refuses text Short = RefusesContents text Short

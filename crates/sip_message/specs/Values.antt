@@ -1,0 +1,152 @@
+-- What the header fields of a request say (RFC 3261 sections 8.1.1 and 20), and the first fault of those that say nothing.
+use Rattle.std.specs.Prelude.{ℕ, not, nat_eq, nat_le, List, [], ◌∷◌, length, take, filter, codes, Option, Some, None, option_map, Result, Ok, Err, if◌then◌else◌}
+use Rattle.std.specs.List.{flat_map}
+use Rattle.std.specs.Char.{is_ascii_digit}
+use Rattle.std.specs.Cmp.Lexicographic.{pointwise}
+use Rattle.text.specs.Class.{is_run_of}
+use Rattle.text.specs.Number.{number_upto}
+use Rattle.text.specs.Pieces.{pieces}
+use Rattle.text.specs.declared.splitting.Within.TheVariants.{Nothing}
+use Rattle.sip_uri.specs.declared.uri.NameAddr.{NameAddr}
+use Rattle.sip_message.specs.declared.error.HeaderName.TheVariants as Names
+use Rattle.sip_message.specs.declared.error.MessageError.{MessageError}
+use Rattle.sip_message.specs.declared.error.MessageError.TheVariants.{Missing, Unreadable, Short}
+use Rattle.sip_message.specs.declared.headers.Header.{Header}
+use Rattle.sip_message.specs.declared.cseq.CSeq.{CSeq}
+use Rattle.sip_message.specs.declared.via.Via.{Via}
+use Rattle.sip_message.specs.declared.message.Parts.{Parts}
+use Rattle.sip_message.specs.declared.party.Party.{Party}
+use Rattle.sip_message.specs.declared.cseq.Sequence.{Sequence}
+use Rattle.sip_message.specs.declared.values.Values.{Values}
+use Rattle.sip_message.specs.CSeq.{cseq_of}
+use Rattle.sip_message.specs.Faults.{and_then, readable}
+use Rattle.sip_message.specs.Form.{is_call_id, is_media_type, max_forwards_of}
+use Rattle.sip_message.specs.Lookup.{is_named, values_named}
+use Rattle.sip_message.specs.Named.{at_most_one, exactly_one}
+use Rattle.sip_message.specs.Party.{has_tag, party_of}
+use Rattle.sip_message.specs.Via.{via_of}
+
+-- ---- Via
+
+abbrev pub with_via : Option Via → Option (List Via) → Option (List Via)
+with_via None vias = None
+with_via (Some via) vias = option_map (λ vs. via ∷ vs) vias
+
+-- each text is a Via
+abbrev pub each_via : List (List ℕ) → Option (List Via)
+each_via [] = Some []
+each_via (text ∷ texts) = with_via (via_of text) (each_via texts)
+
+-- the values of all Via header fields, of which one may have several with commas between them (section 7.3.1)
+abbrev pub via_texts : List Header → List (List ℕ)
+via_texts headers = flat_map (λ value. pieces 44 Nothing value) (values_named (codes "Via") headers)
+
+abbrev pub some_vias : List (List ℕ) → Result (List Via) MessageError
+some_vias [] = Err (Missing Names.Via)
+some_vias (text ∷ texts) = readable Names.Via (each_via (text ∷ texts))
+
+-- ---- the others
+
+abbrev pub tagged : NameAddr → Option NameAddr
+tagged name = if has_tag name.params then Some name else None
+
+abbrev pub if_tagged : Option NameAddr → Option NameAddr
+if_tagged None = None
+if_tagged (Some name) = tagged name
+
+abbrev pub with_text : List ℕ → Result NameAddr MessageError → Result Party MessageError
+with_text text (Ok name) = Ok (record { text = text; name = name })
+with_text text (Err e) = Err e
+
+-- From stands once, and has a tag
+abbrev pub from_of : List Header → Result Party MessageError
+from_of headers =
+    and_then (exactly_one Names.From (values_named (codes "From") headers)) (λ text. with_text text (readable Names.From (if_tagged (party_of text))))
+
+-- To stands once
+abbrev pub to_of : List Header → Result Party MessageError
+to_of headers = and_then (exactly_one Names.To (values_named (codes "To") headers)) (λ text. with_text text (readable Names.To (party_of text)))
+
+abbrev pub call_id_of : List Header → Result (List ℕ) MessageError
+call_id_of headers =
+    and_then (exactly_one Names.CallId (values_named (codes "Call-ID") headers)) (λ text. if is_call_id text then Ok text else Err (Unreadable Names.CallId))
+
+abbrev pub of_method : List ℕ → Option CSeq → Option CSeq
+of_method method None = None
+of_method method (Some cseq) = if pointwise nat_eq cseq.method method then Some cseq else None
+
+abbrev pub with_number : List ℕ → Result CSeq MessageError → Result Sequence MessageError
+with_number text (Ok cseq) = Ok (record { text = text; cseq = cseq })
+with_number text (Err e) = Err e
+
+-- CSeq stands once, and its method is the request's
+abbrev pub cseq_for : List ℕ → List Header → Result Sequence MessageError
+cseq_for method headers =
+    and_then (exactly_one Names.CSeq (values_named (codes "CSeq") headers)) (λ text. with_number text (readable Names.CSeq (of_method method (cseq_of text))))
+
+abbrev pub hops_by : Option (List ℕ) → Result ℕ MessageError
+hops_by None = Ok 70
+hops_by (Some text) = readable Names.MaxForwards (max_forwards_of text)
+
+-- Max-Forwards stands once at most; 70 where it does not stand (section 8.1.1.6 gives that number)
+abbrev pub hops_of : List Header → Result ℕ MessageError
+hops_of headers = and_then (at_most_one Names.MaxForwards (values_named (codes "Max-Forwards") headers)) hops_by
+
+abbrev pub type_by : Option (List ℕ) → Result (Option (List ℕ)) MessageError
+type_by None = Ok None
+type_by (Some text) = if is_media_type text then Ok (Some text) else Err (Unreadable Names.ContentType)
+
+-- Content-Type stands once at most
+abbrev pub type_of : List Header → Result (Option (List ℕ)) MessageError
+type_of headers = and_then (at_most_one Names.ContentType (values_named (codes "Content-Type") headers)) type_by
+
+-- ---- all
+
+unfoldable pub parts_of : List ℕ → List Header → Result Parts MessageError
+parts_of method headers =
+    and_then (some_vias (via_texts headers)) (λ vias.
+    and_then (from_of headers) (λ from.
+    and_then (to_of headers) (λ to.
+    and_then (call_id_of headers) (λ call_id.
+    and_then (cseq_for method headers) (λ cseq.
+    Ok (record {
+      vias = vias;
+      from = from.name;
+      to = to.name;
+      call_id = call_id;
+      cseq = cseq.cseq;
+      from_text = from.text;
+      to_text = to.text;
+      cseq_text = cseq.text;
+    }))))))
+
+unfoldable pub values_of : List ℕ → List Header → Result Values MessageError
+values_of method headers =
+    and_then (parts_of method headers) (λ parts.
+    and_then (hops_of headers) (λ hops.
+    and_then (type_of headers) (λ content_type.
+    Ok (record { parts = parts; max_forwards = hops }))))
+
+-- ---- the body
+
+-- every header field but Content-Length
+abbrev pub without_length : List Header → List Header
+without_length headers = filter (λ h. not (is_named (codes "Content-Length") h)) headers
+
+-- no datagram is longer
+abbrev pub greatest_length : ℕ
+greatest_length = 4294967295
+
+abbrev pub long_enough : Option ℕ → List ℕ → Result (List ℕ) MessageError
+long_enough None rest = Err Short
+long_enough (Some n) rest = if nat_le n (length rest) then Ok (take n rest) else Err Short
+
+abbrev pub body_by : List ℕ → Option (List ℕ) → Result (List ℕ) MessageError
+body_by rest None = Ok rest
+body_by rest (Some text) =
+    if is_run_of is_ascii_digit text then long_enough (number_upto greatest_length text) rest else Err (Unreadable Names.ContentLength)
+
+-- Content-Length stands once at most. As many bytes are the body as it says, or all where it does not stand; more bytes are left
+-- out, and fewer are a fault (section 18.3).
+unfoldable pub body_of : List Header → List ℕ → Result (List ℕ) MessageError
+body_of headers rest = and_then (at_most_one Names.ContentLength (values_named (codes "Content-Length") headers)) (body_by rest)

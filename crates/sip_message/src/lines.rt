@@ -1,0 +1,89 @@
+//! The lines of a datagram, which end in CR LF (RFC 3261 section 7).
+
+ghost use Rattle.std.specs.Prelude.{◌≡◌, ◌+◌, ◌≤◌, length, map, option_map, IfSome};
+ghost use Rattle.std.specs.List.{list_all};
+ghost use Rattle.std.specs.Option.{option_copied};
+ghost use Rattle.sip_message.specs.Lines.{lines_within, begins_line_end, line_end, before_line_end, after_line_end, is_clean, is_text_byte, line_of};
+ghost use Rattle.sip_message.specs.Heads.{GivesLines};
+
+use crate::head::HeadError;
+use std::alloc::Global;
+
+fn begins_line_end(text: &[u8]) -> bool
+    ensures { result ≡ begins_line_end text.now }
+{
+    text.starts_with(b"\r\n")
+}
+
+/// The place of the first CR LF pair.
+fn line_end(text: &[u8]) -> Option<usize>
+    ensures place { result ≡ line_end text.now }
+    ensures within { IfSome result (λ at. at + 2 ≤ length text.now) }
+{
+    for at in 0..text.len() {
+        if begins_line_end(&text[at..]) {
+            return Some(at);
+        }
+    }
+    None
+}
+
+/// What stands before the first CR LF pair, all where there is none, and what stands behind it.
+#[tactic(auto, using(crate::proofs::LineLaws::line_at, crate::proofs::LineLaws::rest_at, crate::proofs::LineLaws::no_end_line, crate::proofs::LineLaws::no_end_rest))]
+pub(crate) fn first_line(text: &[u8]) -> (&[u8], Option<&[u8]>)
+    ensures line { result.0.now ≡ before_line_end text.now }
+    ensures rest { option_copied result.1 ≡ after_line_end text.now }
+{
+    match line_end(text) {
+        Some(at) => (&text[..at], Some(&text[at + 2..])),
+        None => (text, None),
+    }
+}
+
+fn is_text_byte(b: u8) -> bool
+    ensures { result ≡ is_text_byte b }
+{
+    b != b'\r' && b != b'\n' && b != 0
+}
+
+/// Whether the text has no CR, no LF and no NUL.
+pub(crate) fn is_clean(text: &[u8]) -> bool
+    ensures { result ≡ is_clean text.now }
+{
+    text.iter().all(|b| is_text_byte(*b))
+}
+
+/// The first line, and what stands behind its end, where the line is clean.
+fn next_line(text: &[u8]) -> Option<(&[u8], &[u8])>
+    ensures { option_map (λ x. (x.0.now, x.1.now)) result ≡ line_of text.now }
+{
+    let (line, after) = first_line(text);
+    let rest = after?;
+    if !is_clean(line) {
+        return None;
+    }
+    Some((line, rest))
+}
+
+/// The lines up to the empty line, fewer than the limit, and what stands behind it.
+pub(crate) fn lines_within(
+    alloc: Global,
+    limit: u32,
+    text: &[u8],
+) -> Result<(Vec<&[u8]>, &[u8]), HeadError>
+    ensures { GivesLines result (lines_within limit text.now) }
+{
+    let mut lines = Vec::new(alloc);
+    let mut rest = text;
+    for _ in 0..limit {
+        let Some((line, after)) = next_line(rest) else {
+            return Err(HeadError::Line);
+        };
+        if line.is_empty() {
+            return Ok((lines, after));
+        }
+        lines.push(line)?;
+        rest = after;
+    }
+    Err(HeadError::Line)
+}

@@ -1,0 +1,59 @@
+//! The value of a From or To header field (RFC 3261 sections 20.20 and 20.39).
+
+ghost use Rattle.std.specs.Prelude.{◌≡◌, IfOk};
+ghost use Rattle.std.specs.Option.{option_copied};
+ghost use Rattle.sip_message.specs.Party.{tag_fits, has_fit_tag, has_tag, party_of};
+
+use sip_uri::{NameAddr, Param, UriError, param_named, read_name_addr};
+use std::alloc::{AllocError, Global};
+use text::{Text, is_run_of_token};
+
+/// The value of From or To, and its text as received, unfolded and trimmed.
+#[derive(Clone, Debug, Drop)]
+pub(crate) struct Party {
+    pub text: Text,
+    pub name: NameAddr,
+}
+
+fn tag_fits(tag: Option<&Param>) -> bool
+    ensures { result ≡ tag_fits (option_copied tag.entry) }
+{
+    match tag {
+        None => true,
+        Some(tag) => tag
+            .value
+            .as_ref()
+            .is_some_and(|value| is_run_of_token(value.as_bytes())),
+    }
+}
+
+fn has_fit_tag(params: &[Param]) -> bool
+    ensures { result ≡ has_fit_tag params.now }
+{
+    tag_fits(param_named(params, b"tag"))
+}
+
+/// Whether the header has a tag (RFC 3261 section 19.3).
+pub(crate) fn has_tag(params: &[Param]) -> bool
+    ensures { result ≡ has_tag params.now }
+{
+    param_named(params, b"tag").is_some()
+}
+
+/// The name and URI, if the text is one and its tag, if any, has a value that is a token.
+#[tactic(auto, unfolding(crate::specs::Party::party_of))]
+pub(crate) fn read_party(alloc: Global, text: &[u8]) -> Result<Option<NameAddr>, AllocError>
+    ensures { IfOk result (λ party. party ≡ party_of text.now) }
+{
+    match read_name_addr(alloc, text) {
+        Ok(name) => {
+            if has_fit_tag(name.params.as_slice()) {
+                Ok(Some(name))
+            } else {
+                Ok(None)
+            }
+        }
+        Err(UriError::OutOfMemory) => Err(AllocError),
+        Err(_) => Ok(None),
+    }
+}

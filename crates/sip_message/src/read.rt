@@ -1,0 +1,120 @@
+//! Reading of messages.
+
+ghost use Rattle.std.specs.Prelude.{◌≡◌, ℕ, Ok, IfOk, IfErr};
+ghost use Rattle.std.specs.Option.{option_copied};
+ghost use Rattle.sip_message.specs.Faults.{Gives};
+ghost use Rattle.sip_message.specs.Grammar.{ReadsMessage, IsWithin, Refuses};
+ghost use Rattle.sip_message.specs.Reading.{contents_of, request_with, behind_start, message_of};
+ghost use Rattle.sip_message.specs.Values.{without_length};
+ghost use Rattle.sip_message.specs.declared.message.Message.{Message};
+
+use crate::body::read_body;
+use crate::error::MessageError;
+use crate::head::{HeadError, read_head};
+use crate::headers::{Header, Headers};
+use crate::lines::{first_line, is_clean};
+use crate::lookup::is_named;
+use crate::message::{Message, Request};
+use crate::start::{Start, read_start};
+use crate::values::{Values, read_values};
+use std::alloc::Global;
+use text::Text;
+
+/// Bytes in a datagram.
+const GREATEST_DATAGRAM: usize = 16_384;
+
+/// Header lines, lines that continue others included.
+const GREATEST_LINES: u32 = 128;
+
+/// Values and body of a request.
+#[derive(Clone, Debug, Drop)]
+pub(crate) struct Contents {
+    pub values: Values,
+    pub body: Text,
+}
+
+#[tactic(auto, unfolding(crate::specs::Reading::contents_of), using(crate::proofs::FaultLaws::failed_then))]
+fn read_contents(
+    alloc: Global,
+    method: &Text,
+    headers: &[Header],
+    rest: &[u8],
+) -> Result<Contents, MessageError>
+    ensures { Gives result (contents_of method.now headers.now rest.now) }
+{
+    let values = read_values(alloc, method, headers)?;
+    let body = read_body(alloc, headers, rest)?;
+    Ok(Contents { values, body })
+}
+
+fn drop_length(headers: &mut Vec<Header>)
+    ensures { headers.new.items ≡ without_length headers.old.items }
+{
+    headers.retain(|header| !is_named(header, b"Content-Length"));
+}
+
+fn without_length(headers: Headers) -> Headers
+    ensures { result ≡ without_length headers }
+{
+    let mut kept = headers.into_vec();
+    drop_length(&mut kept);
+    Headers::from_vec(kept)
+}
+
+fn request(start: Start, headers: Headers, contents: Contents) -> Message
+    ensures { result ≡ request_with start headers contents }
+{
+    let Contents { values, body } = contents;
+    Message::Request(Request {
+        method: start.method,
+        uri: start.uri,
+        parts: values.parts,
+        max_forwards: values.max_forwards,
+        headers: without_length(headers),
+        body,
+    })
+}
+
+#[tactic(auto, using(crate::proofs::FaultLaws::failed_then))]
+fn behind_start(alloc: Global, start: Start, rest: Option<&[u8]>) -> Result<Message, MessageError>
+    ensures { Gives result (behind_start start (option_copied rest.entry)) }
+{
+    let Some(rest) = rest else {
+        return Err(MessageError::HeaderLine);
+    };
+    let (headers, rest) = match read_head(alloc, GREATEST_LINES + 1, rest) {
+        Ok(head) => head,
+        Err(HeadError::OutOfMemory) => return Err(MessageError::OutOfMemory),
+        Err(HeadError::Line) => return Err(MessageError::HeaderLine),
+    };
+    let contents = read_contents(alloc, &start.method, headers.as_slice(), rest)?;
+    Ok(request(start, headers, contents))
+}
+
+#[tactic(auto, unfolding(crate::specs::Reading::message_of), using(crate::proofs::FaultLaws::failed_then))]
+fn read(alloc: Global, bytes: &[u8]) -> Result<Message, MessageError>
+    ensures { Gives result (message_of bytes.now) }
+{
+    if bytes.len() > GREATEST_DATAGRAM {
+        return Err(MessageError::TooLong);
+    }
+    let (line, rest) = first_line(bytes);
+    let start = read_start(alloc, line)?;
+    if !is_clean(line) {
+        return Err(MessageError::HeaderLine);
+    }
+    behind_start(alloc, start, rest)
+}
+
+/// The message that a datagram is, of at most 16,384 bytes and at most 128 header lines, lines that continue others
+/// included. So far a REGISTER request is read, and any other message is refused as `StartLine`.
+pub fn read_message(alloc: Global, bytes: &[u8]) -> Result<Message, MessageError>
+    // What is read is the message that the bytes are, and they are within the limits.
+    ensures found { IfOk result (λ m. (reads : ReadsMessage bytes.now m) × IsWithin bytes.now m reads) }
+    // Bytes within the limits that are a message are read, unless memory runs out.
+    ensures only { (m : Message) (reads : ReadsMessage bytes.now m) → IsWithin bytes.now m reads → Gives result (Ok m) }
+    ensures refused { IfErr result (λ e. Refuses bytes.now e) }
+    ensures exact { Gives result (message_of bytes.now) }
+{
+    read(alloc, bytes)
+}

@@ -1,0 +1,240 @@
+//! Answers to requests (RFC 3261 section 8.2.6).
+
+ghost use Rattle.std.specs.Prelude.{◌≡◌, ◌++◌, ◌∷◌, [], map, codes, unwrap_or, IsTrue, IfOk, OnOk};
+ghost use Rattle.std.specs.List.{flat_map};
+ghost use Rattle.text.specs.Class.{is_run_of, is_token_byte};
+ghost use Rattle.sip_uri.specs.Writing.{param_text};
+ghost use Rattle.sip_message.specs.Lookup.{named};
+ghost use Rattle.sip_message.specs.Reply.{marked_top, puts_tag, tagged_params, tagged_to, tagged_text, replied, via_text, reply_headers, reply_of, tag_param, answer_port, answer_address};
+
+use crate::copies::{copied_cseq, copied_display, copied_name, copied_text, copied_uri};
+use crate::headers::{Header, Headers};
+use crate::message::{Parts, Response, Vias};
+use crate::party::has_tag;
+use crate::reasons::reason_of;
+use crate::received::{asks_port, marked};
+use crate::via::Via;
+use sip_uri::{Addr, NameAddr, Param, Params, put_param};
+use std::alloc::{AllocError, Global};
+use text::Text;
+
+/// The port of a sent-by that names none, and of a SIP URI (RFC 3261 section 19.1.2).
+const DEFAULT_PORT: u16 = 5060;
+
+fn put_params(out: &mut Vec<u8>, params: &[Param]) -> Result<(), AllocError>
+    ensures { OnOk result (out.new.items ≡ out.old.items ++ flat_map (λ p. 59 ∷ param_text p) params.now) }
+{
+    for param in params {
+        put_behind(out, param)?;
+    }
+    Ok(())
+}
+
+fn put_behind(out: &mut Vec<u8>, param: &Param) -> Result<(), AllocError>
+    ensures { OnOk result (out.new.items ≡ out.old.items ++ (59 ∷ param_text param.now)) }
+{
+    out.push(b';')?;
+    put_param(out, param)?;
+    Ok(())
+}
+
+fn push_header(
+    alloc: Global,
+    headers: &mut Vec<Header>,
+    name: &[u8],
+    value: &[u8],
+) -> Result<(), AllocError>
+    ensures { OnOk result (headers.new.items ≡ headers.old.items ++ named name.now value.now ∷ []) }
+{
+    let header = Header::of(alloc, name, value)?;
+    headers.push(header)?;
+    Ok(())
+}
+
+fn via_header(alloc: Global, via: &Via) -> Result<Header, AllocError>
+    ensures { IfOk result (λ h. h ≡ named (codes "Via") (via_text via.now)) }
+{
+    let name = Text::from_slice(alloc, b"Via")?;
+    let mut out = Vec::from_slice(alloc, b"SIP/2.0/UDP ")?;
+    out.extend_from_slice(via.sent_by.as_bytes())?;
+    put_params(&mut out, via.params.as_slice())?;
+    Ok(Header {
+        name,
+        value: Text::from_vec(out),
+    })
+}
+
+fn via_headers(alloc: Global, vias: &[Via]) -> Result<Vec<Header>, AllocError>
+    ensures { IfOk result (λ hs. hs.items ≡ map (λ via. named (codes "Via") (via_text via)) vias.now) }
+{
+    let mut headers = Vec::new(alloc);
+    for via in vias {
+        headers.push(via_header(alloc, via)?)?;
+    }
+    Ok(headers)
+}
+
+/// The header fields of an answer, but for those that one answer needs and another doesn't.
+#[tactic(auto, unfolding(crate::specs::Reply::reply_headers))]
+fn reply_headers(alloc: Global, parts: &Parts) -> Result<Headers, AllocError>
+    ensures { IfOk result (λ hs. hs ≡ reply_headers parts.now) }
+{
+    let mut headers = via_headers(alloc, parts.vias.as_slice())?;
+    push_header(alloc, &mut headers, b"From", parts.from_text.as_bytes())?;
+    push_header(alloc, &mut headers, b"To", parts.to_text.as_bytes())?;
+    push_header(alloc, &mut headers, b"Call-ID", parts.call_id.as_bytes())?;
+    push_header(alloc, &mut headers, b"CSeq", parts.cseq_text.as_bytes())?;
+    Ok(Headers::from_vec(headers))
+}
+
+#[tactic(auto, using(crate::proofs::ReplyLaws::top_marked))]
+fn mark_top(alloc: Global, vias: &mut Vec<Via>, source: Addr) -> Result<(), AllocError>
+    ensures { OnOk result (vias.new.items ≡ marked_top source vias.old.items) }
+{
+    if vias.is_empty() {
+        return Ok(());
+    }
+    let top = marked(alloc, &vias[0], source)?;
+    vias[0] = top;
+    Ok(())
+}
+
+fn marked_top(alloc: Global, vias: &Vias, source: Addr) -> Result<Vias, AllocError>
+    ensures { IfOk result (λ vs. vs ≡ marked_top source vias.now) }
+{
+    let mut vias = vias.clone()?.into_vec();
+    mark_top(alloc, &mut vias, source)?;
+    Ok(Vias::from_vec(vias))
+}
+
+fn puts_tag(status: u16, to: &NameAddr) -> bool
+    ensures { result ≡ puts_tag status to.now }
+{
+    !has_tag(to.params.as_slice()) && status != 100
+}
+
+fn tag_param(alloc: Global, tag: &[u8]) -> Result<Param, AllocError>
+    ensures { IfOk result (λ p. p ≡ tag_param tag.now) }
+{
+    let name = Text::from_slice(alloc, b"tag")?;
+    let value = Text::from_slice(alloc, tag)?;
+    Ok(Param {
+        name,
+        value: Some(value),
+    })
+}
+
+fn tagged_params(
+    alloc: Global,
+    params: &Params,
+    puts: bool,
+    tag: &[u8],
+) -> Result<Params, AllocError>
+    ensures { IfOk result (λ ps. ps ≡ tagged_params puts params.now tag.now) }
+{
+    if !puts {
+        return params.clone();
+    }
+    let mut params = params.clone()?.into_vec();
+    let param = tag_param(alloc, tag)?;
+    params.push(param)?;
+    Ok(Params::from_vec(params))
+}
+
+fn tagged_to(alloc: Global, status: u16, to: &NameAddr, tag: &[u8]) -> Result<NameAddr, AllocError>
+    ensures { IfOk result (λ t. t ≡ tagged_to status to.now tag.now) }
+{
+    let params = tagged_params(alloc, &to.params, puts_tag(status, to), tag)?;
+    let display = copied_display(&to.display)?;
+    let uri = copied_uri(&to.uri)?;
+    Ok(NameAddr {
+        display,
+        uri,
+        params,
+    })
+}
+
+fn tagged_text(status: u16, to: &NameAddr, text: &Text, tag: &[u8]) -> Result<Text, AllocError>
+    ensures { IfOk result (λ t. t ≡ tagged_text status to.now text.now tag.now) }
+{
+    if !puts_tag(status, to) {
+        return text.clone();
+    }
+    let mut bytes = text.clone()?.into_vec();
+    bytes.extend_from_slice(b";tag=")?;
+    bytes.extend_from_slice(tag)?;
+    Ok(Text::from_vec(bytes))
+}
+
+#[tactic(auto, unfolding(crate::specs::Reply::replied))]
+fn replied(
+    alloc: Global,
+    parts: &Parts,
+    source: Addr,
+    status: u16,
+    tag: &[u8],
+) -> Result<Parts, AllocError>
+    ensures { IfOk result (λ p. p ≡ replied parts.now source status tag.now) }
+{
+    let vias = marked_top(alloc, &parts.vias, source)?;
+    let to = tagged_to(alloc, status, &parts.to, tag)?;
+    let to_text = tagged_text(status, &parts.to, &parts.to_text, tag)?;
+    Ok(Parts {
+        vias,
+        from: copied_name(&parts.from)?,
+        to,
+        call_id: copied_text(&parts.call_id)?,
+        cseq: copied_cseq(&parts.cseq)?,
+        from_text: copied_text(&parts.from_text)?,
+        to_text,
+        cseq_text: copied_text(&parts.cseq_text)?,
+    })
+}
+
+/// The answer to a request that came from `source`, with no body: each Via, From, To, Call-ID and CSeq as received, the
+/// top Via with the source, and To with the tag where it has none and the status is not 100.
+#[tactic(auto, unfolding(crate::specs::Reply::reply_of))]
+pub fn reply_to(
+    alloc: Global,
+    parts: &Parts,
+    source: Addr,
+    status: u16,
+    tag: &[u8],
+) -> Result<Response, AllocError>
+    requires { IsTrue (is_run_of is_token_byte tag.now) }
+    ensures answer { IfOk result (λ r. r ≡ reply_of parts.now source status tag.now) }
+{
+    let parts = replied(alloc, parts, source, status, tag)?;
+    let headers = reply_headers(alloc, &parts)?;
+    let reason = Text::from_slice(alloc, reason_of(status))?;
+    Ok(Response {
+        status,
+        reason,
+        parts,
+        headers,
+        body: Text::from_vec(Vec::new(alloc)),
+    })
+}
+
+fn answer_port(via: &Via, source: Addr) -> u16
+    ensures { result ≡ answer_port via.now source }
+{
+    if asks_port(via.params.as_slice()) {
+        source.port
+    } else {
+        via.port.unwrap_or(DEFAULT_PORT)
+    }
+}
+
+/// Where an answer goes: to the source address, and there to the source port where the top `rport` was empty, else to
+/// the port of sent-by, else to 5060 (RFC 3261 section 18.2.2, RFC 3581 section 4). Takes no memory.
+pub fn reply_address(parts: &Parts, source: Addr) -> Addr
+    ensures address { result ≡ answer_address parts.now.vias source }
+{
+    let ip = source.ip;
+    let port = match parts.vias.as_slice() {
+        [] => DEFAULT_PORT,
+        [via, ..] => answer_port(via, source),
+    };
+    Addr { ip, port }
+}

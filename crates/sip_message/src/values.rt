@@ -1,0 +1,141 @@
+//! What the header fields of a request say.
+
+ghost use Rattle.sip_message.specs.Faults.{Gives};
+ghost use Rattle.sip_message.specs.Values.{from_of, to_of, call_id_of, cseq_for, hops_of, type_of, parts_of, values_of};
+
+use crate::cseq::{Sequence, read_cseq};
+use crate::error::{HeaderName, MessageError};
+use crate::form::{is_call_id, is_media_type, read_max_forwards};
+use crate::headers::Header;
+use crate::message::Parts;
+use crate::named::{at_most_one, exactly_one};
+use crate::party::{Party, has_tag, read_party};
+use crate::vias::read_vias;
+use std::alloc::Global;
+use text::Text;
+
+/// The values of a request's header fields, but for its body's length.
+#[derive(Clone, Debug, Drop)]
+pub(crate) struct Values {
+    pub parts: Parts,
+    pub max_forwards: u8,
+}
+
+#[tactic(auto, using(crate::proofs::FaultLaws::fails_itself))]
+fn read_from(alloc: Global, headers: &[Header]) -> Result<Party, MessageError>
+    ensures { Gives result (from_of headers.now) }
+{
+    let text = exactly_one(headers, b"From", HeaderName::From)?;
+    let Some(name) = read_party(alloc, text.as_bytes())? else {
+        return Err(MessageError::Unreadable(HeaderName::From));
+    };
+    if !has_tag(name.params.as_slice()) {
+        return Err(MessageError::Unreadable(HeaderName::From));
+    }
+    let text = text.clone()?;
+    Ok(Party { text, name })
+}
+
+#[tactic(auto, using(crate::proofs::FaultLaws::fails_itself))]
+fn read_to(alloc: Global, headers: &[Header]) -> Result<Party, MessageError>
+    ensures { Gives result (to_of headers.now) }
+{
+    let text = exactly_one(headers, b"To", HeaderName::To)?;
+    let Some(name) = read_party(alloc, text.as_bytes())? else {
+        return Err(MessageError::Unreadable(HeaderName::To));
+    };
+    let text = text.clone()?;
+    Ok(Party { text, name })
+}
+
+#[tactic(auto, using(crate::proofs::FaultLaws::fails_itself))]
+fn read_call_id(headers: &[Header]) -> Result<Text, MessageError>
+    ensures { Gives result (call_id_of headers.now) }
+{
+    let text = exactly_one(headers, b"Call-ID", HeaderName::CallId)?;
+    if !is_call_id(text.as_bytes()) {
+        return Err(MessageError::Unreadable(HeaderName::CallId));
+    }
+    Ok(text.clone()?)
+}
+
+#[tactic(auto, using(crate::proofs::FaultLaws::fails_itself))]
+fn read_cseq_for(alloc: Global, method: &Text, headers: &[Header]) -> Result<Sequence, MessageError>
+    ensures { Gives result (cseq_for method.now headers.now) }
+{
+    let text = exactly_one(headers, b"CSeq", HeaderName::CSeq)?;
+    let Some(cseq) = read_cseq(alloc, text.as_bytes())? else {
+        return Err(MessageError::Unreadable(HeaderName::CSeq));
+    };
+    if cseq.method != *method {
+        return Err(MessageError::Unreadable(HeaderName::CSeq));
+    }
+    let text = text.clone()?;
+    Ok(Sequence { text, cseq })
+}
+
+#[tactic(auto, using(crate::proofs::FaultLaws::fails_itself))]
+fn read_hops(headers: &[Header]) -> Result<u8, MessageError>
+    ensures { Gives result (hops_of headers.now) }
+{
+    match at_most_one(headers, b"Max-Forwards", HeaderName::MaxForwards)? {
+        None => Ok(70),
+        Some(text) => match read_max_forwards(text.as_bytes()) {
+            Some(hops) => Ok(hops),
+            None => Err(MessageError::Unreadable(HeaderName::MaxForwards)),
+        },
+    }
+}
+
+#[tactic(auto, using(crate::proofs::FaultLaws::fails_itself))]
+fn read_type(alloc: Global, headers: &[Header]) -> Result<Option<Text>, MessageError>
+    ensures { Gives result (type_of headers.now) }
+{
+    let Some(text) = at_most_one(headers, b"Content-Type", HeaderName::ContentType)? else {
+        return Ok(None);
+    };
+    if !is_media_type(alloc, text.as_bytes())? {
+        return Err(MessageError::Unreadable(HeaderName::ContentType));
+    }
+    Ok(Some(text.clone()?))
+}
+
+/// What an answer repeats of the request.
+#[tactic(auto, unfolding(crate::specs::Values::parts_of), using(crate::proofs::FaultLaws::failed_then))]
+fn read_parts(alloc: Global, method: &Text, headers: &[Header]) -> Result<Parts, MessageError>
+    ensures { Gives result (parts_of method.now headers.now) }
+{
+    let vias = read_vias(alloc, headers)?;
+    let from = read_from(alloc, headers)?;
+    let to = read_to(alloc, headers)?;
+    let call_id = read_call_id(headers)?;
+    let cseq = read_cseq_for(alloc, method, headers)?;
+    Ok(Parts {
+        vias,
+        from: from.name,
+        to: to.name,
+        call_id,
+        cseq: cseq.cseq,
+        from_text: from.text,
+        to_text: to.text,
+        cseq_text: cseq.text,
+    })
+}
+
+/// The values of a request's header fields. The faults come in the order of `HeaderName`.
+#[tactic(auto, unfolding(crate::specs::Values::values_of), using(crate::proofs::FaultLaws::failed_then))]
+pub(crate) fn read_values(
+    alloc: Global,
+    method: &Text,
+    headers: &[Header],
+) -> Result<Values, MessageError>
+    ensures { Gives result (values_of method.now headers.now) }
+{
+    let parts = read_parts(alloc, method, headers)?;
+    let max_forwards = read_hops(headers)?;
+    let _content_type = read_type(alloc, headers)?;
+    Ok(Values {
+        parts,
+        max_forwards,
+    })
+}

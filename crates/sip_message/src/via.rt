@@ -1,0 +1,138 @@
+//! One value of a Via header field (RFC 3261 section 20.42).
+
+ghost use Rattle.std.specs.Prelude.{◌≡◌, IfOk, option_map};
+ghost use Rattle.std.specs.Option.{option_copied};
+ghost use Rattle.text.specs.Trim.{trimmed};
+ghost use Rattle.sip_message.specs.RawVia.{raw_via_of, is_raw_via, is_port};
+ghost use Rattle.sip_message.specs.Via.{sent_by_of, port_of, via_of};
+
+use sip_uri::{Host, Params, read_field_params, read_host};
+use std::alloc::{AllocError, Global};
+use std::marker::Model;
+use text::{Text, cut, cut_word, is_run_of_digits, number_upto, trimmed, without_blanks};
+
+/// Where an answer goes (RFC 3261 section 18.2.2). `sent_by` is host and port as received, without blanks.
+#[derive(Clone, Debug, Drop)]
+pub struct Via {
+    pub sent_by: Text,
+    pub host: Host,
+    pub port: Option<u16>,
+    pub params: Params,
+}
+
+/// `SIP/2.0/UDP host:port;params` in its parts.
+#[derive(Drop)]
+struct ViaText<'a> {
+    name: &'a [u8],
+    version: &'a [u8],
+    transport: &'a [u8],
+    host: &'a [u8],
+    port: Option<&'a [u8]>,
+    params: Option<&'a [u8]>,
+}
+
+impl<'a> Model for ViaText<'a> {
+    ghost use Rattle.std.specs.Option.{option_copied};
+    ghost use Rattle.sip_message.specs.RawVia.{RawVia};
+
+    ghost Value = { RawVia };
+
+    ghost view = { λ v. record {
+      name = v.name.now;
+      version = v.version.now;
+      transport = v.transport.now;
+      host = v.host.now;
+      port = option_copied v.port;
+      params = option_copied v.params;
+    } };
+}
+
+fn port_text(text: Option<&[u8]>) -> Option<&[u8]>
+    ensures { option_copied result ≡ option_map trimmed (option_copied text.entry) }
+{
+    match text {
+        Some(port) => Some(trimmed(port)),
+        None => None,
+    }
+}
+
+#[tactic(auto, unfolding(crate::specs::RawVia::raw_via_of))]
+fn via_text(text: &[u8]) -> ViaText<'_>
+    ensures { result ≡ raw_via_of text.now }
+{
+    let (front, params) = cut(text, b';');
+    let (name, behind) = cut(front, b'/');
+    let (version, behind) = cut(behind.unwrap_or(&[]), b'/');
+    let (transport, sent_by) = cut_word(without_blanks(behind.unwrap_or(&[])));
+    let (host, port) = cut(sent_by, b':');
+    ViaText {
+        name: trimmed(name),
+        version: trimmed(version),
+        transport,
+        host: trimmed(host),
+        port: port_text(port),
+        params,
+    }
+}
+
+fn is_port(text: &[u8]) -> bool
+    ensures { result ≡ is_port text.now }
+{
+    is_run_of_digits(text) && number_upto(65535, text).unwrap_or(0) > 0
+}
+
+/// Whether protocol and port are of their form.
+#[tactic(auto, unfolding(crate::specs::RawVia::is_raw_via))]
+fn is_well_formed(via: &ViaText<'_>) -> bool
+    ensures { result ≡ is_raw_via via.now }
+{
+    via.name.eq_ignore_ascii_case(b"SIP")
+        && via.version.eq_ignore_ascii_case(b"2.0")
+        && via.transport.eq_ignore_ascii_case(b"UDP")
+        && via.port.is_none_or(|port| is_port(port))
+}
+
+fn sent_by(alloc: Global, host: &[u8], port: Option<&[u8]>) -> Result<Text, AllocError>
+    ensures { IfOk result (λ t. t ≡ sent_by_of host.now (option_copied port.entry)) }
+{
+    let mut bytes = Vec::from_slice(alloc, host)?;
+    if let Some(port) = port {
+        bytes.push(b':')?;
+        bytes.extend_from_slice(port)?;
+    }
+    Ok(Text::from_vec(bytes))
+}
+
+fn port_of(text: Option<&[u8]>) -> Option<u16>
+    ensures { result ≡ port_of (option_copied text.entry) }
+{
+    match text {
+        Some(port) => number_upto(65535, port).map(|n| n as u16),
+        None => None,
+    }
+}
+
+/// The value of one Via, if the text is one that names UDP.
+#[tactic(auto, unfolding(crate::specs::Via::via_of))]
+pub(crate) fn read_via(alloc: Global, text: &[u8]) -> Result<Option<Via>, AllocError>
+    ensures { IfOk result (λ via. via ≡ via_of text.now) }
+{
+    let parts = via_text(text);
+    if !is_well_formed(&parts) {
+        return Ok(None);
+    }
+    let Some(host) = read_host(alloc, parts.host)? else {
+        return Ok(None);
+    };
+    let Some(params) = read_field_params(alloc, parts.params)? else {
+        return Ok(None);
+    };
+    let sent_by = sent_by(alloc, parts.host, parts.port)?;
+    let port = port_of(parts.port);
+    Ok(Some(Via {
+        sent_by,
+        host,
+        port,
+        params,
+    }))
+}

@@ -1,0 +1,85 @@
+//! Writing of messages.
+
+ghost use Rattle.std.specs.Prelude.{◌≡◌, ◌++◌, ℕ, List, OnOk, IfOk, decimal};
+ghost use Rattle.sip_message.specs.Grammar.{ReadsMessage};
+ghost use Rattle.sip_message.specs.WritingMessage.{IsWrittenMessage};
+ghost use Rattle.sip_message.specs.Writing.{request_line, status_line, length_text, message_text};
+
+use crate::message::{Message, Request, Response};
+use crate::write_head::put_headers;
+use itoa::Buffer;
+use sip_uri::write_uri;
+use std::alloc::{AllocError, Global};
+use text::Text;
+
+pub(crate) fn put_number(out: &mut Vec<u8>, number: u64) -> Result<(), AllocError>
+    ensures { OnOk result (out.new.items ≡ out.old.items ++ decimal number) }
+{
+    let mut buffer = Buffer::new();
+    out.extend_from_slice(buffer.format(number).as_bytes())?;
+    Ok(())
+}
+
+fn put_request_line(alloc: Global, out: &mut Vec<u8>, request: &Request) -> Result<(), AllocError>
+    ensures { OnOk result (out.new.items ≡ out.old.items ++ request_line request.now) }
+{
+    let uri = write_uri(alloc, &request.uri)?;
+    out.extend_from_slice(request.method.as_bytes())?;
+    out.push(b' ')?;
+    out.extend_from_slice(uri.as_bytes())?;
+    out.extend_from_slice(b" SIP/2.0\r\n")?;
+    Ok(())
+}
+
+fn put_status_line(out: &mut Vec<u8>, response: &Response) -> Result<(), AllocError>
+    ensures { OnOk result (out.new.items ≡ out.old.items ++ status_line response.now) }
+{
+    out.extend_from_slice(b"SIP/2.0 ")?;
+    put_number(out, u64::from(response.status))?;
+    out.push(b' ')?;
+    out.extend_from_slice(response.reason.as_bytes())?;
+    out.extend_from_slice(b"\r\n")?;
+    Ok(())
+}
+
+fn put_body(out: &mut Vec<u8>, body: &Text) -> Result<(), AllocError>
+    ensures { OnOk result (out.new.items ≡ out.old.items ++ length_text body.now ++ body.now) }
+{
+    let bytes = body.as_bytes();
+    out.extend_from_slice(b"Content-Length: ")?;
+    put_number(out, bytes.len() as u64)?;
+    out.extend_from_slice(b"\r\n\r\n")?;
+    out.extend_from_slice(bytes)?;
+    Ok(())
+}
+
+#[tactic(auto, unfolding(crate::specs::Writing::message_text))]
+fn put_message(alloc: Global, out: &mut Vec<u8>, message: &Message) -> Result<(), AllocError>
+    ensures { OnOk result (out.new.items ≡ out.old.items ++ message_text message.now) }
+{
+    match message {
+        Message::Request(request) => {
+            put_request_line(alloc, out, request)?;
+            put_headers(out, request.headers.as_slice())?;
+            put_body(out, &request.body)?;
+            Ok(())
+        }
+        Message::Response(response) => {
+            put_status_line(out, response)?;
+            put_headers(out, response.headers.as_slice())?;
+            put_body(out, &response.body)?;
+            Ok(())
+        }
+    }
+}
+
+/// The bytes of a message: its start line, its header fields in order, Content-Length, and its body.
+pub fn write_message(alloc: Global, message: &Message) -> Result<Text, AllocError>
+    ensures text { IfOk result (λ t. t ≡ message_text message.now) }
+    // What is written for a message of the written form is that message, also past the limits of reading.
+    ensures again { IsWrittenMessage message.now → IfOk result (λ t. ReadsMessage t message.now) }
+{
+    let mut out = Vec::new(alloc);
+    put_message(alloc, &mut out, message)?;
+    Ok(Text::from_vec(out))
+}
