@@ -194,38 +194,39 @@ fn faults_by_name(rt: HostRuntime) -> Result<(), Fail> {
     Ok(())
 }
 
-/// Where the answer goes, how many Contact values there are, and how many of them are addresses.
-fn looked_at(alloc: Global, bytes: &[u8]) -> Result<(Addr, usize, usize), MessageError> {
-    let message = read_message(alloc, bytes)?;
-    let values = contacts(alloc, &message)?;
-    let addresses = values
+fn address_of(message: &Message) -> Addr {
+    match message {
+        Message::Request(request) => reply_address(&request.parts, SOURCE),
+        Message::Response(_) => SOURCE,
+    }
+}
+
+fn addresses_in(values: &[ContactValue]) -> usize {
+    values
         .iter()
         .filter(|value| matches!(value, ContactValue::Address(_)))
-        .count();
-    match &message {
-        Message::Request(request) => {
-            Ok((
-                reply_address(&request.parts, SOURCE),
-                values.len(),
-                addresses,
-            ))
-        }
-        Message::Response(_) => Err(MessageError::StartLine),
+        .count()
+}
+
+/// Where the answer goes, how many Contact values there are, and how many of them are addresses.
+fn counted(alloc: Global, message: &Message) -> Result<(Addr, usize, usize), AllocError> {
+    let values = contacts(alloc, message)?;
+    Ok((address_of(message), values.len(), addresses_in(&values)))
+}
+
+fn looked_at(alloc: Global, bytes: &[u8]) -> Result<(Addr, usize, usize), AllocError> {
+    match read_message(alloc, bytes) {
+        Ok(message) => counted(alloc, &message),
+        Err(_) => Err(AllocError),
     }
 }
 
 #[test]
-fn contacts_and_addresses(rt: HostRuntime) -> Result<(), Fail> {
-    let (address, values, addresses) = looked_at(rt.alloc(), CONTACTS)?;
-    assert!(rt;
-        address
-            == Addr {
-                ip: [192, 0, 2, 11],
-                port: 5070
-            }
-    );
-    assert!(rt; values == 4 && addresses == 2);
-    let (address, _, _) = looked_at(rt.alloc(), REGISTER)?;
-    assert!(rt; address == SOURCE);
-    Ok(())
+fn contacts_and_addresses(rt: HostRuntime) {
+    let there = Addr {
+        ip: [192, 0, 2, 11],
+        port: 5070,
+    };
+    assert!(rt; looked_at(rt.alloc(), CONTACTS) == Ok((there, 4, 2)));
+    assert!(rt; looked_at(rt.alloc(), REGISTER) == Ok((SOURCE, 1, 1)));
 }

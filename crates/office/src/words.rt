@@ -85,6 +85,7 @@ fn asked_by(matches: &ArgMatches<'_>) -> Option<Asked>
 
 /// Reads a command line, of which the first word is the program's own. A call for help is refused like any other word
 /// that asks for nothing.
+#[tactic(auto, unfolding(crate::specs::Words::named_by, crate::specs::Words::is_taken))]
 pub fn command<'a>(alloc: Global, words: &'a [&'a str]) -> Result<Asked, CommandError>
     ensures asked { IfOk result (λ a. named_by (map (λ w. w.now) words.now) ≡ Some (name_of a)) }
     ensures refused { IfErr result (λ e. RefusesWords (map (λ w. w.now) words.now) e) }
