@@ -2,6 +2,7 @@ pub mod CSeq
 pub mod Faults
 pub mod Fields
 pub mod Form
+pub mod HeaderNames
 pub mod Heads
 pub mod Lines
 pub mod LongNames

@@ -22,6 +22,11 @@ pub enum HeaderName {
 }
 
 impl fmt::Display for HeaderName {
+    ghost use Rattle.std.specs.Prelude.{Some};
+    ghost use Rattle.sip_message.specs.HeaderNames.{name_text};
+
+    ghost output = { λ name. Some (name_text name) };
+
     fn fmt<W: fmt::Write>(&self, f: &mut fmt::Formatter<W>) -> fmt::Result {
         let name = match self {
             HeaderName::Via => "Via",
