@@ -1,0 +1,14 @@
+-- The numbers of the relay's ports.
+use Rattle.std.specs.Prelude.{ℕ}
+
+-- the least port that may lead the first pair
+abbrev pub least_port : ℕ
+least_port = 1024
+
+-- the greatest port that there is
+abbrev pub last_port : ℕ
+last_port = 65535
+
+-- the pairs that a pool has at most
+abbrev pub most_pairs : ℕ
+most_pairs = 2048

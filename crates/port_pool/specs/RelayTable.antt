@@ -1,0 +1,29 @@
+-- The relay table: a finite map from a port of the server to a place and a sending port.
+use Rattle.std.specs.Prelude.{ℕ, List, refl, fold}
+use Rattle.std.specs.Coded.{Coded, code_by, coded×, coded_ℕ, coded_list}
+use Rattle.std.specs.Ordering.{nat_cmp}
+use Rattle.std.specs.FinMap.{FinMap, code, insert, remove}
+use Rattle.port_pool.specs.declared.hop.Hop.{Hop}
+use Rattle.port_pool.specs.declared.change.Change.{Change}
+use Rattle.port_pool.specs.declared.change.Change.TheVariants.{Put, Remove}
+
+-- where a datagram that comes in at a port goes on
+abbrev pub Rows : Type 0
+Rows = FinMap nat_cmp Hop
+
+abbrev pub coded_hop : Coded Hop
+coded_hop =
+    code_by (List ℕ × (ℕ × ℕ)) (coded× (coded_list coded_ℕ) (coded× coded_ℕ coded_ℕ)) (λ h. (h.to.ip, (h.to.port, h.from)))
+    (λ p. record { to = record { ip = p.0; port = p.1.0 }; from = p.1.1 }) (λ _. refl)
+
+abbrev pub coded_rows : Coded Rows
+coded_rows = code coded_ℕ coded_hop
+
+-- the table after one change
+abbrev pub changed : Rows → Change → Rows
+changed rows (Put port hop) = insert rows port hop
+changed rows (Remove port) = remove rows port
+
+-- the table after these changes, one by one
+abbrev pub changed_by : Rows → List Change → Rows
+changed_by rows changes = fold changed rows changes

@@ -1,0 +1,10 @@
+//! Where a datagram goes on.
+
+use sip_uri::Addr;
+
+/// Where the datagrams of a port go: to this place, and from this port of the server.
+#[derive(Clone, Copy, Debug, PartialEq, Eq)]
+pub struct Hop {
+    pub to: Addr,
+    pub from: u16,
+}

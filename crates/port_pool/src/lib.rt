@@ -1,0 +1,26 @@
+//! Pairs of ports that relay media, the calls that hold them, and the relay table: where the datagrams of each port go.
+//!
+//! A call is known by its number alone. No port ever serves two calls, and no row outlives the call's hold of its port.
+#![tactic(auto)]
+
+mod change;
+mod changing;
+mod error;
+mod hop;
+mod pair;
+mod pool;
+mod relay_line;
+mod relay_table;
+mod seat;
+mod seats;
+
+pub use change::Change;
+pub use error::PoolError;
+pub use hop::Hop;
+pub use pair::Pair;
+pub use pool::Pool;
+pub use relay_line::RelayLine;
+pub use relay_table::RelayTable;
+
+#[cfg(test)]
+mod tests;
