@@ -1,71 +1,41 @@
--- What `once` writes for a datagram: the answer of the order of checks and of a registrar without bindings, or nothing.
-use Rattle.std.specs.Prelude.{ℕ, Bool, true, false, not, nat_eq, List, [], ◌∷◌, ◌++◌, map, codes, decimal, Option, Some, None, is_some, Result, Ok, Err, if◌then◌else◌}
+-- What `once` writes for a datagram, by the order of checks: an answer, or nothing.
+use Rattle.std.specs.Prelude.{ℕ, Bool, true, false, not, ◌&&◌, nat_eq, List, [], ◌∷◌, codes, Option, Some, None, is_some, Result, Ok, Err, if◌then◌else◌}
 use Rattle.std.specs.List.{starts_with}
-use Rattle.std.specs.Int.{div_ceil}
-use Rattle.std.specs.Prelude.{◌-◌}
+use Rattle.std.specs.Cmp.Lexicographic.{pointwise}
 use Rattle.std.specs.Io.KnownBytes.{Appends}
 use Rattle.sip_uri.specs.declared.uri.Param.{Param}
 use Rattle.sip_uri.specs.Binding.{param_named}
-use Rattle.sip_uri.specs.Writing.{uri_text}
-use Rattle.sip_message.specs.declared.contact.ContactValue.{ContactValue}
 use Rattle.sip_message.specs.declared.error.MessageError.{MessageError}
+use Rattle.sip_message.specs.declared.error.MessageError.TheVariants as Faults
 use Rattle.sip_message.specs.declared.headers.Header.{Header}
 use Rattle.sip_message.specs.declared.message.Message.{Message}
 use Rattle.sip_message.specs.declared.message.Message.TheVariants as Kinds
+use Rattle.sip_message.specs.declared.message.Parts.{Parts}
 use Rattle.sip_message.specs.declared.message.Request.{Request}
-use Rattle.sip_message.specs.declared.message.Response.{Response}
 use Rattle.sip_message.specs.declared.via.Via.{Via}
-use Rattle.sip_message.specs.Contacts.{contacts_of}
+use Rattle.sip_message.specs.Answerable.{answerable_of}
 use Rattle.sip_message.specs.Lookup.{named, value_named}
 use Rattle.sip_message.specs.Reading.{message_of}
-use Rattle.sip_message.specs.Reply.{reply_of}
-use Rattle.sip_message.specs.Writing.{message_text}
-use Rattle.registrar.specs.declared.binding.Binding.{Binding}
-use Rattle.registrar.specs.declared.refusal.Refusal.{Refusal}
-use Rattle.registrar.specs.declared.refusal.Refusal.TheVariants.{OutOfMemory, UnknownUser, StarMisused, TooBrief, OutOfOrder, TooManyBindings, BadContact}
-use Rattle.registrar.specs.Bound.{answer_after}
-use Rattle.office.specs.Example.{example_rules, source, moment, token, stateless}
+use Rattle.office.specs.Answers.{answered, registered}
+use Rattle.office.specs.Example.{token, stateless}
 use Rattle.office.specs.Input.{Reads}
-use Rattle.office.specs.Registering.{is_star, register_of}
 use Rattle.office.specs.Tags.{required_tags, joined_tags}
 
--- ---- the answers
+-- ---- a request that cannot be read
 
-abbrev pub with_headers : List Header → Response → Response
-with_headers extra response = record response { headers = response.headers ++ extra }
+-- without a transaction, and only where its parts can be read
+abbrev pub stateless_answer : ℕ → Option Parts → List ℕ
+stateless_answer status None = []
+stateless_answer status (Some parts) = answered parts status stateless []
 
-abbrev pub answered : Request → ℕ → List ℕ → List Header → List ℕ
-answered request status tag extra = message_text (Kinds.Response (with_headers extra (reply_of request.parts source status tag)))
+-- 505 for another version, nothing for what is too long, and 400 for each other fault
+unfoldable pub unread_answer : List ℕ → MessageError → List ℕ
+unread_answer datagram Faults.OutOfMemory = []
+unread_answer datagram Faults.TooLong = []
+unread_answer datagram Faults.Version = stateless_answer 505 (answerable_of datagram)
+unread_answer datagram fault = stateless_answer 400 (answerable_of datagram)
 
-abbrev pub contact_text : Binding → List ℕ
-contact_text b = codes "<" ++ uri_text b.uri ++ codes ">;expires=" ++ decimal (div_ceil (b.expires_at - moment) 1000)
-
-abbrev pub contact_header : Binding → Header
-contact_header b = named (codes "Contact") (contact_text b)
-
--- the status of each refusal (RFC 3261 section 10.3)
-abbrev pub status_of : Refusal → ℕ
-status_of OutOfMemory = 500
-status_of UnknownUser = 404
-status_of StarMisused = 400
-status_of TooBrief = 423
-status_of OutOfOrder = 500
-status_of TooManyBindings = 500
-status_of BadContact = 400
-
-abbrev pub refusal_headers : Refusal → List Header
-refusal_headers TooBrief = named (codes "Min-Expires") (codes "60") ∷ []
-refusal_headers refusal = []
-
-abbrev pub by_answer : Request → Result (List Binding) Refusal → List ℕ
-by_answer request (Ok bindings) = answered request 200 token (map contact_header bindings)
-by_answer request (Err refusal) = answered request (status_of refusal) token (refusal_headers refusal)
-
--- the registrar answers as one that has seen no REGISTER before
-abbrev pub registered : Request → List ℕ
-registered request = by_answer request (answer_after example_rules [] (register_of example_rules request) moment)
-
--- ---- the checks, in their order
+-- ---- a request that was read
 
 abbrev pub cookie : List ℕ
 cookie = codes "z9hG4bK"
@@ -83,40 +53,48 @@ abbrev pub has_fit_branch : List Via → Bool
 has_fit_branch [] = false
 has_fit_branch (via ∷ vias) = is_fit_branch (param_named (codes "branch") via.params)
 
+abbrev pub is_method : List ℕ → Request → Bool
+is_method name request = pointwise nat_eq request.method name
+
 abbrev pub has_header : List ℕ → List Header → Bool
 has_header name headers = is_some (value_named name headers)
 
--- a request with a recorded route is refused
+-- a REGISTER with a recorded route is refused
 abbrev pub without_route : Request → List ℕ
-without_route request = if has_header (codes "Record-Route") request.headers then answered request 400 token [] else registered request
+without_route request = if has_header (codes "Record-Route") request.headers then answered request.parts 400 token [] else registered request
 
 abbrev pub extension_refused : Request → List ℕ
-extension_refused request = answered request 420 token (named (codes "Unsupported") (joined_tags (required_tags request.headers)) ∷ [])
+extension_refused request = answered request.parts 420 token (named (codes "Unsupported") (joined_tags (required_tags request.headers)) ∷ [])
 
--- a request that requires an extension is refused with the tags (section 8.2.2.3)
+-- a REGISTER that requires an extension is refused with the tags (section 8.2.2.3)
 abbrev pub without_extension : Request → List ℕ
 without_extension request = if has_header (codes "Require") request.headers then extension_refused request else without_route request
 
+-- requests of other methods are not answered yet
+abbrev pub with_branch : Request → List ℕ
+with_branch request = if is_method (codes "REGISTER") request then without_extension request else []
+
+-- an ACK is never answered (section 17)
+abbrev pub without_branch : Request → List ℕ
+without_branch request = if is_method (codes "ACK") request then [] else answered request.parts 400 stateless []
+
 -- a request without the cookie is refused without a transaction
-abbrev pub checked : Request → List ℕ
-checked request = if has_fit_branch request.parts.vias then without_extension request else answered request 400 stateless []
+unfoldable pub request_answer : Request → List ℕ
+request_answer request = if has_fit_branch request.parts.vias then with_branch request else without_branch request
 
--- one contact at most, which is no star: others are not answered yet
-abbrev pub is_single : List ContactValue → Bool
-is_single [] = true
-is_single (value ∷ []) = not (is_star value)
-is_single (value ∷ next ∷ values) = false
+-- ---- all
 
-abbrev pub request_answered : Request → List ℕ
-request_answered request = if is_single (contacts_of request.headers) then checked request else []
+-- an answer is not answered
+abbrev pub read_answer : Message → List ℕ
+read_answer (Kinds.Request request) = request_answer request
+read_answer (Kinds.Response response) = []
 
-abbrev pub message_answered : Result Message MessageError → List ℕ
-message_answered (Ok (Kinds.Request request)) = request_answered request
-message_answered (Ok (Kinds.Response response)) = []
-message_answered (Err e) = []
+abbrev pub message_answer : List ℕ → Result Message MessageError → List ℕ
+message_answer datagram (Ok message) = read_answer message
+message_answer datagram (Err fault) = unread_answer datagram fault
 
 unfoldable pub once_of : List ℕ → List ℕ
-once_of datagram = message_answered (message_of datagram)
+once_of datagram = message_answer datagram (message_of datagram)
 
 -- ---- the streams
 

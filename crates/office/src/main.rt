@@ -2,6 +2,7 @@
 #![tactic(auto)]
 
 mod answers;
+mod checks;
 mod example;
 mod fault;
 mod input;

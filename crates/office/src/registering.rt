@@ -3,12 +3,11 @@
 ghost use Rattle.std.specs.Prelude.{◌≡◌, ◌++◌, Some, IfOk, OnOk, option_map};
 ghost use Rattle.std.specs.List.{list_any, filter_map};
 ghost use Rattle.std.specs.Option.{option_copied, option_to_list};
-ghost use Rattle.sip_message.specs.Contacts.{contacts_of};
 ghost use Rattle.registrar.specs.Registrar.{rules_of};
 ghost use Rattle.office.specs.Registering.{seconds_of, seconds_by, expires_of, is_star, contact_from, contacts_from, register_of};
 
 use registrar::{Contact, Contacts, Register, Registrar};
-use sip_message::{ContactValue, Request, first_value};
+use sip_message::{ContactValue, Request, contact_values, first_value};
 use sip_uri::{NameAddr, Param, param_named};
 use std::alloc::{AllocError, Global};
 use text::{Text, is_run_of_digits, number_upto};
@@ -44,7 +43,7 @@ fn expires_of(params: &[Param]) -> Option<u32>
     }
 }
 
-pub(crate) fn is_star(value: &ContactValue) -> bool
+fn is_star(value: &ContactValue) -> bool
     ensures { result ≡ is_star value.now }
 {
     match value {
@@ -123,24 +122,23 @@ fn header_seconds(text: Option<&Text>) -> Option<u32>
     }
 }
 
-/// What a REGISTER asks, with the values of its Contact header fields.
+/// What a REGISTER asks of a registrar.
 #[tactic(auto, unfolding(crate::specs::Registering::register_of))]
 pub(crate) fn register_of(
     alloc: Global,
     registrar: &Registrar,
     request: &Request,
-    values: &[ContactValue],
 ) -> Result<Register, AllocError>
-    requires { values.now ≡ contacts_of request.now.headers }
     ensures { IfOk result (λ r. r ≡ register_of (rules_of registrar.now) request.now) }
 {
+    let values = contact_values(alloc, request.headers.as_slice())?;
     let user = copied_user(registrar.user_of(&request.parts.to.uri))?;
-    let contacts = contacts_from(alloc, values)?;
+    let contacts = contacts_from(alloc, &values)?;
     let expires = header_seconds(first_value(request.headers.as_slice(), b"Expires"));
     let call_id = request.parts.call_id.clone()?;
     Ok(Register {
         user,
-        star: any_star(values),
+        star: any_star(&values),
         contacts,
         expires,
         call_id,

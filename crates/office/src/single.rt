@@ -5,7 +5,7 @@ ghost use Rattle.std.specs.Io.KnownBytes.{Appends};
 ghost use Rattle.office.specs.Once.{Answers};
 ghost use Rattle.office.specs.Leaves.{Leaves};
 
-use crate::answers::answer_to;
+use crate::checks::answer_to;
 use crate::fault::Fault;
 use crate::input::read_datagram;
 use std::alloc::Global;

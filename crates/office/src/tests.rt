@@ -1,5 +1,5 @@
 use super::*;
-use crate::answers::answer_to;
+use crate::checks::answer_to;
 use crate::example::SOURCE;
 use crate::input::read_datagram;
 use sip_message::{
@@ -81,16 +81,75 @@ fn answers_by_the_order_of_checks(rt: HostRuntime) -> Result<(), Fail> {
             b"SIP/2.0 400 Bad Request\r\n",
         ),
         (b"z9hG4bK1", b"", b"SIP/2.0 200 OK\r\n"),
-        (b"z9hG4bK1", b"Contact: *\r\nExpires: 0\r\n", b""),
         (
             b"z9hG4bK1",
-            b"Contact: <sip:a@192.0.2.1>, <sip:b@192.0.2.2>\r\n",
-            b"",
+            b"Contact: *\r\nExpires: 0\r\n",
+            b"SIP/2.0 200 OK\r\n",
+        ),
+        (
+            b"z9hG4bK1",
+            b"Contact: *\r\nExpires: 60\r\n",
+            b"SIP/2.0 400 Bad Request\r\n",
+        ),
+        (
+            b"z9hG4bK1",
+            b"Contact: <sip:a@192.0.2.10>, <sip:b@192.0.2.12>\r\n",
+            b"SIP/2.0 200 OK\r\n",
         ),
     ];
     for (branch, lines, first) in table {
         let datagram = register(rt.alloc(), branch, lines)?;
         let answer = answer_to(rt.alloc(), &datagram)?;
+        assert!(rt; answer.as_bytes().starts_with(first));
+        assert!(rt; answer.as_bytes().is_empty() == first.is_empty());
+    }
+    Ok(())
+}
+
+const CUT_INVITE: &[u8] =
+    b"INVITE sip:101@office.example SIP/2.0\r\nVia: SIP/2.0/UDP 192.0.2.10;branch=z9hG4bKa1\r\nFrom: \"Ann\" <sip:100@office.example>;tag=fa\r\nTo: <sip:101@office.example>\r\nCall-ID: c1@192.0.2.10\r\nCSeq: 1 INVITE\r\n";
+
+const CUT_ANSWER: &[u8] =
+    b"SIP/2.0 400 Bad Request\r\nVia: SIP/2.0/UDP 192.0.2.10;branch=z9hG4bKa1;received=192.0.2.11\r\nFrom: \"Ann\" <sip:100@office.example>;tag=fa\r\nTo: <sip:101@office.example>;tag=stateless\r\nCall-ID: c1@192.0.2.10\r\nCSeq: 1 INVITE\r\nContent-Length: 0\r\n\r\n";
+
+/// Requests that can't be read, or that nothing answers yet, and the first line of what each gets.
+const UNREAD: [(&[u8], &[u8]); 7] = [
+    (
+        b"INVITE sip:a@b SIP/3.0\r\nv: SIP/2.0/UDP a\r\nf: sip:a@b\r\nt: sip:a@b\r\ni: 1\r\nCSeq: 1 INVITE\r\n\r\n",
+        b"SIP/2.0 505 Version Not Supported\r\n",
+    ),
+    (
+        b"ACK sip:a@b SIP/3.0\r\nv: SIP/2.0/UDP a\r\nf: sip:a@b\r\nt: sip:a@b\r\ni: 1\r\nCSeq: 1 ACK\r\n\r\n",
+        b"",
+    ),
+    (
+        b"SIP/2.0 99 x\r\nv: SIP/2.0/UDP a\r\nf: sip:a@b\r\nt: sip:a@b\r\ni: 1\r\nCSeq: 1 ACK\r\n\r\n",
+        b"",
+    ),
+    (
+        b"OPTIONS sip:a@b SIP/2.0\r\nv: SIP/2.0/UDP a\r\nf: sip:a@b;tag=1\r\nt: sip:a@b\r\ni: 1\r\nCSeq: 1 OPTIONS\r\n\r\n",
+        b"SIP/2.0 400 Bad Request\r\n",
+    ),
+    (
+        b"ACK sip:a@b SIP/2.0\r\nv: SIP/2.0/UDP a\r\nf: sip:a@b;tag=1\r\nt: sip:a@b\r\ni: 1\r\nCSeq: 1 ACK\r\n\r\n",
+        b"",
+    ),
+    (
+        b"OPTIONS sip:a@b SIP/2.0\r\nv: SIP/2.0/UDP a;branch=z9hG4bK1\r\nf: sip:a@b;tag=1\r\nt: sip:a@b\r\ni: 1\r\nCSeq: 1 OPTIONS\r\n\r\n",
+        b"",
+    ),
+    (
+        b"SIP/2.0 200 \r\nv: SIP/2.0/UDP a\r\nf: sip:a@b\r\nt: sip:a@b\r\ni: 1\r\nCSeq: 1 BYE\r\n\r\n",
+        b"",
+    ),
+];
+
+#[test]
+fn what_cannot_be_read_is_answered_where_it_can_be(rt: HostRuntime) -> Result<(), Fail> {
+    let answer = answer_to(rt.alloc(), CUT_INVITE)?;
+    assert_eq!(rt; answer.as_bytes(), CUT_ANSWER);
+    for (datagram, first) in UNREAD {
+        let answer = answer_to(rt.alloc(), datagram)?;
         assert!(rt; answer.as_bytes().starts_with(first));
         assert!(rt; answer.as_bytes().is_empty() == first.is_empty());
     }

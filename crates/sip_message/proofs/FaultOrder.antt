@@ -4,20 +4,24 @@ use Rattle.std.specs.Char.{is_ascii_digit}
 use Rattle.text.specs.Class.{is_run_of}
 use Rattle.text.specs.Number.{number_upto}
 use Rattle.sip_uri.specs.declared.uri.NameAddr.{NameAddr}
+use Rattle.sip_message.specs.declared.contact.ContactValue.{ContactValue}
 use Rattle.sip_message.specs.declared.cseq.CSeq.{CSeq}
 use Rattle.sip_message.specs.declared.error.HeaderName.{HeaderName}
 use Rattle.sip_message.specs.declared.error.HeaderName.TheVariants as Names
 use Rattle.sip_message.specs.declared.error.MessageError.{MessageError}
 use Rattle.sip_message.specs.declared.error.MessageError.TheVariants.{OutOfMemory, StartLine, Version, HeaderLine, Missing, Unreadable, Short, TooLong}
 use Rattle.sip_message.specs.declared.headers.Header.{Header}
+use Rattle.sip_message.specs.declared.start.Start.{Start}
+use Rattle.sip_message.specs.Contacts.{contacts_of}
 use Rattle.sip_message.specs.CSeq.{cseq_of}
 use Rattle.sip_message.specs.Faults.{and_then, readable}
 use Rattle.sip_message.specs.Form.{is_call_id, is_media_type, max_forwards_of}
 use Rattle.sip_message.specs.Lookup.{values_named}
 use Rattle.sip_message.specs.Named.{at_most_one, exactly_one}
+use Rattle.sip_message.specs.Needs.{needs_contact, is_one_address}
 use Rattle.sip_message.specs.Party.{party_of}
 use Rattle.sip_message.specs.Reading.{contents_of}
-use Rattle.sip_message.specs.Values.{each_via, via_texts, some_vias, if_tagged, with_text, from_of, to_of, call_id_of, of_method, with_number, cseq_for, hops_by, hops_of, type_by, type_of, parts_of, values_of, greatest_length, long_enough, body_by, body_of}
+use Rattle.sip_message.specs.Values.{each_via, via_texts, some_vias, if_tagged, with_text, from_for, to_of, call_id_of, of_method, with_number, cseq_for, one_address, contact_for, hops_by, hops_of, type_by, type_of, parts_of, values_of, greatest_length, long_enough, body_by, body_of}
 
 -- a fault of header fields or body
 abbrev pub IsContentsFault : MessageError → Type 0
@@ -72,8 +76,8 @@ vias_fit : (texts : List (List ℕ)) → FaultFits (some_vias texts)
 vias_fit [] = tt
 vias_fit (text ∷ texts) = readable_fits Names.Via (each_via (text ∷ texts))
 
-from_fits : (fields : List Header) → FaultFits (from_of fields)
-from_fits fields = then_fits (exactly_one Names.From (values_named (codes "From") fields)) _ (exactly_fits Names.From (values_named (codes "From") fields)) (λ text. text_fits text (readable Names.From (if_tagged (party_of text))) (readable_fits Names.From (if_tagged (party_of text))))
+from_fits : (start : Start) (fields : List Header) → FaultFits (from_for start fields)
+from_fits start fields = then_fits (exactly_one Names.From (values_named (codes "From") fields)) _ (exactly_fits Names.From (values_named (codes "From") fields)) (λ text. text_fits text (readable Names.From (if_tagged start (party_of text))) (readable_fits Names.From (if_tagged start (party_of text))))
 
 to_fits : (fields : List Header) → FaultFits (to_of fields)
 to_fits fields = then_fits (exactly_one Names.To (values_named (codes "To") fields)) _ (exactly_fits Names.To (values_named (codes "To") fields)) (λ text. text_fits text (readable Names.To (party_of text)) (readable_fits Names.To (party_of text)))
@@ -81,17 +85,27 @@ to_fits fields = then_fits (exactly_one Names.To (values_named (codes "To") fiel
 call_id_fits : (fields : List Header) → FaultFits (call_id_of fields)
 call_id_fits fields = then_fits (exactly_one Names.CallId (values_named (codes "Call-ID") fields)) _ (exactly_fits Names.CallId (values_named (codes "Call-ID") fields)) (λ text. test_fits Names.CallId (is_call_id text) text)
 
-cseq_fits : (method : List ℕ) (fields : List Header) → FaultFits (cseq_for method fields)
-cseq_fits method fields = then_fits (exactly_one Names.CSeq (values_named (codes "CSeq") fields)) _ (exactly_fits Names.CSeq (values_named (codes "CSeq") fields)) (λ text. number_fits text (readable Names.CSeq (of_method method (cseq_of text))) (readable_fits Names.CSeq (of_method method (cseq_of text))))
+cseq_fits : (start : Start) (fields : List Header) → FaultFits (cseq_for start fields)
+cseq_fits start fields = then_fits (exactly_one Names.CSeq (values_named (codes "CSeq") fields)) _ (exactly_fits Names.CSeq (values_named (codes "CSeq") fields)) (λ text. number_fits text (readable Names.CSeq (of_method start (cseq_of text))) (readable_fits Names.CSeq (of_method start (cseq_of text))))
 
-parts_fit : (method : List ℕ) (fields : List Header) → FaultFits (parts_of method fields)
+address_fits : (values : List ContactValue) → FaultFits (one_address values)
+address_fits [] = tt
+address_fits (value ∷ values) = test_fits Names.Contact (is_one_address (value ∷ values)) tt
+
+contact_fits : (start : Start) (method : List ℕ) (fields : List Header) → FaultFits (contact_for start method fields)
+contact_fits start method fields = step (needs_contact start method) where
+  step : (b : Bool) → FaultFits (cond b (one_address (contacts_of fields)) (Ok tt))
+  step true = address_fits (contacts_of fields)
+  step false = tt
+
+parts_fit : (start : Start) (fields : List Header) → FaultFits (parts_of start fields)
 unfolding parts_of
-parts_fit method fields =
+parts_fit start fields =
     then_fits (some_vias (via_texts fields)) _ (vias_fit (via_texts fields)) (λ vias.
-    then_fits (from_of fields) _ (from_fits fields) (λ from.
+    then_fits (from_for start fields) _ (from_fits start fields) (λ from.
     then_fits (to_of fields) _ (to_fits fields) (λ to.
     then_fits (call_id_of fields) _ (call_id_fits fields) (λ call_id.
-    then_fits (cseq_for method fields) _ (cseq_fits method fields) (λ cseq. tt)))))
+    then_fits (cseq_for start fields) _ (cseq_fits start fields) (λ cseq. tt)))))
 
 by_hops : (o : Option (List ℕ)) → FaultFits (hops_by o)
 by_hops None = tt
@@ -107,12 +121,13 @@ by_type (Some text) = test_fits Names.ContentType (is_media_type text) (Some tex
 type_fits : (fields : List Header) → FaultFits (type_of fields)
 type_fits fields = then_fits (at_most_one Names.ContentType (values_named (codes "Content-Type") fields)) type_by (at_most_fits Names.ContentType (values_named (codes "Content-Type") fields)) by_type
 
-values_fit : (method : List ℕ) (fields : List Header) → FaultFits (values_of method fields)
+values_fit : (start : Start) (fields : List Header) → FaultFits (values_of start fields)
 unfolding values_of
-values_fit method fields =
-    then_fits (parts_of method fields) _ (parts_fit method fields) (λ parts.
+values_fit start fields =
+    then_fits (parts_of start fields) _ (parts_fit start fields) (λ parts.
+    then_fits (contact_for start parts.cseq.method fields) _ (contact_fits start parts.cseq.method fields) (λ contact.
     then_fits (hops_of fields) _ (hops_fit fields) (λ hops.
-    then_fits (type_of fields) _ (type_fits fields) (λ content_type. tt)))
+    then_fits (type_of fields) _ (type_fits fields) (λ content_type. tt))))
 
 -- a text or a fault, by a test
 abbrev or_short : Bool → List ℕ → Result (List ℕ) MessageError
@@ -132,8 +147,8 @@ by_length raw (Some text) = step (is_run_of is_ascii_digit text) where
   step true = length_fits (number_upto greatest_length text) raw
   step false = tt
 
-pub contents_fit : (method : List ℕ) (fields : List Header) (raw : List ℕ) → FaultFits (contents_of method fields raw)
+pub contents_fit : (start : Start) (fields : List Header) (raw : List ℕ) → FaultFits (contents_of start fields raw)
 unfolding contents_of body_of
-contents_fit method fields raw =
-    then_fits (values_of method fields) _ (values_fit method fields) (λ values.
+contents_fit start fields raw =
+    then_fits (values_of start fields) _ (values_fit start fields) (λ values.
     then_fits (body_of fields raw) _ (then_fits (at_most_one Names.ContentLength (values_named (codes "Content-Length") fields)) (body_by raw) (at_most_fits Names.ContentLength (values_named (codes "Content-Length") fields)) (by_length raw)) (λ body. tt))

@@ -7,10 +7,10 @@ use Rattle.sip_message.specs.Lines.{texts}
 use Rattle.sip_message.specs.Fields.{RawField, begins_blank, continued, fields_of, has_name, field_of, header_of}
 use Rattle.sip_message.specs.declared.headers.Header.{Header}
 
-abbrev field_at : List (Bor (List ℕ)) → ℕ → Bor (List ℕ) → RawField
+abbrev pub field_at : List (Bor (List ℕ)) → ℕ → Bor (List ℕ) → RawField
 field_at lines at d = record { first = (get_or lines at d).now; more = continued (texts (drop (at + 1) lines)) }
 
-fields_at : (lines : List (Bor (List ℕ))) (at : ℕ) (d : Bor (List ℕ)) → at < length lines → begins_blank (get_or lines at d).now ≡ false
+pub fields_at : (lines : List (Bor (List ℕ))) (at : ℕ) (d : Bor (List ℕ)) → at < length lines → begins_blank (get_or lines at d).now ≡ false
     → fields_of (texts (drop at lines)) ≡ field_at lines at d ∷ fields_of (texts (drop (at + 1) lines))
 fields_at lines at d lt some = at_drop_more (λ (ls : List (Bor (List ℕ))). fields_of (texts ls)) lines at d lt ∙ rw some refl
 

@@ -1,6 +1,7 @@
 pub mod LineLaws
 pub mod HeaderLineLaws
 pub mod FieldLoop
+pub mod EndedLaws
 pub mod FieldLaws
 pub mod HeadLaws
 pub mod ValueLaws
@@ -10,6 +11,7 @@ pub mod LookupLaws
 pub mod FaultLaws
 pub mod ReplyLaws
 pub mod ViaLaws
+pub mod StartTexts
 pub mod StartLaws
 pub mod SaysLaws
 pub mod FaultOrder

@@ -1,6 +1,6 @@
--- What is written for a request of the written form is read again as that request.
-use Rattle.std.proofs.Common.{◌≡◌, ℕ, ◌<◌, ◌^◌, Bool, true, false, not, cond, eqb, List, [], ◌∷◌, ◌++◌, length, map, Result, Ok, Err, refl, sym, ap, subst, ◌∙◌, append_assoc, codes, arith}
-use Rattle.std.specs.Prelude.{decimal, filter, IfOk}
+-- What is written for a message of the written form is read again as that message.
+use Rattle.std.proofs.Common.{◌≡◌, ℕ, ◌<◌, ◌^◌, Bool, true, false, not, cond, eqb, List, [], ◌∷◌, ◌++◌, length, map, refl, sym, ap, subst, ◌∙◌, append_assoc, codes, arith}
+use Rattle.std.specs.Prelude.{decimal, filter}
 use Rattle.std.specs.Char.{is_ascii_digit}
 use Rattle.std.specs.List.{flat_map, list_all}
 use Rattle.std.proofs.lemmas.Bool.{and_parts, and_from}
@@ -9,21 +9,30 @@ use Rattle.text.specs.Class.{is_token_byte}
 use Rattle.text.specs.Pieces.{pieces}
 use Rattle.text.specs.declared.splitting.Within.TheVariants.{Nothing}
 use Rattle.text.proofs.Numbers.{decimal_digits, decimal_run, number_again}
+use Rattle.sip_uri.specs.Grammar.{ReadsUri}
 use Rattle.sip_uri.specs.Writing.{uri_text}
+use Rattle.sip_uri.proofs.RoundTrip.{written_again}
+use Rattle.sip_message.specs.declared.contact.ContactValue.{ContactValue}
 use Rattle.sip_message.specs.declared.headers.Header.{Header}
 use Rattle.sip_message.specs.declared.message.Message.{Message}
 use Rattle.sip_message.specs.declared.message.Message.TheVariants as Kinds
+use Rattle.sip_message.specs.declared.message.Parts.{Parts}
 use Rattle.sip_message.specs.declared.message.Request.{Request}
-use Rattle.sip_message.specs.Grammar.{IsRequestLine, SaysParts, SaysHops, SaysType, SaysBody, Says, ReadsRequest, ReadsMessage}
+use Rattle.sip_message.specs.declared.message.Response.{Response}
+use Rattle.sip_message.specs.declared.start.Start.{Start}
+use Rattle.sip_message.specs.Contacts.{contact_of, contacts_of}
+use Rattle.sip_message.specs.Grammar.{IsStartLine, Opens, SaysParts, SaysContact, SaysHops, SaysType, SaysBody, Says, start_of_request, start_of_response, ReadsRequest, ReadsResponse, ReadsMessage}
 use Rattle.sip_message.specs.Lines.{is_clean}
 use Rattle.sip_message.specs.Lookup.{is_named, values_named}
 use Rattle.sip_message.specs.LongNames.{long_name}
+use Rattle.sip_message.specs.Needs.{needs_contact}
 use Rattle.sip_message.specs.Values.{without_length}
 use Rattle.sip_message.specs.Via.{via_of}
-use Rattle.sip_message.specs.Writing.{message_text}
+use Rattle.sip_message.specs.Writing.{status_line, length_text, message_text}
 use Rattle.sip_message.specs.WritingHead.{header_text, headers_text, is_written}
-use Rattle.sip_message.specs.WritingMessage.{tells_no_length, IsWrittenRequest, IsWrittenMessage}
+use Rattle.sip_message.specs.WritingMessage.{tells_no_length, IsWrittenRest, IsWrittenRequest, IsWrittenResponse, IsWrittenMessage}
 use Rattle.sip_message.proofs.HeadRoundTrip.{is_written_from, head_written}
+use Rattle.sip_message.proofs.StartTexts.{status_again, uri_unbroken, uri_clean}
 use Rattle.sip_message.proofs.ValueLaws.{clean_joined, token_clean, token_trimmed}
 
 -- ---- the header field of the length
@@ -82,86 +91,146 @@ headers_joined : (hs : List Header) (h : Header) → headers_text (hs ++ h ∷ [
 headers_joined [] h = append-nil (header_text h)
 headers_joined (x ∷ hs) h = ap (λ (t : List ℕ). header_text x ++ t) (headers_joined hs h) ∙ sym (append_assoc (header_text x) (headers_text hs) (header_text h))
 
--- ---- a request
+-- ---- start line, header fields and body
 
-module _ (r : Request) (w : IsWrittenRequest r) where
-  body_small : length r.body < 2 ^ 64
+module _ (start : Start) (headers : List Header) (parts : Parts) (hops : ℕ) (body : List ℕ) (w : IsWrittenRest start headers parts hops body) where
+  body_small : length body < 2 ^ 64
   body_small = omega (arith, w.small)
 
   abbrev fields : List Header
-  fields = r.headers ++ length_header r.body ∷ []
+  fields = headers ++ length_header body ∷ []
 
-  same_values : (name : List ℕ) → is_named name (length_header r.body) ≡ false → values_named name fields ≡ values_named name r.headers
-  same_values name other = values_same name r.headers (length_header r.body) other
+  same_values : (name : List ℕ) → is_named name (length_header body) ≡ false → values_named name fields ≡ values_named name headers
+  same_values name other = values_same name headers (length_header body) other
 
-  parts_said : SaysParts r.method fields r.parts
+  parts_said : SaysParts start fields parts
   parts_said = record {
-    some_via = w.parts.some_via;
-    each_via = ap (λ (vs : List (List ℕ)). map via_of (flat_map (λ value. pieces 44 Nothing value) vs)) (same_values (codes "Via") refl) ∙ w.parts.each_via;
-    one_from = same_values (codes "From") refl ∙ w.parts.one_from;
-    from = w.parts.from;
-    from_tag = w.parts.from_tag;
-    one_to = same_values (codes "To") refl ∙ w.parts.one_to;
-    to = w.parts.to;
-    one_call_id = same_values (codes "Call-ID") refl ∙ w.parts.one_call_id;
-    call_id = w.parts.call_id;
-    one_cseq = same_values (codes "CSeq") refl ∙ w.parts.one_cseq;
-    cseq = w.parts.cseq;
-    cseq_method = w.parts.cseq_method;
+    some_via = w.says_parts.some_via;
+    each_via = ap (λ (vs : List (List ℕ)). map via_of (flat_map (λ value. pieces 44 Nothing value) vs)) (same_values (codes "Via") refl) ∙ w.says_parts.each_via;
+    one_from = same_values (codes "From") refl ∙ w.says_parts.one_from;
+    from = w.says_parts.from;
+    from_tag = w.says_parts.from_tag;
+    one_to = same_values (codes "To") refl ∙ w.says_parts.one_to;
+    to = w.says_parts.to;
+    one_call_id = same_values (codes "Call-ID") refl ∙ w.says_parts.one_call_id;
+    call_id = w.says_parts.call_id;
+    one_cseq = same_values (codes "CSeq") refl ∙ w.says_parts.one_cseq;
+    cseq = w.says_parts.cseq;
+    cseq_method = w.says_parts.cseq_method;
   }
 
-  body_said : SaysBody (values_named (codes "Content-Length") fields) r.body r.body
-  body_said = rw (values_one (codes "Content-Length") r.headers (length_header r.body) w.no_length refl)
-      (decimal_run (length r.body) body_small, number_again 4294967295 (length r.body) w.small body_small, ([], sym (append-nil r.body)))
+  contacts_same : contacts_of fields ≡ contacts_of headers
+  contacts_same = ap (λ (vs : List (List ℕ)). map contact_of (flat_map (λ value. pieces 44 Nothing value) vs)) (same_values (codes "Contact") refl)
 
-  said : Says r.method fields r.body r.parts r.max_forwards r.body
+  body_said : SaysBody (values_named (codes "Content-Length") fields) body body
+  body_said = rw (values_one (codes "Content-Length") headers (length_header body) w.no_length refl)
+      (decimal_run (length body) body_small, number_again 4294967295 (length body) w.small body_small, ([], sym (append-nil body)))
+
+  said : Says start fields body parts hops body
   said = record {
     says_parts = parts_said;
-    says_hops = subst (λ (vs : List (List ℕ)). SaysHops vs r.max_forwards) (sym (same_values (codes "Max-Forwards") refl)) w.hops;
-    says_type = subst (λ (vs : List (List ℕ)). SaysType vs) (sym (same_values (codes "Content-Type") refl)) w.content_type;
+    says_contact = subst (λ (cs : List ContactValue). SaysContact (needs_contact start parts.cseq.method) cs) (sym contacts_same) w.says_contact;
+    says_hops = subst (λ (vs : List (List ℕ)). SaysHops vs hops) (sym (same_values (codes "Max-Forwards") refl)) w.says_hops;
+    says_type = subst (λ (vs : List (List ℕ)). SaysType vs) (sym (same_values (codes "Content-Type") refl)) w.says_type;
     says_body = body_said;
   }
 
+  opened : (line text : List ℕ) → text ≡ line ++ 13 ∷ 10 ∷ (headers_text fields ++ 13 ∷ 10 ∷ body) → is_clean line ≡ true → IsStartLine line start → Opens text start fields body
+  opened line text whole clean begins = record {
+    line = line;
+    rest = headers_text fields ++ 13 ∷ 10 ∷ body;
+    whole = whole;
+    clean = clean;
+    begins = begins;
+    head = (head_written fields body (all_behind is_written headers (length_header body) w.written (length_written body body_small))).0;
+  }
+
+  headers_same : headers ≡ without_length fields
+  headers_same = sym (without_last headers (length_header body) w.no_length refl)
+
+-- ---- a request
+
+module _ (r : Request) (w : IsWrittenRequest r) where
   abbrev line : List ℕ
   line = r.method ++ 32 ∷ (uri_text r.uri ++ 32 ∷ codes "SIP/2.0")
 
-  line_is : IsRequestLine line r.method r.uri
+  again : ReadsUri (uri_text r.uri) r.uri
+  again = written_again w.uri_from r.uri w.uri
+
+  line_is : IsStartLine line (start_of_request r)
   line_is = record {
     version = codes "SIP/2.0";
-    form = record { uri_part = uri_text r.uri; whole = refl; token = w.token; known = w.known; unbroken = w.unbroken; reads = w.uri; some_version = refl };
+    form = record { uri_part = uri_text r.uri; whole = refl; token = w.token; unbroken = uri_unbroken (uri_text r.uri) r.uri again; reads = again; some_version = refl };
     sip_2 = refl;
   }
 
   line_clean : is_clean line ≡ true
   line_clean =
       let token = and_parts (not (eqb (length r.method) 0)) (list_all is_token_byte r.method) w.token in
-      clean_joined r.method (32 ∷ (uri_text r.uri ++ 32 ∷ codes "SIP/2.0")) (token_clean r.method token.1) (clean_joined (32 ∷ uri_text r.uri) (32 ∷ codes "SIP/2.0") w.clean refl)
+      clean_joined r.method (32 ∷ (uri_text r.uri ++ 32 ∷ codes "SIP/2.0")) (token_clean r.method token.1) (clean_joined (32 ∷ uri_text r.uri) (32 ∷ codes "SIP/2.0") (uri_clean (uri_text r.uri) r.uri again) refl)
 
-  text_is : message_text (Kinds.Request r) ≡ line ++ 13 ∷ 10 ∷ (headers_text fields ++ 13 ∷ 10 ∷ r.body)
+  text_is : message_text (Kinds.Request r) ≡ line ++ 13 ∷ 10 ∷ (headers_text (fields (start_of_request r) r.headers r.parts r.max_forwards r.body w.rest) ++ 13 ∷ 10 ∷ r.body)
   unfolding message_text
   text_is = rw (headers_joined r.headers (length_header r.body)) (simp append_assoc)
 
-  reads : ReadsRequest (message_text (Kinds.Request r)) r
-  reads = record {
-    fields = fields;
+  request_reads : ReadsRequest (message_text (Kinds.Request r)) r
+  request_reads = record {
+    fields = fields (start_of_request r) r.headers r.parts r.max_forwards r.body w.rest;
     raw = r.body;
-    opens = record {
-      line = line;
-      rest = headers_text fields ++ 13 ∷ 10 ∷ r.body;
-      whole = text_is;
-      clean = line_clean;
-      start = line_is;
-      head = (head_written fields r.body (all_behind is_written r.headers (length_header r.body) w.written (length_written r.body body_small))).0;
-    };
-    says = said;
-    headers = sym (without_last r.headers (length_header r.body) w.no_length refl);
+    opens = opened (start_of_request r) r.headers r.parts r.max_forwards r.body w.rest line (message_text (Kinds.Request r)) text_is line_clean line_is;
+    says = said (start_of_request r) r.headers r.parts r.max_forwards r.body w.rest;
+    headers = headers_same (start_of_request r) r.headers r.parts r.max_forwards r.body w.rest;
+  }
+
+-- ---- an answer
+
+status_joined : (digits reason rest : List ℕ) → (codes "SIP/2.0 " ++ digits ++ 32 ∷ [] ++ reason ++ codes "\r\n") ++ rest ≡ (codes "SIP/2.0" ++ 32 ∷ (digits ++ 32 ∷ reason)) ++ 13 ∷ 10 ∷ rest
+status_joined digits reason rest = simp append_assoc
+
+four_joined : (a b c d : List ℕ) → a ++ b ++ c ++ d ≡ a ++ (b ++ c ++ d)
+four_joined a b c d = simp append_assoc
+
+module _ (r : Response) (w : IsWrittenResponse r) where
+  abbrev status_text : List ℕ
+  status_text = codes "SIP/2.0" ++ 32 ∷ (decimal r.status ++ 32 ∷ r.reason)
+
+  status_is : IsStartLine status_text (start_of_response r)
+  status_is = record {
+    version = codes "SIP/2.0";
+    form = record { digits = decimal r.status; whole = refl; begins = refl; unbroken = refl; reads = status_again r.status w.three_digits w.up_to_699 };
+    sip_2 = refl;
+  }
+
+  status_clean : is_clean status_text ≡ true
+  status_clean =
+      let token : list_all is_token_byte (decimal r.status) ≡ true = digits_token (decimal r.status) (decimal_digits r.status (omega (arith, w.up_to_699))) in
+      clean_joined (codes "SIP/2.0") (32 ∷ (decimal r.status ++ 32 ∷ r.reason)) refl (clean_joined (32 ∷ decimal r.status) (32 ∷ r.reason) (token_clean (decimal r.status) token) w.clean)
+
+  abbrev rest : List ℕ
+  rest = headers_text r.headers ++ length_text r.body ++ r.body
+
+  rest_is : rest ≡ headers_text (fields (start_of_response r) r.headers r.parts w.hops r.body w.rest) ++ 13 ∷ 10 ∷ r.body
+  rest_is = rw (headers_joined r.headers (length_header r.body)) (simp append_assoc)
+
+  answer_is : message_text (Kinds.Response r) ≡ status_text ++ 13 ∷ 10 ∷ (headers_text (fields (start_of_response r) r.headers r.parts w.hops r.body w.rest) ++ 13 ∷ 10 ∷ r.body)
+  unfolding message_text
+  answer_is =
+      four_joined (status_line r) (headers_text r.headers) (length_text r.body) r.body
+      ∙ status_joined (decimal r.status) r.reason rest
+      ∙ ap (λ (t : List ℕ). status_text ++ 13 ∷ 10 ∷ t) rest_is
+
+  response_reads : ReadsResponse (message_text (Kinds.Response r)) r
+  response_reads = record {
+    fields = fields (start_of_response r) r.headers r.parts w.hops r.body w.rest;
+    raw = r.body;
+    hops = w.hops;
+    opens = opened (start_of_response r) r.headers r.parts w.hops r.body w.rest status_text (message_text (Kinds.Response r)) answer_is status_clean status_is;
+    says = said (start_of_response r) r.headers r.parts w.hops r.body w.rest;
+    headers = headers_same (start_of_response r) r.headers r.parts w.hops r.body w.rest;
   }
 
 -- what is written for a message of the written form is that message
 pub message_reads : (m : Message) → IsWrittenMessage m → ReadsMessage (message_text m) m
-message_reads (Kinds.Request r) w = reads r w
-message_reads (Kinds.Response r) w = absurd w
-
-pub again_at : {E : Type 0} (m : Message) (r : Result (List ℕ) E) → IfOk r (λ t. t ≡ message_text m) → IsWrittenMessage m → IfOk r (λ t. ReadsMessage t m)
-again_at m (Ok t) text w = subst (λ (x : List ℕ). ReadsMessage x m) (sym text) (message_reads m w)
-again_at m (Err e) text w = tt
+unfolding IsWrittenMessage
+message_reads (Kinds.Request r) w = request_reads r w
+message_reads (Kinds.Response r) w = response_reads r w

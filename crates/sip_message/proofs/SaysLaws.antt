@@ -1,13 +1,12 @@
--- What the header fields of a request say is what is read of them.
+-- What the header fields of a message say is what is read of them.
 use Rattle.std.proofs.Common.{◌≡◌, ℕ, ◌+◌, ◌≤◌, Bool, true, false, cond, leb, List, [], ◌∷◌, ◌++◌, length, map, take, drop, Option, Some, None, Result, Ok, Err, refl, sym, ap, subst, ◌∙◌, codes, arith}
-use Rattle.std.specs.Prelude.{nat_eq}
-use Rattle.std.specs.Cmp.Lexicographic.{pointwise}
 use Rattle.std.specs.Char.{is_ascii_digit}
 use Rattle.std.proofs.lemmas.Bool.{leb-true, le-leb}
 use Rattle.std.proofs.lemmas.List.{take-append-drop, take_at, length-take-le, length-append}
 use Rattle.text.specs.Class.{is_run_of}
 use Rattle.text.specs.Number.{number_upto}
 use Rattle.sip_uri.specs.declared.uri.NameAddr.{NameAddr}
+use Rattle.sip_message.specs.declared.contact.ContactValue.{ContactValue}
 use Rattle.sip_message.specs.declared.cseq.CSeq.{CSeq}
 use Rattle.sip_message.specs.declared.cseq.Sequence.{Sequence}
 use Rattle.sip_message.specs.declared.error.HeaderName.{HeaderName}
@@ -18,19 +17,21 @@ use Rattle.sip_message.specs.declared.headers.Header.{Header}
 use Rattle.sip_message.specs.declared.message.Parts.{Parts}
 use Rattle.sip_message.specs.declared.party.Party.{Party}
 use Rattle.sip_message.specs.declared.read.Contents.{Contents}
+use Rattle.sip_message.specs.declared.start.Start.{Start}
 use Rattle.sip_message.specs.declared.values.Values.{Values}
 use Rattle.sip_message.specs.declared.via.Via.{Via}
+use Rattle.sip_message.specs.Contacts.{contacts_of}
 use Rattle.sip_message.specs.CSeq.{cseq_of}
 use Rattle.sip_message.specs.Faults.{and_then, readable}
 use Rattle.sip_message.specs.Form.{is_call_id, is_media_type, max_forwards_of}
-use Rattle.sip_message.specs.Grammar.{SaysParts, SaysHops, SaysType, SaysBody, Says}
+use Rattle.sip_message.specs.Grammar.{SaysParts, SaysContact, SaysHops, SaysType, SaysBody, Says}
 use Rattle.sip_message.specs.Lookup.{values_named}
 use Rattle.sip_message.specs.Named.{at_most_one, exactly_one}
-use Rattle.sip_message.specs.Party.{has_tag, party_of}
+use Rattle.sip_message.specs.Needs.{is_tagged_for, is_method_for, needs_contact, is_one_address}
+use Rattle.sip_message.specs.Party.{party_of}
 use Rattle.sip_message.specs.Reading.{contents_of}
-use Rattle.sip_message.specs.Values.{with_via, each_via, via_texts, some_vias, if_tagged, with_text, from_of, to_of, call_id_of, of_method, with_number, cseq_for, hops_by, hops_of, type_by, type_of, parts_of, values_of, greatest_length, long_enough, body_by, body_of}
+use Rattle.sip_message.specs.Values.{with_via, each_via, via_texts, some_vias, if_tagged, with_text, from_for, to_of, call_id_of, of_method, with_number, cseq_for, one_address, contact_for, hops_by, hops_of, type_by, type_of, parts_of, values_of, greatest_length, long_enough, body_by, body_of}
 use Rattle.sip_message.specs.Via.{via_of}
-use Rattle.sip_message.proofs.ValueLaws.{same_text, text_same}
 
 -- ---- steps
 
@@ -118,18 +119,18 @@ text_is text (Ok name) p h =
     (ap (λ (q : Party). q.text) same, ap (λ (q : Party). ok q.name) same)
 text_is text (Err e) p h = absurd (no_ok e p h)
 
-tagged_is : (o : Option NameAddr) (name : NameAddr) → if_tagged o ≡ Some name → (o ≡ Some name) × (has_tag name.params ≡ true)
-tagged_is None name h = absurd cc
-tagged_is (Some n) name h = step (has_tag n.params) refl h where
-  step : (b : Bool) → has_tag n.params ≡ b → cond b (some n) None ≡ Some name → (some n ≡ some name) × (has_tag name.params ≡ true)
-  step true e k = (k, ap (λ (x : NameAddr). has_tag x.params) (sym (some_is n name k)) ∙ e)
+tagged_is : (start : Start) (o : Option NameAddr) (name : NameAddr) → if_tagged start o ≡ Some name → (o ≡ Some name) × (is_tagged_for start name.params ≡ true)
+tagged_is start None name h = absurd cc
+tagged_is start (Some n) name h = step (is_tagged_for start n.params) refl h where
+  step : (b : Bool) → is_tagged_for start n.params ≡ b → cond b (some n) None ≡ Some name → (some n ≡ some name) × (is_tagged_for start name.params ≡ true)
+  step true e k = (k, ap (λ (x : NameAddr). is_tagged_for start x.params) (sym (some_is n name k)) ∙ e)
   step false e k = absurd cc
 
-from_is : (fields : List Header) (p : Party) → from_of fields ≡ Ok p → IsParty (values_named (codes "From") fields) p × (has_tag p.name.params ≡ true)
-from_is fields p h =
-    let t = then_ok (exactly_one Names.From (values_named (codes "From") fields)) (λ text. with_text text (readable Names.From (if_tagged (party_of text)))) p h in
-    let is = text_is t.0 (readable Names.From (if_tagged (party_of t.0))) p t.2 in
-    let tagged = tagged_is (party_of t.0) p.name (readable_is Names.From (if_tagged (party_of t.0)) p.name is.1) in
+from_is : (start : Start) (fields : List Header) (p : Party) → from_for start fields ≡ Ok p → IsParty (values_named (codes "From") fields) p × (is_tagged_for start p.name.params ≡ true)
+from_is start fields p h =
+    let t = then_ok (exactly_one Names.From (values_named (codes "From") fields)) (λ text. with_text text (readable Names.From (if_tagged start (party_of text)))) p h in
+    let is = text_is t.0 (readable Names.From (if_tagged start (party_of t.0))) p t.2 in
+    let tagged = tagged_is start (party_of t.0) p.name (readable_is Names.From (if_tagged start (party_of t.0)) p.name is.1) in
     (record { one = one_is Names.From (values_named (codes "From") fields) t.0 t.1 ∙ ap (λ (x : List ℕ). x ∷ []) is.0; name = ap party_of (sym is.0) ∙ tagged.0 }, tagged.1)
 
 to_is : (fields : List Header) (p : Party) → to_of fields ≡ Ok p → IsParty (values_named (codes "To") fields) p
@@ -151,10 +152,10 @@ call_id_is fields id h =
 
 -- ---- CSeq
 
-record IsSequence (method : List ℕ) (values : List (List ℕ)) (s : Sequence) : Type 0 where
+record IsSequence (start : Start) (values : List (List ℕ)) (s : Sequence) : Type 0 where
   one : values ≡ s.text ∷ []
   cseq : cseq_of s.text ≡ Some s.cseq
-  same : s.cseq.method ≡ method
+  fits : is_method_for start s.cseq.method ≡ true
 
 number_is : (text : List ℕ) (r : Result CSeq MessageError) (s : Sequence) → with_number text r ≡ Ok s → (text ≡ s.text) × (r ≡ Ok s.cseq)
 number_is text (Ok cseq) s h =
@@ -162,19 +163,19 @@ number_is text (Ok cseq) s h =
     (ap (λ (q : Sequence). q.text) same, ap (λ (q : Sequence). ok q.cseq) same)
 number_is text (Err e) s h = absurd (no_ok e s h)
 
-method_is : (method : List ℕ) (o : Option CSeq) (c : CSeq) → of_method method o ≡ Some c → (o ≡ Some c) × (c.method ≡ method)
-method_is method None c h = absurd cc
-method_is method (Some d) c h = step (pointwise nat_eq d.method method) refl h where
-  step : (b : Bool) → pointwise nat_eq d.method method ≡ b → cond b (some d) None ≡ Some c → (some d ≡ some c) × (c.method ≡ method)
-  step true e k = (k, ap (λ (x : CSeq). x.method) (sym (some_is d c k)) ∙ same_text d.method method e)
+method_is : (start : Start) (o : Option CSeq) (c : CSeq) → of_method start o ≡ Some c → (o ≡ Some c) × (is_method_for start c.method ≡ true)
+method_is start None c h = absurd cc
+method_is start (Some d) c h = step (is_method_for start d.method) refl h where
+  step : (b : Bool) → is_method_for start d.method ≡ b → cond b (some d) None ≡ Some c → (some d ≡ some c) × (is_method_for start c.method ≡ true)
+  step true e k = (k, ap (λ (x : CSeq). is_method_for start x.method) (sym (some_is d c k)) ∙ e)
   step false e k = absurd cc
 
-cseq_is : (method : List ℕ) (fields : List Header) (s : Sequence) → cseq_for method fields ≡ Ok s → IsSequence method (values_named (codes "CSeq") fields) s
-cseq_is method fields s h =
-    let t = then_ok (exactly_one Names.CSeq (values_named (codes "CSeq") fields)) (λ text. with_number text (readable Names.CSeq (of_method method (cseq_of text)))) s h in
-    let is = number_is t.0 (readable Names.CSeq (of_method method (cseq_of t.0))) s t.2 in
-    let m = method_is method (cseq_of t.0) s.cseq (readable_is Names.CSeq (of_method method (cseq_of t.0)) s.cseq is.1) in
-    record { one = one_is Names.CSeq (values_named (codes "CSeq") fields) t.0 t.1 ∙ ap (λ (x : List ℕ). x ∷ []) is.0; cseq = ap cseq_of (sym is.0) ∙ m.0; same = m.1 }
+cseq_is : (start : Start) (fields : List Header) (s : Sequence) → cseq_for start fields ≡ Ok s → IsSequence start (values_named (codes "CSeq") fields) s
+cseq_is start fields s h =
+    let t = then_ok (exactly_one Names.CSeq (values_named (codes "CSeq") fields)) (λ text. with_number text (readable Names.CSeq (of_method start (cseq_of text)))) s h in
+    let is = number_is t.0 (readable Names.CSeq (of_method start (cseq_of t.0))) s t.2 in
+    let m = method_is start (cseq_of t.0) s.cseq (readable_is Names.CSeq (of_method start (cseq_of t.0)) s.cseq is.1) in
+    record { one = one_is Names.CSeq (values_named (codes "CSeq") fields) t.0 t.1 ∙ ap (λ (x : List ℕ). x ∷ []) is.0; cseq = ap cseq_of (sym is.0) ∙ m.0; fits = m.1 }
 
 -- ---- the parts
 
@@ -190,20 +191,20 @@ parts_from vias from to call_id cseq = record {
   cseq_text = cseq.text;
 }
 
-parts_are : (method : List ℕ) (fields : List Header) (parts : Parts) → parts_of method fields ≡ Ok parts → SaysParts method fields parts
+parts_are : (start : Start) (fields : List Header) (parts : Parts) → parts_of start fields ≡ Ok parts → SaysParts start fields parts
 unfolding parts_of
-parts_are method fields parts h =
+parts_are start fields parts h =
     let vias = then_ok (some_vias (via_texts fields)) _ parts h in
-    let from = then_ok (from_of fields) _ parts vias.2 in
+    let from = then_ok (from_for start fields) _ parts vias.2 in
     let to = then_ok (to_of fields) _ parts from.2 in
     let id = then_ok (call_id_of fields) _ parts to.2 in
-    let cseq = then_ok (cseq_for method fields) _ parts id.2 in
+    let cseq = then_ok (cseq_for start fields) _ parts id.2 in
     let v = some_vias_are (via_texts fields) vias.0 vias.1 in
-    let f = from_is fields from.0 from.1 in
+    let f = from_is start fields from.0 from.1 in
     let t = to_is fields to.0 to.1 in
     let i = call_id_is fields id.0 id.1 in
-    let c = cseq_is method fields cseq.0 cseq.1 in
-    subst (λ (p : Parts). SaysParts method fields p) (ok_is (parts_from vias.0 from.0 to.0 id.0 cseq.0) parts cseq.2) (record {
+    let c = cseq_is start fields cseq.0 cseq.1 in
+    subst (λ (p : Parts). SaysParts start fields p) (ok_is (parts_from vias.0 from.0 to.0 id.0 cseq.0) parts cseq.2) (record {
       some_via = v.there;
       each_via = v.each;
       one_from = f.0.one;
@@ -215,12 +216,12 @@ parts_are method fields parts h =
       call_id = i.1;
       one_cseq = c.one;
       cseq = c.cseq;
-      cseq_method = c.same;
+      cseq_method = c.fits;
     })
 
-parts_again : (method : List ℕ) (fields : List Header) (parts : Parts) → SaysParts method fields parts → parts_of method fields ≡ Ok parts
+parts_again : (start : Start) (fields : List Header) (parts : Parts) → SaysParts start fields parts → parts_of start fields ≡ Ok parts
 unfolding parts_of
-parts_again method fields parts h =
+parts_again start fields parts h =
     rw (
       some_vias_again (via_texts fields) parts.vias h.some_via h.each_via,
       h.one_from,
@@ -232,8 +233,33 @@ parts_again method fields parts h =
       h.call_id,
       h.one_cseq,
       h.cseq,
-      text_same parts.cseq.method method h.cseq_method,
+      h.cseq_method,
     ) refl
+
+-- ---- Contact
+
+address_is : (values : List ContactValue) (u : Unit {0}) → one_address values ≡ Ok u → is_one_address values ≡ true
+address_is [] u h = absurd (no_ok (Missing Names.Contact) u h)
+address_is (value ∷ values) u h = step (is_one_address (value ∷ values)) refl h where
+  step : (b : Bool) → is_one_address (value ∷ values) ≡ b → cond b (ok tt) (failed (Unreadable Names.Contact)) ≡ Ok u → b ≡ true
+  step true e k = refl
+  step false e k = absurd (no_ok (Unreadable Names.Contact) u k)
+
+address_again : (values : List ContactValue) → is_one_address values ≡ true → one_address values ≡ Ok tt
+address_again [] h = absurd cc
+address_again (value ∷ values) h = rw h refl
+
+contact_is : (start : Start) (method : List ℕ) (fields : List Header) (u : Unit {0}) → contact_for start method fields ≡ Ok u → SaysContact (needs_contact start method) (contacts_of fields)
+contact_is start method fields u h = step (needs_contact start method) h where
+  step : (b : Bool) → cond b (one_address (contacts_of fields)) (ok tt) ≡ Ok u → SaysContact b (contacts_of fields)
+  step true k = address_is (contacts_of fields) u k
+  step false k = tt
+
+contact_again : (start : Start) (method : List ℕ) (fields : List Header) → SaysContact (needs_contact start method) (contacts_of fields) → contact_for start method fields ≡ Ok tt
+contact_again start method fields h = step (needs_contact start method) h where
+  step : (b : Bool) → SaysContact b (contacts_of fields) → cond b (one_address (contacts_of fields)) (ok tt) ≡ ok tt
+  step true k = address_again (contacts_of fields) k
+  step false k = refl
 
 -- ---- Max-Forwards, Content-Type, Content-Length
 
@@ -294,46 +320,57 @@ body_again (one ∷ two ∷ more) raw body h = absurd h
 abbrev values : Parts → ℕ → Values
 values parts hops = record { parts = parts; max_forwards = hops }
 
-values_are : (method : List ℕ) (fields : List Header) (v : Values) → values_of method fields ≡ Ok v
-    → SaysParts method fields v.parts × SaysHops (values_named (codes "Max-Forwards") fields) v.max_forwards × SaysType (values_named (codes "Content-Type") fields)
-unfolding values_of
-values_are method fields v h =
-    let parts = then_ok (parts_of method fields) _ v h in
-    let hops = then_ok (hops_of fields) _ v parts.2 in
-    let kind = then_ok (type_of fields) _ v hops.2 in
-    let same : values parts.0 hops.0 ≡ v = ok_is (values parts.0 hops.0) v kind.2 in (
-      subst (λ (x : Values). SaysParts method fields x.parts) same (parts_are method fields parts.0 parts.1),
-      subst (λ (x : Values). SaysHops (values_named (codes "Max-Forwards") fields) x.max_forwards) same (hops_are (values_named (codes "Max-Forwards") fields) hops.0 hops.1),
-      type_is (values_named (codes "Content-Type") fields) kind.0 kind.1,
-    )
+-- the header fields say these values
+record SaysValues (start : Start) (fields : List Header) (v : Values) : Type 0 where
+  says_parts : SaysParts start fields v.parts
+  says_contact : SaysContact (needs_contact start v.parts.cseq.method) (contacts_of fields)
+  says_hops : SaysHops (values_named (codes "Max-Forwards") fields) v.max_forwards
+  says_type : SaysType (values_named (codes "Content-Type") fields)
 
-values_again : (method : List ℕ) (fields : List Header) (v : Values) → SaysParts method fields v.parts → SaysHops (values_named (codes "Max-Forwards") fields) v.max_forwards → SaysType (values_named (codes "Content-Type") fields)
-    → values_of method fields ≡ Ok v
+values_are : (start : Start) (fields : List Header) (v : Values) → values_of start fields ≡ Ok v → SaysValues start fields v
 unfolding values_of
-values_again method fields v parts hops kind =
-    let t = type_again (values_named (codes "Content-Type") fields) kind in
-    rw (parts_again method fields v.parts parts, hops_again (values_named (codes "Max-Forwards") fields) v.max_forwards hops, t.1) refl
+values_are start fields v h =
+    let parts = then_ok (parts_of start fields) _ v h in
+    let contact = then_ok (contact_for start parts.0.cseq.method fields) _ v parts.2 in
+    let hops = then_ok (hops_of fields) _ v contact.2 in
+    let kind = then_ok (type_of fields) _ v hops.2 in
+    subst (λ (x : Values). SaysValues start fields x) (ok_is (values parts.0 hops.0) v kind.2) (record {
+      says_parts = parts_are start fields parts.0 parts.1;
+      says_contact = contact_is start parts.0.cseq.method fields contact.0 contact.1;
+      says_hops = hops_are (values_named (codes "Max-Forwards") fields) hops.0 hops.1;
+      says_type = type_is (values_named (codes "Content-Type") fields) kind.0 kind.1;
+    })
+
+values_again : (start : Start) (fields : List Header) (v : Values) → SaysValues start fields v → values_of start fields ≡ Ok v
+unfolding values_of
+values_again start fields v says =
+    let t = type_again (values_named (codes "Content-Type") fields) says.says_type in
+    rw (parts_again start fields v.parts says.says_parts, contact_again start v.parts.cseq.method fields says.says_contact, hops_again (values_named (codes "Max-Forwards") fields) v.max_forwards says.says_hops, t.1) refl
 
 abbrev contents : Values → List ℕ → Contents
 contents v body = record { values = v; body = body }
 
 -- what is read of the header fields is what they say
-pub contents_are : (method : List ℕ) (fields : List Header) (raw : List ℕ) (c : Contents) → contents_of method fields raw ≡ Ok c → Says method fields raw c.values.parts c.values.max_forwards c.body
+pub contents_are : (start : Start) (fields : List Header) (raw : List ℕ) (c : Contents) → contents_of start fields raw ≡ Ok c → Says start fields raw c.values.parts c.values.max_forwards c.body
 unfolding contents_of body_of
-contents_are method fields raw c h =
-    let v = then_ok (values_of method fields) _ c h in
+contents_are start fields raw c h =
+    let v = then_ok (values_of start fields) _ c h in
     let b = then_ok (body_of fields raw) _ c v.2 in
-    let said = values_are method fields v.0 v.1 in
+    let said = values_are start fields v.0 v.1 in
     let same : contents v.0 b.0 ≡ c = ok_is (contents v.0 b.0) c b.2 in
-    subst (λ (x : Contents). Says method fields raw x.values.parts x.values.max_forwards x.body) same (record {
-      says_parts = said.0;
-      says_hops = said.1;
-      says_type = said.2;
+    subst (λ (x : Contents). Says start fields raw x.values.parts x.values.max_forwards x.body) same (record {
+      says_parts = said.says_parts;
+      says_contact = said.says_contact;
+      says_hops = said.says_hops;
+      says_type = said.says_type;
       says_body = body_is (values_named (codes "Content-Length") fields) raw b.0 b.1;
     })
 
 -- and what they say is read
-pub contents_again : (method : List ℕ) (fields : List Header) (raw : List ℕ) (c : Contents) → Says method fields raw c.values.parts c.values.max_forwards c.body → contents_of method fields raw ≡ Ok c
+pub contents_again : (start : Start) (fields : List Header) (raw : List ℕ) (c : Contents) → Says start fields raw c.values.parts c.values.max_forwards c.body → contents_of start fields raw ≡ Ok c
 unfolding contents_of body_of
-contents_again method fields raw c h =
-    rw (values_again method fields c.values h.says_parts h.says_hops h.says_type, body_again (values_named (codes "Content-Length") fields) raw c.body h.says_body) refl
+contents_again start fields raw c h =
+    rw (
+      values_again start fields c.values (record { says_parts = h.says_parts; says_contact = h.says_contact; says_hops = h.says_hops; says_type = h.says_type }),
+      body_again (values_named (codes "Content-Length") fields) raw c.body h.says_body,
+    ) refl

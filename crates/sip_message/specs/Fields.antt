@@ -91,3 +91,7 @@ header_of f = if has_name f then Some (field_of f) else None
 -- the headers of lines that are clean
 abbrev pub headers_of : List (List ℕ) → Option (List Header)
 headers_of lines = if begins_a_field lines && list_all has_name (fields_of lines) then Some (map field_of (fields_of lines)) else None
+
+-- the header of a field of its form
+abbrev pub readable_of : RawField → Option Header
+readable_of f = if is_raw_field f then Some (field_of f) else None

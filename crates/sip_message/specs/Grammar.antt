@@ -1,12 +1,11 @@
 -- Which texts are messages, by what they are made of, to be read beside RFC 3261. No limit is part of it: how long a text may be,
 -- and how many header lines it may have, stand apart.
-use Rattle.std.specs.Prelude.{◌≡◌, ℕ, Bool, ◌≤◌, ◌<◌, not, ◌==◌, IsTrue, List, [], ◌∷◌, ◌++◌, length, map, codes, Some, Ok, Err}
+use Rattle.std.specs.Prelude.{◌≡◌, ℕ, Bool, true, false, ◌≤◌, ◌<◌, IsTrue, List, [], ◌∷◌, ◌++◌, length, map, codes, Some, Err}
 use Rattle.std.specs.Char.{is_ascii_digit}
-use Rattle.std.specs.List.{list_all}
 use Rattle.text.specs.Class.{is_run_of, is_token_byte}
 use Rattle.text.specs.Number.{number_upto}
-use Rattle.sip_uri.specs.declared.uri.Uri.{Uri}
-use Rattle.sip_uri.specs.Reading.{uri_of}
+use Rattle.sip_uri.specs.Grammar.{ReadsUri}
+use Rattle.sip_message.specs.declared.contact.ContactValue.{ContactValue}
 use Rattle.sip_message.specs.declared.error.MessageError.{MessageError}
 use Rattle.sip_message.specs.declared.error.MessageError.TheVariants.{OutOfMemory, StartLine, Version, HeaderLine, Missing, Unreadable, Short, TooLong}
 use Rattle.sip_message.specs.declared.headers.Header.{Header}
@@ -14,75 +13,95 @@ use Rattle.sip_message.specs.declared.message.Message.{Message}
 use Rattle.sip_message.specs.declared.message.Message.TheVariants as Kinds
 use Rattle.sip_message.specs.declared.message.Parts.{Parts}
 use Rattle.sip_message.specs.declared.message.Request.{Request}
+use Rattle.sip_message.specs.declared.message.Response.{Response}
+use Rattle.sip_message.specs.declared.start.RequestLine.{RequestLine}
+use Rattle.sip_message.specs.declared.start.Start.{Start}
+use Rattle.sip_message.specs.declared.start.Start.TheVariants.{Asking, Answering}
+use Rattle.sip_message.specs.declared.start.StatusLine.{StatusLine}
+use Rattle.sip_message.specs.Contacts.{contacts_of}
 use Rattle.sip_message.specs.CSeq.{cseq_of}
 use Rattle.sip_message.specs.Form.{is_call_id, is_media_type, max_forwards_of}
 use Rattle.sip_message.specs.Heads.{ReadsHead, line_count}
 use Rattle.sip_message.specs.Lines.{before_line_end, is_clean}
 use Rattle.sip_message.specs.Lookup.{values_named}
-use Rattle.sip_message.specs.Party.{has_tag, party_of}
+use Rattle.sip_message.specs.Needs.{is_tagged_for, is_method_for, needs_contact, is_one_address}
+use Rattle.sip_message.specs.Party.{party_of}
 use Rattle.sip_message.specs.Reading.{contents_of, greatest_datagram, greatest_lines}
-use Rattle.sip_message.specs.Start.{is_known_method, is_part, is_version}
+use Rattle.sip_message.specs.Start.{begins_sip, has_no_space, is_part, is_version, status_read}
 use Rattle.sip_message.specs.Values.{via_texts, without_length, greatest_length}
 use Rattle.sip_message.specs.Via.{via_of}
 
 -- ---- the start line
 
-abbrev pub has_no_space : List ℕ → Bool
-has_no_space text = list_all (λ b. not (b == 32)) text
-
--- Method SP Request-URI SP SIP-Version (section 7.1), of any version: the method is a token that the server knows, and the
--- Request-URI a URI without a space
-pub record HasRequestForm (line method : List ℕ) (uri : Uri) (version : List ℕ) : Type 0 where
+-- Request-Line: Method SP Request-URI SP SIP-Version (section 7.1), of any version: the method is a token, and the Request-URI a URI
+pub record HasRequestForm (text : List ℕ) (line : RequestLine) (version : List ℕ) : Type 0 where
   pub uri_part : List ℕ
-  pub whole : line ≡ method ++ 32 ∷ (uri_part ++ 32 ∷ version)
-  pub token : IsTrue (is_run_of is_token_byte method)
-  pub known : IsTrue (is_known_method method)
+  pub whole : text ≡ line.method ++ 32 ∷ (uri_part ++ 32 ∷ version)
+  pub token : IsTrue (is_run_of is_token_byte line.method)
   pub unbroken : IsTrue (has_no_space uri_part)
-  pub reads : uri_of uri_part ≡ Ok uri
+  pub reads : ReadsUri uri_part line.uri
   pub some_version : IsTrue (is_part version)
 
--- a request line (section 7.1): its version is SIP/2.0 without case
-pub record IsRequestLine (line method : List ℕ) (uri : Uri) : Type 0 where
+-- Status-Line: SIP-Version SP Status-Code SP Reason-Phrase (section 7.2), of any version that begins with `SIP/`: the number has three
+-- digits and is 100 to 699, and the reason may be empty
+pub record HasStatusForm (text : List ℕ) (line : StatusLine) (version : List ℕ) : Type 0 where
+  pub digits : List ℕ
+  pub whole : text ≡ version ++ 32 ∷ (digits ++ 32 ∷ line.reason)
+  pub begins : IsTrue (begins_sip version)
+  pub unbroken : IsTrue (has_no_space version)
+  pub reads : status_read digits ≡ Some line.status
+
+abbrev pub HasForm : List ℕ → Start → List ℕ → Type 0
+HasForm text (Asking line) version = HasRequestForm text line version
+HasForm text (Answering line) version = HasStatusForm text line version
+
+-- a start line (section 7): its version is SIP/2.0 without case
+pub record IsStartLine (text : List ℕ) (start : Start) : Type 0 where
   pub version : List ℕ
-  pub form : HasRequestForm line method uri version
+  pub form : HasForm text start version
   pub sip_2 : IsTrue (is_version version)
 
 -- ---- start line, header fields and what is left
 
--- the text is a clean request line, these header fields, an empty line and these bytes (section 7)
-pub record Opens (text method : List ℕ) (uri : Uri) (fields : List Header) (raw : List ℕ) : Type 0 where
+-- the text is a clean start line, these header fields, an empty line and these bytes (section 7)
+pub record Opens (text : List ℕ) (start : Start) (fields : List Header) (raw : List ℕ) : Type 0 where
   pub line : List ℕ
   pub rest : List ℕ
   pub whole : text ≡ line ++ 13 ∷ 10 ∷ rest
   pub clean : IsTrue (is_clean line)
-  pub start : IsRequestLine line method uri
+  pub begins : IsStartLine line start
   pub head : ReadsHead rest fields raw
 
 -- how many header lines it has, lines that continue others included
-abbrev pub lines_of : {text method : List ℕ} {uri : Uri} {fields : List Header} {raw : List ℕ} → Opens text method uri fields raw → ℕ
+abbrev pub lines_of : {text : List ℕ} {start : Start} {fields : List Header} {raw : List ℕ} → Opens text start fields raw → ℕ
 lines_of opens = line_count opens.head
 
 -- ---- header fields
 
 -- what an answer repeats is what the header fields say (section 8.1.1)
-pub record SaysParts (method : List ℕ) (fields : List Header) (parts : Parts) : Type 0 where
+pub record SaysParts (start : Start) (fields : List Header) (parts : Parts) : Type 0 where
   -- one Via at least, and each is read, in order (section 20.42)
   pub some_via : parts.vias ≡ [] → ⊥
   pub each_via : map via_of (via_texts fields) ≡ map (λ via. Some via) parts.vias
-  -- From stands once, and has a tag (section 20.20)
+  -- From stands once, and has a tag in a request (section 20.20)
   pub one_from : values_named (codes "From") fields ≡ parts.from_text ∷ []
   pub from : party_of parts.from_text ≡ Some parts.from
-  pub from_tag : IsTrue (has_tag parts.from.params)
+  pub from_tag : IsTrue (is_tagged_for start parts.from.params)
   -- To stands once (section 20.39)
   pub one_to : values_named (codes "To") fields ≡ parts.to_text ∷ []
   pub to : party_of parts.to_text ≡ Some parts.to
   -- Call-ID stands once (section 20.8)
   pub one_call_id : values_named (codes "Call-ID") fields ≡ parts.call_id ∷ []
   pub call_id : IsTrue (is_call_id parts.call_id)
-  -- CSeq stands once, and its method is the request's (section 20.16)
+  -- CSeq stands once, and its method is a request's own (section 20.16)
   pub one_cseq : values_named (codes "CSeq") fields ≡ parts.cseq_text ∷ []
   pub cseq : cseq_of parts.cseq_text ≡ Some parts.cseq
-  pub cseq_method : parts.cseq.method ≡ method
+  pub cseq_method : IsTrue (is_method_for start parts.cseq.method)
+
+-- the values of Contact: where one is needed, it is one address
+abbrev pub SaysContact : Bool → List ContactValue → Type 0
+SaysContact false values = Unit {0}
+SaysContact true values = IsTrue (is_one_address values)
 
 -- the values of Max-Forwards, of which there is one at most: it is 0 to 255 (section 20.22), and 70 where there is none (section 8.1.1.6)
 abbrev pub SaysHops : List (List ℕ) → ℕ → Type 0
@@ -104,31 +123,47 @@ SaysBody (text ∷ []) raw body = IsTrue (is_run_of is_ascii_digit text) × (num
 SaysBody (one ∷ two ∷ more) raw body = ⊥
 
 -- values and body are what the header fields, and the bytes behind them, say
-pub record Says (method : List ℕ) (fields : List Header) (raw : List ℕ) (parts : Parts) (hops : ℕ) (body : List ℕ) : Type 0 where
-  pub says_parts : SaysParts method fields parts
+pub record Says (start : Start) (fields : List Header) (raw : List ℕ) (parts : Parts) (hops : ℕ) (body : List ℕ) : Type 0 where
+  pub says_parts : SaysParts start fields parts
+  pub says_contact : SaysContact (needs_contact start parts.cseq.method) (contacts_of fields)
   pub says_hops : SaysHops (values_named (codes "Max-Forwards") fields) hops
   pub says_type : SaysType (values_named (codes "Content-Type") fields)
   pub says_body : SaysBody (values_named (codes "Content-Length") fields) raw body
 
 -- ---- messages
 
+abbrev pub start_of_request : Request → Start
+start_of_request request = Asking (record { method = request.method; uri = request.uri })
+
+abbrev pub start_of_response : Response → Start
+start_of_response response = Answering (record { status = response.status; reason = response.reason })
+
 -- the text is this request (section 7.1)
 pub record ReadsRequest (text : List ℕ) (request : Request) : Type 0 where
   pub fields : List Header
   pub raw : List ℕ
-  pub opens : Opens text request.method request.uri fields raw
-  pub says : Says request.method fields raw request.parts request.max_forwards request.body
+  pub opens : Opens text (start_of_request request) fields raw
+  pub says : Says (start_of_request request) fields raw request.parts request.max_forwards request.body
   pub headers : request.headers ≡ without_length fields
 
--- the text is this message; no text is an answer so far
+-- the text is this answer (section 7.2)
+pub record ReadsResponse (text : List ℕ) (response : Response) : Type 0 where
+  pub fields : List Header
+  pub raw : List ℕ
+  pub hops : ℕ
+  pub opens : Opens text (start_of_response response) fields raw
+  pub says : Says (start_of_response response) fields raw response.parts hops response.body
+  pub headers : response.headers ≡ without_length fields
+
+-- the text is this message
 abbrev pub ReadsMessage : List ℕ → Message → Type 0
 ReadsMessage text (Kinds.Request request) = ReadsRequest text request
-ReadsMessage text (Kinds.Response response) = ⊥
+ReadsMessage text (Kinds.Response response) = ReadsResponse text response
 
 -- how many header lines it has
 abbrev pub header_lines : (text : List ℕ) (message : Message) → ReadsMessage text message → ℕ
 header_lines text (Kinds.Request request) reads = lines_of reads.opens
-header_lines text (Kinds.Response response) reads = 0
+header_lines text (Kinds.Response response) reads = lines_of reads.opens
 
 -- ---- limits and refusals
 
@@ -142,24 +177,22 @@ IsWithin text message reads = IsShort text × (header_lines text message reads �
 -- the body, has this fault
 pub record RefusesContents (text : List ℕ) (fault : MessageError) : Type 0 where
   pub short : IsShort text
-  pub method : List ℕ
-  pub uri : Uri
+  pub start : Start
   pub fields : List Header
   pub raw : List ℕ
-  pub opens : Opens text method uri fields raw
+  pub opens : Opens text start fields raw
   pub few : lines_of opens ≤ greatest_lines
-  pub first : contents_of method fields raw ≡ Err fault
+  pub first : contents_of start fields raw ≡ Err fault
 
 -- the text has this fault, and none before it
 abbrev pub Refuses : List ℕ → MessageError → Type 0
 Refuses text OutOfMemory = Unit {0}
 Refuses text TooLong = greatest_datagram < length text
-Refuses text StartLine = IsShort text × ((method : List ℕ) (uri : Uri) (version : List ℕ) → HasRequestForm (before_line_end text) method uri version → ⊥)
-Refuses text Version =
-    IsShort text × ((method : List ℕ) × (uri : Uri) × (version : List ℕ) × HasRequestForm (before_line_end text) method uri version × ¬ (IsTrue (is_version version)))
+Refuses text StartLine = IsShort text × ((start : Start) (version : List ℕ) → HasForm (before_line_end text) start version → ⊥)
+Refuses text Version = IsShort text × ((start : Start) × (version : List ℕ) × HasForm (before_line_end text) start version × ¬ (IsTrue (is_version version)))
 Refuses text HeaderLine =
-    IsShort text × ((method : List ℕ) × (uri : Uri) × IsRequestLine (before_line_end text) method uri)
-    × ((method : List ℕ) (uri : Uri) (fields : List Header) (raw : List ℕ) (opens : Opens text method uri fields raw) → lines_of opens ≤ greatest_lines → ⊥)
+    IsShort text × ((start : Start) × IsStartLine (before_line_end text) start)
+    × ((start : Start) (fields : List Header) (raw : List ℕ) (opens : Opens text start fields raw) → lines_of opens ≤ greatest_lines → ⊥)
 Refuses text (Missing name) = RefusesContents text (Missing name)
 Refuses text (Unreadable name) = RefusesContents text (Unreadable name)
 Refuses text Short = RefusesContents text Short

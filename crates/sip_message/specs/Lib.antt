@@ -9,11 +9,13 @@ pub mod LongNames
 pub mod Lookup
 pub mod Named
 pub mod Party
+pub mod Needs
 pub mod RawVia
 pub mod Start
 pub mod Values
 pub mod Via
 pub mod WritingHead
+pub mod Answerable
 pub mod Reading
 pub mod Reasons
 pub mod Reply

@@ -6,6 +6,7 @@ use Rattle.sip_message.specs.declared.headers.Header.{Header}
 use Rattle.sip_message.specs.declared.message.Message.{Message}
 use Rattle.sip_message.specs.declared.message.Message.TheVariants as Kinds
 use Rattle.sip_message.specs.declared.start.Start.{Start}
+use Rattle.sip_message.specs.declared.start.Start.TheVariants.{Asking, Answering}
 use Rattle.sip_message.specs.declared.read.Contents.{Contents}
 use Rattle.sip_message.specs.Faults.{and_then}
 use Rattle.sip_message.specs.Heads.{head_of}
@@ -21,26 +22,33 @@ abbrev pub greatest_lines : ℕ
 greatest_lines = 128
 
 -- the values of the header fields go before the body
-unfoldable pub contents_of : List ℕ → List Header → List ℕ → Result Contents MessageError
-contents_of method fields rest =
-    and_then (values_of method fields) (λ values. and_then (body_of fields rest) (λ body. Ok (record { values = values; body = body })))
+unfoldable pub contents_of : Start → List Header → List ℕ → Result Contents MessageError
+contents_of start fields rest =
+    and_then (values_of start fields) (λ values. and_then (body_of fields rest) (λ body. Ok (record { values = values; body = body })))
 
-abbrev pub request_with : Start → List Header → Contents → Message
-request_with start fields contents = Kinds.Request (record {
-  method = start.method;
-  uri = start.uri;
+abbrev pub message_with : Start → List Header → Contents → Message
+message_with (Asking line) fields contents = Kinds.Request (record {
+  method = line.method;
+  uri = line.uri;
   parts = contents.values.parts;
   max_forwards = contents.values.max_forwards;
   headers = without_length fields;
   body = contents.body;
 })
+message_with (Answering line) fields contents = Kinds.Response (record {
+  status = line.status;
+  reason = line.reason;
+  parts = contents.values.parts;
+  headers = without_length fields;
+  body = contents.body;
+})
 
-abbrev pub request_of : Start → List Header → List ℕ → Result Message MessageError
-request_of start fields rest = and_then (contents_of start.method fields rest) (λ contents. Ok (request_with start fields contents))
+abbrev pub message_by : Start → List Header → List ℕ → Result Message MessageError
+message_by start fields rest = and_then (contents_of start fields rest) (λ contents. Ok (message_with start fields contents))
 
 abbrev pub with_fields : Start → Option (List Header × List ℕ) → Result Message MessageError
 with_fields start None = Err HeaderLine
-with_fields start (Some x) = request_of start x.0 x.1
+with_fields start (Some x) = message_by start x.0 x.1
 
 abbrev pub behind_start : Start → Option (List ℕ) → Result Message MessageError
 behind_start start None = Err HeaderLine

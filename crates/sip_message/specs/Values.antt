@@ -1,8 +1,7 @@
--- What the header fields of a request say (RFC 3261 sections 8.1.1 and 20), and the first fault of those that say nothing.
-use Rattle.std.specs.Prelude.{ℕ, not, nat_eq, nat_le, List, [], ◌∷◌, length, take, filter, codes, Option, Some, None, option_map, Result, Ok, Err, if◌then◌else◌}
+-- What the header fields of a message say (RFC 3261 sections 8.1.1 and 20), and the first fault of those that say nothing.
+use Rattle.std.specs.Prelude.{ℕ, not, nat_le, List, [], ◌∷◌, length, take, filter, codes, Option, Some, None, option_map, Result, Ok, Err, if◌then◌else◌}
 use Rattle.std.specs.List.{flat_map}
 use Rattle.std.specs.Char.{is_ascii_digit}
-use Rattle.std.specs.Cmp.Lexicographic.{pointwise}
 use Rattle.text.specs.Class.{is_run_of}
 use Rattle.text.specs.Number.{number_upto}
 use Rattle.text.specs.Pieces.{pieces}
@@ -18,12 +17,16 @@ use Rattle.sip_message.specs.declared.message.Parts.{Parts}
 use Rattle.sip_message.specs.declared.party.Party.{Party}
 use Rattle.sip_message.specs.declared.cseq.Sequence.{Sequence}
 use Rattle.sip_message.specs.declared.values.Values.{Values}
+use Rattle.sip_message.specs.declared.contact.ContactValue.{ContactValue}
+use Rattle.sip_message.specs.declared.start.Start.{Start}
+use Rattle.sip_message.specs.Contacts.{contacts_of}
 use Rattle.sip_message.specs.CSeq.{cseq_of}
 use Rattle.sip_message.specs.Faults.{and_then, readable}
 use Rattle.sip_message.specs.Form.{is_call_id, is_media_type, max_forwards_of}
 use Rattle.sip_message.specs.Lookup.{is_named, values_named}
 use Rattle.sip_message.specs.Named.{at_most_one, exactly_one}
-use Rattle.sip_message.specs.Party.{has_tag, party_of}
+use Rattle.sip_message.specs.Needs.{is_tagged_for, is_method_for, needs_contact, is_one_address}
+use Rattle.sip_message.specs.Party.{party_of}
 use Rattle.sip_message.specs.Via.{via_of}
 
 -- ---- Via
@@ -47,21 +50,21 @@ some_vias (text ∷ texts) = readable Names.Via (each_via (text ∷ texts))
 
 -- ---- the others
 
-abbrev pub tagged : NameAddr → Option NameAddr
-tagged name = if has_tag name.params then Some name else None
+abbrev pub tagged : Start → NameAddr → Option NameAddr
+tagged start name = if is_tagged_for start name.params then Some name else None
 
-abbrev pub if_tagged : Option NameAddr → Option NameAddr
-if_tagged None = None
-if_tagged (Some name) = tagged name
+abbrev pub if_tagged : Start → Option NameAddr → Option NameAddr
+if_tagged start None = None
+if_tagged start (Some name) = tagged start name
 
 abbrev pub with_text : List ℕ → Result NameAddr MessageError → Result Party MessageError
 with_text text (Ok name) = Ok (record { text = text; name = name })
 with_text text (Err e) = Err e
 
--- From stands once, and has a tag
-abbrev pub from_of : List Header → Result Party MessageError
-from_of headers =
-    and_then (exactly_one Names.From (values_named (codes "From") headers)) (λ text. with_text text (readable Names.From (if_tagged (party_of text))))
+-- From stands once, and has a tag in a request
+abbrev pub from_for : Start → List Header → Result Party MessageError
+from_for start headers =
+    and_then (exactly_one Names.From (values_named (codes "From") headers)) (λ text. with_text text (readable Names.From (if_tagged start (party_of text))))
 
 -- To stands once
 abbrev pub to_of : List Header → Result Party MessageError
@@ -71,18 +74,26 @@ abbrev pub call_id_of : List Header → Result (List ℕ) MessageError
 call_id_of headers =
     and_then (exactly_one Names.CallId (values_named (codes "Call-ID") headers)) (λ text. if is_call_id text then Ok text else Err (Unreadable Names.CallId))
 
-abbrev pub of_method : List ℕ → Option CSeq → Option CSeq
-of_method method None = None
-of_method method (Some cseq) = if pointwise nat_eq cseq.method method then Some cseq else None
+abbrev pub of_method : Start → Option CSeq → Option CSeq
+of_method start None = None
+of_method start (Some cseq) = if is_method_for start cseq.method then Some cseq else None
 
 abbrev pub with_number : List ℕ → Result CSeq MessageError → Result Sequence MessageError
 with_number text (Ok cseq) = Ok (record { text = text; cseq = cseq })
 with_number text (Err e) = Err e
 
--- CSeq stands once, and its method is the request's
-abbrev pub cseq_for : List ℕ → List Header → Result Sequence MessageError
-cseq_for method headers =
-    and_then (exactly_one Names.CSeq (values_named (codes "CSeq") headers)) (λ text. with_number text (readable Names.CSeq (of_method method (cseq_of text))))
+-- CSeq stands once, and its method is a request's own
+abbrev pub cseq_for : Start → List Header → Result Sequence MessageError
+cseq_for start headers =
+    and_then (exactly_one Names.CSeq (values_named (codes "CSeq") headers)) (λ text. with_number text (readable Names.CSeq (of_method start (cseq_of text))))
+
+abbrev pub one_address : List ContactValue → Result (Unit {0}) MessageError
+one_address [] = Err (Missing Names.Contact)
+one_address (value ∷ values) = if is_one_address (value ∷ values) then Ok tt else Err (Unreadable Names.Contact)
+
+-- Contact has one value, an address, where the message needs one; elsewhere it isn't looked at
+abbrev pub contact_for : Start → List ℕ → List Header → Result (Unit {0}) MessageError
+contact_for start method headers = if needs_contact start method then one_address (contacts_of headers) else Ok tt
 
 abbrev pub hops_by : Option (List ℕ) → Result ℕ MessageError
 hops_by None = Ok 70
@@ -102,13 +113,13 @@ type_of headers = and_then (at_most_one Names.ContentType (values_named (codes "
 
 -- ---- all
 
-unfoldable pub parts_of : List ℕ → List Header → Result Parts MessageError
-parts_of method headers =
+unfoldable pub parts_of : Start → List Header → Result Parts MessageError
+parts_of start headers =
     and_then (some_vias (via_texts headers)) (λ vias.
-    and_then (from_of headers) (λ from.
+    and_then (from_for start headers) (λ from.
     and_then (to_of headers) (λ to.
     and_then (call_id_of headers) (λ call_id.
-    and_then (cseq_for method headers) (λ cseq.
+    and_then (cseq_for start headers) (λ cseq.
     Ok (record {
       vias = vias;
       from = from.name;
@@ -120,12 +131,13 @@ parts_of method headers =
       cseq_text = cseq.text;
     }))))))
 
-unfoldable pub values_of : List ℕ → List Header → Result Values MessageError
-values_of method headers =
-    and_then (parts_of method headers) (λ parts.
+unfoldable pub values_of : Start → List Header → Result Values MessageError
+values_of start headers =
+    and_then (parts_of start headers) (λ parts.
+    and_then (contact_for start parts.cseq.method headers) (λ contact.
     and_then (hops_of headers) (λ hops.
     and_then (type_of headers) (λ content_type.
-    Ok (record { parts = parts; max_forwards = hops }))))
+    Ok (record { parts = parts; max_forwards = hops })))))
 
 -- ---- the body
 

@@ -1,17 +1,20 @@
 -- Messages of the form that is written, and read again (RFC 3261 sections 7.1 to 7.4).
-use Rattle.std.specs.Prelude.{◌≡◌, Bool, not, ◌≤◌, IsTrue, length, codes, Ok}
+use Rattle.std.specs.Prelude.{ℕ, Bool, not, ◌≤◌, IsTrue, List, length, codes}
 use Rattle.std.specs.List.{list_all}
 use Rattle.text.specs.Class.{is_run_of, is_token_byte}
-use Rattle.sip_uri.specs.Reading.{uri_of}
-use Rattle.sip_uri.specs.Writing.{uri_text}
+use Rattle.sip_uri.specs.Grammar.{ReadsUri}
 use Rattle.sip_message.specs.declared.headers.Header.{Header}
 use Rattle.sip_message.specs.declared.message.Message.{Message}
 use Rattle.sip_message.specs.declared.message.Message.TheVariants as Kinds
+use Rattle.sip_message.specs.declared.message.Parts.{Parts}
 use Rattle.sip_message.specs.declared.message.Request.{Request}
-use Rattle.sip_message.specs.Grammar.{has_no_space, SaysParts, SaysHops, SaysType}
+use Rattle.sip_message.specs.declared.message.Response.{Response}
+use Rattle.sip_message.specs.declared.start.Start.{Start}
+use Rattle.sip_message.specs.Contacts.{contacts_of}
+use Rattle.sip_message.specs.Grammar.{SaysParts, SaysContact, SaysHops, SaysType, start_of_request, start_of_response}
 use Rattle.sip_message.specs.Lines.{is_clean}
 use Rattle.sip_message.specs.Lookup.{is_named, values_named}
-use Rattle.sip_message.specs.Start.{is_known_method}
+use Rattle.sip_message.specs.Needs.{needs_contact}
 use Rattle.sip_message.specs.Values.{greatest_length}
 use Rattle.sip_message.specs.WritingHead.{is_written}
 
@@ -19,22 +22,31 @@ use Rattle.sip_message.specs.WritingHead.{is_written}
 abbrev pub tells_no_length : Header → Bool
 tells_no_length header = not (is_named (codes "Content-Length") header)
 
+-- header fields and body that can be written, and what they say
+pub record IsWrittenRest (start : Start) (headers : List Header) (parts : Parts) (hops : ℕ) (body : List ℕ) : Type 0 where
+  pub written : IsTrue (list_all is_written headers)
+  pub no_length : IsTrue (list_all tells_no_length headers)
+  pub says_parts : SaysParts start headers parts
+  pub says_contact : SaysContact (needs_contact start parts.cseq.method) (contacts_of headers)
+  pub says_hops : SaysHops (values_named (codes "Max-Forwards") headers) hops
+  pub says_type : SaysType (values_named (codes "Content-Type") headers)
+  pub small : length body ≤ greatest_length
+
 pub record IsWrittenRequest (request : Request) : Type 0 where
   pub token : IsTrue (is_run_of is_token_byte request.method)
-  pub known : IsTrue (is_known_method request.method)
-  -- the written Request-URI is one part of a line, and is read as the same URI
-  pub uri : uri_of (uri_text request.uri) ≡ Ok request.uri
-  pub unbroken : IsTrue (has_no_space (uri_text request.uri))
-  pub clean : IsTrue (is_clean (uri_text request.uri))
-  pub written : IsTrue (list_all is_written request.headers)
-  pub no_length : IsTrue (list_all tells_no_length request.headers)
-  -- the values are what the header fields say
-  pub parts : SaysParts request.method request.headers request.parts
-  pub hops : SaysHops (values_named (codes "Max-Forwards") request.headers) request.max_forwards
-  pub content_type : SaysType (values_named (codes "Content-Type") request.headers)
-  pub small : length request.body ≤ greatest_length
+  -- the Request-URI is read of some text
+  pub uri_from : List ℕ
+  pub uri : ReadsUri uri_from request.uri
+  pub rest : IsWrittenRest (start_of_request request) request.headers request.parts request.max_forwards request.body
 
--- the message is of the form that is written and read again; no answer is read so far
-abbrev pub IsWrittenMessage : Message → Type 0
+pub record IsWrittenResponse (response : Response) : Type 0 where
+  pub three_digits : 100 ≤ response.status
+  pub up_to_699 : response.status ≤ 699
+  pub clean : IsTrue (is_clean response.reason)
+  pub hops : ℕ
+  pub rest : IsWrittenRest (start_of_response response) response.headers response.parts hops response.body
+
+-- the message is of the form that is written and read again
+unfoldable pub IsWrittenMessage : Message → Type 0
 IsWrittenMessage (Kinds.Request request) = IsWrittenRequest request
-IsWrittenMessage (Kinds.Response response) = ⊥
+IsWrittenMessage (Kinds.Response response) = IsWrittenResponse response

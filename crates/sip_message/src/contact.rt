@@ -76,10 +76,20 @@ fn headers_in(message: &Message) -> &[Header]
     }
 }
 
+/// Each Contact value of these header fields, in order.
+pub fn contact_values(
+    alloc: Global,
+    headers: &[Header],
+) -> Result<Vec<ContactValue>, AllocError>
+    ensures { IfOk result (λ v. v.items ≡ contacts_of headers.now) }
+{
+    let texts = contact_texts(alloc, headers)?;
+    each_contact(alloc, &texts)
+}
+
 /// Each Contact value of a message, in order.
 pub fn contacts(alloc: Global, message: &Message) -> Result<Vec<ContactValue>, AllocError>
     ensures { IfOk result (λ v. v.items ≡ contacts_of (headers_in message.now)) }
 {
-    let texts = contact_texts(alloc, headers_in(message))?;
-    each_contact(alloc, &texts)
+    contact_values(alloc, headers_in(message))
 }

@@ -3,6 +3,7 @@
 ghost use Rattle.std.specs.Prelude.{◌≡◌, ◌∷◌, map, option_map, IfOk, OnOk};
 ghost use Rattle.text.specs.Trim.{trimmed};
 ghost use Rattle.sip_message.specs.Lines.{texts};
+ghost use Rattle.sip_message.specs.LongNames.{long_name};
 ghost use Rattle.sip_message.specs.Fields.{begins_blank, name_and_value, glue, unfolded, header_of, continued};
 ghost use Rattle.sip_message.specs.Heads.{Gives};
 
@@ -35,7 +36,7 @@ pub(crate) fn continued<'a, 'b>(lines: &'a [&'b [u8]]) -> &'a [&'b [u8]]
 }
 
 /// The name of a field, and what its first line has behind the colon.
-fn name_and_value(line: &[u8]) -> Option<(&[u8], &[u8])>
+pub(crate) fn name_and_value(line: &[u8]) -> Option<(&[u8], &[u8])>
     ensures { option_map (λ x. (x.0.now, x.1.now)) result ≡ name_and_value line.now }
 {
     let (before, after) = cut(line, b':');
@@ -72,6 +73,21 @@ fn unfolded(alloc: Global, begun: &[u8], more: &[&[u8]]) -> Result<Text, AllocEr
     Ok(Text::from_vec(value))
 }
 
+/// The header of this name, of what its first line has behind the colon, and of the lines that continue it.
+pub(crate) fn made(
+    alloc: Global,
+    name: &[u8],
+    begun: &[u8],
+    more: &[&[u8]],
+) -> Result<Header, AllocError>
+    ensures { IfOk result (λ h. h ≡ record { name = long_name name.now; value = unfolded (map trimmed (begun.now ∷ texts more.now)) }) }
+{
+    Ok(Header {
+        name: Text::from_slice(alloc, long_name(name))?,
+        value: unfolded(alloc, begun, more)?,
+    })
+}
+
 /// The header of a first line, and of the lines that continue it, all of them clean.
 #[tactic(auto, unfolding(crate::specs::Fields::field_of))]
 pub(crate) fn header(alloc: Global, first: &[u8], more: &[&[u8]]) -> Result<Header, HeadError>
@@ -80,8 +96,5 @@ pub(crate) fn header(alloc: Global, first: &[u8], more: &[&[u8]]) -> Result<Head
     let Some((name, begun)) = name_and_value(first) else {
         return Err(HeadError::Line);
     };
-    Ok(Header {
-        name: Text::from_slice(alloc, long_name(name))?,
-        value: unfolded(alloc, begun, more)?,
-    })
+    Ok(made(alloc, name, begun, more)?)
 }

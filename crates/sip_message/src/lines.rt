@@ -1,13 +1,14 @@
 //! The lines of a datagram, which end in CR LF (RFC 3261 section 7).
 
-ghost use Rattle.std.specs.Prelude.{◌≡◌, ◌+◌, ◌≤◌, length, map, option_map, IfSome};
+ghost use Rattle.std.specs.Prelude.{◌≡◌, ◌+◌, ◌≤◌, length, map, option_map, IfSome, IfOk};
 ghost use Rattle.std.specs.List.{list_all};
 ghost use Rattle.std.specs.Option.{option_copied};
-ghost use Rattle.sip_message.specs.Lines.{lines_within, begins_line_end, line_end, before_line_end, after_line_end, is_clean, is_text_byte, line_of};
+ghost use Rattle.sip_message.specs.Answerable.{ended_line, ended_lines};
+ghost use Rattle.sip_message.specs.Lines.{texts, lines_within, begins_line_end, line_end, before_line_end, after_line_end, is_clean, is_text_byte, line_of};
 ghost use Rattle.sip_message.specs.Heads.{GivesLines};
 
 use crate::head::HeadError;
-use std::alloc::Global;
+use std::alloc::{AllocError, Global};
 
 fn begins_line_end(text: &[u8]) -> bool
     ensures { result ≡ begins_line_end text.now }
@@ -86,4 +87,31 @@ pub(crate) fn lines_within(
         rest = after;
     }
     Err(HeadError::Line)
+}
+
+/// The first line, if it ends in CR LF, and what stands behind it.
+fn ended_line(text: &[u8]) -> Option<(&[u8], &[u8])>
+    ensures { option_map (λ x. (x.0.now, x.1.now)) result ≡ ended_line text.now }
+{
+    let (line, after) = first_line(text);
+    Some((line, after?))
+}
+
+/// The lines that end in CR LF, up to an empty one.
+pub(crate) fn ended_lines(alloc: Global, text: &[u8]) -> Result<Vec<&[u8]>, AllocError>
+    ensures { IfOk result (λ v. texts v.items ≡ ended_lines text.now) }
+{
+    let mut lines = Vec::new(alloc);
+    let mut rest = text;
+    for _ in 0..text.len() {
+        let Some((line, after)) = ended_line(rest) else {
+            return Ok(lines);
+        };
+        if line.is_empty() {
+            return Ok(lines);
+        }
+        lines.push(line)?;
+        rest = after;
+    }
+    Ok(lines)
 }

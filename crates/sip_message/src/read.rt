@@ -4,7 +4,7 @@ ghost use Rattle.std.specs.Prelude.{◌≡◌, ℕ, Ok, IfOk, IfErr};
 ghost use Rattle.std.specs.Option.{option_copied};
 ghost use Rattle.sip_message.specs.Faults.{Gives};
 ghost use Rattle.sip_message.specs.Grammar.{ReadsMessage, IsWithin, Refuses};
-ghost use Rattle.sip_message.specs.Reading.{contents_of, request_with, behind_start, message_of};
+ghost use Rattle.sip_message.specs.Reading.{contents_of, message_with, behind_start, message_of};
 ghost use Rattle.sip_message.specs.Values.{without_length};
 ghost use Rattle.sip_message.specs.declared.message.Message.{Message};
 
@@ -14,7 +14,7 @@ use crate::head::{HeadError, read_head};
 use crate::headers::{Header, Headers};
 use crate::lines::{first_line, is_clean};
 use crate::lookup::is_named;
-use crate::message::{Message, Request};
+use crate::message::{Message, Request, Response};
 use crate::start::{Start, read_start};
 use crate::values::{Values, read_values};
 use std::alloc::Global;
@@ -26,7 +26,7 @@ const GREATEST_DATAGRAM: usize = 16_384;
 /// Header lines, lines that continue others included.
 const GREATEST_LINES: u32 = 128;
 
-/// Values and body of a request.
+/// Values and body of a message.
 #[derive(Clone, Debug, Drop)]
 pub(crate) struct Contents {
     pub values: Values,
@@ -36,13 +36,13 @@ pub(crate) struct Contents {
 #[tactic(auto, unfolding(crate::specs::Reading::contents_of), using(crate::proofs::FaultLaws::failed_then))]
 fn read_contents(
     alloc: Global,
-    method: &Text,
+    start: &Start,
     headers: &[Header],
     rest: &[u8],
 ) -> Result<Contents, MessageError>
-    ensures { Gives result (contents_of method.now headers.now rest.now) }
+    ensures { Gives result (contents_of start.now headers.now rest.now) }
 {
-    let values = read_values(alloc, method, headers)?;
+    let values = read_values(alloc, start, headers)?;
     let body = read_body(alloc, headers, rest)?;
     Ok(Contents { values, body })
 }
@@ -61,18 +61,28 @@ fn without_length(headers: Headers) -> Headers
     Headers::from_vec(kept)
 }
 
-fn request(start: Start, headers: Headers, contents: Contents) -> Message
-    ensures { result ≡ request_with start headers contents }
+fn message(start: Start, headers: Headers, contents: Contents) -> Message
+    ensures { result ≡ message_with start headers contents }
 {
     let Contents { values, body } = contents;
-    Message::Request(Request {
-        method: start.method,
-        uri: start.uri,
-        parts: values.parts,
-        max_forwards: values.max_forwards,
-        headers: without_length(headers),
-        body,
-    })
+    let headers = without_length(headers);
+    match start {
+        Start::Asking(line) => Message::Request(Request {
+            method: line.method,
+            uri: line.uri,
+            parts: values.parts,
+            max_forwards: values.max_forwards,
+            headers,
+            body,
+        }),
+        Start::Answering(line) => Message::Response(Response {
+            status: line.status,
+            reason: line.reason,
+            parts: values.parts,
+            headers,
+            body,
+        }),
+    }
 }
 
 #[tactic(auto, using(crate::proofs::FaultLaws::failed_then))]
@@ -87,8 +97,8 @@ fn behind_start(alloc: Global, start: Start, rest: Option<&[u8]>) -> Result<Mess
         Err(HeadError::OutOfMemory) => return Err(MessageError::OutOfMemory),
         Err(HeadError::Line) => return Err(MessageError::HeaderLine),
     };
-    let contents = read_contents(alloc, &start.method, headers.as_slice(), rest)?;
-    Ok(request(start, headers, contents))
+    let contents = read_contents(alloc, &start, headers.as_slice(), rest)?;
+    Ok(message(start, headers, contents))
 }
 
 #[tactic(auto, unfolding(crate::specs::Reading::message_of), using(crate::proofs::FaultLaws::failed_then))]
@@ -107,7 +117,7 @@ fn read(alloc: Global, bytes: &[u8]) -> Result<Message, MessageError>
 }
 
 /// The message that a datagram is, of at most 16,384 bytes and at most 128 header lines, lines that continue others
-/// included. So far a REGISTER request is read, and any other message is refused as `StartLine`.
+/// included.
 pub fn read_message(alloc: Global, bytes: &[u8]) -> Result<Message, MessageError>
     // What is read is the message that the bytes are, and they are within the limits.
     ensures found { IfOk result (λ m. (reads : ReadsMessage bytes.now m) × IsWithin bytes.now m reads) }

@@ -1,44 +1,106 @@
-//! The start line of a request (RFC 3261 section 7.1).
+//! The start line of a message (RFC 3261 sections 7.1 and 7.2).
 
 ghost use Rattle.std.specs.Prelude.{◌≡◌, ◌==◌, not, Ok};
 ghost use Rattle.std.specs.List.{list_all};
 ghost use Rattle.sip_message.specs.Faults.{Gives};
-ghost use Rattle.sip_message.specs.Start.{is_part, is_known_method, start_at, start_of};
+ghost use Rattle.sip_message.specs.Start.{has_no_space, is_part, is_version, begins_sip, status_read, status_at, request_at, start_of};
 
 use crate::error::MessageError;
 use sip_uri::{Uri, UriError, read_uri};
 use std::alloc::Global;
-use text::{Text, cut, is_run_of_token};
+use text::{Text, cut, is_run_of_digits, is_run_of_token, number_upto};
 
-/// Method and Request-URI.
+/// The start line of a request.
 #[derive(Clone, Debug, Drop)]
-pub(crate) struct Start {
+pub(crate) struct RequestLine {
     pub method: Text,
     pub uri: Uri,
 }
 
+/// The start line of an answer.
+#[derive(Clone, Debug, Drop)]
+pub(crate) struct StatusLine {
+    /// 100 to 699.
+    pub status: u16,
+    pub reason: Text,
+}
+
+/// A start line.
+#[derive(Clone, Debug, Drop)]
+pub(crate) enum Start {
+    Asking(RequestLine),
+    Answering(StatusLine),
+}
+
 fn has_no_space(text: &[u8]) -> bool
-    ensures { result ≡ list_all (λ b. not (b == 32)) text.now }
+    ensures { result ≡ has_no_space text.now }
 {
     text.iter().all(|b| *b != b' ')
 }
 
-fn is_part(text: &[u8]) -> bool
+/// Whether the text is a part between spaces: some bytes, none of them a space.
+pub(crate) fn is_part(text: &[u8]) -> bool
     ensures { result ≡ is_part text.now }
 {
     !text.is_empty() && has_no_space(text)
 }
 
-fn is_known_method(text: &[u8]) -> bool
-    ensures { result ≡ is_known_method text.now }
+fn is_version(text: &[u8]) -> bool
+    ensures { result ≡ is_version text.now }
 {
-    text == b"REGISTER".as_slice()
+    text.eq_ignore_ascii_case(b"SIP/2.0")
 }
 
-fn start_at(alloc: Global, method: &[u8], uri: &[u8], version: &[u8]) -> Result<Start, MessageError>
-    ensures { Gives result (start_at method.now uri.now version.now) }
+/// Whether the text begins with `SIP/`, without case.
+pub(crate) fn begins_sip(text: &[u8]) -> bool
+    ensures { result ≡ begins_sip text.now }
 {
-    if !is_run_of_token(method) || !is_known_method(method) || !is_part(version) {
+    let (name, version) = cut(text, b'/');
+    name.eq_ignore_ascii_case(b"SIP") && version.is_some()
+}
+
+/// The number of an answer: three digits, 100 to 699.
+#[tactic(auto, unfolding(crate::specs::Start::status_read))]
+fn read_status(digits: &[u8]) -> Option<u16>
+    ensures { result ≡ status_read digits.now }
+{
+    if digits.len() != 3 || !is_run_of_digits(digits) {
+        return None;
+    }
+    let status = number_upto(699, digits)?;
+    if status < 100 {
+        return None;
+    }
+    Some(status as u16)
+}
+
+fn status_at(
+    alloc: Global,
+    version: &[u8],
+    digits: &[u8],
+    reason: &[u8],
+) -> Result<Start, MessageError>
+    ensures { Gives result (status_at version.now digits.now reason.now) }
+{
+    let Some(status) = read_status(digits) else {
+        return Err(MessageError::StartLine);
+    };
+    if !is_version(version) {
+        return Err(MessageError::Version);
+    }
+    let reason = Text::from_slice(alloc, reason)?;
+    Ok(Start::Answering(StatusLine { status, reason }))
+}
+
+fn request_at(
+    alloc: Global,
+    method: &[u8],
+    uri: &[u8],
+    version: &[u8],
+) -> Result<Start, MessageError>
+    ensures { Gives result (request_at method.now uri.now version.now) }
+{
+    if !is_run_of_token(method) || !is_part(version) {
         return Err(MessageError::StartLine);
     }
     let uri = match read_uri(alloc, uri) {
@@ -46,23 +108,28 @@ fn start_at(alloc: Global, method: &[u8], uri: &[u8], version: &[u8]) -> Result<
         Err(UriError::OutOfMemory) => return Err(MessageError::OutOfMemory),
         Err(_) => return Err(MessageError::StartLine),
     };
-    if !version.eq_ignore_ascii_case(b"SIP/2.0") {
+    if !is_version(version) {
         return Err(MessageError::Version);
     }
     let method = Text::from_slice(alloc, method)?;
-    Ok(Start { method, uri })
+    Ok(Start::Asking(RequestLine { method, uri }))
 }
 
-/// Method and Request-URI of a start line: three parts at single spaces.
+/// What a start line says: three parts with a single space between each two, of which an answer's reason may have
+/// spaces.
 #[tactic(auto, unfolding(crate::specs::Start::start_of))]
 pub(crate) fn read_start(alloc: Global, line: &[u8]) -> Result<Start, MessageError>
     ensures { Gives result (start_of line.now) }
 {
-    let (method, Some(behind)) = cut(line, b' ') else {
+    let (first, Some(behind)) = cut(line, b' ') else {
         return Err(MessageError::StartLine);
     };
-    let (uri, Some(version)) = cut(behind, b' ') else {
+    let (second, Some(third)) = cut(behind, b' ') else {
         return Err(MessageError::StartLine);
     };
-    start_at(alloc, method, uri, version)
+    if begins_sip(first) {
+        status_at(alloc, first, second, third)
+    } else {
+        request_at(alloc, first, second, third)
+    }
 }

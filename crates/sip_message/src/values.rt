@@ -1,20 +1,23 @@
-//! What the header fields of a request say.
+//! What the header fields of a message say.
 
 ghost use Rattle.sip_message.specs.Faults.{Gives};
-ghost use Rattle.sip_message.specs.Values.{from_of, to_of, call_id_of, cseq_for, hops_of, type_of, parts_of, values_of};
+ghost use Rattle.sip_message.specs.Values.{from_for, to_of, call_id_of, cseq_for, contact_for, hops_of, type_of, parts_of, values_of};
 
+use crate::contact::{ContactValue, contact_values};
 use crate::cseq::{Sequence, read_cseq};
 use crate::error::{HeaderName, MessageError};
 use crate::form::{is_call_id, is_media_type, read_max_forwards};
 use crate::headers::Header;
 use crate::message::Parts;
 use crate::named::{at_most_one, exactly_one};
-use crate::party::{Party, has_tag, read_party};
+use crate::needs::{is_method_for, is_tagged_for, needs_contact};
+use crate::party::{Party, read_party};
+use crate::start::Start;
 use crate::vias::read_vias;
 use std::alloc::Global;
 use text::Text;
 
-/// The values of a request's header fields, but for its body's length.
+/// The values of a message's header fields, but for its body's length.
 #[derive(Clone, Debug, Drop)]
 pub(crate) struct Values {
     pub parts: Parts,
@@ -22,14 +25,14 @@ pub(crate) struct Values {
 }
 
 #[tactic(auto, using(crate::proofs::FaultLaws::fails_itself))]
-fn read_from(alloc: Global, headers: &[Header]) -> Result<Party, MessageError>
-    ensures { Gives result (from_of headers.now) }
+fn read_from(alloc: Global, start: &Start, headers: &[Header]) -> Result<Party, MessageError>
+    ensures { Gives result (from_for start.now headers.now) }
 {
     let text = exactly_one(headers, b"From", HeaderName::From)?;
     let Some(name) = read_party(alloc, text.as_bytes())? else {
         return Err(MessageError::Unreadable(HeaderName::From));
     };
-    if !has_tag(name.params.as_slice()) {
+    if !is_tagged_for(start, name.params.as_slice()) {
         return Err(MessageError::Unreadable(HeaderName::From));
     }
     let text = text.clone()?;
@@ -60,14 +63,18 @@ fn read_call_id(headers: &[Header]) -> Result<Text, MessageError>
 }
 
 #[tactic(auto, using(crate::proofs::FaultLaws::fails_itself))]
-fn read_cseq_for(alloc: Global, method: &Text, headers: &[Header]) -> Result<Sequence, MessageError>
-    ensures { Gives result (cseq_for method.now headers.now) }
+fn read_cseq_for(
+    alloc: Global,
+    start: &Start,
+    headers: &[Header],
+) -> Result<Sequence, MessageError>
+    ensures { Gives result (cseq_for start.now headers.now) }
 {
     let text = exactly_one(headers, b"CSeq", HeaderName::CSeq)?;
     let Some(cseq) = read_cseq(alloc, text.as_bytes())? else {
         return Err(MessageError::Unreadable(HeaderName::CSeq));
     };
-    if cseq.method != *method {
+    if !is_method_for(start, &cseq.method) {
         return Err(MessageError::Unreadable(HeaderName::CSeq));
     }
     let text = text.clone()?;
@@ -100,16 +107,35 @@ fn read_type(alloc: Global, headers: &[Header]) -> Result<Option<Text>, MessageE
     Ok(Some(text.clone()?))
 }
 
+#[tactic(auto, using(crate::proofs::FaultLaws::fails_itself))]
+fn check_contact(
+    alloc: Global,
+    start: &Start,
+    method: &Text,
+    headers: &[Header],
+) -> Result<(), MessageError>
+    ensures { Gives result (contact_for start.now method.now headers.now) }
+{
+    if !needs_contact(start, method) {
+        return Ok(());
+    }
+    match contact_values(alloc, headers)?.as_slice() {
+        [] => Err(MessageError::Missing(HeaderName::Contact)),
+        [ContactValue::Address(_)] => Ok(()),
+        _ => Err(MessageError::Unreadable(HeaderName::Contact)),
+    }
+}
+
 /// What an answer repeats of the request.
 #[tactic(auto, unfolding(crate::specs::Values::parts_of), using(crate::proofs::FaultLaws::failed_then))]
-fn read_parts(alloc: Global, method: &Text, headers: &[Header]) -> Result<Parts, MessageError>
-    ensures { Gives result (parts_of method.now headers.now) }
+fn read_parts(alloc: Global, start: &Start, headers: &[Header]) -> Result<Parts, MessageError>
+    ensures { Gives result (parts_of start.now headers.now) }
 {
     let vias = read_vias(alloc, headers)?;
-    let from = read_from(alloc, headers)?;
+    let from = read_from(alloc, start, headers)?;
     let to = read_to(alloc, headers)?;
     let call_id = read_call_id(headers)?;
-    let cseq = read_cseq_for(alloc, method, headers)?;
+    let cseq = read_cseq_for(alloc, start, headers)?;
     Ok(Parts {
         vias,
         from: from.name,
@@ -122,16 +148,17 @@ fn read_parts(alloc: Global, method: &Text, headers: &[Header]) -> Result<Parts,
     })
 }
 
-/// The values of a request's header fields. The faults come in the order of `HeaderName`.
+/// The values of a message's header fields. The faults come in the order of `HeaderName`.
 #[tactic(auto, unfolding(crate::specs::Values::values_of), using(crate::proofs::FaultLaws::failed_then))]
 pub(crate) fn read_values(
     alloc: Global,
-    method: &Text,
+    start: &Start,
     headers: &[Header],
 ) -> Result<Values, MessageError>
-    ensures { Gives result (values_of method.now headers.now) }
+    ensures { Gives result (values_of start.now headers.now) }
 {
-    let parts = read_parts(alloc, method, headers)?;
+    let parts = read_parts(alloc, start, headers)?;
+    check_contact(alloc, start, &parts.cseq.method, headers)?;
     let max_forwards = read_hops(headers)?;
     let _content_type = read_type(alloc, headers)?;
     Ok(Values {

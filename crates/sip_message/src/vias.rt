@@ -4,6 +4,7 @@ ghost use Rattle.std.specs.Prelude.{◌≡◌, ◌++◌, Some, None, map, codes,
 ghost use Rattle.std.specs.List.{flat_map};
 ghost use Rattle.text.specs.Pieces.{pieces};
 ghost use Rattle.text.specs.declared.splitting.Within.TheVariants.{Nothing};
+ghost use Rattle.sip_message.specs.Answerable.{vias_there};
 ghost use Rattle.sip_message.specs.Faults.{Gives};
 ghost use Rattle.sip_message.specs.Lookup.{values_named};
 ghost use Rattle.sip_message.specs.Values.{each_via, via_texts, some_vias};
@@ -42,6 +43,17 @@ fn each_via(alloc: Global, texts: &[&[u8]]) -> Result<Option<Vec<Via>>, AllocErr
         vias.push(via)?;
     }
     Ok(Some(vias))
+}
+
+/// The Via values, the top one first, if there is one and each can be read.
+pub(crate) fn read_each(alloc: Global, headers: &[Header]) -> Result<Option<Vec<Via>>, AllocError>
+    ensures { IfOk result (λ o. option_map (λ v. v.items) o ≡ vias_there (via_texts headers.now)) }
+{
+    let texts = via_texts(alloc, headers)?;
+    if texts.is_empty() {
+        return Ok(None);
+    }
+    each_via(alloc, &texts)
 }
 
 /// The Via values, the top one first: one at least.

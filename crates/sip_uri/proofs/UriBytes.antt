@@ -31,3 +31,16 @@ lacks_opening = spelled_lacks 60 (record { label = refl; digit = refl; param = r
 
 pub lacks_closing : (text : List ℕ) (raw : RawUri) → Spells text raw → Lacks 62 text
 lacks_closing = spelled_lacks 62 (record { label = refl; digit = refl; param = refl; header = refl; dot = refl; colon = refl; semicolon = refl; equals = refl; question = refl; ampersand = refl }) refl refl refl (refl, (refl, (refl, (refl, tt))))
+
+-- a space, CR, LF and NUL
+pub lacks_space : (text : List ℕ) (raw : RawUri) → Spells text raw → Lacks 32 text
+lacks_space = spelled_lacks 32 (record { label = refl; digit = refl; param = refl; header = refl; dot = refl; colon = refl; semicolon = refl; equals = refl; question = refl; ampersand = refl }) refl refl refl (refl, (refl, (refl, (refl, tt))))
+
+pub lacks_return : (text : List ℕ) (raw : RawUri) → Spells text raw → Lacks 13 text
+lacks_return = spelled_lacks 13 (record { label = refl; digit = refl; param = refl; header = refl; dot = refl; colon = refl; semicolon = refl; equals = refl; question = refl; ampersand = refl }) refl refl refl (refl, (refl, (refl, (refl, tt))))
+
+pub lacks_feed : (text : List ℕ) (raw : RawUri) → Spells text raw → Lacks 10 text
+lacks_feed = spelled_lacks 10 (record { label = refl; digit = refl; param = refl; header = refl; dot = refl; colon = refl; semicolon = refl; equals = refl; question = refl; ampersand = refl }) refl refl refl (refl, (refl, (refl, (refl, tt))))
+
+pub lacks_nul : (text : List ℕ) (raw : RawUri) → Spells text raw → Lacks 0 text
+lacks_nul = spelled_lacks 0 (record { label = refl; digit = refl; param = refl; header = refl; dot = refl; colon = refl; semicolon = refl; equals = refl; question = refl; ampersand = refl }) refl refl refl (refl, (refl, (refl, (refl, tt))))

@@ -1,5 +1,5 @@
 use Rattle.std.proofs.Common.{◌≡◌, ◌++◌, map, drop}
-use Rattle.office.specs.Once.{contact_header}
+use Rattle.office.specs.Answers.{contact_header}
 use Rattle.office.proofs.answers.contact_headers.Given as goal
 
 -- the headers so far and those of what is left are all

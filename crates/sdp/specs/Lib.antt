@@ -1,0 +1,14 @@
+pub mod Place
+pub mod PlaceOf
+pub mod WayOf
+pub mod Writing
+pub mod Classes
+pub mod Limits
+pub mod Lines
+pub mod Order
+pub mod Addresses
+pub mod Origins
+pub mod MediumLines
+pub mod Faults
+pub mod Reading
+pub mod Grammar

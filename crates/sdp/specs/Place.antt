@@ -1,0 +1,7 @@
+-- Where a medium is wanted: an address and a port.
+use Rattle.std.specs.Prelude.{ℕ}
+use Rattle.sdp.specs.declared.address.Address.{Address}
+
+pub record Place : Type 0 where
+  pub address : Address
+  pub port : ℕ

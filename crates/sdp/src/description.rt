@@ -1,0 +1,91 @@
+//! Descriptions and their media.
+
+use crate::address::Address;
+use crate::line::Lines;
+use std::marker::Model;
+use text::{Text, Texts};
+
+/// The fields of an `o=` line (RFC 4566 section 5.2), as written. The id and the version are decimal digits.
+#[derive(Clone, Debug, Drop, PartialEq, Eq)]
+pub struct Origin {
+    pub username: Text,
+    pub id: Text,
+    pub version: Text,
+    pub network_type: Text,
+    pub address_type: Text,
+    pub address: Text,
+}
+
+/// A medium: an `m=` line and what stands under it (RFC 4566 sections 5 and 5.14).
+#[derive(Clone, Debug, Drop)]
+pub struct Media {
+    /// What is sent, as `audio`.
+    pub kind: Text,
+    /// 0 where the medium is not used.
+    pub port: u16,
+    /// How many ports, where a number is written behind the port: 1 or more.
+    pub count: Option<u16>,
+    /// The transport protocol, as `RTP/AVP`.
+    pub protocol: Text,
+    /// One or more, in order of preference.
+    pub formats: Texts,
+    /// The value of the `i=` line.
+    pub info: Option<Text>,
+    /// The address of the `c=` line.
+    pub connection: Option<Address>,
+    /// The lines behind those: `b`, `k` and `a`.
+    pub after: Lines,
+}
+
+/// Media in order, which contracts see as a list.
+#[derive(Clone, Debug, Drop)]
+pub struct MediaList {
+    media: Vec<Media>,
+}
+
+impl Model for MediaList {
+    ghost use Rattle.std.specs.Prelude.{List};
+    ghost use Rattle.sdp.specs.declared.description.Media.{Media};
+
+    ghost Value = { List Media };
+
+    ghost view = { λ m. m.media.items };
+}
+
+impl MediaList {
+    ghost use Rattle.std.specs.Prelude.{◌≡◌};
+
+    /// The list of these media. Takes no memory.
+    pub fn from_vec(media: Vec<Media>) -> MediaList
+        ensures { result ≡ media.items }
+    {
+        MediaList { media }
+    }
+
+    /// The media. Takes no memory.
+    pub fn into_vec(self) -> Vec<Media>
+        ensures { result.items ≡ self }
+    {
+        self.media
+    }
+
+    /// The media, lent.
+    pub fn as_slice(&self) -> &[Media]
+        ensures { result.now ≡ self.now }
+    {
+        &self.media
+    }
+}
+
+/// A description of a session (RFC 4566 section 5), of version 0.
+#[derive(Clone, Debug, Drop)]
+pub struct Description {
+    pub origin: Origin,
+    /// The lines between `o=` and the session's `c=`: `s`, `i`, `u`, `e` and `p`.
+    pub before: Lines,
+    /// The address of the session's `c=` line.
+    pub connection: Option<Address>,
+    /// The session's lines behind those: `b`, `t`, `r`, `z`, `k` and `a`.
+    pub after: Lines,
+    pub media: MediaList,
+}

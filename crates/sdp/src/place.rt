@@ -1,0 +1,38 @@
+//! Where a medium is wanted.
+
+ghost use Rattle.std.specs.Prelude.{◌≡◌};
+ghost use Rattle.sdp.specs.PlaceOf.{place_of};
+
+use crate::address::Address;
+use crate::description::{Description, Media};
+use std::marker::Model;
+
+/// An address and a port.
+#[derive(Debug, Drop)]
+pub struct Place<'a> {
+    pub address: &'a Address,
+    pub port: u16,
+}
+
+impl<'a> Model for Place<'a> {
+    ghost use Rattle.sdp.specs.Place.{Place};
+
+    ghost Value = { Place };
+
+    ghost view = { λ p. record { address = p.address.now; port = p.port } };
+}
+
+/// Where the medium of this description is wanted: at its own address, else at the session's, with its port (RFC 4566
+/// sections 5.7 and 5.14). `None` where neither has an address.
+pub fn place_of<'a>(description: &'a Description, medium: &'a Media) -> Option<Place<'a>>
+    ensures { result ≡ place_of description.now medium.now }
+{
+    let address = match &medium.connection {
+        Some(own) => own,
+        None => description.connection.as_ref()?,
+    };
+    Some(Place {
+        address,
+        port: medium.port,
+    })
+}

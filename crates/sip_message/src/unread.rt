@@ -1,0 +1,148 @@
+//! What can be answered of a request that can't be read.
+
+ghost use Rattle.std.specs.Prelude.{◌≡◌, codes, option_map, IfOk};
+ghost use Rattle.std.specs.Option.{option_copied};
+ghost use Rattle.sip_message.specs.Answerable.{is_part_there, are_two_parts, asks_answer, is_asking_line, ended_lines, readable_headers, vias_there, party_at, first_party, first_call_id, sequence_at, first_sequence, parts_among, parts_behind, answerable_of};
+ghost use Rattle.sip_message.specs.Lines.{texts};
+ghost use Rattle.sip_message.specs.Values.{via_texts};
+
+use crate::cseq::{Sequence, read_cseq};
+use crate::form::is_call_id;
+use crate::headers::Header;
+use crate::lines::{ended_lines, first_line};
+use crate::lookup::first_value;
+use crate::message::{Parts, Vias};
+use crate::party::{Party, read_party};
+use crate::readable::readable_headers;
+use crate::start::{begins_sip, is_part};
+use crate::vias::read_each;
+use std::alloc::{AllocError, Global};
+use text::{Text, cut};
+
+fn are_two_parts(text: Option<&[u8]>) -> bool
+    ensures { result ≡ are_two_parts (option_copied text.entry) }
+{
+    let Some(text) = text else {
+        return false;
+    };
+    let (uri, version) = cut(text, b' ');
+    is_part(uri) && version.is_some_and(|version| is_part(version))
+}
+
+fn asks_answer(method: &[u8]) -> bool
+    ensures { result ≡ asks_answer method.now }
+{
+    is_part(method) && !begins_sip(method) && method != b"ACK".as_slice()
+}
+
+fn is_asking_line(line: &[u8]) -> bool
+    ensures { result ≡ is_asking_line line.now }
+{
+    let (method, behind) = cut(line, b' ');
+    asks_answer(method) && are_two_parts(behind)
+}
+
+fn party_at(alloc: Global, text: &Text) -> Result<Option<Party>, AllocError>
+    ensures { IfOk result (λ party. party ≡ party_at text.now) }
+{
+    match read_party(alloc, text.as_bytes())? {
+        Some(name) => Ok(Some(Party { text: text.clone()?, name })),
+        None => Ok(None),
+    }
+}
+
+fn first_party(alloc: Global, headers: &[Header], name: &[u8]) -> Result<Option<Party>, AllocError>
+    ensures { IfOk result (λ party. party ≡ first_party name.now headers.now) }
+{
+    match first_value(headers, name) {
+        Some(text) => party_at(alloc, text),
+        None => Ok(None),
+    }
+}
+
+fn first_call_id(headers: &[Header]) -> Result<Option<Text>, AllocError>
+    ensures { IfOk result (λ id. id ≡ first_call_id headers.now) }
+{
+    let Some(text) = first_value(headers, b"Call-ID") else {
+        return Ok(None);
+    };
+    if !is_call_id(text.as_bytes()) {
+        return Ok(None);
+    }
+    Ok(Some(text.clone()?))
+}
+
+fn sequence_at(alloc: Global, text: &Text) -> Result<Option<Sequence>, AllocError>
+    ensures { IfOk result (λ cseq. cseq ≡ sequence_at text.now) }
+{
+    match read_cseq(alloc, text.as_bytes())? {
+        Some(cseq) => Ok(Some(Sequence { text: text.clone()?, cseq })),
+        None => Ok(None),
+    }
+}
+
+fn first_sequence(alloc: Global, headers: &[Header]) -> Result<Option<Sequence>, AllocError>
+    ensures { IfOk result (λ cseq. cseq ≡ first_sequence headers.now) }
+{
+    match first_value(headers, b"CSeq") {
+        Some(text) => sequence_at(alloc, text),
+        None => Ok(None),
+    }
+}
+
+#[tactic(auto, unfolding(crate::specs::Answerable::parts_among))]
+fn parts_among(alloc: Global, headers: &[Header]) -> Result<Option<Parts>, AllocError>
+    ensures { IfOk result (λ parts. parts ≡ parts_among headers.now) }
+{
+    let Some(vias) = read_each(alloc, headers)? else {
+        return Ok(None);
+    };
+    let Some(from) = first_party(alloc, headers, b"From")? else {
+        return Ok(None);
+    };
+    let Some(to) = first_party(alloc, headers, b"To")? else {
+        return Ok(None);
+    };
+    let Some(call_id) = first_call_id(headers)? else {
+        return Ok(None);
+    };
+    let Some(cseq) = first_sequence(alloc, headers)? else {
+        return Ok(None);
+    };
+    Ok(Some(Parts {
+        vias: Vias::from_vec(vias),
+        from: from.name,
+        to: to.name,
+        call_id,
+        cseq: cseq.cseq,
+        from_text: from.text,
+        to_text: to.text,
+        cseq_text: cseq.text,
+    }))
+}
+
+fn parts_behind(alloc: Global, rest: &[u8]) -> Result<Option<Parts>, AllocError>
+    ensures { IfOk result (λ parts. parts ≡ parts_among (readable_headers (ended_lines rest.now))) }
+{
+    let lines = ended_lines(alloc, rest)?;
+    let headers = readable_headers(alloc, &lines)?;
+    parts_among(alloc, &headers)
+}
+
+/// What an answer to a datagram that can't be read repeats of it. There is something where the first line has three
+/// parts, is no answer's and its method not ACK, and Via, From, To, Call-ID and CSeq are there and can each be read
+/// alone: of header lines that end and are of their form, the first of each name; From needs no tag, and CSeq not the
+/// request's method. There is nothing where the first line begins with `SIP/`, without case.
+#[tactic(auto, unfolding(crate::specs::Answerable::answerable_of))]
+pub fn answerable(alloc: Global, bytes: &[u8]) -> Result<Option<Parts>, AllocError>
+    ensures { IfOk result (λ parts. parts ≡ answerable_of bytes.now) }
+{
+    let (line, rest) = first_line(bytes);
+    if !is_asking_line(line) {
+        return Ok(None);
+    }
+    match rest {
+        Some(rest) => parts_behind(alloc, rest),
+        None => Ok(None),
+    }
+}

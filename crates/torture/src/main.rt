@@ -1,0 +1,34 @@
+//! Reads messages of the kinds that RFC 4475 lists, and says of each what the server makes of it: that it is read, or
+//! its first fault.
+#![tactic(auto)]
+
+ghost use Rattle.std.specs.Prelude.{◌≡◌, Ok, IfSome, IfNone};
+ghost use Rattle.sip_message.specs.Faults.{Fails};
+ghost use Rattle.sip_message.specs.Reading.{message_of};
+ghost use Rattle.sip_message.specs.declared.message.Message.{Message};
+
+use sip_message::{MessageError, read_message};
+use std::alloc::Global;
+use std::{env, fs, io};
+
+/// The first fault of a message, if it isn't read.
+fn fault(alloc: Global, bytes: &[u8]) -> Option<MessageError>
+    ensures read { IfNone result ((m : Message) × (message_of bytes.now ≡ Ok m)) }
+    ensures refused { IfSome result (λ e. Fails e (message_of bytes.now)) }
+{
+    match read_message(alloc, bytes) {
+        Ok(_) => None,
+        Err(fault) => Some(fault),
+    }
+}
+
+fn main(rt: HostRuntime) -> io::Result<()> {
+    for name in env::args(&rt)?.skip(1) {
+        let bytes = fs::read(&rt, name.as_str())?;
+        match fault(rt.alloc(), &bytes) {
+            None => println!(rt; "{name}: read")?,
+            Some(fault) => println!(rt; "{name}: {fault}")?,
+        }
+    }
+    Ok(())
+}
