@@ -1,11 +1,12 @@
 //! How long the server takes for a message. With no words it does one round of everything and prints nothing; with
-//! `measure` it prints, for each message, its bytes, nanoseconds a message, and the ratio to a plain count of the CRs
+//! `measure` it prints, for each task, its bytes, nanoseconds a turn, and the ratio to a plain count of the CRs
 //! in the same bytes in the same run.
 #![tactic(auto)]
 
 mod messages;
 
-use crate::messages::{INVITE, REGISTER};
+use crate::messages::{DESCRIPTION, INVITE, REGISTER};
+use sdp::{read_description, write_description};
 use sip_message::read_message;
 use std::alloc::Global;
 use std::hint::black_box;
@@ -16,15 +17,43 @@ use std::{env, io};
 /// Messages in a measurement.
 const ROUNDS: u32 = 20_000;
 
-/// Reads the message so many times; how many of them were read.
-fn read_rounds(alloc: Global, bytes: &[u8], rounds: u32) -> u32 {
-    let mut read = 0u32;
+/// What is timed.
+#[derive(Clone, Copy)]
+enum Task {
+    ReadMessage,
+    ReadDescription,
+    ReadAndWriteDescription,
+}
+
+fn reads_description(alloc: Global, bytes: &[u8]) -> bool {
+    read_description(alloc, bytes).is_ok()
+}
+
+fn writes_description(alloc: Global, bytes: &[u8]) -> bool {
+    match read_description(alloc, bytes) {
+        Ok(description) => write_description(alloc, &description).is_ok(),
+        Err(_) => false,
+    }
+}
+
+/// Whether the task was done.
+fn done(alloc: Global, task: Task, bytes: &[u8]) -> bool {
+    match task {
+        Task::ReadMessage => read_message(alloc, bytes).is_ok(),
+        Task::ReadDescription => reads_description(alloc, bytes),
+        Task::ReadAndWriteDescription => writes_description(alloc, bytes),
+    }
+}
+
+/// Does the task so many times; how often it was done.
+fn rounds(alloc: Global, task: Task, bytes: &[u8], rounds: u32) -> u32 {
+    let mut times = 0u32;
     for _ in 0..rounds {
-        if read_message(alloc, black_box(bytes)).is_ok() {
-            read = read.saturating_add(1);
+        if done(alloc, task, black_box(bytes)) {
+            times = times.saturating_add(1);
         }
     }
-    read
+    times
 }
 
 /// Counts the CRs of the message so many times; how many there were.
@@ -40,33 +69,51 @@ fn count_rounds(bytes: &[u8], rounds: u32) -> usize {
 /// Nanoseconds that a measurement took, at least one.
 fn since<R: Clock>(rt: &R, start: Instant) -> io::Result<u64> {
     let taken = start.elapsed(rt)?;
-    let nanoseconds = taken.as_secs().saturating_mul(1_000_000_000).saturating_add(u64::from(taken.subsec_nanos()));
+    let nanoseconds = taken
+        .as_secs()
+        .saturating_mul(1_000_000_000)
+        .saturating_add(u64::from(taken.subsec_nanos()));
     Ok(nanoseconds.max(1))
 }
 
-fn measure<R: Clock + Print + AllocGlobal>(rt: &R, name: &str, bytes: &[u8]) -> io::Result<()> {
+fn measure<R: Clock + Print + AllocGlobal>(
+    rt: &R,
+    name: &str,
+    task: Task,
+    bytes: &[u8],
+) -> io::Result<()> {
     let start = Instant::now(rt)?;
-    let read = read_rounds(rt.alloc(), bytes, ROUNDS);
-    let reading = since(rt, start)?;
+    let times = rounds(rt.alloc(), task, bytes, ROUNDS);
+    let taken = since(rt, start)?;
     let start = Instant::now(rt)?;
     let found = count_rounds(bytes, ROUNDS);
     let counting = since(rt, start)?;
-    let each = reading / u64::from(ROUNDS);
-    let tenths = reading.saturating_mul(10) / counting;
+    let each = taken / u64::from(ROUNDS);
+    let tenths = taken.saturating_mul(10) / counting;
     let (whole, tenth) = (tenths / 10, tenths % 10);
     let size = bytes.len();
-    println!(rt; "{name}: {size} bytes, {each} ns a message, {whole}.{tenth} times a count of CRs ({read} read, {found} found)")
+    println!(rt;
+        "{name}: {size} bytes, {each} ns a turn, {whole}.{tenth} times a count of CRs ({times} done, {found} CRs)"
+    )
 }
 
 fn main(rt: HostRuntime) -> io::Result<()> {
     match env::args(&rt)?.nth(1) {
-        Some(word) if word == "measure" => {
-            measure(&rt, "read INVITE", INVITE)?;
-            measure(&rt, "read REGISTER", REGISTER)
+        Some(word) if word.as_str() == "measure" => {
+            measure(&rt, "read INVITE", Task::ReadMessage, INVITE)?;
+            measure(&rt, "read REGISTER", Task::ReadMessage, REGISTER)?;
+            measure(&rt, "read description", Task::ReadDescription, DESCRIPTION)?;
+            measure(
+                &rt,
+                "read and write description",
+                Task::ReadAndWriteDescription,
+                DESCRIPTION,
+            )
         }
         _ => {
-            black_box(read_rounds(rt.alloc(), INVITE, 1));
-            black_box(read_rounds(rt.alloc(), REGISTER, 1));
+            black_box(rounds(rt.alloc(), Task::ReadMessage, INVITE, 1));
+            black_box(rounds(rt.alloc(), Task::ReadMessage, REGISTER, 1));
+            black_box(rounds(rt.alloc(), Task::ReadAndWriteDescription, DESCRIPTION, 1));
             Ok(())
         }
     }

@@ -40,3 +40,22 @@ CSeq: 1826 REGISTER\r\n\
 Contact: <sip:101@192.0.2.11>\r\n\
 Content-Length: 0\r\n\
 \r\n";
+
+/// A description with two media: 400 bytes.
+pub(crate) const DESCRIPTION: &[u8] = b"v=0\r\n\
+o=ann 2890844526 2890844526 IN IP4 192.0.2.10\r\n\
+s=-\r\n\
+c=IN IP4 192.0.2.10\r\n\
+t=0 0\r\n\
+m=audio 5004 RTP/AVP 0 8 101\r\n\
+a=rtpmap:0 PCMU/8000\r\n\
+a=rtpmap:8 PCMA/8000\r\n\
+a=rtpmap:101 telephone-event/8000\r\n\
+a=fmtp:101 0-16\r\n\
+a=ptime:20\r\n\
+a=sendrecv\r\n\
+m=video 5006 RTP/AVP 96\r\n\
+a=rtpmap:96 H264/90000\r\n\
+a=fmtp:96 profile-level-id=42e01f;packetization-mode=1\r\n\
+a=sendrecv\r\n\
+a=label:camera-of-the-desk-in-the-hall\r\n";
