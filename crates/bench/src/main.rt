@@ -89,7 +89,7 @@ fn measure<R: Clock + Print + AllocGlobal>(
     let found = count_rounds(bytes, ROUNDS);
     let counting = since(rt, start)?;
     let each = taken / u64::from(ROUNDS);
-    let tenths = taken.saturating_mul(10) / counting;
+    let tenths = taken.saturating_mul(10).checked_div(counting).unwrap_or(0);
     let (whole, tenth) = (tenths / 10, tenths % 10);
     let size = bytes.len();
     println!(rt;
