@@ -10,6 +10,7 @@ pub mod ReadWritten
 pub mod LookupLaws
 pub mod FaultLaws
 pub mod ReplyLaws
+pub mod RepliesLaws
 pub mod ViaLaws
 pub mod StartTexts
 pub mod StartLaws

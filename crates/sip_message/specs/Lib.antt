@@ -19,6 +19,7 @@ pub mod Answerable
 pub mod Reading
 pub mod Reasons
 pub mod Reply
+pub mod Replies
 pub mod Writing
 pub mod Contacts
 pub mod Grammar

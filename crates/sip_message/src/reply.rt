@@ -5,6 +5,7 @@ ghost use Rattle.std.specs.List.{flat_map};
 ghost use Rattle.text.specs.Class.{is_run_of, is_token_byte};
 ghost use Rattle.sip_uri.specs.Writing.{param_text};
 ghost use Rattle.sip_message.specs.Lookup.{named};
+ghost use Rattle.sip_message.specs.Replies.{Replies};
 ghost use Rattle.sip_message.specs.Reply.{marked_top, puts_tag, tagged_params, tagged_to, tagged_text, replied, via_text, reply_headers, reply_of, tag_param, answer_port, answer_address};
 
 use crate::copies::{copied_cseq, copied_display, copied_name, copied_text, copied_uri};
@@ -191,18 +192,15 @@ fn replied(
     })
 }
 
-/// The answer to a request that came from `source`, with no body: each Via, From, To, Call-ID and CSeq as received, the
-/// top Via with the source, and To with the tag where it has none and the status is not 100.
 #[tactic(auto, unfolding(crate::specs::Reply::reply_of))]
-pub fn reply_to(
+fn reply(
     alloc: Global,
     parts: &Parts,
     source: Addr,
     status: u16,
     tag: &[u8],
 ) -> Result<Response, AllocError>
-    requires { IsTrue (is_run_of is_token_byte tag.now) }
-    ensures answer { IfOk result (λ r. r ≡ reply_of parts.now source status tag.now) }
+    ensures { IfOk result (λ r. r ≡ reply_of parts.now source status tag.now) }
 {
     let parts = replied(alloc, parts, source, status, tag)?;
     let headers = reply_headers(alloc, &parts)?;
@@ -214,6 +212,23 @@ pub fn reply_to(
         headers,
         body: Text::from_vec(Vec::new(alloc)),
     })
+}
+
+/// The answer to a request that came from `source`, with no body: each Via, From, To, Call-ID and CSeq as received, the
+/// top Via with the source, and To with the tag where it has none and the status is not 100.
+pub fn reply_to(
+    alloc: Global,
+    parts: &Parts,
+    source: Addr,
+    status: u16,
+    tag: &[u8],
+) -> Result<Response, AllocError>
+    requires { IsTrue (is_run_of is_token_byte tag.now) }
+    ensures answer { IfOk result (λ r. r ≡ reply_of parts.now source status tag.now) }
+    // It is an answer to the request, by branch, Call-ID, tags, number and method.
+    ensures replies { IfOk result (λ r. Replies r.parts parts.now status tag.now) }
+{
+    reply(alloc, parts, source, status, tag)
 }
 
 fn answer_port(via: &Via, source: Addr) -> u16

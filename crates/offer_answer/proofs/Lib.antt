@@ -1,0 +1,10 @@
+pub mod KeptLines
+pub mod AlikeMedia
+pub mod Streams
+pub mod Joining
+pub mod Filters
+pub mod ReaddressLaws
+pub mod HoldLaws
+pub mod RowLaws
+pub mod PairLaws
+pub mod RelayLaws

@@ -1,0 +1,9 @@
+pub mod Formats
+pub mod Direct
+pub mod Joined
+pub mod Rows
+pub mod Alike
+pub mod Checks
+pub mod Readdressed
+pub mod Relayed
+pub mod Worked

@@ -1,0 +1,62 @@
+//! Formats, and when two of them match.
+
+ghost use Rattle.std.specs.Prelude.{◌≡◌};
+ghost use Rattle.std.specs.Option.{option_copied};
+ghost use Rattle.offer_answer.specs.Formats.{is_attribute, text_for, rtpmap_in, first_rtpmap, maps_match, formats_match};
+
+use sdp::{Line, Media};
+use text::{Text, cut};
+
+fn is_attribute(line: &Line, name: &[u8]) -> bool
+    ensures { result ≡ is_attribute name.now line.now }
+{
+    line.letter == b'a' && cut(line.value.as_bytes(), b':').0 == name
+}
+
+fn text_for<'a>(format: &[u8], value: Option<&'a [u8]>) -> Option<&'a [u8]>
+    ensures { option_copied result ≡ text_for format.now (option_copied value.entry) }
+{
+    let (number, text) = cut(value?, b' ');
+    if number == format { text } else { None }
+}
+
+fn rtpmap_in<'a>(line: &'a Line, format: &[u8]) -> Option<&'a [u8]>
+    ensures { option_copied result ≡ rtpmap_in format.now line.now }
+{
+    if is_attribute(line, b"rtpmap") {
+        text_for(format, cut(line.value.as_bytes(), b':').1)
+    } else {
+        None
+    }
+}
+
+fn first_rtpmap<'a>(lines: &'a [Line], format: &[u8]) -> Option<&'a [u8]>
+    ensures { option_copied result ≡ first_rtpmap format.now lines.now }
+{
+    for line in lines {
+        if let Some(text) = rtpmap_in(line, format) {
+            return Some(text);
+        }
+    }
+    None
+}
+
+fn maps_match(a: Option<&[u8]>, b: Option<&[u8]>, same_token: bool) -> bool
+    ensures { result ≡ maps_match (option_copied a.entry) (option_copied b.entry) same_token }
+{
+    match (a, b) {
+        (Some(a), Some(b)) => a.eq_ignore_ascii_case(b),
+        _ => same_token,
+    }
+}
+
+/// Whether format `f` of medium `m` and format `g` of medium `n` match: both have an `rtpmap` whose texts behind the
+/// format agree without case, or one has none and the formats are equal (RFC 3264 section 6.1, RFC 4566 section 6).
+#[tactic(auto, unfolding(crate::specs::Formats::formats_match))]
+pub(crate) fn formats_match(m: &Media, f: &Text, n: &Media, g: &Text) -> bool
+    ensures { result ≡ formats_match m.now f.now n.now g.now }
+{
+    let a = first_rtpmap(m.after.as_slice(), f.as_bytes());
+    let b = first_rtpmap(n.after.as_slice(), g.as_bytes());
+    maps_match(a, b, f == g)
+}

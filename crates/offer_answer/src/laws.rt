@@ -1,0 +1,94 @@
+//! Laws of the definitions, for all descriptions, and a plain call worked by them.
+
+ghost use Rattle.std.specs.Prelude.{◌≡◌, ◌≢◌, ℕ, List, [], ◌∷◌, codes, true, false, Option, Some, None, IsTrue};
+ghost use Rattle.std.specs.List.{list_all};
+ghost use Rattle.sip_uri.specs.declared.uri.Addr.{Addr};
+ghost use Rattle.sdp.specs.declared.address.Address.TheVariants.{Ip4};
+ghost use Rattle.sdp.specs.declared.description.Description.{Description};
+ghost use Rattle.sdp.specs.declared.description.Media.{Media};
+ghost use Rattle.sdp.specs.PlaceOf.{address_of_medium};
+ghost use Rattle.offer_answer.specs.declared.range.OwnRange.{OwnRange};
+ghost use Rattle.offer_answer.specs.Alike.{Alike};
+ghost use Rattle.offer_answer.specs.Checks.{is_carried, is_same_media, medium_fault, answered_fault};
+ghost use Rattle.offer_answer.specs.Direct.{hold_address, direct};
+ghost use Rattle.offer_answer.specs.Joined.{is_at_server, joined};
+ghost use Rattle.offer_answer.specs.Relayed.{SentBy};
+ghost use Rattle.offer_answer.specs.Rows.{HasRows, are_distinct, is_even, pairs_named, rows_of, table_of};
+ghost use Rattle.offer_answer.specs.Worked.{server, ann, bob, attribute, offer_at, answer_at, with_video, offer_taken, offer_sent, answer_taken, answer_sent, address, row, four_rows, audio_stream};
+
+/// Being alike is an equivalence.
+pub fn alike_is_equivalence()
+    ensures reflexive { (d : Description) → Alike d d }
+    ensures symmetric { (d e : Description) → Alike d e → Alike e d }
+    ensures transitive { (d e f : Description) → Alike d e → Alike e f → Alike d f }
+{}
+
+/// Two legs that a relay table joins mean what the offer and the answer of the two ends mean directly. X is the
+/// offerer's leg, Y the answerer's: each end is sent what the other said but for the server's address and ports, and
+/// the table has the rows of the four.
+pub fn joined_is_direct()
+    ensures { (server : List ℕ) (table : ℕ → Option Addr) (OX SX OY SY : Description) →
+        Alike OX OY → Alike SY SX → IsTrue (is_at_server server SX) → IsTrue (is_at_server server OY) →
+        HasRows table OX SX OY SY → joined server table OX SX OY SY ≡ direct OX SY }
+{}
+
+/// The table of a session's rows alone has them, where the pairs that the session names are even and differ.
+pub fn rows_lead()
+    ensures { (OX SX OY SY : Description) →
+        IsTrue (list_all is_even (pairs_named OX SX OY SY)) → IsTrue (are_distinct (pairs_named OX SX OY SY)) →
+        HasRows (table_of (rows_of OX SX OY SY)) OX SX OY SY }
+{}
+
+/// What the server sends on in place of an offer and of its answer, with the session's rows alone, means what the offer
+/// and the answer mean directly, where the pairs that the session names are even and differ.
+pub fn relayed_is_direct()
+    ensures { (server : List ℕ) (offer answer offer_sent answer_sent : Description) →
+        SentBy server offer offer_sent → SentBy server answer answer_sent →
+        IsTrue (list_all is_even (pairs_named offer answer_sent offer_sent answer)) →
+        IsTrue (are_distinct (pairs_named offer answer_sent offer_sent answer)) →
+        joined server (table_of (rows_of offer answer_sent offer_sent answer)) offer answer_sent offer_sent answer
+        ≡ direct offer answer }
+{}
+
+/// A medium at the address 0.0.0.0 is refused neither in an offer nor in an answer on account of its place, by a server
+/// whose address is another (RFC 3264 section 8.4).
+pub fn hold_passes()
+    ensures offer { (range : OwnRange) (d : Description) (m : Media) → range.ip ≢ hold_address →
+        address_of_medium d m ≡ Some (Ip4 hold_address) → IsTrue (is_carried m.protocol) → m.count ≡ None →
+        medium_fault range d m ≡ None }
+    ensures answer { (range : OwnRange) (o : Media) (d : Description) (m : Media) → range.ip ≢ hold_address →
+        address_of_medium d m ≡ Some (Ip4 hold_address) → IsTrue (is_same_media o m) → m.count ≡ None → o.port ≢ 0 →
+        answered_fault range o d m ≡ None }
+{}
+
+/// A plain call: its rows, and what it means with them.
+#[tactic(auto, unfolding(sdp::specs::WayOf::way_of, crate::specs::Formats::formats_match, crate::specs::Direct::is_answered, crate::specs::Direct::stream_of))]
+pub fn plain_call()
+    ensures direct { direct offer_taken answer_taken
+        ≡ audio_stream true true (Some (address ann 5004)) ∷ [] }
+    ensures rows { rows_of offer_taken answer_sent offer_sent answer_taken ≡ four_rows }
+    ensures joined { joined server (table_of four_rows) offer_taken answer_sent offer_sent answer_taken
+        ≡ direct offer_taken answer_taken }
+    ensures alike_offers { Alike offer_taken offer_sent }
+    ensures alike_answers { Alike answer_taken answer_sent }
+{}
+
+/// The plain call where the offerer holds: by `sendonly` the side to the offerer is off, and by the address 0.0.0.0 it
+/// has no destination besides (RFC 3264 section 8.4).
+#[tactic(auto, unfolding(sdp::specs::WayOf::way_of, crate::specs::Formats::formats_match, crate::specs::Direct::is_answered, crate::specs::Direct::stream_of))]
+pub fn held_call()
+    ensures sendonly { direct (offer_at (codes "ann") ann 5004 (codes "sendonly"))
+        (answer_at (codes "bob") bob 6000 (attribute (codes "recvonly") ∷ []))
+        ≡ audio_stream true false (Some (address ann 5004)) ∷ [] }
+    ensures nowhere { direct (offer_at (codes "ann") hold_address 5004 (codes "sendonly"))
+        (answer_at (codes "bob") bob 6000 (attribute (codes "recvonly") ∷ []))
+        ≡ audio_stream true false None ∷ [] }
+{}
+
+/// A call whose video is refused has no row for it, and a place at the last port has no row for reports.
+pub fn fewer_rows()
+    ensures video { rows_of (with_video (codes "ann") ann 5004 5006) (with_video (codes "-") server 40000 0)
+        (with_video (codes "-") server 40002 40006) (with_video (codes "bob") bob 6000 0) ≡ four_rows }
+    ensures last { rows_of (offer_at (codes "ann") ann 65535 (codes "sendrecv")) answer_sent offer_sent answer_taken
+        ≡ row 40000 bob 6000 40002 ∷ row 40001 bob 6001 40003 ∷ row 40002 ann 65535 40000 ∷ [] }
+{}

@@ -1,0 +1,28 @@
+//! What an offer and an answer of descriptions mean (RFC 3264), directly and through a relay; which the server refuses;
+//! and what it sends in place of those that it took. That the two meanings are one is a law for all descriptions. Nothing
+//! here knows of calls, messages or ports in use.
+#![tactic(auto)]
+
+mod checks;
+mod copies;
+mod direct;
+mod fault;
+mod formats;
+mod laws;
+mod range;
+mod readdressing;
+mod stream;
+
+pub use checks::{check_answer, check_offer};
+pub use direct::meaning;
+pub use fault::{AnswerFault, OfferFault};
+pub use laws::{
+    alike_is_equivalence, fewer_rows, held_call, hold_passes, joined_is_direct, plain_call,
+    relayed_is_direct, rows_lead,
+};
+pub use range::OwnRange;
+pub use readdressing::{ServerOrigin, readdress};
+pub use stream::{Side, Stream};
+
+#[cfg(test)]
+mod tests;

@@ -1,0 +1,199 @@
+//! The description that the server sends on.
+
+ghost use Rattle.std.specs.Prelude.{◌≡◌, ◌≢◌, IfOk, IsTrue, decimal, length, map, option_map};
+ghost use Rattle.sip_uri.specs.Writing.{ip4_text};
+ghost use Rattle.offer_answer.specs.Joined.{is_at_server};
+ghost use Rattle.offer_answer.specs.Alike.{tells_place, is_kept, kept, Alike};
+ghost use Rattle.offer_answer.specs.Direct.{hold_address};
+ghost use Rattle.offer_answer.specs.Readdressed.{origin_of, readdressed_address, told_port, readdressed_medium, readdressed_media, told_ports, readdressed, has_ports};
+
+use crate::copies::{copied_info, copied_line, copied_lines, copied_text, copied_texts};
+use crate::direct::{HOLD, is_hold};
+use itoa::Buffer;
+use sdp::{Address, Description, Line, Lines, Media, MediaList, Origin};
+use sip_uri::put_ip4;
+use std::alloc::{AllocError, Global};
+use text::{Text, cut};
+
+/// What the `o=` line of a description of the server's says: `o=- ID VERSION IN IP4 ADDRESS` (RFC 4566 section 5.2).
+#[derive(Clone, Copy, Debug, PartialEq, Eq)]
+pub struct ServerOrigin {
+    pub id: u64,
+    pub version: u64,
+    /// The server's address.
+    pub ip: [u8; 4],
+}
+
+fn number_text(alloc: Global, number: u64) -> Result<Text, AllocError>
+    ensures { IfOk result (λ t. t ≡ decimal number) }
+{
+    let mut buffer = Buffer::new();
+    Text::from_slice(alloc, buffer.format(number).as_bytes())
+}
+
+fn address_text(alloc: Global, ip: [u8; 4]) -> Result<Text, AllocError>
+    ensures { IfOk result (λ t. t ≡ ip4_text ip) }
+{
+    let mut out = Vec::new(alloc);
+    put_ip4(&mut out, &ip)?;
+    Ok(Text::from_vec(out))
+}
+
+#[tactic(auto, unfolding(crate::specs::Readdressed::origin_of))]
+fn origin_of(alloc: Global, origin: ServerOrigin) -> Result<Origin, AllocError>
+    ensures { IfOk result (λ o. o ≡ origin_of origin) }
+{
+    let id = number_text(alloc, origin.id)?;
+    let version = number_text(alloc, origin.version)?;
+    let address = address_text(alloc, origin.ip)?;
+    Ok(Origin {
+        username: Text::from_slice(alloc, b"-")?,
+        id,
+        version,
+        network_type: Text::from_slice(alloc, b"IN")?,
+        address_type: Text::from_slice(alloc, b"IP4")?,
+        address,
+    })
+}
+
+fn readdressed_address(address: &Address, ip: [u8; 4]) -> Address
+    ensures { result ≡ readdressed_address ip address.now }
+{
+    if is_hold(address) {
+        Address::Ip4(HOLD)
+    } else {
+        Address::Ip4(ip)
+    }
+}
+
+fn readdressed_connection(connection: &Option<Address>, ip: [u8; 4]) -> Option<Address>
+    ensures { result ≡ option_map (readdressed_address ip) connection.now }
+{
+    match connection {
+        Some(address) => Some(readdressed_address(address, ip)),
+        None => None,
+    }
+}
+
+fn tells_place(name: &[u8]) -> bool
+    ensures { result ≡ tells_place name.now }
+{
+    name == b"rtcp".as_slice()
+        || name == b"candidate".as_slice()
+        || name == b"remote-candidates".as_slice()
+        || name.starts_with(b"ice-")
+}
+
+fn is_kept(line: &Line) -> bool
+    ensures { result ≡ is_kept line.now }
+{
+    !(line.letter == b'a' && tells_place(cut(line.value.as_bytes(), b':').0))
+}
+
+/// The lines but for the attributes that tell places of their own.
+fn kept(alloc: Global, lines: &Lines) -> Result<Lines, AllocError>
+    ensures { IfOk result (λ ls. ls ≡ kept lines.now) }
+{
+    let mut left = Vec::new(alloc);
+    for line in lines.as_slice() {
+        if !is_kept(line) {
+            continue;
+        }
+        left.push(copied_line(line)?)?;
+    }
+    Ok(Lines::from_vec(left))
+}
+
+fn told_port(port: u16, medium: &Media) -> u16
+    ensures { result ≡ told_port port medium.now }
+{
+    if medium.port == 0 { 0 } else { port }
+}
+
+#[tactic(auto, unfolding(crate::specs::Readdressed::readdressed_medium))]
+fn readdressed_medium(
+    alloc: Global,
+    medium: &Media,
+    port: u16,
+    ip: [u8; 4],
+) -> Result<Media, AllocError>
+    ensures { IfOk result (λ m. m ≡ readdressed_medium ip port medium.now) }
+{
+    let kind = copied_text(&medium.kind)?;
+    let protocol = copied_text(&medium.protocol)?;
+    let formats = copied_texts(&medium.formats)?;
+    let info = copied_info(&medium.info)?;
+    let after = kept(alloc, &medium.after)?;
+    Ok(Media {
+        kind,
+        port: told_port(port, medium),
+        count: medium.count,
+        protocol,
+        formats,
+        info,
+        connection: readdressed_connection(&medium.connection, ip),
+        after,
+    })
+}
+
+fn readdressed_media(
+    alloc: Global,
+    media: &[Media],
+    ports: &[u16],
+    ip: [u8; 4],
+) -> Result<MediaList, AllocError>
+    requires { length ports.now ≡ length media.now }
+    ensures { IfOk result (λ ms. ms ≡ readdressed_media ip ports.now media.now) }
+{
+    let mut told = Vec::new(alloc);
+    for (i, medium) in media.iter().enumerate() {
+        told.push(readdressed_medium(alloc, medium, ports[i], ip)?)?;
+    }
+    Ok(MediaList::from_vec(told))
+}
+
+#[tactic(auto, unfolding(crate::specs::Readdressed::readdressed))]
+fn readdressed(
+    alloc: Global,
+    description: &Description,
+    ports: &[u16],
+    origin: ServerOrigin,
+) -> Result<Description, AllocError>
+    requires { length ports.now ≡ length description.now.media }
+    ensures { IfOk result (λ d. d ≡ readdressed origin ports.now description.now) }
+{
+    let before = copied_lines(&description.before)?;
+    let after = kept(alloc, &description.after)?;
+    let media = readdressed_media(alloc, description.media.as_slice(), ports, origin.ip)?;
+    Ok(Description {
+        origin: origin_of(alloc, origin)?,
+        before,
+        connection: readdressed_connection(&description.connection, origin.ip),
+        after,
+        media,
+    })
+}
+
+/// The description that the server sends in place of the one that it took (RFC 3264): each medium that has a port gets
+/// its port of `ports`, each address but 0.0.0.0 is the server's, and the attributes that tell addresses and ports of
+/// their own are left out. There is one port for each medium, not 0 where the medium's is not, and the server's address
+/// is not 0.0.0.0.
+#[tactic(auto, using(crate::proofs::ReaddressLaws::readdressed_alike, crate::proofs::ReaddressLaws::readdressed_at_server, crate::proofs::ReaddressLaws::readdressed_ports, crate::proofs::ReaddressLaws::readdressed_origin))]
+pub fn readdress(
+    alloc: Global,
+    description: &Description,
+    ports: &[u16],
+    origin: ServerOrigin,
+) -> Result<Description, AllocError>
+    requires one_each { length ports.now ≡ length description.now.media }
+    requires not_zero { IsTrue (has_ports ports.now description.now.media) }
+    requires server { origin.ip ≢ hold_address }
+    ensures alike { IfOk result (λ sent. Alike description.now sent) }
+    ensures origin { IfOk result (λ sent. sent.origin ≡ origin_of origin) }
+    ensures addresses { IfOk result (λ sent. IsTrue (is_at_server origin.ip sent)) }
+    ensures ports { IfOk result (λ sent. map (λ m. m.port) sent.media
+        ≡ told_ports ports.now description.now.media) }
+    ensures exact { IfOk result (λ sent. sent ≡ readdressed origin ports.now description.now) }
+{
+    readdressed(alloc, description, ports, origin)
+}
