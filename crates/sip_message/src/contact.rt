@@ -77,10 +77,7 @@ fn headers_in(message: &Message) -> &[Header]
 }
 
 /// Each Contact value of these header fields, in order.
-pub fn contact_values(
-    alloc: Global,
-    headers: &[Header],
-) -> Result<Vec<ContactValue>, AllocError>
+pub fn contact_values(alloc: Global, headers: &[Header]) -> Result<Vec<ContactValue>, AllocError>
     ensures { IfOk result (λ v. v.items ≡ contacts_of headers.now) }
 {
     let texts = contact_texts(alloc, headers)?;

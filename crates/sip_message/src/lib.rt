@@ -34,7 +34,6 @@ mod vias;
 mod write;
 mod write_head;
 
-pub use unread::answerable;
 pub use contact::{ContactValue, contact_values, contacts};
 pub use cseq::CSeq;
 pub use error::{HeaderName, MessageError};
@@ -44,5 +43,6 @@ pub use lookup::{first_value, values_named};
 pub use message::{Message, Parts, Request, Response, Vias};
 pub use read::read_message;
 pub use reply::{reply_address, reply_to};
+pub use unread::answerable;
 pub use via::Via;
 pub use write::write_message;

@@ -43,10 +43,7 @@ fn readable(alloc: Global, first: &[u8], more: &[&[u8]]) -> Result<Option<Header
 }
 
 /// The headers of the fields that are of their form, in order.
-pub(crate) fn readable_headers(
-    alloc: Global,
-    lines: &[&[u8]],
-) -> Result<Vec<Header>, AllocError>
+pub(crate) fn readable_headers(alloc: Global, lines: &[&[u8]]) -> Result<Vec<Header>, AllocError>
     ensures { IfOk result (λ hs. hs.items ≡ readable_headers (texts lines.now)) }
 {
     let mut headers = Vec::new(alloc);

@@ -46,7 +46,10 @@ fn party_at(alloc: Global, text: &Text) -> Result<Option<Party>, AllocError>
     ensures { IfOk result (λ party. party ≡ party_at text.now) }
 {
     match read_party(alloc, text.as_bytes())? {
-        Some(name) => Ok(Some(Party { text: text.clone()?, name })),
+        Some(name) => Ok(Some(Party {
+            text: text.clone()?,
+            name,
+        })),
         None => Ok(None),
     }
 }
@@ -76,7 +79,10 @@ fn sequence_at(alloc: Global, text: &Text) -> Result<Option<Sequence>, AllocErro
     ensures { IfOk result (λ cseq. cseq ≡ sequence_at text.now) }
 {
     match read_cseq(alloc, text.as_bytes())? {
-        Some(cseq) => Ok(Some(Sequence { text: text.clone()?, cseq })),
+        Some(cseq) => Ok(Some(Sequence {
+            text: text.clone()?,
+            cseq,
+        })),
         None => Ok(None),
     }
 }

@@ -63,11 +63,7 @@ fn read_call_id(headers: &[Header]) -> Result<Text, MessageError>
 }
 
 #[tactic(auto, using(crate::proofs::FaultLaws::fails_itself))]
-fn read_cseq_for(
-    alloc: Global,
-    start: &Start,
-    headers: &[Header],
-) -> Result<Sequence, MessageError>
+fn read_cseq_for(alloc: Global, start: &Start, headers: &[Header]) -> Result<Sequence, MessageError>
     ensures { Gives result (cseq_for start.now headers.now) }
 {
     let text = exactly_one(headers, b"CSeq", HeaderName::CSeq)?;
