@@ -9,11 +9,10 @@ ghost use Rattle.offer_answer.specs.Readdressed.{origin_of, readdressed_address,
 
 use crate::copies::{copied_info, copied_line, copied_lines, copied_text, copied_texts};
 use crate::direct::{HOLD, is_hold};
-use itoa::Buffer;
 use sdp::{Address, Description, Line, Lines, Media, MediaList, Origin};
 use sip_uri::put_ip4;
 use std::alloc::{AllocError, Global};
-use text::{Text, cut};
+use text::{Text, cut, put_number};
 
 /// What the `o=` line of a description of the server's says: `o=- ID VERSION IN IP4 ADDRESS` (RFC 4566 section 5.2).
 #[derive(Clone, Copy, Debug, PartialEq, Eq)]
@@ -27,8 +26,9 @@ pub struct ServerOrigin {
 fn number_text(alloc: Global, number: u64) -> Result<Text, AllocError>
     ensures { IfOk result (λ t. t ≡ decimal number) }
 {
-    let mut buffer = Buffer::new();
-    Text::from_slice(alloc, buffer.format(number).as_bytes())
+    let mut out = Vec::new(alloc);
+    put_number(&mut out, number)?;
+    Ok(Text::from_vec(out))
 }
 
 fn address_text(alloc: Global, ip: [u8; 4]) -> Result<Text, AllocError>

@@ -14,12 +14,11 @@ ghost use Rattle.office.specs.Registering.{register_of};
 
 use crate::example::{MOMENT, SOURCE, TOKEN, example_registrar};
 use crate::registering::register_of;
-use itoa::Buffer;
 use registrar::{Binding, Refusal};
 use sip_message::{Header, Headers, Message, Parts, Request, Response, reply_to, write_message};
 use sip_uri::write_uri;
 use std::alloc::{AllocError, Global};
-use text::Text;
+use text::{Text, put_number};
 
 fn push_all(headers: &mut Headers, extra: Vec<Header>) -> Result<(), AllocError>
     ensures { OnOk result (headers.new ≡ headers.old ++ extra.items) }
@@ -65,14 +64,6 @@ pub(crate) fn answered(
 {
     let response = with_headers(alloc, parts, status, tag, extra)?;
     written(alloc, response)
-}
-
-fn put_number(out: &mut Vec<u8>, number: u64) -> Result<(), AllocError>
-    ensures { OnOk result (out.new.items ≡ out.old.items ++ decimal number) }
-{
-    let mut buffer = Buffer::new();
-    out.extend_from_slice(buffer.format(number).as_bytes())?;
-    Ok(())
 }
 
 fn contact_header(alloc: Global, binding: &Binding) -> Result<Header, AllocError>

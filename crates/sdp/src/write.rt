@@ -9,17 +9,8 @@ ghost use Rattle.sdp.specs.Writing.{line_text, ended, origin_line, ip4_text, add
 use crate::address::Address;
 use crate::description::{Description, Media, Origin};
 use crate::line::Line;
-use itoa::Buffer;
 use std::alloc::{AllocError, Global};
-use text::Text;
-
-fn put_number(out: &mut Vec<u8>, number: u64) -> Result<(), AllocError>
-    ensures { OnOk result (out.new.items ≡ out.old.items ++ decimal number) }
-{
-    let mut buffer = Buffer::new();
-    out.extend_from_slice(buffer.format(number).as_bytes())?;
-    Ok(())
-}
+use text::{Text, put_number};
 
 fn put_line(out: &mut Vec<u8>, line: &Line) -> Result<(), AllocError>
     ensures { OnOk result (out.new.items ≡ out.old.items ++ ended (line_text line.now ∷ [])) }

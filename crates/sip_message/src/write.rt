@@ -7,18 +7,9 @@ ghost use Rattle.sip_message.specs.Writing.{request_line, status_line, length_te
 
 use crate::message::{Message, Request, Response};
 use crate::write_head::put_headers;
-use itoa::Buffer;
 use sip_uri::write_uri;
 use std::alloc::{AllocError, Global};
-use text::Text;
-
-pub(crate) fn put_number(out: &mut Vec<u8>, number: u64) -> Result<(), AllocError>
-    ensures { OnOk result (out.new.items ≡ out.old.items ++ decimal number) }
-{
-    let mut buffer = Buffer::new();
-    out.extend_from_slice(buffer.format(number).as_bytes())?;
-    Ok(())
-}
+use text::{Text, put_number};
 
 fn put_request_line(alloc: Global, out: &mut Vec<u8>, request: &Request) -> Result<(), AllocError>
     ensures { OnOk result (out.new.items ≡ out.old.items ++ request_line request.now) }

@@ -7,17 +7,8 @@ ghost use Rattle.sip_uri.specs.Writing.{escaped_byte, escaped, ip4_text, host_te
 
 use crate::class::is_plain_user;
 use crate::uri::{Host, Param, Uri};
-use itoa::Buffer;
 use std::alloc::{AllocError, Global};
-use text::Text;
-
-fn put_number(out: &mut Vec<u8>, number: u16) -> Result<(), AllocError>
-    ensures { OnOk result (out.new.items ≡ out.old.items ++ decimal number) }
-{
-    let mut buffer = Buffer::new();
-    out.extend_from_slice(buffer.format(number).as_bytes())?;
-    Ok(())
-}
+use text::{Text, put_number};
 
 fn put_user_byte(out: &mut Vec<u8>, b: u8) -> Result<(), AllocError>
     ensures { OnOk result (out.new.items ≡ out.old.items ++ escaped_byte b) }
@@ -44,13 +35,13 @@ fn put_escaped(out: &mut Vec<u8>, user: &[u8]) -> Result<(), AllocError>
 pub fn put_ip4(out: &mut Vec<u8>, octets: &[u8; 4]) -> Result<(), AllocError>
     ensures { OnOk result (out.new.items ≡ out.old.items ++ ip4_text octets.now) }
 {
-    put_number(out, u16::from(octets[0]))?;
+    put_number(out, u64::from(octets[0]))?;
     out.push(b'.')?;
-    put_number(out, u16::from(octets[1]))?;
+    put_number(out, u64::from(octets[1]))?;
     out.push(b'.')?;
-    put_number(out, u16::from(octets[2]))?;
+    put_number(out, u64::from(octets[2]))?;
     out.push(b'.')?;
-    put_number(out, u16::from(octets[3]))?;
+    put_number(out, u64::from(octets[3]))?;
     Ok(())
 }
 
@@ -109,7 +100,7 @@ fn write(alloc: Global, uri: &Uri) -> Result<Text, AllocError>
     put_host(&mut out, &uri.host)?;
     if let Some(port) = uri.port {
         out.push(b':')?;
-        put_number(&mut out, port)?;
+        put_number(&mut out, u64::from(port))?;
     }
     put_params(&mut out, uri.params.as_slice(), b';', b';')?;
     put_params(&mut out, uri.headers.as_slice(), b'?', b'&')?;

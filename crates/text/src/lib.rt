@@ -13,7 +13,7 @@ mod trimming;
 
 pub use class::{is_blank, is_run_of_digits, is_run_of_token, is_token_byte};
 pub use cutting::{cut, cut_word};
-pub use number::number_upto;
+pub use number::{number_upto, put_number};
 pub use splitting::{Within, pieces};
 pub use text::{Text, same_without_case};
 pub use texts::Texts;

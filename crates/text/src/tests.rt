@@ -45,3 +45,11 @@ fn classes_and_numbers(rt: HostRuntime) {
     assert!(rt; number_upto(65535, b"65536").is_none());
     assert!(rt; number_upto(65535, b"1a").is_none());
 }
+
+#[test]
+fn numbers_in_plain_decimals(rt: HostRuntime) -> Result<(), Fail> {
+    let mut out = Vec::from_slice(rt.alloc(), b"port ")?;
+    put_number(&mut out, 5060)?;
+    assert_eq!(rt; out.as_slice(), b"port 5060".as_slice());
+    Ok(())
+}
