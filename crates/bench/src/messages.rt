@@ -44,7 +44,7 @@ Content-Length: 0\r\n\
 /// A description with two media: 400 bytes.
 pub(crate) const DESCRIPTION: &[u8] = b"v=0\r\n\
 o=ann 2890844526 2890844526 IN IP4 192.0.2.10\r\n\
-s=-\r\n\
+s=Telephone\r\n\
 c=IN IP4 192.0.2.10\r\n\
 t=0 0\r\n\
 m=audio 5004 RTP/AVP 0 8 101\r\n\
