@@ -25,6 +25,27 @@ lead_of (b ∷ bs) = step (is_blank b) refl (lead_of bs) where
       let same : without_blanks (b ∷ bs) ≡ b ∷ bs = rw h refl in
       record { lead = []; blank = refl; whole = sym same }
 
+-- the blanks at the end of a text
+pub record HasTrail (text : List ℕ) : Type 0 where
+  pub trail : List ℕ
+  pub blank : list_all is_blank trail ≡ true
+  pub whole : text ≡ without_end text ++ trail
+
+pub trail_of : (t : List ℕ) → HasTrail t
+trail_of [] = record { trail = []; blank = refl; whole = refl }
+trail_of (b ∷ bs) = step (is_blank b) (eqb (length (without_end bs)) 0) refl refl (trail_of bs) where
+  step : (e f : Bool) → is_blank b ≡ e → eqb (length (without_end bs)) 0 ≡ f → HasTrail bs → HasTrail (b ∷ bs)
+  step true true h none more =
+      let gone : without_end (b ∷ bs) ≡ [] = rw (h, none) refl in
+      let rest : bs ≡ more.trail = more.whole ∙ ap (λ (t : List ℕ). t ++ more.trail) (nil_from_length (without_end bs) (eqb-true _ _ none)) in
+      record { trail = b ∷ bs; blank = and_from _ _ h (ap (list_all is_blank) rest ∙ more.blank); whole = ap (λ (t : List ℕ). t ++ b ∷ bs) (sym gone) }
+  step true false h some more =
+      let kept : without_end (b ∷ bs) ≡ b ∷ without_end bs = rw (h, some) refl in
+      record { trail = more.trail; blank = more.blank; whole = ap (λ (t : List ℕ). b ∷ t) more.whole ∙ ap (λ (t : List ℕ). t ++ more.trail) (sym kept) }
+  step false f h some more =
+      let kept : without_end (b ∷ bs) ≡ b ∷ without_end bs = rw h refl in
+      record { trail = more.trail; blank = more.blank; whole = ap (λ (t : List ℕ). b ∷ t) more.whole ∙ ap (λ (t : List ℕ). t ++ more.trail) (sym kept) }
+
 pub skipped : (lead t : List ℕ) → list_all is_blank lead ≡ true → without_blanks (lead ++ t) ≡ without_blanks t
 skipped [] t h = refl
 skipped (b ∷ bs) t h = let parts = and_parts (is_blank b) (list_all is_blank bs) h in rw parts.0 (skipped bs t parts.1)

@@ -11,5 +11,7 @@ pub mod UriBytes
 mod NameCuts
 mod NameSpelling
 pub mod NameLaws
+pub mod Closed
 pub mod FieldTrip
 pub mod NameTrip
+pub mod ParamBehind
