@@ -1,41 +1,65 @@
--- Steps of the loops over lines that end, and over those that are of their form.
-use Rattle.std.proofs.Common.{◌≡◌, ℕ, suc, ◌+◌, ◌-◌, ◌<◌, ◌≤◌, Bool, true, false, ◌&&◌, cond, eqb, List, [], ◌∷◌, ◌++◌, length, map, drop, get_or, Some, None, refl, sym, ap, ◌∙◌, append_assoc, arith}
-use Rattle.std.specs.Prelude.{filter, Option}
+-- The first line that ends and those behind it; steps of the loop over lines that are of their form.
+use Rattle.std.proofs.Common.{◌≡◌, ℕ, suc, ◌+◌, ◌<◌, Bool, true, false, ◌&&◌, cond, eqb, List, [], ◌∷◌, ◌++◌, length, map, drop, get_or, Some, None, refl, sym, ap, ◌∙◌, append_assoc, arith}
+use Rattle.std.specs.Prelude.{filter}
 use Rattle.std.specs.Borrow.{Bor}
-use Rattle.std.proofs.lemmas.Bool.{eq-eqb, ne_eqb}
-use Rattle.std.proofs.lemmas.List.{append-nil}
-use Rattle.sip_message.specs.Answerable.{ended_line, next_ended, ended_within, readable_headers}
+use Rattle.std.specs.List.{onto_first}
+use Rattle.std.proofs.lemmas.List.{length-append}
+use Rattle.sip_message.specs.Answerable.{between_ends, upto_empty, ended_pieces, ended_lines, readable_headers}
 use Rattle.sip_message.specs.Fields.{RawField, begins_blank, fields_of, is_raw_field, field_of, readable_of}
-use Rattle.sip_message.specs.Lines.{texts}
+use Rattle.sip_message.specs.Lines.{texts, begins_line_end, before_line_end, after_line_end}
 use Rattle.sip_message.specs.declared.headers.Header.{Header}
 use Rattle.sip_message.proofs.FieldLoop.{field_at, fields_at}
+use Rattle.sip_message.proofs.LineLaws.{first_line_joined}
 
 -- ---- lines that end
 
-turn : (limit i : ℕ) (text : List ℕ) → i < limit → ended_within (limit - i) text ≡ next_ended (ended_line text) (ended_within (limit - (i + 1)))
-unfolding ended_within
-turn limit i text lt = let k : limit - i ≡ suc (limit - (i + 1)) = omega arith in rw k refl
+-- the first piece, and the pieces behind it
+pieces_at : (text rest : List ℕ) → after_line_end text ≡ Some rest → between_ends text ≡ before_line_end text ∷ between_ends rest
+pieces_at [] rest h = absurd cc
+pieces_at (b ∷ []) rest h = absurd (step (eqb 13 b) h) where
+  step : (e : Bool) → cond (e && false) (Some []) None ≡ Some rest → ⊥
+  step true k = cc
+  step false k = cc
+pieces_at (b ∷ c ∷ bs) rest h = step (begins_line_end (b ∷ c ∷ bs)) h (λ k. pieces_at (c ∷ bs) rest k) where
+  step : (e : Bool) → cond e (Some bs) (after_line_end (c ∷ bs)) ≡ Some rest → (after_line_end (c ∷ bs) ≡ Some rest → between_ends (c ∷ bs) ≡ before_line_end (c ∷ bs) ∷ between_ends rest)
+      → cond e ([] ∷ between_ends bs) (onto_first b (between_ends (c ∷ bs))) ≡ cond e [] (b ∷ before_line_end (c ∷ bs)) ∷ between_ends rest
+  step true k more = let same : bs ≡ rest = cc in ap (λ (t : List ℕ). [] ∷ between_ends t) same
+  step false k more = ap (onto_first b) (more k)
 
-pub ended_go_on : (front all : List (List ℕ)) (limit i : ℕ) (text line rest : List ℕ) → i < limit → ended_line text ≡ Some (line, rest) → (length line ≡ 0 → ⊥)
-    → front ++ ended_within (limit - i) text ≡ all → (front ++ line ∷ []) ++ ended_within (limit - (i + 1)) rest ≡ all
-ended_go_on front all limit i text line rest lt first some so_far =
-    let one : ended_within (limit - i) text ≡ line ∷ ended_within (limit - (i + 1)) rest = turn limit i text lt ∙ rw (first, ne_eqb (length line) 0 some) refl in
-    append_assoc front (line ∷ []) (ended_within (limit - (i + 1)) rest) ∙ ap (λ (ls : List (List ℕ)). front ++ ls) (sym one) ∙ so_far
+one_piece : (text : List ℕ) → after_line_end text ≡ None → between_ends text ≡ text ∷ []
+one_piece [] h = refl
+one_piece (b ∷ []) h = refl
+one_piece (b ∷ c ∷ bs) h = step (begins_line_end (b ∷ c ∷ bs)) h (λ k. one_piece (c ∷ bs) k) where
+  step : (e : Bool) → cond e (Some bs) (after_line_end (c ∷ bs)) ≡ None → (after_line_end (c ∷ bs) ≡ None → between_ends (c ∷ bs) ≡ (c ∷ bs) ∷ [])
+      → cond e ([] ∷ between_ends bs) (onto_first b (between_ends (c ∷ bs))) ≡ (b ∷ c ∷ bs) ∷ []
+  step true k more = absurd cc
+  step false k more = ap (onto_first b) (more k)
 
-ended_all : (front all more : List (List ℕ)) → more ≡ [] → front ++ more ≡ all → front ≡ all
-ended_all front all more none so_far = sym (append-nil front) ∙ ap (λ (ls : List (List ℕ)). front ++ ls) (sym none) ∙ so_far
+-- there is a piece
+some_piece : (text : List ℕ) → (p : List ℕ) × (ps : List (List ℕ)) × (between_ends text ≡ p ∷ ps)
+some_piece [] = ([], [], refl)
+some_piece (b ∷ []) = (b ∷ [], [], refl)
+some_piece (b ∷ c ∷ bs) = step (begins_line_end (b ∷ c ∷ bs)) (between_ends (c ∷ bs)) where
+  step : (e : Bool) (ps : List (List ℕ)) → (q : List ℕ) × (qs : List (List ℕ)) × (cond e ([] ∷ between_ends bs) (onto_first b ps) ≡ q ∷ qs)
+  step true ps = ([], between_ends bs, refl)
+  step false [] = (b ∷ [], [], refl)
+  step false (p ∷ ps) = (b ∷ p, ps, refl)
 
-pub ended_stop : (front all : List (List ℕ)) (limit i : ℕ) (text : List ℕ) → i < limit → ended_line text ≡ None → front ++ ended_within (limit - i) text ≡ all → front ≡ all
-ended_stop front all limit i text lt first so_far = ended_all front all (ended_within (limit - i) text) (turn limit i text lt ∙ rw first refl) so_far
+pub line_ended : (text rest : List ℕ) → Some rest ≡ after_line_end text → ended_lines text ≡ upto_empty (before_line_end text) (ended_lines rest)
+unfolding ended_lines
+line_ended text rest h =
+    let p = some_piece rest in
+    let more : ended_pieces (before_line_end text ∷ between_ends rest) ≡ upto_empty (before_line_end text) (ended_pieces (between_ends rest)) = rw (p.2) refl in
+    ap ended_pieces (pieces_at text rest (sym h)) ∙ more
 
-pub ended_empty : (front all : List (List ℕ)) (limit i : ℕ) (text line rest : List ℕ) → i < limit → ended_line text ≡ Some (line, rest) → length line ≡ 0
-    → front ++ ended_within (limit - i) text ≡ all → front ≡ all
-ended_empty front all limit i text line rest lt first empty so_far =
-    ended_all front all (ended_within (limit - i) text) (turn limit i text lt ∙ rw (first, eq-eqb (length line) 0 empty) refl) so_far
+pub line_not_ended : (text : List ℕ) → None ≡ after_line_end text → ended_lines text ≡ []
+unfolding ended_lines
+line_not_ended text h = ap ended_pieces (one_piece text (sym h))
 
-pub ended_out : (front all : List (List ℕ)) (limit i : ℕ) (text : List ℕ) → limit ≤ i → front ++ ended_within (limit - i) text ≡ all → front ≡ all
-unfolding ended_within
-ended_out front all limit i text le so_far = let k : limit - i ≡ 0 = omega arith in ended_all front all (ended_within (limit - i) text) (rw k refl) so_far
+pub rest_is_shorter : (text rest : List ℕ) → Some rest ≡ after_line_end text → length rest < length text
+rest_is_shorter text rest h =
+    let whole : length text ≡ length (before_line_end text) + suc (suc (length rest)) = ap length (first_line_joined text rest (sym h)) ∙ length-append (before_line_end text) (13 ∷ 10 ∷ rest) in
+    omega (arith, whole)
 
 -- ---- fields of their form
 

@@ -18,3 +18,9 @@ pub mod SaysLaws
 pub mod FaultOrder
 pub mod MessageLaws
 pub mod MessageRoundTrip
+pub mod CleanLaws
+pub mod ParamTrip
+pub mod ViaTrip
+pub mod MarkedTrip
+pub mod AnswerTrip
+pub mod RepeatableLaws

@@ -40,10 +40,10 @@ use Rattle.sip_message.proofs.ValueLaws.{clean_joined, token_clean, token_trimme
 abbrev length_header : List ℕ → Header
 length_header body = record { name = codes "Content-Length"; value = decimal (length body) }
 
-digit_token : (b : ℕ) → is_ascii_digit b ≡ true → is_token_byte b ≡ true
+pub digit_token : (b : ℕ) → is_ascii_digit b ≡ true → is_token_byte b ≡ true
 digit_token b h = rw h refl
 
-digits_token : (ds : List ℕ) → list_all is_ascii_digit ds ≡ true → list_all is_token_byte ds ≡ true
+pub digits_token : (ds : List ℕ) → list_all is_ascii_digit ds ≡ true → list_all is_token_byte ds ≡ true
 digits_token [] h = refl
 digits_token (d ∷ ds) h =
     let parts = and_parts (is_ascii_digit d) (list_all is_ascii_digit ds) h in

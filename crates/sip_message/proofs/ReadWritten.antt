@@ -77,7 +77,7 @@ lines_clean (line ∷ more) h =
     let parts = and_parts (is_continuing line) (list_all is_continuing more) h in
     and_from (is_clean line) (list_all is_clean more) (and_parts (begins_blank line) (is_clean line) parts.0).1 (lines_clean more parts.1)
 
-field_written : (f : RawField) → is_raw_field f ≡ true → is_written (field_of f) ≡ true
+pub field_written : (f : RawField) → is_raw_field f ≡ true → is_written (field_of f) ≡ true
 unfolding is_written field_of
 field_written f h =
     let is = field_is f h in

@@ -11,9 +11,8 @@ use Rattle.sip_uri.specs.Binding.{param_named}
 use Rattle.sip_message.specs.declared.message.Parts.{Parts}
 use Rattle.sip_message.specs.declared.message.Response.{Response}
 use Rattle.sip_message.specs.declared.via.Via.{Via}
-use Rattle.sip_message.specs.Party.{has_tag}
 use Rattle.sip_message.specs.Replies.{top_branch, tag_of, answered_tag, Replies}
-use Rattle.sip_message.specs.Reply.{asks_port, is_address, is_param, value_put, with_value, without, received, filled, with_received, marked_params, marked, marked_top, tag_param, puts_tag, tagged_params, tagged_to, replied, reply_of}
+use Rattle.sip_message.specs.Reply.{asks_port, is_address, is_param, value_put, without, received, filled, with_received, marked, marked_top, tag_param, tagged_params, tagged_to, replied, reply_of}
 use Rattle.sip_message.proofs.ValueLaws.{same_text}
 
 -- ---- what is found in a list that was changed elsewhere
@@ -35,7 +34,7 @@ find_push : (p : Param → Bool) (xs : List Param) (y : Param) → p y ≡ false
 find_push p [] y h = rw h refl
 find_push p (x ∷ xs) y h = ap (λ (o : Option Param). cond (p x) (Some x) o) (find_push p xs y h)
 
-find_last : (p : Param → Bool) (xs : List Param) (y : Param) → find p xs ≡ None → p y ≡ true → find p (xs ++ y ∷ []) ≡ Some y
+pub find_last : (p : Param → Bool) (xs : List Param) (y : Param) → find p xs ≡ None → p y ≡ true → find p (xs ++ y ∷ []) ≡ Some y
 find_last p [] y none h = rw h refl
 find_last p (x ∷ xs) y none h = step (p x) none (λ e. find_last p xs y e h) where
   step : (b : Bool) → cond b (Some x) (find p xs) ≡ None → (find p xs ≡ None → find p (xs ++ y ∷ []) ≡ Some y) → cond b (Some x) (find p (xs ++ y ∷ [])) ≡ Some y

@@ -71,7 +71,7 @@ one_is name (w ∷ x ∷ more) v h = absurd (no_ok (Unreadable name) v h)
 head_is : (a b : Option Via) (more rest : List (Option Via)) → a ∷ more ≡ b ∷ rest → (a ≡ b) × (more ≡ rest)
 head_is a b more rest h = (cc, cc)
 
-vias_are : (texts : List (List ℕ)) (vias : List Via) → each_via texts ≡ Some vias → map via_of texts ≡ map (λ via. some via) vias
+pub vias_are : (texts : List (List ℕ)) (vias : List Via) → each_via texts ≡ Some vias → map via_of texts ≡ map (λ via. some via) vias
 vias_are [] vias h = let none : [] ≡ vias = some_is [] vias h in rw (← none) refl
 vias_are (text ∷ texts) vias h = step (via_of text) (each_via texts) refl refl h (λ vs k. vias_are texts vs k) where
   step : (o : Option Via) (p : Option (List Via)) → via_of text ≡ o → each_via texts ≡ p → with_via o p ≡ Some vias → ((vs : List Via) → each_via texts ≡ Some vs → map via_of texts ≡ map (λ via. some via) vs)

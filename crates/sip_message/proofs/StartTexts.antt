@@ -40,12 +40,12 @@ unbroken : (text : List ℕ) → Lacks 32 text → has_no_space text ≡ true
 unbroken [] h = refl
 unbroken (b ∷ bs) h = and_from (not (eqb b 32)) (has_no_space bs) (ap not h.0) (unbroken bs h.1)
 
-clean : (text : List ℕ) → Lacks 13 text → Lacks 10 text → Lacks 0 text → is_clean text ≡ true
-clean [] h i j = refl
-clean (b ∷ bs) h i j = and_from (is_text_byte b) (is_clean bs) (rw (h.0, i.0, j.0) refl) (clean bs h.1 i.1 j.1)
+pub clean_from_lacks : (text : List ℕ) → Lacks 13 text → Lacks 10 text → Lacks 0 text → is_clean text ≡ true
+clean_from_lacks [] h i j = refl
+clean_from_lacks (b ∷ bs) h i j = and_from (is_text_byte b) (is_clean bs) (rw (h.0, i.0, j.0) refl) (clean_from_lacks bs h.1 i.1 j.1)
 
 pub uri_unbroken : (text : List ℕ) (uri : Uri) → ReadsUri text uri → has_no_space text ≡ true
 uri_unbroken text uri h = unbroken text (lacks_space text h.raw h.spelled)
 
 pub uri_clean : (text : List ℕ) (uri : Uri) → ReadsUri text uri → is_clean text ≡ true
-uri_clean text uri h = clean text (lacks_return text h.raw h.spelled) (lacks_feed text h.raw h.spelled) (lacks_nul text h.raw h.spelled)
+uri_clean text uri h = clean_from_lacks text (lacks_return text h.raw h.spelled) (lacks_feed text h.raw h.spelled) (lacks_nul text h.raw h.spelled)

@@ -75,7 +75,7 @@ end_again (b ∷ t) = step (is_blank b && eqb (length (without_end t)) 0) refl (
 pub trimmed_is : (t : List ℕ) → IsTrim (trimmed t)
 trimmed_is t = record { front = end_front (without_blanks t) (without_front t); back = end_again (without_blanks t) }
 
-token_end : (t : List ℕ) → list_all is_token_byte t ≡ true → without_end t ≡ t
+pub token_end : (t : List ℕ) → list_all is_token_byte t ≡ true → without_end t ≡ t
 token_end [] h = refl
 token_end (b ∷ t) h =
     let parts = and_parts (is_token_byte b) (list_all is_token_byte t) h in
@@ -90,13 +90,13 @@ token_trimmed t h = trim_same t (record { front = token_front t h; back = token_
 
 -- ---- pieces of a value
 
-kept_before : (x y : ℕ) (t : List ℕ) → kept x (y ∷ t) ≡ x ∷ y ∷ t
+pub kept_before : (x y : ℕ) (t : List ℕ) → kept x (y ∷ t) ≡ x ∷ y ∷ t
 kept_before x y t = step (is_blank x) where
   step : (e : Bool) → cond (e && eqb (suc (length t)) 0) [] (x ∷ y ∷ t) ≡ x ∷ y ∷ t
   step true = rw (ne_eqb (suc (length t)) 0 (λ e. cc)) refl
   step false = refl
 
-end_behind : (a : List ℕ) (y : ℕ) (b : List ℕ) → without_end (y ∷ b) ≡ y ∷ b → without_end (a ++ y ∷ b) ≡ a ++ y ∷ b
+pub end_behind : (a : List ℕ) (y : ℕ) (b : List ℕ) → without_end (y ∷ b) ≡ y ∷ b → without_end (a ++ y ∷ b) ≡ a ++ y ∷ b
 end_behind [] y b h = h
 end_behind (x ∷ []) y b h = ap (kept x) h ∙ kept_before x y b
 end_behind (x ∷ z ∷ a) y b h = ap (kept x) (end_behind (z ∷ a) y b h) ∙ kept_before x z (a ++ y ∷ b)

@@ -1,6 +1,7 @@
 -- What can be answered of a request that can't be read (RFC 3261 section 8.2.6): the values that an answer repeats, each read alone.
-use Rattle.std.specs.Prelude.{ℕ, zero, suc, Bool, false, not, ◌&&◌, ◌==◌, nat_eq, List, [], ◌∷◌, length, map, filter, codes, Option, Some, None, option_map, option_and_then, unwrap_or, if◌then◌else◌}
+use Rattle.std.specs.Prelude.{ℕ, Bool, false, not, ◌&&◌, ◌==◌, nat_eq, List, [], ◌∷◌, length, map, filter, codes, Option, Some, None, option_map, option_and_then, if◌then◌else◌}
 use Rattle.std.specs.Cmp.Lexicographic.{pointwise}
+use Rattle.std.specs.List.{onto_first}
 use Rattle.text.specs.Cut.{before, after}
 use Rattle.sip_message.specs.declared.cseq.Sequence.{Sequence}
 use Rattle.sip_message.specs.declared.headers.Header.{Header}
@@ -10,7 +11,7 @@ use Rattle.sip_message.specs.declared.via.Via.{Via}
 use Rattle.sip_message.specs.CSeq.{cseq_of}
 use Rattle.sip_message.specs.Fields.{fields_of, is_raw_field, field_of}
 use Rattle.sip_message.specs.Form.{is_call_id}
-use Rattle.sip_message.specs.Lines.{before_line_end, after_line_end}
+use Rattle.sip_message.specs.Lines.{begins_line_end, before_line_end, after_line_end}
 use Rattle.sip_message.specs.Lookup.{value_named}
 use Rattle.sip_message.specs.Party.{party_of}
 use Rattle.sip_message.specs.Start.{begins_sip, is_part}
@@ -36,22 +37,25 @@ is_asking_line line = asks_answer (before 32 line) && are_two_parts (after 32 li
 
 -- ---- header lines
 
--- the first line, if it ends in CR LF, and what stands behind it
-abbrev pub ended_line : List ℕ → Option (List ℕ × List ℕ)
-ended_line text = option_map (λ rest. (before_line_end text, rest)) (after_line_end text)
+-- the pieces of a text between its CR LF pairs
+abbrev pub between_ends : List ℕ → List (List ℕ)
+between_ends [] = [] ∷ []
+between_ends (b ∷ []) = (b ∷ []) ∷ []
+between_ends (b ∷ c ∷ bs) = if begins_line_end (b ∷ c ∷ bs) then [] ∷ between_ends bs else onto_first b (between_ends (c ∷ bs))
 
-abbrev pub next_ended : Option (List ℕ × List ℕ) → (List ℕ → List (List ℕ)) → List (List ℕ)
-next_ended None more = []
-next_ended (Some x) more = if length x.0 == 0 then [] else x.0 ∷ more x.1
+-- a line and those behind it, up to an empty one
+abbrev pub upto_empty : List ℕ → List (List ℕ) → List (List ℕ)
+upto_empty line more = if length line == 0 then [] else line ∷ more
 
--- lines that end in CR LF, up to an empty one, and so many at most
-unfoldable pub ended_within : ℕ → List ℕ → List (List ℕ)
-ended_within zero text = []
-ended_within (suc n) text = next_ended (ended_line text) (ended_within n)
+-- the pieces that have an end, which the last one has not, up to an empty one
+abbrev pub ended_pieces : List (List ℕ) → List (List ℕ)
+ended_pieces [] = []
+ended_pieces (last ∷ []) = []
+ended_pieces (piece ∷ next ∷ pieces) = upto_empty piece (ended_pieces (next ∷ pieces))
 
--- all of them: no text has more lines than bytes
-abbrev pub ended_lines : List ℕ → List (List ℕ)
-ended_lines text = ended_within (length text) text
+-- the lines that end in CR LF, up to an empty one
+unfoldable pub ended_lines : List ℕ → List (List ℕ)
+ended_lines text = ended_pieces (between_ends text)
 
 -- the header fields among lines; others are passed over, with the lines that continue them
 abbrev pub readable_headers : List (List ℕ) → List Header

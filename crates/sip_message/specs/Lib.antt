@@ -24,3 +24,4 @@ pub mod Writing
 pub mod Contacts
 pub mod Grammar
 pub mod WritingMessage
+pub mod Repeatable

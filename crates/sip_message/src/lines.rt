@@ -1,9 +1,9 @@
 //! The lines of a datagram, which end in CR LF (RFC 3261 section 7).
 
-ghost use Rattle.std.specs.Prelude.{◌≡◌, ◌+◌, ◌≤◌, length, map, option_map, IfSome, IfOk};
+ghost use Rattle.std.specs.Prelude.{◌≡◌, ◌+◌, ◌≤◌, ◌<◌, [], length, map, option_map, IfSome, IfNone, IfOk};
 ghost use Rattle.std.specs.List.{list_all};
 ghost use Rattle.std.specs.Option.{option_copied};
-ghost use Rattle.sip_message.specs.Answerable.{ended_line, ended_lines};
+ghost use Rattle.sip_message.specs.Answerable.{upto_empty, ended_lines};
 ghost use Rattle.sip_message.specs.Lines.{texts, lines_within, begins_line_end, line_end, before_line_end, after_line_end, is_clean, is_text_byte, line_of};
 ghost use Rattle.sip_message.specs.Heads.{GivesLines};
 
@@ -90,8 +90,11 @@ pub(crate) fn lines_within(
 }
 
 /// The first line, if it ends in CR LF, and what stands behind it.
+#[tactic(auto, using(crate::proofs::EndedLaws::line_ended, crate::proofs::EndedLaws::line_not_ended, crate::proofs::EndedLaws::rest_is_shorter))]
 fn ended_line(text: &[u8]) -> Option<(&[u8], &[u8])>
-    ensures { option_map (λ x. (x.0.now, x.1.now)) result ≡ ended_line text.now }
+    ensures line { IfSome result (λ x. ended_lines text.now ≡ upto_empty x.0.now (ended_lines x.1.now)) }
+    ensures shorter { IfSome result (λ x. length x.1.now < length text.now) }
+    ensures last { IfNone result (ended_lines text.now ≡ []) }
 {
     let (line, after) = first_line(text);
     Some((line, after?))
@@ -103,10 +106,7 @@ pub(crate) fn ended_lines(alloc: Global, text: &[u8]) -> Result<Vec<&[u8]>, Allo
 {
     let mut lines = Vec::new(alloc);
     let mut rest = text;
-    for _ in 0..text.len() {
-        let Some((line, after)) = ended_line(rest) else {
-            return Ok(lines);
-        };
+    while let Some((line, after)) = ended_line(rest) {
         if line.is_empty() {
             return Ok(lines);
         }

@@ -2,6 +2,7 @@
 
 ghost use Rattle.std.specs.Prelude.{◌≡◌, ℕ, Ok, IfOk, IfErr};
 ghost use Rattle.std.specs.Option.{option_copied};
+ghost use Rattle.sip_message.specs.Repeatable.{CanBeRepeated, parts_in};
 ghost use Rattle.sip_message.specs.Faults.{Gives};
 ghost use Rattle.sip_message.specs.Grammar.{ReadsMessage, IsWithin, Refuses};
 ghost use Rattle.sip_message.specs.Reading.{contents_of, message_with, behind_start, message_of};
@@ -125,6 +126,7 @@ pub fn read_message(alloc: Global, bytes: &[u8]) -> Result<Message, MessageError
     ensures only { (m : Message) (reads : ReadsMessage bytes.now m) → IsWithin bytes.now m reads → Gives result (Ok m) }
     ensures refused { IfErr result (λ e. Refuses bytes.now e) }
     ensures exact { Gives result (message_of bytes.now) }
+    ensures repeatable { IfOk result (λ m. CanBeRepeated (parts_in m)) }
 {
     read(alloc, bytes)
 }

@@ -1,15 +1,14 @@
 //! What the server puts into the top Via of a request (RFC 3261 section 18.2.1, RFC 3581 section 4).
 
-ghost use Rattle.std.specs.Prelude.{◌≡◌, ◌<◌, length, position, decimal, IfOk, IfSome, OnOk, map};
+ghost use Rattle.std.specs.Prelude.{◌≡◌, ◌<◌, ◌≤◌, ℕ, slice_index, length, position, decimal, IfOk, IfSome, OnOk, map};
 ghost use Rattle.std.specs.Option.{option_copied};
 ghost use Rattle.sip_uri.specs.Writing.{ip4_text};
 ghost use Rattle.sip_message.specs.Reply.{is_param, is_empty_param, asks_port, value_put, with_value, without, is_address, received, filled, with_received, marked_params, marked};
 
 use crate::via::Via;
-use crate::write::put_number;
 use sip_uri::{Addr, Host, Param, Params, param_named, put_ip4};
 use std::alloc::{AllocError, Global};
-use text::Text;
+use text::{Text, put_number};
 
 fn is_param(param: &Param, name: &[u8]) -> bool
     ensures { result ≡ is_param name.now param.now }
@@ -76,6 +75,12 @@ fn number_text(alloc: Global, number: u16) -> Result<Text, AllocError>
     put_number(&mut out, u64::from(number))?;
     Ok(Text::from_vec(out))
 }
+
+/// A law: octets are bytes, and a port has 16 bits.
+pub(crate) fn numbers_fit(ip: &[u8], port: u16)
+    ensures octets { (i : ℕ) → slice_index ip.now i ≤ 255 }
+    ensures port { port ≤ 65535 }
+{}
 
 #[tactic(auto, unfolding(crate::specs::Reply::received))]
 fn received(alloc: Global, source: Addr) -> Result<Param, AllocError>

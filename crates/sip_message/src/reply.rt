@@ -1,10 +1,11 @@
 //! Answers to requests (RFC 3261 section 8.2.6).
 
-ghost use Rattle.std.specs.Prelude.{◌≡◌, ◌++◌, ◌∷◌, [], map, codes, unwrap_or, IsTrue, IfOk, OnOk};
+ghost use Rattle.std.specs.Prelude.{◌≡◌, ◌≤◌, ◌++◌, ◌∷◌, [], map, codes, unwrap_or, IsTrue, IfOk, OnOk};
 ghost use Rattle.std.specs.List.{flat_map};
 ghost use Rattle.text.specs.Class.{is_run_of, is_token_byte};
 ghost use Rattle.sip_uri.specs.Writing.{param_text};
 ghost use Rattle.sip_message.specs.Lookup.{named};
+ghost use Rattle.sip_message.specs.Repeatable.{CanBeRepeated, IsReadAgain};
 ghost use Rattle.sip_message.specs.Replies.{Replies};
 ghost use Rattle.sip_message.specs.Reply.{marked_top, puts_tag, tagged_params, tagged_to, tagged_text, replied, via_text, reply_headers, reply_of, tag_param, answer_port, answer_address};
 
@@ -13,7 +14,7 @@ use crate::headers::{Header, Headers};
 use crate::message::{Parts, Response, Vias};
 use crate::party::has_tag;
 use crate::reasons::reason_of;
-use crate::received::{asks_port, marked};
+use crate::received::{asks_port, marked, numbers_fit};
 use crate::via::Via;
 use sip_uri::{Addr, NameAddr, Param, Params, put_param};
 use std::alloc::{AllocError, Global};
@@ -227,7 +228,10 @@ pub fn reply_to(
     ensures answer { IfOk result (λ r. r ≡ reply_of parts.now source status tag.now) }
     // It is an answer to the request, by branch, Call-ID, tags, number and method.
     ensures replies { IfOk result (λ r. Replies r.parts parts.now status tag.now) }
+    // What is written for it is read as it, where the parts were read and the status is one of an answer.
+    ensures again { IfOk result (λ r. CanBeRepeated parts.now → 100 ≤ status → status ≤ 699 → IsReadAgain r) }
 {
+    numbers_fit(&source.ip, source.port);
     reply(alloc, parts, source, status, tag)
 }
 

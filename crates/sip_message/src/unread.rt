@@ -2,6 +2,7 @@
 
 ghost use Rattle.std.specs.Prelude.{◌≡◌, codes, option_map, IfOk};
 ghost use Rattle.std.specs.Option.{option_copied};
+ghost use Rattle.sip_message.specs.Repeatable.{IfRepeatable};
 ghost use Rattle.sip_message.specs.Answerable.{is_part_there, are_two_parts, asks_answer, is_asking_line, ended_lines, readable_headers, vias_there, party_at, first_party, first_call_id, sequence_at, first_sequence, parts_among, parts_behind, answerable_of};
 ghost use Rattle.sip_message.specs.Lines.{texts};
 ghost use Rattle.sip_message.specs.Values.{via_texts};
@@ -141,7 +142,8 @@ fn parts_behind(alloc: Global, rest: &[u8]) -> Result<Option<Parts>, AllocError>
 /// request's method. There is nothing where the first line begins with `SIP/`, without case.
 #[tactic(auto, unfolding(crate::specs::Answerable::answerable_of))]
 pub fn answerable(alloc: Global, bytes: &[u8]) -> Result<Option<Parts>, AllocError>
-    ensures { IfOk result (λ parts. parts ≡ answerable_of bytes.now) }
+    ensures parts { IfOk result (λ parts. parts ≡ answerable_of bytes.now) }
+    ensures repeatable { IfOk result (λ parts. IfRepeatable parts) }
 {
     let (line, rest) = first_line(bytes);
     if !is_asking_line(line) {

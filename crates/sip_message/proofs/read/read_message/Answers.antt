@@ -1,4 +1,5 @@
 use Rattle.sip_message.proofs.MessageLaws.{found_at, only_at, refused_at}
+use Rattle.sip_message.proofs.RepeatableLaws.{repeatable_at}
 use Rattle.sip_message.proofs.read.read_message.Goals as goal
 
 pub returns-clause-found : goal.returns-clause-found
@@ -9,3 +10,6 @@ returns-clause-only c = λ m reads within. only_at c.args.bytes.now c.read.resul
 
 pub returns-clause-refused : goal.returns-clause-refused
 returns-clause-refused c = refused_at c.args.bytes.now c.read.result c.read.ensures
+
+pub returns-clause-repeatable : goal.returns-clause-repeatable
+returns-clause-repeatable c = repeatable_at c.args.bytes.now c.read.result (found_at c.args.bytes.now c.read.result c.read.ensures)
