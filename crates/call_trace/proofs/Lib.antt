@@ -1,0 +1,9 @@
+pub mod PlaceTests
+pub mod MessageTests
+pub mod AtLaws
+pub mod ExchangeTests
+pub mod CallTests
+pub mod LifeTests
+pub mod LastTests
+pub mod Growing
+pub mod Promised

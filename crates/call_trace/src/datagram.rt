@@ -1,0 +1,57 @@
+//! Datagrams of a trace, already read.
+
+use sdp::Description;
+use text::Text;
+
+/// Whether a datagram came in or went out.
+#[derive(Clone, Copy, Debug, PartialEq, Eq)]
+pub enum Direction {
+    Taken,
+    Sent,
+}
+
+/// What a message is (RFC 3261 section 7): a request, or a response with its status.
+#[derive(Clone, Copy, Debug, PartialEq, Eq)]
+pub enum Kind {
+    Request,
+    Response(u16),
+}
+
+/// A message as the grammar reads it, whether or not the server refused it.
+#[derive(Clone, Debug, Drop)]
+pub struct Message {
+    pub kind: Kind,
+    /// The branch of the top Via.
+    pub branch: Text,
+    pub call_id: Text,
+    /// The tag of From, empty where there is none.
+    pub from_tag: Text,
+    /// The tag of To, empty where there is none.
+    pub to_tag: Text,
+    /// The number of CSeq.
+    pub number: u32,
+    /// The method of CSeq, which is that of the request.
+    pub method: Text,
+    /// The body, where it is a description.
+    pub description: Option<Description>,
+    /// The whole message, as it stood on the wire.
+    pub bytes: Text,
+}
+
+/// A datagram of a trace. The event is the number of the step in which it was taken or sent.
+#[derive(Clone, Debug, Drop)]
+pub struct Datagram {
+    pub event: u64,
+    pub direction: Direction,
+    pub message: Message,
+}
+
+/// What names a dialog at this server (RFC 3261 section 12): an absent tag is the empty text.
+#[derive(Clone, Debug, Drop, PartialEq, Eq)]
+pub struct Dialog {
+    pub call_id: Text,
+    /// The tag that this server gave.
+    pub ours: Text,
+    /// The tag that the other end gave.
+    pub theirs: Text,
+}

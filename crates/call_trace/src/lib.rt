@@ -1,0 +1,34 @@
+//! What a trace of messages means: which datagrams belong to which dialog (RFC 3261), which offer and answer make an
+//! exchange (RFC 3264), which exchanges were passed together, which dialogs are calls and live, where an offer is open, and
+//! what the media promise is. Messages are read already, and nothing here knows of the server. Beside each definition
+//! stands a plain program that computes it: lists, no cleverness.
+#![tactic(auto)]
+
+mod calling;
+mod datagram;
+mod dialogs;
+mod exchange;
+mod kinds;
+mod lasting;
+mod laws;
+mod lives;
+mod offers;
+mod passing;
+mod replying;
+mod search;
+
+pub use calling::is_call;
+pub use datagram::{Datagram, Dialog, Direction, Kind, Message};
+pub use dialogs::{dialog_of, is_named};
+pub use exchange::{Places, is_exchange, is_last};
+pub use lasting::are_last;
+pub use laws::{calls_stay, exchanges_stay, relayed_is_promised};
+pub use lives::{has_begun, has_ended, is_live};
+pub use offers::is_open;
+pub use passing::{are_passed_together, is_passed_on};
+pub use replying::replies;
+
+#[cfg(test)]
+mod tests;
+#[cfg(test)]
+mod traces;

@@ -1,0 +1,66 @@
+//! The identifiers of a dialog (RFC 3261 section 12).
+
+ghost use Rattle.std.specs.Prelude.{◌≡◌, ◌↔◌, IsTrue, IfOk};
+ghost use Rattle.std.specs.Option.{option_copied};
+ghost use Rattle.dialogs.specs.Identifiers.{value_text, tag_text, id_of_request, id_of_answer, same_id};
+
+use sip_message::{Parts, Request, Response};
+use sip_uri::{Param, param_named};
+use text::Text;
+
+/// What names a dialog: the Call-ID, our tag and the other end's. An absent tag is the empty text.
+#[derive(Clone, Debug, Drop, PartialEq, Eq)]
+pub struct DialogId {
+    pub call_id: Text,
+    pub ours: Text,
+    pub theirs: Text,
+}
+
+fn value_text(tag: Option<&Param>) -> &[u8]
+    ensures { result.now ≡ value_text (option_copied tag.entry) }
+{
+    match tag {
+        None => b"",
+        Some(tag) => match &tag.value {
+            None => b"",
+            Some(value) => value.as_bytes(),
+        },
+    }
+}
+
+/// The tag of a From or To with these parameters.
+pub(crate) fn tag_text(params: &[Param]) -> &[u8]
+    ensures { result.now ≡ tag_text params.now }
+{
+    value_text(param_named(params, b"tag"))
+}
+
+impl DialogId {
+    fn names(&self, call_id: &Text, ours: &[Param], theirs: &[Param]) -> bool
+        ensures { result ≡ same_id self.now (record { call_id = call_id.now; ours = tag_text ours.now; theirs = tag_text theirs.now }) }
+    {
+        self.call_id == *call_id
+            && self.ours.as_bytes() == tag_text(ours)
+            && self.theirs.as_bytes() == tag_text(theirs)
+    }
+
+    /// Whether a request that was taken belongs to this dialog: our tag stands in To. Takes no memory.
+    pub fn is_of_request(&self, request: &Request) -> bool
+        ensures test { result ≡ same_id self.now (id_of_request request.now.parts) }
+        ensures belongs { IsTrue result ↔ (id_of_request request.now.parts ≡ self.now) }
+    {
+        let ours = request.parts.to.params.as_slice();
+        let theirs = request.parts.from.params.as_slice();
+        self.names(&request.parts.call_id, ours, theirs)
+    }
+
+    /// Whether an answer that was taken belongs to this dialog: our tag stands in From. Takes no memory.
+    pub fn is_of_answer(&self, answer: &Response) -> bool
+        ensures test { result ≡ same_id self.now (id_of_answer answer.now.parts) }
+        ensures belongs { IsTrue result ↔ (id_of_answer answer.now.parts ≡ self.now) }
+    {
+        let ours = answer.parts.from.params.as_slice();
+        let theirs = answer.parts.to.params.as_slice();
+        self.names(&answer.parts.call_id, ours, theirs)
+    }
+}

@@ -1,0 +1,20 @@
+//! Dialogs (RFC 3261 section 12): which messages belong together, in which order they count, and where the next request
+//! goes. Nothing here knows of transactions, timers, sockets or descriptions.
+#![tactic(auto)]
+
+mod contact_uri;
+mod copies;
+mod counting;
+mod error;
+mod identifiers;
+mod laws;
+mod making;
+mod method;
+mod requests;
+mod state;
+
+pub use error::DialogError;
+pub use identifiers::DialogId;
+pub use laws::{dialogs_are_sound, invites_name_a_contact, requests_are_written};
+pub use method::Method;
+pub use state::{Dialog, Party};

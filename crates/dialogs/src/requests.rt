@@ -1,0 +1,166 @@
+//! Requests in a dialog (RFC 3261 section 12.2.1.1).
+
+ghost use Rattle.std.specs.Prelude.{◌≡◌, ◌++◌, ◌∷◌, ◌≤◌, ℕ, [], decimal, codes, OnOk, OnErr, IfOk, IfErr, Some};
+ghost use Rattle.sip_message.specs.Lookup.{named};
+ghost use Rattle.sip_uri.specs.NameAddr.{name_addr_text};
+ghost use Rattle.dialogs.specs.Counting.{following, greatest_for, RefusesNext};
+ghost use Rattle.dialogs.specs.Requests.{tag_params, tagged, cseq_text, parts_in, request_headers, request_in};
+
+use crate::copies::{copied_display, copied_text, copied_uri};
+use crate::error::DialogError;
+use crate::method::Method;
+use crate::state::{Dialog, Party};
+use sip_message::{CSeq, Header, Headers, Parts, Request, Vias};
+use sip_uri::{NameAddr, Param, Params, Uri, write_name_addr};
+use std::alloc::{AllocError, Global};
+use text::{Text, put_number};
+
+/// The hops of a request that the server begins (RFC 3261 section 8.1.1.6).
+const MAX_FORWARDS: u8 = 70;
+
+fn tag_params(alloc: Global, tag: &Text) -> Result<Params, AllocError>
+    ensures { IfOk result (λ params. params ≡ tag_params tag.now) }
+{
+    let mut params = Vec::new(alloc);
+    if tag.as_bytes().is_empty() {
+        return Ok(Params::from_vec(params));
+    }
+    let name = Text::from_slice(alloc, b"tag")?;
+    let value = Some(copied_text(tag)?);
+    params.push(Param { name, value })?;
+    Ok(Params::from_vec(params))
+}
+
+fn tagged(alloc: Global, party: &Party, tag: &Text) -> Result<NameAddr, AllocError>
+    ensures { IfOk result (λ name. name ≡ tagged party.now tag.now) }
+{
+    let display = copied_display(&party.display)?;
+    let uri = copied_uri(&party.uri)?;
+    let params = tag_params(alloc, tag)?;
+    Ok(NameAddr {
+        display,
+        uri,
+        params,
+    })
+}
+
+fn name_text(alloc: Global, name: &NameAddr) -> Result<Text, AllocError>
+    ensures { IfOk result (λ text. text ≡ name_addr_text name.now) }
+{
+    write_name_addr(alloc, name)
+}
+
+fn cseq_text(alloc: Global, number: u32, method: Method) -> Result<Text, AllocError>
+    ensures { IfOk result (λ text. text ≡ cseq_text number method) }
+{
+    let mut out = Vec::new(alloc);
+    put_number(&mut out, u64::from(number))?;
+    out.push(b' ')?;
+    out.extend_from_slice(method.as_bytes())?;
+    Ok(Text::from_vec(out))
+}
+
+fn push_header(
+    alloc: Global,
+    headers: &mut Vec<Header>,
+    name: &[u8],
+    value: &[u8],
+) -> Result<(), AllocError>
+    ensures { OnOk result (headers.new.items ≡ headers.old.items ++ named name.now value.now ∷ []) }
+{
+    let header = Header::of(alloc, name, value)?;
+    headers.push(header)?;
+    Ok(())
+}
+
+/// The header fields of a request, but for its Via and for those that its body needs.
+#[tactic(auto, unfolding(crate::specs::Requests::request_headers))]
+fn request_headers(alloc: Global, parts: &Parts) -> Result<Headers, AllocError>
+    ensures { IfOk result (λ hs. hs ≡ request_headers parts.now) }
+{
+    let mut headers = Vec::new(alloc);
+    push_header(alloc, &mut headers, b"Max-Forwards", b"70")?;
+    push_header(alloc, &mut headers, b"From", parts.from_text.as_bytes())?;
+    push_header(alloc, &mut headers, b"To", parts.to_text.as_bytes())?;
+    push_header(alloc, &mut headers, b"Call-ID", parts.call_id.as_bytes())?;
+    push_header(alloc, &mut headers, b"CSeq", parts.cseq_text.as_bytes())?;
+    Ok(Headers::from_vec(headers))
+}
+
+#[tactic(auto, unfolding(crate::specs::Requests::parts_in))]
+fn parts_in(
+    alloc: Global,
+    dialog: &Dialog,
+    method: Method,
+    number: u32,
+) -> Result<Parts, AllocError>
+    ensures { IfOk result (λ parts. parts ≡ parts_in dialog.now method number) }
+{
+    let from = tagged(alloc, &dialog.ours, &dialog.id.ours)?;
+    let to = tagged(alloc, &dialog.theirs, &dialog.id.theirs)?;
+    let from_text = name_text(alloc, &from)?;
+    let to_text = name_text(alloc, &to)?;
+    let call_id = copied_text(&dialog.id.call_id)?;
+    let name = Text::from_slice(alloc, method.as_bytes())?;
+    let cseq_text = cseq_text(alloc, number, method)?;
+    Ok(Parts {
+        vias: Vias::from_vec(Vec::new(alloc)),
+        from,
+        to,
+        call_id,
+        cseq: CSeq {
+            number,
+            method: name,
+        },
+        from_text,
+        to_text,
+        cseq_text,
+    })
+}
+
+impl Dialog {
+    /// A request of this method and number. It serves the ACK of an INVITE, which has the INVITE's number. Its Via is the
+    /// caller's to put in front.
+    #[tactic(auto, unfolding(crate::specs::Requests::request_in))]
+    pub fn numbered_request(
+        &self,
+        alloc: Global,
+        method: Method,
+        number: u32,
+    ) -> Result<Request, AllocError>
+        ensures request { IfOk result (λ r. r ≡ request_in self.now method number) }
+    {
+        let parts = parts_in(alloc, self, method, number)?;
+        let headers = request_headers(alloc, &parts)?;
+        Ok(Request {
+            method: Text::from_slice(alloc, method.as_bytes())?,
+            uri: copied_uri(&self.target)?,
+            parts,
+            max_forwards: MAX_FORWARDS,
+            headers,
+            body: Text::from_vec(Vec::new(alloc)),
+        })
+    }
+
+    /// The next request of this method, an INVITE or a BYE, whose number is kept. G2 comes where no number is left. Its Via
+    /// is the caller's to put in front.
+    pub fn next_request(&mut self, alloc: Global, method: Method) -> Result<Request, DialogError>
+        ensures request { IfOk result (λ r. r ≡ request_in self.old method (following self.old)) }
+        ensures left { OnOk result (following self.old ≤ greatest_for method) }
+        ensures kept { OnOk result (self.new ≡ record self.old { local_number = Some (following self.old) }) }
+        ensures refused { IfErr result (RefusesNext self.old method) }
+        ensures err { OnErr result (self.new ≡ self.old) }
+    {
+        let number = self.next_number(method)?;
+        let request = self.numbered_request(alloc, method, number)?;
+        self.local_number = Some(number);
+        Ok(request)
+    }
+
+    /// Sends the requests that follow to this URI (RFC 3261 section 12.2). Takes no memory.
+    pub fn refresh_target(&mut self, target: Uri)
+        ensures target { self.new ≡ record self.old { target = target } }
+    {
+        self.target = target;
+    }
+}
