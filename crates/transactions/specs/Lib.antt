@@ -1,0 +1,15 @@
+pub mod Ack
+pub mod Contents
+pub mod Inputs
+pub mod InviteClient
+pub mod InviteServer
+pub mod Limits
+pub mod Machines
+pub mod Matching
+pub mod OtherClient
+pub mod OtherServer
+pub mod Slots
+pub mod Steps
+pub mod Timing
+pub mod Transactions
+pub mod Once

@@ -1,0 +1,6 @@
+-- Limits of the server's own.
+use Rattle.std.specs.Prelude.{ℕ}
+
+-- server transactions at most. What the server itself asks is not counted
+abbrev pub most_served : ℕ
+most_served = 4096

@@ -1,0 +1,70 @@
+//! What the calls of the table answer.
+
+ghost use Rattle.std.specs.Prelude.{◌≡◌};
+ghost use Rattle.transactions.specs.Contents.{stray};
+
+use crate::state::State;
+use sip_uri::Addr;
+use text::Text;
+
+/// Bytes to send, and where to.
+#[derive(Debug, Drop)]
+pub struct Outgoing {
+    pub to: Addr,
+    pub bytes: Text,
+}
+
+/// What became of a message. A number is that of a transaction.
+#[derive(Clone, Copy, Debug, PartialEq, Eq)]
+pub enum Verdict {
+    /// A request that began a transaction.
+    New(usize),
+    /// A request that came before.
+    Repeat,
+    /// A message that changes nothing for the core.
+    Swallowed,
+    /// An answer to a request of the core, or an ACK to a 2xx: it goes up.
+    Up(usize),
+    /// An answer or an ACK that belongs to no transaction.
+    Stray,
+}
+
+/// What became of a message, and what is to be sent.
+#[derive(Debug, Drop)]
+pub struct Reception {
+    pub verdict: Verdict,
+    /// The state before, of the transaction that the message belongs to.
+    pub before: Option<State>,
+    pub send: Option<Outgoing>,
+}
+
+impl Reception {
+    /// Of a message that belongs to no transaction.
+    pub(crate) fn stray() -> Reception
+        ensures { result ≡ stray }
+    {
+        Reception {
+            verdict: Verdict::Stray,
+            before: None,
+            send: None,
+        }
+    }
+}
+
+/// A transaction that was begun, and what is to be sent.
+#[derive(Debug, Drop)]
+pub struct Started {
+    pub id: usize,
+    pub send: Outgoing,
+}
+
+/// What a timer did.
+#[derive(Debug, Drop)]
+pub enum Fired {
+    /// The same bytes go again.
+    Send(Outgoing),
+    /// No answer came, or no ACK, and the transaction ended.
+    TimedOut,
+    /// The transaction ended.
+    Ended,
+}

@@ -1,0 +1,111 @@
+//! Timers of a transaction that stop and start.
+
+ghost use Rattle.std.specs.Prelude.{◌≡◌, ◌+◌, ◌<◌, ◌≤◌, ◌^◌, [], ◌∷◌};
+ghost use Rattle.transactions.specs.Timing.{same_timer, timer_of, without_kinds, stopped, stopped_by, start, started};
+ghost use Rattle.transactions.specs.Steps.{IsShort};
+ghost use Rattle.timers.specs.Queue.{without, moment};
+ghost use Rattle.transactions.specs.Contents.{has_come};
+
+use crate::input::TimerKind;
+use crate::step::{Start, Starts, Stops};
+use crate::transaction::TimerId;
+use timers::Timers;
+
+/// The moment of a timer, where it is set.
+pub(crate) fn moment(timers: &Timers<TimerId>, id: usize, kind: TimerKind) -> Option<u64>
+    ensures { result ≡ moment same_timer timers.now.timers (timer_of id kind) }
+{
+    timers.moment(TimerId { id, kind })
+}
+
+/// Whether a timer that is due at a moment, if it is set, is due by now.
+pub(crate) fn has_come(at: Option<u64>, now: u64) -> bool
+    ensures { result ≡ has_come now at }
+{
+    match at {
+        Some(at) => at <= now,
+        None => false,
+    }
+}
+
+fn cancel(timers: &mut Timers<TimerId>, id: usize, kind: TimerKind)
+    ensures timers { timers.new.timers ≡ without same_timer timers.old.timers (timer_of id kind) }
+    ensures room { timers.old.room ≤ timers.new.room }
+{
+    timers.cancel(TimerId { id, kind });
+}
+
+fn stop_kinds(timers: &mut Timers<TimerId>, id: usize, kinds: &[TimerKind])
+    ensures timers { timers.new.timers ≡ without_kinds timers.old.timers id kinds.now }
+    ensures room { timers.old.room ≤ timers.new.room }
+{
+    for kind in kinds {
+        cancel(timers, id, *kind);
+    }
+}
+
+// All timers of the transaction.
+fn stop_every(timers: &mut Timers<TimerId>, id: usize)
+    ensures timers { timers.new.timers ≡ stopped timers.old.timers id }
+    ensures room { timers.old.room ≤ timers.new.room }
+{
+    let kinds = [
+        TimerKind::A,
+        TimerKind::B,
+        TimerKind::D,
+        TimerKind::E,
+        TimerKind::F,
+        TimerKind::G,
+        TimerKind::H,
+        TimerKind::I,
+        TimerKind::J,
+        TimerKind::K,
+        TimerKind::L,
+        TimerKind::M,
+        TimerKind::N,
+    ];
+    stop_kinds(timers, id, &kinds);
+}
+
+/// Stops timers of a transaction.
+pub(crate) fn stop(timers: &mut Timers<TimerId>, id: usize, stops: Stops)
+    ensures timers { timers.new.timers ≡ stopped_by timers.old.timers id stops }
+    ensures room { timers.old.room ≤ timers.new.room }
+{
+    match stops {
+        Stops::NoTimer => {}
+        Stops::Retransmission => stop_kinds(timers, id, &[TimerKind::A, TimerKind::B]),
+        Stops::Every => stop_every(timers, id),
+    }
+}
+
+fn set(timers: &mut Timers<TimerId>, id: usize, timer: Start, now: u64)
+    requires room { 0 < timers.old.room }
+    requires moment { now < 2 ^ 60 }
+    requires short { timer.after ≤ 32000 }
+    ensures timers { timers.new.timers ≡ start timers.old.timers id timer now }
+    ensures room { timers.old.room ≤ timers.new.room + 1 }
+{
+    let key = TimerId {
+        id,
+        kind: timer.kind,
+    };
+    timers.set(key, now + timer.after).unwrap();
+}
+
+/// Starts timers of a transaction. There is room for them.
+pub(crate) fn set_all(timers: &mut Timers<TimerId>, id: usize, starts: Starts, now: u64)
+    requires room { 2 ≤ timers.old.room }
+    requires moment { now < 2 ^ 60 }
+    requires short { IsShort starts }
+    ensures { timers.new.timers ≡ started timers.old.timers id starts now }
+{
+    match starts {
+        Starts::NoTimer => {}
+        Starts::One(one) => set(timers, id, one, now),
+        Starts::Two(one, other) => {
+            set(timers, id, one, now);
+            set(timers, id, other, now);
+        }
+    }
+}

@@ -1,0 +1,157 @@
+//! A transaction.
+
+ghost use Rattle.std.specs.Prelude.{◌≡◌, ◌*◌, IfOk, option_map};
+ghost use Rattle.transactions.specs.Steps.{IsShort, timer, t1};
+ghost use Rattle.transactions.specs.Transactions.{served, served_state, asking, asking_state, asking_timers, went, outgoing, sent};
+
+use crate::copies::{copied_parts, copied_text, copied_uri};
+use crate::input::TimerKind;
+use crate::invite_client::InviteClient;
+use crate::invite_server::InviteServer;
+use crate::matching::is_method;
+use crate::other_client::OtherClient;
+use crate::other_server::OtherServer;
+use crate::outcome::Outgoing;
+use crate::state::State;
+use crate::step::{LIMIT, Sending, Start, Starts, T1};
+use sip_message::{Parts, Request, reply_address};
+use sip_uri::{Addr, Uri};
+use std::alloc::AllocError;
+use text::Text;
+
+/// A timer of a transaction, by the number of the transaction.
+#[derive(Clone, Copy, Debug, PartialEq, Eq, PartialOrd, Ord)]
+pub struct TimerId {
+    pub id: usize,
+    pub kind: TimerKind,
+}
+
+/// A transaction: the request that began it, its state, and what it sends again.
+#[derive(Drop)]
+pub struct Transaction {
+    /// The Request-URI.
+    pub uri: Uri,
+    pub parts: Parts,
+    pub state: State,
+    /// Where all that it sends goes.
+    pub place: Addr,
+    /// What it sent last: its request, an answer, or the ACK to a refusal. None where nothing was sent.
+    pub last: Option<Text>,
+}
+
+/// The transaction that a request of another begins.
+pub(crate) fn served(request: &Request, source: Addr) -> Result<Transaction, AllocError>
+    ensures { IfOk result (λ t. t ≡ served request.now source) }
+{
+    let uri = copied_uri(&request.uri)?;
+    let parts = copied_parts(&request.parts)?;
+    Ok(Transaction {
+        uri,
+        parts,
+        state: served_state(&request.parts),
+        place: reply_address(&request.parts, source),
+        last: None,
+    })
+}
+
+fn served_state(parts: &Parts) -> State
+    ensures { result ≡ served_state parts.now }
+{
+    if is_method(parts, b"INVITE") {
+        State::InviteServer(InviteServer::Proceeding)
+    } else {
+        State::OtherServer(OtherServer::Trying)
+    }
+}
+
+/// The transaction that a request of the server's own begins, with its bytes.
+pub(crate) fn asking(request: &Request, to: Addr, bytes: Text) -> Result<Transaction, AllocError>
+    ensures { IfOk result (λ t. t ≡ asking request.now to bytes) }
+{
+    let uri = copied_uri(&request.uri)?;
+    let parts = copied_parts(&request.parts)?;
+    Ok(Transaction {
+        uri,
+        parts,
+        state: asking_state(&request.parts),
+        place: to,
+        last: Some(bytes),
+    })
+}
+
+fn asking_state(parts: &Parts) -> State
+    ensures { result ≡ asking_state parts.now }
+{
+    if is_method(parts, b"INVITE") {
+        State::InviteClient(InviteClient::Calling(T1))
+    } else {
+        State::OtherClient(OtherClient::Trying(T1))
+    }
+}
+
+fn starts_two(again: TimerKind, limit: TimerKind) -> Starts
+    ensures { result ≡ Starts.Two (timer again t1) (timer limit (64 * t1)) }
+{
+    Starts::Two(
+        Start {
+            kind: again,
+            after: T1,
+        },
+        Start {
+            kind: limit,
+            after: LIMIT,
+        },
+    )
+}
+
+/// The timers of a request of the server's own: when it goes again, and when it is given up.
+pub(crate) fn asking_timers(parts: &Parts) -> Starts
+    ensures timers { result ≡ asking_timers parts.now }
+    ensures short { IsShort result }
+{
+    if is_method(parts, b"INVITE") {
+        starts_two(TimerKind::A, TimerKind::B)
+    } else {
+        starts_two(TimerKind::E, TimerKind::F)
+    }
+}
+
+/// The transaction in its next state. What was fresh is what it sends again.
+pub(crate) fn went(transaction: Transaction, fresh: Option<Text>, state: State) -> Transaction
+    ensures { result ≡ went transaction fresh state }
+{
+    Transaction {
+        uri: transaction.uri,
+        parts: transaction.parts,
+        state,
+        place: transaction.place,
+        last: fresh.or(transaction.last),
+    }
+}
+
+fn outgoing(place: Addr, bytes: &Option<Text>) -> Result<Option<Outgoing>, AllocError>
+    ensures { IfOk result (λ send. send ≡ option_map (outgoing place) bytes.now) }
+{
+    match bytes {
+        None => Ok(None),
+        Some(bytes) => Ok(Some(Outgoing {
+            to: place,
+            bytes: copied_text(bytes)?,
+        })),
+    }
+}
+
+/// What is sent, copied.
+pub(crate) fn sent(
+    transaction: &Transaction,
+    fresh: &Option<Text>,
+    sending: Sending,
+) -> Result<Option<Outgoing>, AllocError>
+    ensures { IfOk result (λ send. send ≡ sent transaction.now fresh.now sending) }
+{
+    match sending {
+        Sending::Nothing => Ok(None),
+        Sending::Again => outgoing(transaction.place, &transaction.last),
+        Sending::Fresh => outgoing(transaction.place, fresh),
+    }
+}

@@ -1,0 +1,44 @@
+//! How a line of the machines reads as an answer of the table.
+
+ghost use Rattle.std.specs.Prelude.{◌≡◌};
+ghost use Rattle.transactions.specs.Contents.{input_of, verdict_by, fired_by, IsNew};
+
+use crate::input::Input;
+use crate::matching::is_method;
+use crate::outcome::{Fired, Outgoing, Verdict};
+use crate::step::{Sending, Told};
+use sip_message::Parts;
+
+/// What a request of a transaction that stands is to it.
+pub(crate) fn input_of(parts: &Parts) -> Input
+    ensures { result ≡ input_of parts.now }
+{
+    if is_method(parts, b"ACK") {
+        Input::Ack
+    } else {
+        Input::Repeat
+    }
+}
+
+/// What a message was, by what its line sends and whom it tells.
+pub(crate) fn verdict_by(id: usize, input: Input, sending: Sending, told: Told) -> Verdict
+    ensures verdict { result ≡ verdict_by id input sending told }
+    ensures old { IsNew result → ⊥ }
+{
+    match (input, sending, told) {
+        (_, _, Told::Up) => Verdict::Up(id),
+        (Input::Repeat, Sending::Again, _) => Verdict::Repeat,
+        _ => Verdict::Swallowed,
+    }
+}
+
+/// What a timer did, if its line does anything.
+pub(crate) fn fired_by(told: Told, send: Option<Outgoing>) -> Option<Fired>
+    ensures { result ≡ fired_by told send }
+{
+    match told {
+        Told::TimedOut => Some(Fired::TimedOut),
+        Told::Ended => Some(Fired::Ended),
+        Told::Silent | Told::Up => Some(Fired::Send(send?)),
+    }
+}
