@@ -159,7 +159,7 @@ fn what_cannot_be_read_is_answered_where_it_can_be(rt: HostRuntime) -> Result<()
 #[test]
 fn one_register_from_bytes_to_bytes(rt: HostRuntime) -> Result<(), Fail> {
     let mut reader = REGISTER;
-    let mut written = Vec::new(rt.alloc());
+    let mut written = Vec::with_capacity(rt.alloc(), 1024)?;
     once(rt.alloc(), &mut reader, &mut written)?;
     assert_eq!(rt; written.as_slice(), ANSWER);
     let mut nothing = b"".as_slice();

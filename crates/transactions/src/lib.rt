@@ -34,6 +34,3 @@ pub use state::{State, advance};
 pub use step::{Sending, Start, Starts, Step, Stops, Told};
 pub use table::Table;
 pub use transaction::{TimerId, Transaction};
-
-#[cfg(test)]
-mod tests;
