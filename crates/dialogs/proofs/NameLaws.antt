@@ -16,13 +16,14 @@ use Rattle.sip_uri.proofs.RoundTrip.{written_again}
 use Rattle.sip_message.specs.Fields.{begins_blank}
 use Rattle.sip_message.specs.Lines.{is_clean, is_text_byte}
 use Rattle.sip_message.specs.Party.{party_of, party_from}
+use Rattle.sip_message.specs.Repeatable.{IsValue}
 use Rattle.sip_message.proofs.StartTexts.{uri_clean}
-use Rattle.sip_message.proofs.ValueLaws.{trim_same, token_clean, clean_joined, trimmed_clean}
+use Rattle.sip_message.proofs.ValueLaws.{trim_same, token_end, end_behind, token_clean, clean_joined, trimmed_clean}
 use Rattle.dialogs.specs.declared.state.Party.{Party}
 use Rattle.dialogs.specs.Requests.{tag_params, tagged}
 use Rattle.dialogs.specs.Written.{IsReadParty}
 use Rattle.dialogs.proofs.TagLaws.{not_empty, params_part, reads_tag, tag_fits_again}
-use Rattle.dialogs.proofs.TrimLaws.{end_behind, end_after, token_end}
+use Rattle.dialogs.proofs.TrimLaws.{end_after}
 
 -- ---- read again
 
@@ -144,10 +145,6 @@ begins None rest = refl
 begins (Some d) rest = refl
 
 -- a value of a header field: clean, and without blanks at its ends
-pub record IsValue (t : List ℕ) : Type 0 where
-  pub clean : is_clean t ≡ true
-  pub trim : trimmed t ≡ t
-
 value_at : (display : Option (List ℕ)) (uri tag : List ℕ) → passes_if_there is_clean display ≡ true → is_clean uri ≡ true → list_all is_token_byte tag ≡ true
     → IsValue (display_part display ++ 60 ∷ (uri ++ 62 ∷ led_by 59 (params_part tag)))
 value_at display uri tag h k token =
@@ -155,7 +152,7 @@ value_at display uri tag h k token =
     let text : List ℕ = display_part display ++ 60 ∷ (uri ++ 62 ∷ params) in
     record {
       clean = clean_joined (display_part display) (60 ∷ (uri ++ 62 ∷ params)) (part_clean display h) (clean_joined uri (62 ∷ params) k (params_clean tag token));
-      trim = trim_same text (record {
+      ends = trim_same text (record {
         front = begins display (uri ++ 62 ∷ params);
         back = end_behind (display_part display) 60 (uri ++ 62 ∷ params) (end_behind (60 ∷ uri) 62 params (params_end tag token));
       });

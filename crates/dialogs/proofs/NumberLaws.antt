@@ -12,22 +12,13 @@ use Rattle.text.proofs.Numbers.{decimal_digits, decimal_run, number_again}
 use Rattle.sip_message.specs.CSeq.{cseq_of, greatest_number}
 use Rattle.sip_message.specs.Fields.{begins_blank}
 use Rattle.sip_message.specs.Lines.{is_clean}
-use Rattle.sip_message.proofs.ValueLaws.{token_not_blank, token_clean, clean_joined, trim_same}
+use Rattle.sip_message.specs.Repeatable.{IsValue}
+use Rattle.sip_message.proofs.MessageRoundTrip.{digits_token}
+use Rattle.sip_message.proofs.ValueLaws.{token_not_blank, token_clean, clean_joined, trim_same, end_behind}
 use Rattle.dialogs.specs.declared.method.Method.{Method}
 use Rattle.dialogs.specs.declared.method.Method.TheVariants.{Invite, Ack, Bye}
 use Rattle.dialogs.specs.Counting.{method_text}
 use Rattle.dialogs.specs.Requests.{cseq_text}
-use Rattle.dialogs.proofs.NameLaws.{IsValue}
-use Rattle.dialogs.proofs.TrimLaws.{end_behind}
-
-digit_token : (b : ℕ) → is_ascii_digit b ≡ true → is_token_byte b ≡ true
-digit_token b h = rw h refl
-
-digits_token : (ds : List ℕ) → list_all is_ascii_digit ds ≡ true → list_all is_token_byte ds ≡ true
-digits_token [] h = refl
-digits_token (d ∷ ds) h =
-    let parts = and_parts (is_ascii_digit d) (list_all is_ascii_digit ds) h in
-    and_from (is_token_byte d) (list_all is_token_byte ds) (digit_token d parts.0) (digits_token ds parts.1)
 
 first_blank : (ds rest : List ℕ) → list_all is_token_byte ds ≡ true → position_or_len is_blank (ds ++ 32 ∷ rest) ≡ length ds
 first_blank [] rest h = refl
@@ -89,5 +80,5 @@ cseq_value number method low =
     and_from (not (eqb (length (decimal number)) 0)) (list_all is_token_byte (decimal number)) (and_parts (not (eqb (length (decimal number)) 0)) (list_all is_ascii_digit (decimal number)) (decimal_run number small)).0 token in
     record {
       clean = clean_joined (decimal number) (32 ∷ method_text method) (token_clean (decimal number) token) (method_clean method);
-      trim = trim_same (cseq_text number method) (record { front = begins (decimal number) (32 ∷ method_text method) run; back = end_behind (decimal number) 32 (method_text method) (method_end method) });
+      ends = trim_same (cseq_text number method) (record { front = begins (decimal number) (32 ∷ method_text method) run; back = end_behind (decimal number) 32 (method_text method) (method_end method) });
     }

@@ -22,14 +22,15 @@ use Rattle.sip_message.specs.Grammar.{ReadsMessage}
 use Rattle.sip_message.specs.Lookup.{named, is_named, values_named}
 use Rattle.sip_message.specs.LongNames.{long_name}
 use Rattle.sip_message.specs.Party.{has_fit_tag, party_from, party_of}
+use Rattle.sip_message.specs.Repeatable.{IsValue}
 use Rattle.sip_message.specs.WritingHead.{is_written}
-use Rattle.sip_message.proofs.HeadRoundTrip.{written_is, is_written_from}
+use Rattle.sip_message.proofs.AnswerTrip.{written_with}
+use Rattle.sip_message.proofs.HeadRoundTrip.{written_is}
 use Rattle.sip_message.proofs.ReadWritten.{read_is_written}
 use Rattle.dialogs.specs.declared.state.Dialog.{Dialog}
 use Rattle.dialogs.specs.Identifiers.{tag_text}
 use Rattle.dialogs.specs.Making.{reached_at, party_named, callees_dialog, callers_dialog}
 use Rattle.dialogs.specs.Written.{IsReadParty, IsSound}
-use Rattle.dialogs.proofs.NameLaws.{IsValue}
 use Rattle.dialogs.proofs.TagLaws.{tag_token, tag_run}
 
 -- ---- values of header fields
@@ -44,7 +45,7 @@ value_of_read name (x ∷ hs) v h e = step (is_named name x) (value_of_read name
   parts = and_parts (is_written x) (list_all is_written hs) h
 
   is : IsValue x.value
-  is = let w = written_is x parts.0 in record { clean = w.clean; trim = w.trim }
+  is = let w = written_is x parts.0 in record { clean = w.clean; ends = w.trim }
 
   step : (b : Bool) → (values_named name hs ≡ v ∷ [] → IsValue v) → value_list b x (filter (is_named name) hs) v → IsValue v
   step true more k = let same : x.value ≡ v = cc in subst (λ (t : List ℕ). IsValue t) same is
@@ -104,7 +105,7 @@ response_ends text r reads =
 
 pub call_id_written : (text : List ℕ) → IsValue text → is_written (named (codes "Call-ID") text) ≡ true
 unfolding long_name
-call_id_written text h = is_written_from (named (codes "Call-ID") text) (record { token = refl; long = refl; clean = h.clean; trim = h.trim })
+call_id_written text h = written_with (codes "Call-ID") text refl refl h
 
 -- ---- Contact
 

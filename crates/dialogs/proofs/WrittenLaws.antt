@@ -17,10 +17,11 @@ use Rattle.sip_message.specs.Grammar.{SaysParts, SaysContact, SaysHops, start_of
 use Rattle.sip_message.specs.Lookup.{named, is_named, values_named}
 use Rattle.sip_message.specs.LongNames.{long_name}
 use Rattle.sip_message.specs.Needs as needs
+use Rattle.sip_message.specs.Repeatable.{IsValue}
 use Rattle.sip_message.specs.Via.{via_of}
 use Rattle.sip_message.specs.WritingHead.{is_written}
 use Rattle.sip_message.specs.WritingMessage.{tells_no_length, IsWrittenRest, IsWrittenRequest}
-use Rattle.sip_message.proofs.HeadRoundTrip.{is_written_from}
+use Rattle.sip_message.proofs.AnswerTrip.{all_imply, none_named, written_with}
 use Rattle.sip_message.proofs.ValueLaws.{text_same}
 use Rattle.dialogs.specs.declared.method.Method.{Method}
 use Rattle.dialogs.specs.declared.method.Method.TheVariants.{Invite, Ack, Bye}
@@ -28,7 +29,7 @@ use Rattle.dialogs.specs.declared.state.Dialog.{Dialog}
 use Rattle.dialogs.specs.Counting.{method_text}
 use Rattle.dialogs.specs.Requests.{tagged, cseq_text, parts_in, request_headers, request_in}
 use Rattle.dialogs.specs.Written.{IsSound, SaysVia, is_other, needs_contact, MayFollow, completed}
-use Rattle.dialogs.proofs.NameLaws.{IsValue, tagged_is, tagged_value}
+use Rattle.dialogs.proofs.NameLaws.{tagged_is, tagged_value}
 use Rattle.dialogs.proofs.NumberLaws.{method_token, cseq_again, cseq_value}
 use Rattle.dialogs.proofs.TagLaws.{run_is, tag_stands}
 
@@ -59,42 +60,23 @@ other_is h e =
     let g = and_parts via hops f.0 in
     record { via = g.0; hops = g.1; from = f.1; to = d.1; call_id = c.1; cseq = b.1; length = a.1 }
 
-all_weaker : (q : Header → Bool) → ((h : Header) → is_other h ≡ true → q h ≡ true) → (hs : List Header) → list_all is_other hs ≡ true → list_all q hs ≡ true
-all_weaker q weaker [] h = refl
-all_weaker q weaker (x ∷ hs) h =
-    let parts = and_parts (is_other x) (list_all is_other hs) h in
-    and_from (q x) (list_all q hs) (weaker x parts.0) (all_weaker q weaker hs parts.1)
-
-not_true : (b : Bool) → not b ≡ true → b ≡ false
-not_true true h = absurd cc
-not_true false h = refl
-
-none_named : (name : List ℕ) (hs : List Header) → list_all (λ h. not (is_named name h)) hs ≡ true → values_named name hs ≡ []
-none_named name [] h = refl
-none_named name (x ∷ hs) h =
-    let parts = and_parts (not (is_named name x)) (list_all (λ y. not (is_named name y)) hs) h in
-    rw (not_true (is_named name x) parts.0) (none_named name hs parts.1)
-
 -- ---- the header fields of the request
-
-value_written : (name value : List ℕ) → is_run_of is_token_byte name ≡ true → long_name name ≡ name → IsValue value → is_written (named name value) ≡ true
-value_written name value token long h = is_written_from (named name value) (record { token = token; long = long; clean = h.clean; trim = h.trim })
 
 hops_written : is_written (named (codes "Max-Forwards") (codes "70")) ≡ true
 unfolding long_name
-hops_written = value_written (codes "Max-Forwards") (codes "70") refl refl (record { clean = refl; trim = refl })
+hops_written = written_with (codes "Max-Forwards") (codes "70") refl refl (record { clean = refl; ends = refl })
 
 from_written : (value : List ℕ) → IsValue value → is_written (named (codes "From") value) ≡ true
 unfolding long_name
-from_written value h = value_written (codes "From") value refl refl h
+from_written value h = written_with (codes "From") value refl refl h
 
 to_written : (value : List ℕ) → IsValue value → is_written (named (codes "To") value) ≡ true
 unfolding long_name
-to_written value h = value_written (codes "To") value refl refl h
+to_written value h = written_with (codes "To") value refl refl h
 
 cseq_written : (value : List ℕ) → IsValue value → is_written (named (codes "CSeq") value) ≡ true
 unfolding long_name
-cseq_written value h = value_written (codes "CSeq") value refl refl h
+cseq_written value h = written_with (codes "CSeq") value refl refl h
 
 module _ (d : Dialog) (method : Method) (number : ℕ) (value : List ℕ) (via : Via) (more : List Header) (body : List ℕ)
     (sound : IsSound d) (low : number ≤ greatest_number) (says : SaysVia value via) (follows : MayFollow method more body) where
@@ -128,7 +110,7 @@ module _ (d : Dialog) (method : Method) (number : ℕ) (value : List ℕ) (via :
   our_token = run_is d.id.ours sound.our_tag
 
   none : (name : List ℕ) → ((h : Header) → is_other h ≡ true → not (is_named name h) ≡ true) → values_named name more ≡ []
-  none name weaker = none_named name more (all_weaker (λ h. not (is_named name h)) weaker more follows.others)
+  none name weaker = none_named name more (all_imply is_other (λ h. not (is_named name h)) weaker more follows.others)
 
   fields_written : list_all is_written fields ≡ true
   fields_written =
@@ -168,7 +150,7 @@ module _ (d : Dialog) (method : Method) (number : ℕ) (value : List ℕ) (via :
   rest_written : IsWrittenRest (start_of_request request) fields parts 70 body
   rest_written = record {
     written = fields_written;
-    no_length = all_weaker tells_no_length (λ h e. (other_is h e).length) more follows.others;
+    no_length = all_imply is_other tells_no_length (λ h e. (other_is h e).length) more follows.others;
     says_parts = parts_said;
     says_contact = contact_said method refl;
     says_hops =

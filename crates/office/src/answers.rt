@@ -6,8 +6,6 @@ ghost use Rattle.registrar.specs.Registering.{AllLast};
 ghost use Rattle.registrar.specs.Bound.{answer_after};
 ghost use Rattle.registrar.specs.Registrar.{Gives};
 ghost use Rattle.sip_message.specs.Reply.{reply_of};
-ghost use Rattle.sip_message.specs.Writing.{message_text};
-ghost use Rattle.sip_message.specs.declared.message.Message.TheVariants as Kinds;
 ghost use Rattle.office.specs.Answers.{answered, with_headers, contact_header, status_of, refusal_headers, registered};
 ghost use Rattle.office.specs.Example.{example_rules, moment, source, token};
 ghost use Rattle.office.specs.Registering.{register_of};
@@ -15,7 +13,7 @@ ghost use Rattle.office.specs.Registering.{register_of};
 use crate::example::{MOMENT, SOURCE, TOKEN, example_registrar};
 use crate::registering::register_of;
 use registrar::{Binding, Refusal};
-use sip_message::{Header, Headers, Message, Parts, Request, Response, reply_to, write_message};
+use sip_message::{Header, Headers, Parts, Request, Response, reply_to, write_response};
 use sip_uri::write_uri;
 use std::alloc::{AllocError, Global};
 use text::{Text, put_number};
@@ -27,12 +25,6 @@ fn push_all(headers: &mut Headers, extra: Vec<Header>) -> Result<(), AllocError>
         headers.push(header)?;
     }
     Ok(())
-}
-
-fn written(alloc: Global, response: Response) -> Result<Text, AllocError>
-    ensures { IfOk result (λ t. t ≡ message_text (Kinds.Response response)) }
-{
-    write_message(alloc, &Message::Response(response))
 }
 
 fn with_headers(
@@ -63,7 +55,7 @@ pub(crate) fn answered(
     ensures { IfOk result (λ t. t ≡ answered parts.now status tag.now extra.items) }
 {
     let response = with_headers(alloc, parts, status, tag, extra)?;
-    written(alloc, response)
+    write_response(alloc, &response)
 }
 
 fn contact_header(alloc: Global, binding: &Binding) -> Result<Header, AllocError>

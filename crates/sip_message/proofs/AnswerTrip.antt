@@ -34,14 +34,14 @@ use Rattle.sip_message.proofs.ViaTrip.{IsVia, via_is, via_is_value, via_one_piec
 
 -- ---- lookups
 
-none_named : (name : List ℕ) (hs : List Header) → list_all (λ h. not (is_named name h)) hs ≡ true → values_named name hs ≡ []
+pub none_named : (name : List ℕ) (hs : List Header) → list_all (λ h. not (is_named name h)) hs ≡ true → values_named name hs ≡ []
 none_named name [] e = refl
 none_named name (h ∷ hs) e = let parts = and_parts (not (is_named name h)) (list_all (λ x. not (is_named name x)) hs) e in step (is_named name h) parts.0 (none_named name hs parts.1) where
   step : (b : Bool) → not b ≡ true → values_named name hs ≡ [] → map (λ (x : Header). x.value) (cond b (h ∷ filter (is_named name) hs) (filter (is_named name) hs)) ≡ []
   step true k more = absurd cc
   step false k more = more
 
-all_imply : (p q : Header → Bool) → ((h : Header) → p h ≡ true → q h ≡ true) → (hs : List Header) → list_all p hs ≡ true → list_all q hs ≡ true
+pub all_imply : (p q : Header → Bool) → ((h : Header) → p h ≡ true → q h ≡ true) → (hs : List Header) → list_all p hs ≡ true → list_all q hs ≡ true
 all_imply p q imply [] e = refl
 all_imply p q imply (h ∷ hs) e = let parts = and_parts (p h) (list_all p hs) e in and_from (q h) (list_all q hs) (imply h parts.0) (all_imply p q imply hs parts.1)
 
@@ -87,7 +87,7 @@ vias_again : (vias : List Via) → AllByRecursion IsVia vias → map via_of (map
 vias_again [] h = refl
 vias_again (via ∷ vias) h = rw (via_again via h.0) (ap (λ (vs : List (Option Via)). Some via ∷ vs) (vias_again vias h.1))
 
-written_with : (name value : List ℕ) → is_run_of is_token_byte name ≡ true → long_name name ≡ name → IsValue value → is_written (named name value) ≡ true
+pub written_with : (name value : List ℕ) → is_run_of is_token_byte name ≡ true → long_name name ≡ name → IsValue value → is_written (named name value) ≡ true
 written_with name value token long is = is_written_from (named name value) (record { token = token; long = long; clean = is.clean; trim = is.ends })
 
 vias_written : (vias : List Via) → AllByRecursion IsVia vias → list_all is_written (map via_header vias) ≡ true

@@ -1,7 +1,7 @@
 -- Parameters that can be written: each was read from a clean text, or is made of two tokens.
 use Rattle.std.proofs.Common.{◌≡◌, ℕ, Bool, true, false, not, cond, eqb, List, [], ◌∷◌, ◌++◌, length, map, Option, Some, None, refl, sym, ap, subst, append_assoc}
 use Rattle.std.specs.Prelude.{option_map}
-use Rattle.std.specs.List.{list_all, flat_map, AllByRecursion}
+use Rattle.std.specs.List.{list_all, AllByRecursion}
 use Rattle.std.proofs.lemmas.Bool.{and_parts}
 use Rattle.std.proofs.lemmas.List.{append-nil}
 use Rattle.text.specs.Class.{is_token_byte, is_run_of, passes_if_there}
@@ -70,11 +70,7 @@ params_again ps h = again_at ps (fields_of ps h)
 
 -- parameters, each behind a semicolon
 abbrev pub behind_semicolons : List Param → List ℕ
-behind_semicolons ps = flat_map (λ p. 59 ∷ param_text p) ps
-
-pub semicolons_are : (ps : List Param) → behind_semicolons ps ≡ params_text 59 59 ps
-semicolons_are [] = refl
-semicolons_are (p ∷ ps) = ap (λ (t : List ℕ). 59 ∷ (param_text p ++ t)) (semicolons_are ps)
+behind_semicolons ps = params_text 59 59 ps
 
 pub params_clean : (ps : List Param) → AllByRecursion IsParam ps → is_clean (behind_semicolons ps) ≡ true
 params_clean [] h = refl

@@ -8,6 +8,7 @@ use Rattle.text.specs.Class.{is_blank, is_token_byte}
 use Rattle.text.specs.Cut.{after}
 use Rattle.text.specs.Trim.{without_blanks, kept, without_end, trimmed}
 use Rattle.text.proofs.CutLaws.{differs}
+use Rattle.sip_uri.proofs.BlankLaws.{end_again}
 use Rattle.sip_message.specs.Lines.{is_text_byte, is_clean}
 use Rattle.sip_message.specs.Fields.{begins_blank, begun_value, glue, unfolded}
 
@@ -64,13 +65,6 @@ without_front (b ∷ t) = step (is_blank b) refl (without_front t) where
 end_front : (t : List ℕ) → begins_blank t ≡ false → begins_blank (without_end t) ≡ false
 end_front [] h = refl
 end_front (b ∷ t) h = rw h h
-
-end_again : (t : List ℕ) → without_end (without_end t) ≡ without_end t
-end_again [] = refl
-end_again (b ∷ t) = step (is_blank b && eqb (length (without_end t)) 0) refl (end_again t) where
-  step : (e : Bool) → (is_blank b && eqb (length (without_end t)) 0) ≡ e → without_end (without_end t) ≡ without_end t → without_end (cond e [] (b ∷ without_end t)) ≡ cond e [] (b ∷ without_end t)
-  step true tested h = refl
-  step false tested h = ap (kept b) h ∙ rw tested refl
 
 pub trimmed_is : (t : List ℕ) → IsTrim (trimmed t)
 trimmed_is t = record { front = end_front (without_blanks t) (without_front t); back = end_again (without_blanks t) }

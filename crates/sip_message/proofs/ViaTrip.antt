@@ -30,7 +30,7 @@ use Rattle.sip_message.specs.Reply.{via_text}
 use Rattle.sip_message.specs.Via.{sent_by_of, port_of, made, with_host, via_of}
 use Rattle.sip_message.proofs.CleanLaws.{clean_after, clean_led_by, Ends, ends_trimmed, ends_behind}
 use Rattle.sip_message.proofs.MessageRoundTrip.{digits_token}
-use Rattle.sip_message.proofs.ParamTrip.{IsParam, params_sound, params_again, behind_semicolons, semicolons_are, params_clean, params_closed, params_end}
+use Rattle.sip_message.proofs.ParamTrip.{IsParam, params_sound, params_again, behind_semicolons, params_clean, params_closed, params_end}
 use Rattle.sip_message.proofs.StartTexts.{clean_from_lacks}
 use Rattle.sip_message.proofs.ValueLaws.{trim_same, end_behind, token_clean, token_trimmed, clean_joined}
 
@@ -183,7 +183,7 @@ module _ (via : Via) (h : IsVia via) where
   text_is =
       append_assoc (codes "SIP/2.0/UDP ") via.sent_by (behind_semicolons via.params)
       ∙ ap (λ (t : List ℕ). codes "SIP/2.0/UDP " ++ (t ++ behind_semicolons via.params)) h.sent_by
-      ∙ ap (λ (t : List ℕ). codes "SIP/2.0/UDP " ++ (sent_by_of h.host h.port ++ t)) (semicolons_are via.params ∙ (params_again via.params h.params).text)
+      ∙ ap (λ (t : List ℕ). codes "SIP/2.0/UDP " ++ (sent_by_of h.host h.port ++ t)) (params_again via.params h.params).text
 
   raw_again : raw_via_of (codes "SIP/2.0/UDP " ++ (sent_by_of h.host h.port ++ led_by 59 (written via.params))) ≡ raw
   unfolding raw_via_of

@@ -1,6 +1,5 @@
 -- The answer to a request (RFC 3261 sections 8.2.6 and 18.2, RFC 3581 section 4).
 use Rattle.std.specs.Prelude.{ℕ, Bool, false, not, ◌&&◌, ◌||◌, ◌==◌, nat_eq, List, [], ◌∷◌, ◌++◌, map, filter, codes, position, slice_index_or, slice_set, decimal, is_none, unwrap_or, Option, Some, None, if◌then◌else◌}
-use Rattle.std.specs.List.{flat_map}
 use Rattle.std.specs.Str.{str_eq_ignore_ascii_case}
 use Rattle.std.specs.Cmp.Lexicographic.{pointwise}
 use Rattle.sip_uri.specs.declared.uri.Addr.{Addr}
@@ -9,7 +8,7 @@ use Rattle.sip_uri.specs.declared.uri.Host.TheVariants.{Ip4, Name}
 use Rattle.sip_uri.specs.declared.uri.NameAddr.{NameAddr}
 use Rattle.sip_uri.specs.declared.uri.Param.{Param}
 use Rattle.sip_uri.specs.Binding.{param_named}
-use Rattle.sip_uri.specs.Writing.{ip4_text, param_text}
+use Rattle.sip_uri.specs.Writing.{ip4_text, params_text}
 use Rattle.sip_message.specs.declared.headers.Header.{Header}
 use Rattle.sip_message.specs.declared.message.Parts.{Parts}
 use Rattle.sip_message.specs.declared.message.Response.{Response}
@@ -98,12 +97,16 @@ replied parts source status tag = record parts {
 }
 
 abbrev pub via_text : Via → List ℕ
-via_text via = codes "SIP/2.0/UDP " ++ via.sent_by ++ flat_map (λ p. 59 ∷ param_text p) via.params
+via_text via = codes "SIP/2.0/UDP " ++ via.sent_by ++ params_text 59 59 via.params
+
+-- a Via header field for each
+abbrev pub via_headers : List Via → List Header
+via_headers vias = map (λ via. named (codes "Via") (via_text via)) vias
 
 -- each Via on a line of its own, From, To, Call-ID and CSeq
 unfoldable pub reply_headers : Parts → List Header
 reply_headers parts =
-    map (λ via. named (codes "Via") (via_text via)) parts.vias
+    via_headers parts.vias
     ++ named (codes "From") parts.from_text ∷ []
     ++ named (codes "To") parts.to_text ∷ []
     ++ named (codes "Call-ID") parts.call_id ∷ []

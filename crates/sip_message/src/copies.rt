@@ -3,6 +3,7 @@
 ghost use Rattle.std.specs.Prelude.{◌≡◌, IfOk};
 
 use crate::cseq::CSeq;
+use crate::message::{Parts, Vias};
 use sip_uri::{NameAddr, Uri};
 use std::alloc::AllocError;
 use text::Text;
@@ -35,4 +36,26 @@ pub(crate) fn copied_cseq(cseq: &CSeq) -> Result<CSeq, AllocError>
     ensures { IfOk result (λ c. c ≡ cseq.now) }
 {
     cseq.clone()
+}
+
+fn copied_vias(vias: &Vias) -> Result<Vias, AllocError>
+    ensures { IfOk result (λ v. v ≡ vias.now) }
+{
+    vias.clone()
+}
+
+/// A copy of the parts, written out: a derived one takes its proof minutes.
+pub(crate) fn copied_parts(parts: &Parts) -> Result<Parts, AllocError>
+    ensures { IfOk result (λ p. p ≡ parts.now) }
+{
+    Ok(Parts {
+        vias: copied_vias(&parts.vias)?,
+        from: copied_name(&parts.from)?,
+        to: copied_name(&parts.to)?,
+        call_id: copied_text(&parts.call_id)?,
+        cseq: copied_cseq(&parts.cseq)?,
+        from_text: copied_text(&parts.from_text)?,
+        to_text: copied_text(&parts.to_text)?,
+        cseq_text: copied_text(&parts.cseq_text)?,
+    })
 }

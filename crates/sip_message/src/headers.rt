@@ -43,6 +43,7 @@ impl Model for Headers {
 
 impl Headers {
     ghost use Rattle.std.specs.Prelude.{◌≡◌, ◌++◌, ◌∷◌, [], OnOk, OnErr};
+    ghost use Rattle.sip_message.specs.Lookup.{named};
 
     /// The list of these headers. Takes no memory.
     pub fn from_vec(entries: Vec<Header>) -> Headers
@@ -71,5 +72,14 @@ impl Headers {
         ensures put { OnOk result (self.new ≡ self.old ++ header ∷ []) }
     {
         Ok(self.entries.push(header)?)
+    }
+
+    /// Puts a header of this name and value, as they are, behind the others.
+    pub fn add(&mut self, alloc: Global, name: &[u8], value: &[u8]) -> Result<(), AllocError>
+        ensures unchanged { OnErr result (self.new ≡ self.old) }
+        ensures put { OnOk result (self.new ≡ self.old ++ named name.now value.now ∷ []) }
+    {
+        let header = Header::of(alloc, name, value)?;
+        self.push(header)
     }
 }

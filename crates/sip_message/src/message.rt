@@ -1,9 +1,11 @@
 //! Messages.
 
+use crate::copies::copied_parts;
 use crate::cseq::CSeq;
 use crate::headers::Headers;
 use crate::via::Via;
 use sip_uri::{NameAddr, Uri};
+use std::alloc::AllocError;
 use std::marker::Model;
 use text::Text;
 
@@ -49,7 +51,7 @@ impl Vias {
 
 /// What an answer repeats of its request: the values of these header fields, and beside them the texts of From, To
 /// and CSeq as received, unfolded and trimmed (RFC 3261 section 8.2.6.2).
-#[derive(Clone, Debug, Drop)]
+#[derive(Debug, Drop)]
 pub struct Parts {
     pub vias: Vias,
     pub from: NameAddr,
@@ -61,8 +63,18 @@ pub struct Parts {
     pub cseq_text: Text,
 }
 
+impl Clone for Parts {
+    ghost use Rattle.std.specs.Prelude.{◌≡◌};
+
+    ghost is_clone = { λ v w. w ≡ v };
+
+    fn clone(&self) -> Result<Parts, AllocError> {
+        copied_parts(self)
+    }
+}
+
 /// A request (RFC 3261 section 7.1). `headers` are all header fields in order but Content-Length, which the body says.
-#[derive(Clone, Debug, Drop)]
+#[derive(Debug, Drop)]
 pub struct Request {
     pub method: Text,
     pub uri: Uri,
@@ -74,7 +86,7 @@ pub struct Request {
 }
 
 /// An answer (RFC 3261 section 7.2). `headers` are all header fields in order but Content-Length, which the body says.
-#[derive(Clone, Debug, Drop)]
+#[derive(Debug, Drop)]
 pub struct Response {
     /// 100 to 699.
     pub status: u16,
@@ -85,7 +97,7 @@ pub struct Response {
 }
 
 /// A message.
-#[derive(Clone, Debug, Drop)]
+#[derive(Debug, Drop)]
 pub enum Message {
     Request(Request),
     Response(Response),

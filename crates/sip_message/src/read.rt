@@ -28,7 +28,7 @@ const GREATEST_DATAGRAM: usize = 16_384;
 const GREATEST_LINES: u32 = 128;
 
 /// Values and body of a message.
-#[derive(Clone, Debug, Drop)]
+#[derive(Drop)]
 pub(crate) struct Contents {
     pub values: Values,
     pub body: Text,

@@ -7,7 +7,7 @@ ghost use Rattle.sip_uri.specs.Writing.{param_text};
 ghost use Rattle.sip_message.specs.Lookup.{named};
 ghost use Rattle.sip_message.specs.Repeatable.{CanBeRepeated, IsReadAgain};
 ghost use Rattle.sip_message.specs.Replies.{Replies};
-ghost use Rattle.sip_message.specs.Reply.{marked_top, puts_tag, tagged_params, tagged_to, tagged_text, replied, via_text, reply_headers, reply_of, tag_param, answer_port, answer_address};
+ghost use Rattle.sip_message.specs.Reply.{marked_top, puts_tag, tagged_params, tagged_to, tagged_text, replied, via_text, reply_headers, reply_of, tag_param, via_headers, answer_port, answer_address};
 
 use crate::copies::{copied_cseq, copied_display, copied_name, copied_text, copied_uri};
 use crate::headers::{Header, Headers};
@@ -16,42 +16,12 @@ use crate::party::has_tag;
 use crate::reasons::reason_of;
 use crate::received::{asks_port, marked, numbers_fit};
 use crate::via::Via;
-use sip_uri::{Addr, NameAddr, Param, Params, put_param};
+use sip_uri::{Addr, NameAddr, Param, Params, put_params};
 use std::alloc::{AllocError, Global};
 use text::Text;
 
 /// The port of a sent-by that names none, and of a SIP URI (RFC 3261 section 19.1.2).
 const DEFAULT_PORT: u16 = 5060;
-
-fn put_params(out: &mut Vec<u8>, params: &[Param]) -> Result<(), AllocError>
-    ensures { OnOk result (out.new.items ≡ out.old.items ++ flat_map (λ p. 59 ∷ param_text p) params.now) }
-{
-    for param in params {
-        put_behind(out, param)?;
-    }
-    Ok(())
-}
-
-fn put_behind(out: &mut Vec<u8>, param: &Param) -> Result<(), AllocError>
-    ensures { OnOk result (out.new.items ≡ out.old.items ++ (59 ∷ param_text param.now)) }
-{
-    out.push(b';')?;
-    put_param(out, param)?;
-    Ok(())
-}
-
-fn push_header(
-    alloc: Global,
-    headers: &mut Vec<Header>,
-    name: &[u8],
-    value: &[u8],
-) -> Result<(), AllocError>
-    ensures { OnOk result (headers.new.items ≡ headers.old.items ++ named name.now value.now ∷ []) }
-{
-    let header = Header::of(alloc, name, value)?;
-    headers.push(header)?;
-    Ok(())
-}
 
 fn via_header(alloc: Global, via: &Via) -> Result<Header, AllocError>
     ensures { IfOk result (λ h. h ≡ named (codes "Via") (via_text via.now)) }
@@ -59,17 +29,18 @@ fn via_header(alloc: Global, via: &Via) -> Result<Header, AllocError>
     let name = Text::from_slice(alloc, b"Via")?;
     let mut out = Vec::from_slice(alloc, b"SIP/2.0/UDP ")?;
     out.extend_from_slice(via.sent_by.as_bytes())?;
-    put_params(&mut out, via.params.as_slice())?;
+    put_params(&mut out, via.params.as_slice(), b';', b';')?;
     Ok(Header {
         name,
         value: Text::from_vec(out),
     })
 }
 
-fn via_headers(alloc: Global, vias: &[Via]) -> Result<Vec<Header>, AllocError>
-    ensures { IfOk result (λ hs. hs.items ≡ map (λ via. named (codes "Via") (via_text via)) vias.now) }
+/// A Via header field for each of these, in order (RFC 3261 section 20.42).
+pub fn via_headers(alloc: Global, vias: &[Via]) -> Result<Headers, AllocError>
+    ensures { IfOk result (λ hs. hs ≡ via_headers vias.now) }
 {
-    let mut headers = Vec::new(alloc);
+    let mut headers = Headers::from_vec(Vec::new(alloc));
     for via in vias {
         headers.push(via_header(alloc, via)?)?;
     }
@@ -82,11 +53,11 @@ fn reply_headers(alloc: Global, parts: &Parts) -> Result<Headers, AllocError>
     ensures { IfOk result (λ hs. hs ≡ reply_headers parts.now) }
 {
     let mut headers = via_headers(alloc, parts.vias.as_slice())?;
-    push_header(alloc, &mut headers, b"From", parts.from_text.as_bytes())?;
-    push_header(alloc, &mut headers, b"To", parts.to_text.as_bytes())?;
-    push_header(alloc, &mut headers, b"Call-ID", parts.call_id.as_bytes())?;
-    push_header(alloc, &mut headers, b"CSeq", parts.cseq_text.as_bytes())?;
-    Ok(Headers::from_vec(headers))
+    headers.add(alloc, b"From", parts.from_text.as_bytes())?;
+    headers.add(alloc, b"To", parts.to_text.as_bytes())?;
+    headers.add(alloc, b"Call-ID", parts.call_id.as_bytes())?;
+    headers.add(alloc, b"CSeq", parts.cseq_text.as_bytes())?;
+    Ok(headers)
 }
 
 #[tactic(auto, using(crate::proofs::ReplyLaws::top_marked))]
@@ -115,7 +86,8 @@ fn puts_tag(status: u16, to: &NameAddr) -> bool
     !has_tag(to.params.as_slice()) && status != 100
 }
 
-fn tag_param(alloc: Global, tag: &[u8]) -> Result<Param, AllocError>
+/// The parameter `tag` with this value (RFC 3261 section 19.3).
+pub fn tag_param(alloc: Global, tag: &[u8]) -> Result<Param, AllocError>
     ensures { IfOk result (λ p. p ≡ tag_param tag.now) }
 {
     let name = Text::from_slice(alloc, b"tag")?;

@@ -11,14 +11,14 @@ use std::alloc::Global;
 use text::{Text, cut, is_run_of_digits, is_run_of_token, number_upto};
 
 /// The start line of a request.
-#[derive(Clone, Debug, Drop)]
+#[derive(Drop)]
 pub(crate) struct RequestLine {
     pub method: Text,
     pub uri: Uri,
 }
 
 /// The start line of an answer.
-#[derive(Clone, Debug, Drop)]
+#[derive(Drop)]
 pub(crate) struct StatusLine {
     /// 100 to 699.
     pub status: u16,
@@ -26,7 +26,7 @@ pub(crate) struct StatusLine {
 }
 
 /// A start line.
-#[derive(Clone, Debug, Drop)]
+#[derive(Drop)]
 pub(crate) enum Start {
     Asking(RequestLine),
     Answering(StatusLine),

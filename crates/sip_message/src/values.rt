@@ -18,7 +18,7 @@ use std::alloc::Global;
 use text::Text;
 
 /// The values of a message's header fields, but for its body's length.
-#[derive(Clone, Debug, Drop)]
+#[derive(Drop)]
 pub(crate) struct Values {
     pub parts: Parts,
     pub max_forwards: u8,

@@ -2,6 +2,7 @@
 
 ghost use Rattle.std.specs.Prelude.{◌≡◌, ◌++◌, ℕ, List, OnOk, IfOk, decimal};
 ghost use Rattle.sip_message.specs.Grammar.{ReadsMessage};
+ghost use Rattle.sip_message.specs.declared.message.Message.TheVariants as Kinds;
 ghost use Rattle.sip_message.specs.WritingMessage.{IsWrittenMessage};
 ghost use Rattle.sip_message.specs.Writing.{request_line, status_line, length_text, message_text};
 
@@ -45,32 +46,55 @@ fn put_body(out: &mut Vec<u8>, body: &Text) -> Result<(), AllocError>
 }
 
 #[tactic(auto, unfolding(crate::specs::Writing::message_text))]
-fn put_message(alloc: Global, out: &mut Vec<u8>, message: &Message) -> Result<(), AllocError>
-    ensures { OnOk result (out.new.items ≡ out.old.items ++ message_text message.now) }
+fn put_request(alloc: Global, out: &mut Vec<u8>, request: &Request) -> Result<(), AllocError>
+    ensures { OnOk result (out.new.items ≡ out.old.items ++ message_text (Kinds.Request request.now)) }
 {
-    match message {
-        Message::Request(request) => {
-            put_request_line(alloc, out, request)?;
-            put_headers(out, request.headers.as_slice())?;
-            put_body(out, &request.body)?;
-            Ok(())
-        }
-        Message::Response(response) => {
-            put_status_line(out, response)?;
-            put_headers(out, response.headers.as_slice())?;
-            put_body(out, &response.body)?;
-            Ok(())
-        }
-    }
+    put_request_line(alloc, out, request)?;
+    put_headers(out, request.headers.as_slice())?;
+    put_body(out, &request.body)?;
+    Ok(())
 }
 
-/// The bytes of a message: its start line, its header fields in order, Content-Length, and its body.
+#[tactic(auto, unfolding(crate::specs::Writing::message_text))]
+fn put_response(out: &mut Vec<u8>, response: &Response) -> Result<(), AllocError>
+    ensures { OnOk result (out.new.items ≡ out.old.items ++ message_text (Kinds.Response response.now)) }
+{
+    put_status_line(out, response)?;
+    put_headers(out, response.headers.as_slice())?;
+    put_body(out, &response.body)?;
+    Ok(())
+}
+
+/// The bytes of a request: its start line, its header fields in order, Content-Length, and its body.
+pub fn write_request(alloc: Global, request: &Request) -> Result<Text, AllocError>
+    ensures text { IfOk result (λ t. t ≡ message_text (Kinds.Request request.now)) }
+    // What is written for a request of the written form is that request, also past the limits of reading.
+    ensures again { IsWrittenMessage (Kinds.Request request.now) → IfOk result (λ t. ReadsMessage t (Kinds.Request request.now)) }
+{
+    let mut out = Vec::new(alloc);
+    put_request(alloc, &mut out, request)?;
+    Ok(Text::from_vec(out))
+}
+
+/// The bytes of an answer, in the same order.
+pub fn write_response(alloc: Global, response: &Response) -> Result<Text, AllocError>
+    ensures text { IfOk result (λ t. t ≡ message_text (Kinds.Response response.now)) }
+    // What is written for an answer of the written form is that answer, also past the limits of reading.
+    ensures again { IsWrittenMessage (Kinds.Response response.now) → IfOk result (λ t. ReadsMessage t (Kinds.Response response.now)) }
+{
+    let mut out = Vec::new(alloc);
+    put_response(&mut out, response)?;
+    Ok(Text::from_vec(out))
+}
+
+/// The bytes of a message: of its request, or of its answer.
 pub fn write_message(alloc: Global, message: &Message) -> Result<Text, AllocError>
     ensures text { IfOk result (λ t. t ≡ message_text message.now) }
     // What is written for a message of the written form is that message, also past the limits of reading.
     ensures again { IsWrittenMessage message.now → IfOk result (λ t. ReadsMessage t message.now) }
 {
-    let mut out = Vec::new(alloc);
-    put_message(alloc, &mut out, message)?;
-    Ok(Text::from_vec(out))
+    match message {
+        Message::Request(request) => write_request(alloc, request),
+        Message::Response(response) => write_response(alloc, response),
+    }
 }

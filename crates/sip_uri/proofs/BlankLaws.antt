@@ -122,7 +122,7 @@ Lacks-from_trimmed c out t h = from_without_blanks c out t (from_without_end c o
 
 -- ---- trimmed twice
 
-end_again : (t : List ℕ) → without_end (without_end t) ≡ without_end t
+pub end_again : (t : List ℕ) → without_end (without_end t) ≡ without_end t
 end_again [] = refl
 end_again (b ∷ bs) = step (is_blank b) (eqb (length (without_end bs)) 0) refl refl (end_again bs) where
   step : (e f : Bool) → is_blank b ≡ e → eqb (length (without_end bs)) 0 ≡ f → without_end (without_end bs) ≡ without_end bs

@@ -8,7 +8,8 @@ ghost use Rattle.sip_uri.specs.Binding.{same_text, same_host, param_named, same_
 use crate::uri::{Host, Param, Uri};
 use text::Text;
 
-fn same_user(a: Option<&Text>, b: Option<&Text>) -> bool
+/// Whether two texts are one, byte for byte, or neither is there.
+pub fn same_text(a: Option<&Text>, b: Option<&Text>) -> bool
     ensures test { result ≡ same_text (option_copied a.entry) (option_copied b.entry) }
     ensures relation { IsTrue result ↔ (option_copied a.entry ≡ option_copied b.entry) }
 {
@@ -26,7 +27,8 @@ fn same_without_case(a: &Text, b: &Text) -> bool
     a.as_bytes().eq_ignore_ascii_case(b.as_bytes())
 }
 
-fn same_host(a: &Host, b: &Host) -> bool
+/// Whether two hosts are one: four octets, or a name without case.
+pub fn same_host(a: &Host, b: &Host) -> bool
     ensures test { result ≡ same_host a.now b.now }
     ensures relation { IsTrue result ↔ (host_key a.now ≡ host_key b.now) }
 {
@@ -77,7 +79,7 @@ pub fn same_binding(a: &Uri, b: &Uri) -> bool
     ensures relation { IsTrue result ↔ SameBinding a.now b.now }
 {
     let (ps, qs) = (a.params.as_slice(), b.params.as_slice());
-    same_user(a.user.as_ref(), b.user.as_ref())
+    same_text(a.user.as_ref(), b.user.as_ref())
         && same_host(&a.host, &b.host)
         && a.port == b.port
         && same_param(ps, qs, b"user")

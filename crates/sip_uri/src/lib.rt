@@ -15,7 +15,7 @@ mod read;
 mod uri;
 mod write;
 
-pub use binding::{param_named, same_binding};
+pub use binding::{param_named, same_binding, same_host, same_text};
 pub use error::UriError;
 pub use field_params::read_field_params;
 pub use hosts::{ip4, is_host};

@@ -1,8 +1,7 @@
-use Rattle.std.proofs.Common.{◌≡◌, ◌++◌, map, drop, codes}
-use Rattle.sip_message.specs.Lookup.{named}
-use Rattle.sip_message.specs.Reply.{via_text}
+use Rattle.std.proofs.Common.{◌≡◌, ◌++◌, drop}
+use Rattle.sip_message.specs.Reply.{via_headers}
 use Rattle.sip_message.proofs.reply.via_headers.Given as goal
 
 -- the headers so far and those of what is left are all
 abbrev pub invariant-loop-via : goal.invariant-loop-via
-invariant-loop-via l = l.headers.items ++ map (λ via. named (codes "Via") (via_text via)) (drop l.via-index l.vias) ≡ map (λ via. named (codes "Via") (via_text via)) l.vias
+invariant-loop-via l = l.headers ++ via_headers (drop l.via-index l.vias) ≡ via_headers l.vias
