@@ -10,9 +10,6 @@ use Rattle.sdp.specs.WayOf.{way_named, way_on, first_way}
 use Rattle.offer_answer.specs.Formats.{rtpmap_in, first_rtpmap}
 use Rattle.offer_answer.specs.Alike.{tells_place, is_kept, kept}
 
-same_text : (a b : List ℕ) → pointwise nat_eq a b ≡ true → a ≡ b
-same_text a b e = (bytes_decides a b).0 e
-
 -- a line that is left out is an attribute that tells a place
 left_out : (l : Line) → is_kept l ≡ false → (eqb l.letter 97 ≡ true) × (tells_place (before 58 l.value) ≡ true)
 left_out l e = step (eqb l.letter 97) (tells_place (before 58 l.value)) e where
@@ -25,7 +22,7 @@ no_way_named : (text : List ℕ) → tells_place (before 58 text) ≡ true → w
 no_way_named text e =
     step (pointwise nat_eq text (codes "sendrecv")) (pointwise nat_eq text (codes "sendonly")) (pointwise nat_eq text (codes "recvonly")) (pointwise nat_eq text (codes "inactive")) refl refl refl refl where
       clash : (name : List ℕ) → pointwise nat_eq text name ≡ true → tells_place (before 58 name) ≡ false → true ≡ false
-      clash name same tells = sym e ∙ ap (λ t. tells_place (before 58 t)) (same_text text name same) ∙ tells
+      clash name same tells = sym e ∙ ap (λ t. tells_place (before 58 t)) ((bytes_decides text name).0 same) ∙ tells
 
       step : (a b c d : Bool) → pointwise nat_eq text (codes "sendrecv") ≡ a → pointwise nat_eq text (codes "sendonly") ≡ b → pointwise nat_eq text (codes "recvonly") ≡ c → pointwise nat_eq text (codes "inactive") ≡ d
           → cond a (Some SendReceive) (cond b (Some SendOnly) (cond c (Some ReceiveOnly) (cond d (Some Inactive) None))) ≡ None
@@ -44,7 +41,7 @@ no_rtpmap format l e = step (pointwise nat_eq (before 58 l.value) (codes "rtpmap
   out = left_out l e
 
   step : (b : Bool) → pointwise nat_eq (before 58 l.value) (codes "rtpmap") ≡ b → rtpmap_in format l ≡ None
-  step true h = let wrong : true ≡ false = sym out.1 ∙ ap tells_place (same_text (before 58 l.value) (codes "rtpmap") h) in absurd cc
+  step true h = let wrong : true ≡ false = sym out.1 ∙ ap tells_place ((bytes_decides (before 58 l.value) (codes "rtpmap")).0 h) in absurd cc
   step false h = rw (out.0, h) refl
 
 -- the first way and the first rtpmap stand among the lines that are kept

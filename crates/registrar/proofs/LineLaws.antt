@@ -1,18 +1,14 @@
 -- The lines of the registrar: one for each user.
-use Rattle.std.proofs.Common.{◌≡◌, ◌||◌, ◌∙◌, ℕ, ◌<◌, ◌+◌, Bool, true, false, cond, not, List, [], ◌∷◌, length, get_or, set, find, map, position, Some, None, option_map, unwrap_or, is_some, nat_eq, ltb, refl, sym, ap, subst, arith}
+use Rattle.std.proofs.Common.{◌≡◌, ◌||◌, ◌∙◌, ℕ, ◌<◌, Bool, true, false, cond, List, [], ◌∷◌, length, get_or, set, find, map, position, Some, option_map, unwrap_or, is_some, nat_eq, refl, sym, ap, subst, arith}
 use Prim.Native.Nat.{zero, suc}
-use Rattle.std.specs.List.{position_or_len, list_any}
+use Rattle.std.specs.List.{list_any}
 use Rattle.std.specs.Cmp.Lexicographic.{pointwise, bytes_decides}
-use Rattle.std.proofs.lemmas.Bool.Decides.{nat_tests}
 use Rattle.std.proofs.lemmas.List.Quantifiers.{position-Some}
+use Rattle.text.proofs.Lists.{is_some-position}
 use Rattle.registrar.specs.declared.binding.Binding.{Binding}
 use Rattle.registrar.specs.declared.registrar.Line.{Line}
 use Rattle.registrar.specs.Bound.{is_one_of, is_known}
 use Rattle.registrar.specs.Registrar.{Contents, rules_of, is_for, bindings_of, lines_with, with_bindings, without_bindings}
-
--- two texts that are the same are one
-pub same_text : (a b : List ℕ) → pointwise nat_eq a b ≡ true → a ≡ b
-same_text a b e = (bytes_decides a b).0 e
 
 pub own_text : (a : List ℕ) → pointwise nat_eq a a ≡ true
 own_text a = (bytes_decides a a).1 refl
@@ -22,22 +18,6 @@ own_text a = (bytes_decides a a).1 refl
 pub list_any-map : {X Y : Type 0} (p : Y → Bool) (f : X → Y) (xs : List X) → list_any p (map f xs) ≡ list_any (λ x. p (f x)) xs
 list_any-map p f [] = refl
 list_any-map p f (x ∷ xs) = ap (λ b. p (f x) || b) (list_any-map p f xs)
-
-ltb-suc : (m n : ℕ) → ltb m n ≡ ltb (1 + m) (suc n)
-ltb-suc m n = grind (arith, nat_tests)
-
-list_any_is : {X : Type 0} (p : X → Bool) (xs : List X) → list_any p xs ≡ ltb (position_or_len p xs) (length xs)
-list_any_is p [] = refl
-list_any_is p (x ∷ xs) =
-    elim (p x) as (λ b. b || list_any p xs ≡ ltb (cond (not b) (1 + position_or_len p xs) 0) (suc (length xs))) [
-      | true ↦ grind (arith, nat_tests)
-      | false ↦ list_any_is p xs ∙ ltb-suc (position_or_len p xs) (length xs)
-    ]
-
-pub is_some-position : {X : Type 0} (p : X → Bool) (xs : List X) → is_some (position p xs) ≡ list_any p xs
-is_some-position p xs =
-    elim (ltb (position_or_len p xs) (length xs)) as (λ b. is_some (cond b (Some (position_or_len p xs)) None) ≡ b) [ true ↦ refl | false ↦ refl ]
-    ∙ sym (list_any_is p xs)
 
 -- who has a line is one of the users
 pub one_of_lines : (lines : List Line) (user : List ℕ) → is_one_of (map (λ l. l.user) lines) user ≡ is_some (position (is_for user) lines)
@@ -77,7 +57,7 @@ other_line [] user other bs differ = refl
 other_line (l ∷ ls) user other bs differ =
     elim (is_for user l) as (λ b. is_for user l ≡ b → bindings_of (lines_with user bs (l ∷ ls)) other ≡ bindings_of (l ∷ ls) other) [
       | true ↦ λ e.
-          let not_other : is_for other l ≡ false = subst (λ u. pointwise nat_eq u other ≡ false) (sym (same_text l.user user e)) differ in
+          let not_other : is_for other l ≡ false = subst (λ u. pointwise nat_eq u other ≡ false) (sym ((bytes_decides l.user user).0 e)) differ in
           simp (e, not_other)
       | false ↦ λ e. rw e (elim (is_for other l) as (λ b. unwrap_or (option_map (λ x. x.bindings) (cond b (Some l) (find (is_for other) (lines_with user bs ls)))) [] ≡ unwrap_or (option_map (λ x. x.bindings) (cond b (Some l) (find (is_for other) ls))) []) [
         | true ↦ refl

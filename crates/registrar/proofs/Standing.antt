@@ -1,10 +1,11 @@
 -- A registrar that stands after some REGISTERs stands after one more.
 use Rattle.std.proofs.Common.{◌≡◌, ◌&&◌, ◌∙◌, ℕ, Bool, true, false, cond, List, [], ◌∷◌, ◌++◌, filter, position, Option, Some, None, is_some, Result, Ok, Err, IfOk, All, nat_eq, nat_lt, refl, sym, ap, subst, rules}
-use Rattle.std.specs.Cmp.Lexicographic.{pointwise}
+use Rattle.std.specs.Cmp.Lexicographic.{pointwise, bytes_decides}
 use Rattle.std.specs.List.{list_any}
 use Rattle.std.specs.declared.vec.Vec.{Vec}
 use Rattle.std.specs.declared.alloc.Global.{Global}
 use Rattle.std.proofs.lemmas.List.Elements.{All-head, All-tail}
+use Rattle.text.proofs.Lists.{is_some-position}
 use Rattle.registrar.specs.declared.binding.Binding.{Binding}
 use Rattle.registrar.specs.declared.register.Register.{Register}
 use Rattle.registrar.specs.declared.refusal.Refusal.{Refusal}
@@ -12,7 +13,7 @@ use Rattle.registrar.specs.declared.refusal.Refusal.TheVariants.{UnknownUser}
 use Rattle.registrar.specs.Registering.{Rules, applied, present, AllLast}
 use Rattle.registrar.specs.Bound.{Event, bindings_after, bound, fold_from, step, names, is_known, or_as_before, answer_after, answer_to}
 use Rattle.registrar.specs.Registrar.{Contents, StandsAfter, rules_of, rules_given, is_for, bindings_of, event, answer_of, answer_for, answer_at, registered, registered_for, registered_at, Gives, made_of}
-use Rattle.registrar.proofs.LineLaws.{same_text, known, is_some-position, own_line, other_line, same_users, users-without_bindings, none-without_bindings}
+use Rattle.registrar.proofs.LineLaws.{known, own_line, other_line, same_users, users-without_bindings, none-without_bindings}
 
 -- one more REGISTER is one more step
 fold_from-append : (rules : Rules) (user : List ℕ) (bs : List Binding) (es : List Event) (e : Event) → fold_from rules user bs (es ++ e ∷ []) ≡ step rules user (fold_from rules user bs es) e
@@ -55,13 +56,13 @@ each_at : (r : Contents) (g : Register) (now : ℕ) (user v : List ℕ) (o : Opt
 each_at r g now user v None found =
     elim (pointwise nat_eq user v) as (λ b. pointwise nat_eq user v ≡ b → bindings_of r.lines v ≡ cond (b && is_known (rules_of r) v) (or_as_before (bindings_of r.lines v) (applied (rules_of r) g now (bindings_of r.lines v))) (bindings_of r.lines v)) [
       | true ↦ λ e.
-          let unknown : is_known (rules_of r) v ≡ false = subst (λ w. is_known (rules_of r) w ≡ false) (same_text user v e) (known r user ∙ ap is_some found) in
+          let unknown : is_known (rules_of r) v ≡ false = subst (λ w. is_known (rules_of r) w ≡ false) ((bytes_decides user v).0 e) (known r user ∙ ap is_some found) in
           ap (λ b. cond b (or_as_before (bindings_of r.lines v) (applied (rules_of r) g now (bindings_of r.lines v))) (bindings_of r.lines v)) (sym unknown)
       | false ↦ λ e. refl
     ] refl
 each_at r g now user v (Some place) found =
     elim (pointwise nat_eq user v) as (λ b. pointwise nat_eq user v ≡ b → bindings_of (registered_at r user (applied (rules_of r) g now (bindings_of r.lines user))).lines v ≡ cond (b && is_known (rules_of r) v) (or_as_before (bindings_of r.lines v) (applied (rules_of r) g now (bindings_of r.lines v))) (bindings_of r.lines v)) [
-      | true ↦ λ e. subst (λ w. bindings_of (registered_at r user (applied (rules_of r) g now (bindings_of r.lines user))).lines w ≡ cond (is_known (rules_of r) w) (or_as_before (bindings_of r.lines w) (applied (rules_of r) g now (bindings_of r.lines w))) (bindings_of r.lines w)) (same_text user v e) (known_step r g now user place found)
+      | true ↦ λ e. subst (λ w. bindings_of (registered_at r user (applied (rules_of r) g now (bindings_of r.lines user))).lines w ≡ cond (is_known (rules_of r) w) (or_as_before (bindings_of r.lines w) (applied (rules_of r) g now (bindings_of r.lines w))) (bindings_of r.lines w)) ((bytes_decides user v).0 e) (known_step r g now user place found)
       | false ↦ λ e. other_step r user v (applied (rules_of r) g now (bindings_of r.lines user)) e
     ] refl
 

@@ -1,6 +1,6 @@
 -- The address of a c= line: found where it is written, and read where it is found.
 use Rattle.std.proofs.Common.{◌≡◌, ℕ, zero, suc, ◌^◌, ◌≤◌, ◌<◌, Bool, true, false, not, ◌&&◌, ◌||◌, cond, eqb, leb, List, [], ◌∷◌, ◌++◌, length, take, drop, get_or, Option, Some, None, refl, sym, ap, subst, ◌∙◌, arith, codes}
-use Rattle.std.specs.Prelude.{option_and_then, decimal, nat_eq}
+use Rattle.std.specs.Prelude.{decimal, nat_eq}
 use Rattle.std.specs.List.{list_all}
 use Rattle.std.specs.Char.{is_ascii_digit}
 use Rattle.std.specs.Cmp.Lexicographic.{pointwise, same_text}
@@ -13,6 +13,7 @@ use Rattle.text.specs.Cut.{before, after, led_by}
 use Rattle.text.specs.Number.{number_upto}
 use Rattle.text.proofs.CutLaws.{joined, Lacks, Lacks-from_class, before_at, after_at, after_none}
 use Rattle.text.proofs.Numbers.{number_is, number_again, decimal_digits, decimal_run}
+use Rattle.text.proofs.Lists.{some_then}
 use Rattle.sdp.specs.declared.address.Address.{Address}
 use Rattle.sdp.specs.declared.address.Address.TheVariants.{Ip4, Multicast, Ip6, Name}
 use Rattle.sdp.specs.Classes.{begins, is_word}
@@ -55,10 +56,6 @@ octet_again n le = rw (decimal_run n (omega arith), no_zero_written n le, number
 
 abbrev some : List ℕ → Option (List ℕ)
 some x = Some x
-
-some_then : {A B : Type 0} (o : Option A) (f : A → Option B) (y : B) → option_and_then f o ≡ Some y → (x : A) × (o ≡ Some x) × (f x ≡ Some y)
-some_then (Some x) f y e = (x, refl, e)
-some_then None f y e = absurd cc
 
 pub record AreOctets (t os : List ℕ) : Type 0 where
   pub a : ℕ

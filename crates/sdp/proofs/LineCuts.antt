@@ -1,9 +1,8 @@
 -- The first line of a text, and the lines behind it.
 use Rattle.std.proofs.Common.{◌≡◌, ℕ, suc, ◌<◌, Bool, true, false, ◌&&◌, cond, eqb, List, [], ◌∷◌, ◌++◌, length, Some, None, refl, sym, ap, ◌∙◌, arith}
 use Rattle.std.specs.List.{slice_split, onto_first}
-use Rattle.std.proofs.lemmas.Bool.{ne_eqb}
-use Rattle.std.proofs.lemmas.List.{length-append}
 use Rattle.text.specs.Cut.{before, after}
+use Rattle.text.proofs.Lists.{more_than_nothing}
 use Rattle.sdp.specs.Lines.{without_cr, lines_from, lines_of}
 
 abbrev parts : List ℕ → List (List ℕ)
@@ -53,9 +52,6 @@ rest_is_shorter (b ∷ bs) rest h = step (eqb b 10) h (λ k. rest_is_shorter bs 
   step false k more = let lt = more k in omega arith
 
 -- ---- a CR at the end
-
-more_than_nothing : (xs : List ℕ) (b : ℕ) → eqb (length (xs ++ b ∷ [])) 0 ≡ false
-more_than_nothing xs b = ne_eqb (length (xs ++ b ∷ [])) 0 (λ e. omega (arith, length-append xs (b ∷ [])))
 
 inner : (x : ℕ) (rest : List ℕ) → eqb (length rest) 0 ≡ false → without_cr (x ∷ rest) ≡ x ∷ without_cr rest
 inner x rest h = step (eqb x 13) (eqb (length rest) 0) h where

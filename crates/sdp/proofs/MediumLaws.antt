@@ -8,10 +8,11 @@ use Rattle.text.specs.Class.{is_run_of, passes_if_there}
 use Rattle.text.specs.Cut.{before, led_by}
 use Rattle.text.specs.Number.{number_upto}
 use Rattle.text.proofs.CutLaws.{joined, Lacks, Lacks-append, Lacks-led_by, Lacks-from_pieces, AllLack-from_test, before_at, after_at}
+use Rattle.text.proofs.Lists.{run_lacks}
 use Rattle.sdp.specs.Classes.{is_token_char, is_token, is_number, is_integer, is_protocol}
 use Rattle.sdp.specs.MediumLines.{RawMedium, raw_medium_text, raw_medium_of, greatest_port, is_port, is_count, formats_of, is_raw_medium}
 use Rattle.sdp.specs.Origins.{behind_space}
-use Rattle.sdp.proofs.OriginLaws.{run_some, run_lacks, space_joined, front_some, front_at, back_at}
+use Rattle.sdp.proofs.OriginLaws.{run_some, space_joined, front_some, front_at, back_at}
 
 pub record IsForm (r : RawMedium) : Type 0 where
   pub kind : is_run_of is_token_char r.kind ≡ true

@@ -1,12 +1,12 @@
 -- The fields of an o= line: cut, and put together.
-use Rattle.std.proofs.Common.{◌≡◌, ℕ, Bool, true, false, not, ◌&&◌, eqb, List, [], ◌∷◌, ◌++◌, length, Option, Some, None, refl, sym, ap, ◌∙◌}
+use Rattle.std.proofs.Common.{◌≡◌, ℕ, Bool, true, ◌&&◌, List, [], ◌∷◌, ◌++◌, Option, Some, None, refl, sym, ap, ◌∙◌}
 use Rattle.std.specs.Prelude.{unwrap_or}
-use Rattle.std.specs.List.{list_all}
 use Rattle.std.specs.Char.{is_ascii_digit}
 use Rattle.std.proofs.lemmas.Bool.{and_parts, true≢false}
 use Rattle.text.specs.Class.{is_run_of}
 use Rattle.text.specs.Cut.{before, after, led_by}
-use Rattle.text.proofs.CutLaws.{joined, Lacks, Lacks-from_class, before_at, after_at}
+use Rattle.text.proofs.CutLaws.{joined, Lacks, before_at, after_at}
+use Rattle.text.proofs.Lists.{run_lacks}
 use Rattle.sdp.specs.declared.description.Origin.{Origin}
 use Rattle.sdp.specs.Classes.{is_token_char, is_token, is_visible, is_word, is_number}
 use Rattle.sdp.specs.Origins.{behind_space, origin_of, is_origin, IsOrigin}
@@ -16,9 +16,6 @@ use Rattle.sdp.specs.Writing.{origin_text}
 
 pub run_some : (p : ℕ → Bool) (t : List ℕ) → is_run_of p t ≡ true → t ≡ [] → ⊥
 run_some p t h e = true≢false (sym h ∙ ap (is_run_of p) e)
-
-pub run_lacks : (p : ℕ → Bool) (c : ℕ) → p c ≡ false → (t : List ℕ) → is_run_of p t ≡ true → Lacks c t
-run_lacks p c out t h = Lacks-from_class p c out t (and_parts (not (eqb (length t) 0)) (list_all p t) h).1
 
 pub space_joined : (t : List ℕ) → (behind_space t ≡ [] → ⊥) → t ≡ before 32 t ++ 32 ∷ behind_space t
 space_joined t some = step (after 32 t) refl where

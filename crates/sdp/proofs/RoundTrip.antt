@@ -13,6 +13,7 @@ use Rattle.text.specs.Cut.{led_by}
 use Rattle.text.specs.Number.{number_upto}
 use Rattle.text.proofs.CutLaws.{Lacks, Lacks-append, Lacks-led_by, Lacks-from_class}
 use Rattle.text.proofs.Numbers.{digit_is, number_is, number_again, decimal_run}
+use Rattle.text.proofs.Lists.{run_lacks}
 use Rattle.sdp.specs.declared.address.Address.{Address}
 use Rattle.sdp.specs.declared.address.Address.TheVariants.{Ip4, Multicast, Ip6, Name}
 use Rattle.sdp.specs.declared.description.Description.{Description}
@@ -26,7 +27,6 @@ use Rattle.sdp.specs.Writing.{line_text, ended, origin_text, ip4_text, address_t
 use Rattle.sdp.proofs.AddressLaws.{octets_are, octets_again, decimal_begins}
 use Rattle.sdp.proofs.MediaLaws.{all_parts, all_joined}
 use Rattle.sdp.proofs.MediumLaws.{IsForm, form_of, tokens_lack}
-use Rattle.sdp.proofs.OriginLaws.{run_lacks}
 
 -- ---- lines with their ends
 

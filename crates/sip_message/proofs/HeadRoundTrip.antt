@@ -2,7 +2,7 @@
 use Rattle.std.proofs.Common.{◌≡◌, ℕ, suc, ◌<◌, true, false, not, ◌&&◌, eqb, codes, List, [], ◌∷◌, ◌++◌, length, map, Option, Some, refl, sym, ap, ◌∙◌, append_assoc, arith}
 use Rattle.std.specs.Prelude.{nat_eq, is_some, unwrap_or}
 use Rattle.std.specs.List.{list_all}
-use Rattle.std.specs.Cmp.Lexicographic.{pointwise}
+use Rattle.std.specs.Cmp.Lexicographic.{pointwise, bytes_decides}
 use Rattle.std.proofs.lemmas.Bool.{and_parts, and_from}
 use Rattle.text.specs.Class.{is_token_byte, is_run_of}
 use Rattle.text.specs.Cut.{before, after}
@@ -16,7 +16,7 @@ use Rattle.sip_message.specs.WritingHead.{header_text, headers_text, is_written}
 use Rattle.sip_message.specs.declared.headers.Header.{Header}
 use Rattle.sip_message.proofs.FieldLaws.{is_field}
 use Rattle.sip_message.proofs.HeadLaws.{head_again}
-use Rattle.sip_message.proofs.ValueLaws.{same_text, text_same, token_clean, token_front, token_trimmed, clean_joined}
+use Rattle.sip_message.proofs.ValueLaws.{text_same, token_clean, token_front, token_trimmed, clean_joined}
 
 -- the parts of the written form
 pub record Written (h : Header) : Type 0 where
@@ -34,7 +34,7 @@ written_is h e =
     let a = and_parts (token && long && clean) (pointwise nat_eq (trimmed h.value) h.value) e in
     let b = and_parts (token && long) clean a.0 in
     let c = and_parts token long b.0 in
-    record { token = c.0; long = same_text (long_name h.name) h.name c.1; clean = b.1; trim = same_text (trimmed h.value) h.value a.1 }
+    record { token = c.0; long = (bytes_decides (long_name h.name) h.name).0 c.1; clean = b.1; trim = (bytes_decides (trimmed h.value) h.value).0 a.1 }
 
 pub is_written_from : (h : Header) → Written h → is_written h ≡ true
 unfolding is_written

@@ -1,11 +1,12 @@
 -- What was read of a request can be repeated.
 use Rattle.std.proofs.Common.{◌≡◌, ℕ, Bool, true, false, cond, List, [], ◌∷◌, map, Option, Some, None, Result, Ok, Err, refl, sym, ap, subst, ◌∙◌, codes}
-use Rattle.std.specs.Prelude.{filter, find, option_map, option_and_then, IfOk}
+use Rattle.std.specs.Prelude.{filter, find, option_map, IfOk}
 use Rattle.std.specs.List.{list_all, flat_map, AllByRecursion}
 use Rattle.std.proofs.lemmas.Bool.{and_parts, and_from}
 use Rattle.std.proofs.lemmas.List.Folds.{list_all-append}
 use Rattle.text.specs.Pieces.{pieces}
 use Rattle.text.specs.declared.splitting.Within.TheVariants.{Nothing}
+use Rattle.text.proofs.Lists.{some_then}
 use Rattle.sip_uri.specs.declared.uri.NameAddr.{NameAddr}
 use Rattle.sip_message.specs.declared.cseq.CSeq.{CSeq}
 use Rattle.sip_message.specs.declared.cseq.Sequence.{Sequence}
@@ -81,10 +82,6 @@ repeatable_at text (Ok m) h = reads_repeatable text m h.0
 repeatable_at text (Err e) h = tt
 
 -- ---- a request that can't be read
-
-some_then : {A B : Type 0} (o : Option A) (f : A → Option B) (y : B) → option_and_then f o ≡ Some y → (x : A) × (o ≡ Some x) × (f x ≡ Some y)
-some_then (Some x) f y e = (x, refl, e)
-some_then None f y e = absurd cc
 
 some_map : {A B : Type 0} (o : Option A) (f : A → B) (y : B) → option_map f o ≡ Some y → (x : A) × (o ≡ Some x) × (f x ≡ y)
 some_map (Some x) f y e = (x, refl, cc)

@@ -1,7 +1,7 @@
 -- An answer is one to its request.
 use Rattle.std.proofs.Common.{◌≡◌, ℕ, zero, suc, ◌<◌, Bool, true, false, not, ◌&&◌, ◌||◌, cond, eqb, List, [], ◌∷◌, ◌++◌, length, get_or, set, Option, Some, None, is_some, Result, Ok, Err, refl, sym, ap, subst, ◌∙◌, codes, arith}
 use Rattle.std.specs.Prelude.{filter, find, position, decimal, nat_eq, IfOk}
-use Rattle.std.specs.Cmp.Lexicographic.{pointwise}
+use Rattle.std.specs.Cmp.Lexicographic.{pointwise, bytes_decides}
 use Rattle.std.specs.Str.{str_to_ascii_lowercase}
 use Rattle.std.proofs.lemmas.List.Quantifiers.{position-Some}
 use Rattle.sip_uri.specs.declared.uri.Addr.{Addr}
@@ -13,7 +13,6 @@ use Rattle.sip_message.specs.declared.message.Response.{Response}
 use Rattle.sip_message.specs.declared.via.Via.{Via}
 use Rattle.sip_message.specs.Replies.{top_branch, tag_of, answered_tag, Replies}
 use Rattle.sip_message.specs.Reply.{asks_port, is_address, is_param, value_put, without, received, filled, with_received, marked, marked_top, tag_param, tagged_params, tagged_to, replied, reply_of}
-use Rattle.sip_message.proofs.ValueLaws.{same_text}
 
 -- ---- what is found in a list that was changed elsewhere
 
@@ -43,7 +42,7 @@ find_last p (x ∷ xs) y none h = step (p x) none (λ e. find_last p xs y e h) w
 
 -- a parameter of one name has no other
 other_name : (a b : List ℕ) (p : Param) → is_param a p ≡ true → pointwise nat_eq (str_to_ascii_lowercase a) (str_to_ascii_lowercase b) ≡ false → is_param b p ≡ false
-other_name a b p h other = rw (same_text (str_to_ascii_lowercase p.name) (str_to_ascii_lowercase a) h) other
+other_name a b p h other = rw ((bytes_decides (str_to_ascii_lowercase p.name) (str_to_ascii_lowercase a)).0 h) other
 
 -- ---- the branch
 

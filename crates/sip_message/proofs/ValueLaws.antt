@@ -2,8 +2,8 @@
 use Rattle.std.proofs.Common.{◌≡◌, ℕ, suc, Bool, true, false, ◌&&◌, cond, eqb, List, [], ◌∷◌, ◌++◌, length, map, Some, refl, ap, ◌∙◌}
 use Rattle.std.specs.Prelude.{nat_eq, unwrap_or}
 use Rattle.std.specs.List.{list_all}
-use Rattle.std.specs.Cmp.Lexicographic.{pointwise}
-use Rattle.std.proofs.lemmas.Bool.{and_parts, and_from, eqb-true, eq-eqb, ne_eqb}
+use Rattle.std.specs.Cmp.Lexicographic.{pointwise, bytes_decides}
+use Rattle.std.proofs.lemmas.Bool.{and_parts, and_from, ne_eqb}
 use Rattle.text.specs.Class.{is_blank, is_token_byte}
 use Rattle.text.specs.Cut.{after}
 use Rattle.text.specs.Trim.{without_blanks, kept, without_end, trimmed}
@@ -14,19 +14,8 @@ use Rattle.sip_message.specs.Fields.{begins_blank, begun_value, glue, unfolded}
 
 -- ---- equal texts
 
-pub same_text : (a b : List ℕ) → pointwise nat_eq a b ≡ true → a ≡ b
-same_text [] [] h = refl
-same_text [] (y ∷ b) h = absurd cc
-same_text (x ∷ a) [] h = absurd cc
-same_text (x ∷ a) (y ∷ b) h =
-    let parts = and_parts (nat_eq x y) (pointwise nat_eq a b) h in
-    ap (λ (z : ℕ). z ∷ a) (eqb-true x y parts.0) ∙ ap (λ (t : List ℕ). y ∷ t) (same_text a b parts.1)
-
 pub text_same : (a b : List ℕ) → a ≡ b → pointwise nat_eq a b ≡ true
-text_same a b e = rw e (again b) where
-  again : (t : List ℕ) → pointwise nat_eq t t ≡ true
-  again [] = refl
-  again (x ∷ t) = and_from (nat_eq x x) (pointwise nat_eq t t) (eq-eqb x x refl) (again t)
+text_same a b e = (bytes_decides a b).1 e
 
 -- ---- bytes of a token
 

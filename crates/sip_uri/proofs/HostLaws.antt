@@ -1,6 +1,6 @@
 -- A host that is written is read again.
 use Rattle.std.proofs.Common.{◌≡◌, ℕ, ◌≤◌, Bool, true, false, not, ◌&&◌, ◌||◌, cond, eqb, ltb, List, [], ◌∷◌, ◌++◌, length, Option, Some, None, refl, sym, ap, subst, ◌∙◌, append_assoc, arith}
-use Rattle.std.specs.Prelude.{is_some, option_and_then, decimal}
+use Rattle.std.specs.Prelude.{is_some, decimal}
 use Rattle.std.specs.List.{list_all, slice_split}
 use Rattle.std.specs.Char.{is_ascii_digit}
 use Rattle.std.proofs.lemmas.Bool.{and_parts, eqb-true, lt-ltb}
@@ -15,6 +15,7 @@ use Rattle.sip_uri.specs.Reading.{host_of}
 use Rattle.sip_uri.specs.Writing.{ip4_text, host_text}
 use Rattle.text.proofs.CutLaws.{Lacks, Lacks-from_class, Lacks-from_pieces, Lacks-from_cut, AllLack-from_test, before_at, after_at}
 use Rattle.text.proofs.Numbers.{number_is, number_again, decimal_digits, decimal_run}
+use Rattle.text.proofs.Lists.{some_then}
 
 -- ---- octets
 
@@ -35,9 +36,6 @@ abbrev some : List ℕ → Option (List ℕ)
 some x = Some x
 
 -- the value of a step that did not fail
-some_then : {A B : Type 0} (o : Option A) (f : A → Option B) (y : B) → option_and_then f o ≡ Some y → (x : A) × (o ≡ Some x) × (f x ≡ Some y)
-some_then (Some x) f y e = (x, refl, e)
-some_then None f y e = absurd cc
 
 -- four octets
 pub record AreOctets (os : List ℕ) : Type 0 where

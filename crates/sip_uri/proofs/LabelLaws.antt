@@ -1,16 +1,12 @@
 -- The ends of texts and of lists of labels.
-use Rattle.std.proofs.Common.{◌≡◌, ℕ, Bool, true, false, ◌&&◌, cond, eqb, List, [], ◌∷◌, ◌++◌, length, refl, ap, ◌∙◌, arith}
-use Rattle.std.proofs.lemmas.Bool.{ne_eqb}
-use Rattle.std.proofs.lemmas.List.{length-append}
+use Rattle.std.proofs.Common.{◌≡◌, ℕ, Bool, true, false, ◌&&◌, cond, eqb, List, [], ◌∷◌, ◌++◌, length, refl, ap, ◌∙◌}
+use Rattle.text.proofs.Lists.{more_than_nothing}
 use Rattle.sip_uri.specs.Hosts.{ends_with, without_dot, top_label}
 
 pub ends_at : (p : ℕ → Bool) (xs : List ℕ) (b : ℕ) → ends_with p (xs ++ b ∷ []) ≡ p b
 ends_at p [] b = refl
 ends_at p (x ∷ []) b = refl
 ends_at p (x ∷ y ∷ xs) b = ends_at p (y ∷ xs) b
-
-more_than_nothing : (xs : List ℕ) (b : ℕ) → eqb (length (xs ++ b ∷ [])) 0 ≡ false
-more_than_nothing xs b = ne_eqb (length (xs ++ b ∷ [])) 0 (λ e. omega (arith, length-append xs (b ∷ [])))
 
 inner : (x : ℕ) (rest : List ℕ) → eqb (length rest) 0 ≡ false → without_dot (x ∷ rest) ≡ x ∷ without_dot rest
 inner x rest h = step (eqb x 46) (eqb (length rest) 0) h where

@@ -1,6 +1,6 @@
 -- The parts that a name and an address are cut into spell it.
 use Rattle.std.proofs.Common.{◌≡◌, ℕ, Bool, true, false, ◌||◌, cond, eqb, inl, inr, List, [], ◌∷◌, ◌++◌, Option, Some, None, refl, sym, ap, subst, ◌∙◌, append_assoc}
-use Rattle.std.specs.Prelude.{is_some, option_and_then}
+use Rattle.std.specs.Prelude.{is_some}
 use Rattle.std.specs.List.{list_all}
 use Rattle.std.proofs.lemmas.Bool.{and_from, and_parts, eqb-true}
 use Rattle.std.proofs.lemmas.List.Folds.{list_all-append}
@@ -8,6 +8,7 @@ use Rattle.text.specs.Class.{is_blank}
 use Rattle.text.specs.Cut.{before, after, led_by}
 use Rattle.text.specs.Trim.{without_blanks, without_end, trimmed}
 use Rattle.text.proofs.CutLaws.{joined}
+use Rattle.text.proofs.Lists.{some_then}
 use Rattle.sip_uri.specs.Quoted.{quoted, fits_quotes}
 use Rattle.sip_uri.specs.NameParts.{RawName, is_phrase_byte, phrase_of, with_params, bracketed, opened, quoted_name, worded_name, bare, name_from, name_of}
 use Rattle.sip_uri.specs.NameAddr.{Closes, IsQuotedName, IsWordedName, IsBareName, SpellsName}
@@ -15,9 +16,6 @@ use Rattle.sip_uri.proofs.BlankLaws.{lead_of, skipped}
 use Rattle.sip_uri.proofs.QuotedLaws.{quoted_is}
 
 -- the value of a step that did not fail
-pub some_then : {A B : Type 0} (o : Option A) (f : A → Option B) (y : B) → option_and_then f o ≡ Some y → (x : A) × (o ≡ Some x) × (f x ≡ Some y)
-some_then (Some x) f y e = (x, refl, e)
-some_then None f y e = absurd cc
 
 abbrev some : RawName → Option RawName
 some r = Some r

@@ -12,6 +12,7 @@ use Rattle.sip_uri.specs.Hosts.{is_host}
 use Rattle.sip_uri.specs.RawUri.{RawUri, user_text, raw_text, raw_of, parts_from, is_raw, is_param, is_params, is_header, is_headers}
 use Rattle.sip_uri.proofs.HostLaws.{host_lacks}
 use Rattle.text.proofs.CutLaws.{one_of_small, joined, after_none, Lacks, Lacks-append, Lacks-from_class, before_at, after_at, Lacks-from_pieces, AllLack-from_test, Lacks-led_by, Lacks-from_cut}
+use Rattle.text.proofs.Lists.{run_lacks}
 
 -- ---- the text of the parts
 
@@ -38,9 +39,6 @@ raw_text-raw_of t =
 -- a part of its form
 part_all : (p : ℕ → Bool) (t : List ℕ) → is_run_of p t ≡ true → list_all p t ≡ true
 part_all p t h = (and_parts (not (eqb (length t) 0)) (list_all p t) h).1
-
-run_lacks : (p : ℕ → Bool) (c : ℕ) → p c ≡ false → (t : List ℕ) → is_run_of p t ≡ true → Lacks c t
-run_lacks p c out t h = Lacks-from_class p c out t (part_all p t h)
 
 param_lacks : (c : ℕ) → is_param_byte c ≡ false → eqb 61 c ≡ false → (t : List ℕ) → is_param t ≡ true → Lacks c t
 param_lacks c out apart t h =
