@@ -61,7 +61,7 @@ by_step : (id : ℕ) (t : Transaction) (input : Input) (fresh : Option (List ℕ
 by_step id t input fresh None h = h
 by_step id t input fresh (Some step) h = upward_old id step.told (repeat_by input step.send) (repeat_old input step.send) h
 
-by_transaction : (id : ℕ) (t : Option Transaction) (input : Input) (fresh : Option (List ℕ)) → IsNew (reception_at id t input fresh).verdict → ⊥
+pub by_transaction : (id : ℕ) (t : Option Transaction) (input : Input) (fresh : Option (List ℕ)) → IsNew (reception_at id t input fresh).verdict → ⊥
 by_transaction id None input fresh h = h
 by_transaction id (Some t) input fresh h = by_step id t input fresh (row_of t.state input) h
 
@@ -87,7 +87,7 @@ begun_only : (table : Contents) (r : Request) (number : Option ℕ) → IsNew (r
 begun_only table r None h = refl
 begun_only table r (Some id) h = absurd (by_transaction id (at table.slots id) (input_of r.parts) None h)
 
-none_asked : (table : Contents) (r : Request) → IsNew (reception_of table (Kinds.Request r)).verdict → position (is_asked r.parts) table.slots ≡ None
+pub none_asked : (table : Contents) (r : Request) → IsNew (reception_of table (Kinds.Request r)).verdict → position (is_asked r.parts) table.slots ≡ None
 unfolding reception_of
 none_asked table r h = begun_only table r (position (is_asked r.parts) table.slots) h
 
@@ -100,13 +100,13 @@ begins table r h = sym (is_some-position (is_asked r.parts) table.slots) ∙ ap 
 both : (a b : Bool) → a ≡ true → b ≡ true → (a && b) ≡ true
 both a b p q = rw (p, q) refl
 
-own_bytes : (a : List ℕ) → pointwise nat_eq a a ≡ true
+pub own_bytes : (a : List ℕ) → pointwise nat_eq a a ≡ true
 own_bytes a = (bytes_decides a a).1 refl
 
 own_number : (n : ℕ) → nat_eq n n ≡ true
 own_number n = grind (arith, nat_tests)
 
-own_text : (a : Option (List ℕ)) → same_text a a ≡ true
+pub own_text : (a : Option (List ℕ)) → same_text a a ≡ true
 own_text None = refl
 own_text (Some a) = own_bytes a
 
@@ -130,7 +130,7 @@ own_copy parts h =
     both (is_method (served_method parts.cseq.method) parts) (same_top parts.vias parts.vias)
     (own_method parts.cseq.method (pointwise nat_eq parts.cseq.method (codes "ACK")) h) (own_top parts.vias)
 
-served_side : (parts : Parts) → is_server (served_state parts) ≡ true
+pub served_side : (parts : Parts) → is_server (served_state parts) ≡ true
 served_side parts = elim (is_method (codes "INVITE") parts) as (λ b. is_server (cond b (machine.InviteServer invite.Proceeding) (machine.OtherServer other.Trying)) ≡ true) [ true ↦ refl | false ↦ refl ]
 
 own_asked : (r : Request) (source : Addr) → is_method (codes "ACK") r.parts ≡ false → is_asked r.parts (Some (served r source)) ≡ true
@@ -141,7 +141,7 @@ new_is_no_ack : (table : Contents) (b : Bool) → IsNew (cond b stray (record { 
 new_is_no_ack table true h = absurd h
 new_is_no_ack table false h = refl
 
-no_ack : (table : Contents) (r : Request) (number : Option ℕ) → IsNew (request_reception table r number).verdict → is_method (codes "ACK") r.parts ≡ false
+pub no_ack : (table : Contents) (r : Request) (number : Option ℕ) → IsNew (request_reception table r number).verdict → is_method (codes "ACK") r.parts ≡ false
 no_ack table r None h = new_is_no_ack table (is_method (codes "ACK") r.parts) h
 no_ack table r (Some id) h = absurd (by_transaction id (at table.slots id) (input_of r.parts) None h)
 
@@ -175,29 +175,3 @@ unfolding reception_of after_message
 stands_then table r source now h =
     let number = position (is_asked r.parts) table.slots in
     stands_after table r source now number (none_asked table r h) (no_ack table r number h)
-
--- ---- a step takes no other transaction away
-
-list_any-set : {X : Type 0} (p : X → Bool) (xs : List X) (i : ℕ) (y d : X) → p y ≡ p (get_or xs i d) → list_any p (set xs i y) ≡ list_any p xs
-list_any-set p xs i y d h = list_any_is p (set xs i y) ∙ rw (position_or_len-set p xs i y d h, length-set xs i y) (sym (list_any_is p xs))
-
-went_asked : (parts : Parts) (t : Transaction) (fresh : Option (List ℕ)) (next : State) → is_server next ≡ is_server t.state
-    → is_asked parts (Some (went t fresh next)) ≡ is_asked parts (Some t)
-unfolding is_asked
-went_asked parts t fresh next side = ap (λ b. b && is_copy parts t.parts) side
-
-pub goes_on : (table : Contents) (id : ℕ) (t : Transaction) (step : Step) (fresh : Option (List ℕ)) (now : ℕ) (next : State) (parts : Parts)
-    → at table.slots id ≡ Some t → step.next ≡ Some next → is_server next ≡ is_server t.state
-    → stands (stepped table id t step fresh now) parts ≡ stands table parts
-goes_on table id t step fresh now next parts there is_next side =
-    rw is_next (list_any-set (is_asked parts) table.slots id (Some (went t fresh next)) None (went_asked parts t fresh next side ∙ sym (ap (is_asked parts) there)))
-
-none_of_nobody : (parts : Parts) → is_asked parts None ≡ false
-unfolding is_asked
-none_of_nobody parts = refl
-
-pub ends : (table : Contents) (id : ℕ) (t : Transaction) (step : Step) (fresh : Option (List ℕ)) (now : ℕ) (parts : Parts)
-    → at table.slots id ≡ Some t → step.next ≡ None → is_asked parts (Some t) ≡ false
-    → stands (stepped table id t step fresh now) parts ≡ stands table parts
-ends table id t step fresh now parts there is_next other =
-    rw is_next (list_any-set (is_asked parts) table.slots id None None (none_of_nobody parts ∙ sym other ∙ sym (ap (is_asked parts) there)))

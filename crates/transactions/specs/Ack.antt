@@ -1,5 +1,5 @@
 -- The ACK to a refusal of an INVITE (RFC 3261 section 17.1.1.3).
-use Rattle.std.specs.Prelude.{ℕ, List, [], ◌∷◌, ◌++◌, map, codes, decimal, Option, Some, None}
+use Rattle.std.specs.Prelude.{ℕ, List, [], ◌∷◌, ◌++◌, codes, decimal, Option, Some, None}
 use Rattle.sip_uri.specs.declared.uri.NameAddr.{NameAddr}
 use Rattle.sip_uri.specs.declared.uri.Param.{Param}
 use Rattle.sip_uri.specs.declared.uri.Uri.{Uri}
@@ -10,7 +10,7 @@ use Rattle.sip_message.specs.declared.message.Parts.{Parts}
 use Rattle.sip_message.specs.declared.message.Request.{Request}
 use Rattle.sip_message.specs.declared.via.Via.{Via}
 use Rattle.sip_message.specs.Lookup.{named}
-use Rattle.sip_message.specs.Reply.{via_text, tag_param}
+use Rattle.sip_message.specs.Reply.{via_headers, tag_param}
 use Rattle.transactions.specs.Matching.{tag_in}
 
 -- a single Via, the top one of the INVITE
@@ -48,7 +48,7 @@ ack_parts invite answer = record {
 
 unfoldable pub ack_headers : Parts → List Header
 ack_headers parts =
-    map (λ via. named (codes "Via") (via_text via)) parts.vias
+    via_headers parts.vias
     ++ named (codes "Max-Forwards") (codes "70") ∷ []
     ++ named (codes "From") parts.from_text ∷ []
     ++ named (codes "To") parts.to_text ∷ []

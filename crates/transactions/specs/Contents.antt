@@ -1,5 +1,5 @@
 -- The table of transactions, and what each call does to it.
-use Rattle.std.specs.Prelude.{◌≡◌, ℕ, ◌≤◌, Bool, true, false, not, ◌&&◌, List, [], ◌∷◌, ◌++◌, length, codes, Option, Some, None, option_map, option_and_then, is_some, position, slice_set, nat_lt, nat_le, ◌⊎◌, if◌then◌else◌}
+use Rattle.std.specs.Prelude.{◌≡◌, ℕ, ◌≤◌, Bool, true, false, not, ◌&&◌, List, [], ◌∷◌, ◌++◌, length, codes, Option, Some, None, option_map, option_and_then, is_some, position, slice_set, nat_lt, nat_le, if◌then◌else◌}
 use Rattle.std.specs.List.{list_any}
 use Rattle.timers.specs.declared.timers.Timer.{Timer}
 use Rattle.timers.specs.Queue.{moment}
@@ -246,7 +246,7 @@ is_due table timer now = has_come now (moment same_timer table.timers timer)
 -- which timer is refused, and why
 abbrev pub RefusesFire : Contents → TimerId → ℕ → TableError → Type 0
 RefusesFire table timer now OutOfMemory = Unit {0}
-RefusesFire table timer now Unknown = (is_due table timer now ≡ false) ⊎ (fired_of (at table.slots timer.id) timer.kind ≡ None)
+RefusesFire table timer now Unknown = is_due table timer now ≡ false
 RefusesFire table timer now AfterFinal = ⊥
 RefusesFire table timer now Full = ⊥
 

@@ -8,8 +8,11 @@ pub mod Machines
 pub mod Matching
 pub mod OtherClient
 pub mod OtherServer
+pub mod Replies
 pub mod Slots
 pub mod Steps
 pub mod Timing
 pub mod Transactions
+pub mod Calls
+pub mod Lines
 pub mod Once

@@ -69,7 +69,7 @@ unfoldable pub is_reply : Parts → Parts → Bool
 is_reply answer request =
     same_text (branch_in answer.vias) (branch_in request.vias) && is_same_call answer request && keeps_to_tag answer request
 
--- the same, as equations
+-- the same, as equations: `replies` says that the two agree
 pub record RepliesTo (answer request : Parts) : Type 0 where
   pub branch : branch_in answer.vias ≡ branch_in request.vias
   pub call_id : answer.call_id ≡ request.call_id

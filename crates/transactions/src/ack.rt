@@ -1,30 +1,22 @@
 //! The ACK to a refusal of an INVITE (RFC 3261 section 17.1.1.3).
 
-ghost use Rattle.std.specs.Prelude.{◌≡◌, ◌++◌, IfOk, OnOk, codes, decimal, map, [], ◌∷◌};
-ghost use Rattle.std.specs.List.{flat_map};
+ghost use Rattle.std.specs.Prelude.{◌≡◌, IfOk};
 ghost use Rattle.std.specs.Option.{option_copied};
-ghost use Rattle.sip_uri.specs.Writing.{param_text};
-ghost use Rattle.sip_message.specs.Lookup.{named};
-ghost use Rattle.sip_message.specs.Reply.{via_text, tag_param};
 ghost use Rattle.sip_message.specs.Writing.{message_text};
 ghost use Rattle.sip_message.specs.declared.message.Message.TheVariants as Kinds;
 ghost use Rattle.transactions.specs.Ack.{top_only, tag_params, ack_to, ack_cseq, ack_cseq_text, ack_parts, ack_headers, ack_of};
 
-use crate::copies::{copied_name, copied_text, copied_uri};
+use crate::copies::{copied_name, copied_text, copied_uri, copied_via};
 use crate::matching::tag_in;
-use sip_message::{CSeq, Header, Headers, Message, Parts, Request, Via, Vias, write_message};
-use sip_uri::{NameAddr, Param, Params, Uri, put_param, write_name_addr};
+use sip_message::{
+    CSeq, Headers, Parts, Request, Via, Vias, tag_param, via_headers, write_request,
+};
+use sip_uri::{NameAddr, Params, Uri, write_name_addr};
 use std::alloc::{AllocError, Global};
 use text::{Text, put_number};
 
 /// The hops of an ACK (RFC 3261 section 8.1.1.6).
 const MAX_FORWARDS: u8 = 70;
-
-fn copied_via(via: &Via) -> Result<Via, AllocError>
-    ensures { IfOk result (λ v. v ≡ via.now) }
-{
-    via.clone()
-}
 
 // The top Via alone.
 fn top_only(alloc: Global, vias: &[Via]) -> Result<Vias, AllocError>
@@ -37,23 +29,12 @@ fn top_only(alloc: Global, vias: &[Via]) -> Result<Vias, AllocError>
     Ok(Vias::from_vec(top))
 }
 
-fn tag_param(alloc: Global, tag: &Text) -> Result<Param, AllocError>
-    ensures { IfOk result (λ p. p ≡ tag_param tag.now) }
-{
-    let name = Text::from_slice(alloc, b"tag")?;
-    let value = copied_text(tag)?;
-    Ok(Param {
-        name,
-        value: Some(value),
-    })
-}
-
 fn tag_params(alloc: Global, tag: Option<&Text>) -> Result<Params, AllocError>
     ensures { IfOk result (λ ps. ps ≡ tag_params (option_copied tag.entry)) }
 {
     let mut params = Vec::new(alloc);
     if let Some(tag) = tag {
-        params.push(tag_param(alloc, tag)?)?;
+        params.push(tag_param(alloc, tag.as_bytes())?)?;
     }
     Ok(Params::from_vec(params))
 }
@@ -105,70 +86,17 @@ fn ack_parts(alloc: Global, invite: &Parts, answer: &Parts) -> Result<Parts, All
     })
 }
 
-fn put_params(out: &mut Vec<u8>, params: &[Param]) -> Result<(), AllocError>
-    ensures { OnOk result (out.new.items ≡ out.old.items ++ flat_map (λ p. 59 ∷ param_text p) params.now) }
-{
-    for param in params {
-        put_behind(out, param)?;
-    }
-    Ok(())
-}
-
-fn put_behind(out: &mut Vec<u8>, param: &Param) -> Result<(), AllocError>
-    ensures { OnOk result (out.new.items ≡ out.old.items ++ (59 ∷ param_text param.now)) }
-{
-    out.push(b';')?;
-    put_param(out, param)?;
-    Ok(())
-}
-
-fn via_header(alloc: Global, via: &Via) -> Result<Header, AllocError>
-    ensures { IfOk result (λ h. h ≡ named (codes "Via") (via_text via.now)) }
-{
-    let name = Text::from_slice(alloc, b"Via")?;
-    let mut out = Vec::from_slice(alloc, b"SIP/2.0/UDP ")?;
-    out.extend_from_slice(via.sent_by.as_bytes())?;
-    put_params(&mut out, via.params.as_slice())?;
-    Ok(Header {
-        name,
-        value: Text::from_vec(out),
-    })
-}
-
-fn via_headers(alloc: Global, vias: &[Via]) -> Result<Vec<Header>, AllocError>
-    ensures { IfOk result (λ hs. hs.items ≡ map (λ via. named (codes "Via") (via_text via)) vias.now) }
-{
-    let mut headers = Vec::new(alloc);
-    for via in vias {
-        headers.push(via_header(alloc, via)?)?;
-    }
-    Ok(headers)
-}
-
-fn push_header(
-    alloc: Global,
-    headers: &mut Vec<Header>,
-    name: &[u8],
-    value: &[u8],
-) -> Result<(), AllocError>
-    ensures { OnOk result (headers.new.items ≡ headers.old.items ++ named name.now value.now ∷ []) }
-{
-    let header = Header::of(alloc, name, value)?;
-    headers.push(header)?;
-    Ok(())
-}
-
 #[tactic(auto, unfolding(crate::specs::Ack::ack_headers))]
 fn ack_headers(alloc: Global, parts: &Parts) -> Result<Headers, AllocError>
     ensures { IfOk result (λ hs. hs ≡ ack_headers parts.now) }
 {
     let mut headers = via_headers(alloc, parts.vias.as_slice())?;
-    push_header(alloc, &mut headers, b"Max-Forwards", b"70")?;
-    push_header(alloc, &mut headers, b"From", parts.from_text.as_bytes())?;
-    push_header(alloc, &mut headers, b"To", parts.to_text.as_bytes())?;
-    push_header(alloc, &mut headers, b"Call-ID", parts.call_id.as_bytes())?;
-    push_header(alloc, &mut headers, b"CSeq", parts.cseq_text.as_bytes())?;
-    Ok(Headers::from_vec(headers))
+    headers.add(alloc, b"Max-Forwards", b"70")?;
+    headers.add(alloc, b"From", parts.from_text.as_bytes())?;
+    headers.add(alloc, b"To", parts.to_text.as_bytes())?;
+    headers.add(alloc, b"Call-ID", parts.call_id.as_bytes())?;
+    headers.add(alloc, b"CSeq", parts.cseq_text.as_bytes())?;
+    Ok(headers)
 }
 
 #[tactic(auto, unfolding(crate::specs::Ack::ack_of))]
@@ -198,6 +126,6 @@ pub(crate) fn ack_text(
 ) -> Result<Text, AllocError>
     ensures { IfOk result (λ t. t ≡ message_text (Kinds.Request (ack_of uri.now invite.now answer.now))) }
 {
-    let message = Message::Request(ack_of(alloc, uri, invite, answer)?);
-    write_message(alloc, &message)
+    let ack = ack_of(alloc, uri, invite, answer)?;
+    write_request(alloc, &ack)
 }

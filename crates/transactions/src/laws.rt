@@ -1,30 +1,35 @@
-//! A request is new once.
+//! What holds of the table over its calls.
 
-ghost use Rattle.std.specs.Prelude.{◌≡◌, ℕ, List, Option, Some, None, true, false};
+ghost use Rattle.std.specs.Prelude.{◌≡◌, ◌↔◌, ℕ, List, true, false};
 ghost use Rattle.sip_uri.specs.declared.uri.Addr.{Addr};
 ghost use Rattle.sip_message.specs.declared.message.Message.TheVariants as Kinds;
 ghost use Rattle.sip_message.specs.declared.message.Parts.{Parts};
 ghost use Rattle.sip_message.specs.declared.message.Request.{Request};
-ghost use Rattle.transactions.specs.declared.state.State.{State};
-ghost use Rattle.transactions.specs.declared.step.Step.{Step};
-ghost use Rattle.transactions.specs.declared.transaction.Transaction.{Transaction};
-ghost use Rattle.transactions.specs.Machines.{is_server};
-ghost use Rattle.transactions.specs.Slots.{at, is_asked};
-ghost use Rattle.transactions.specs.Contents.{Contents, stepped, reception_of, after_message, IsNew};
-ghost use Rattle.transactions.specs.Once.{stands};
+ghost use Rattle.sip_message.specs.declared.message.Response.{Response};
+ghost use Rattle.transactions.specs.Calls.{Call};
+ghost use Rattle.transactions.specs.Contents.{Contents, reception_of, after_message, IsNew};
+ghost use Rattle.transactions.specs.Matching.{is_reply, RepliesTo};
+ghost use Rattle.transactions.specs.Replies.{RepliesWhereTaken};
+ghost use Rattle.transactions.specs.Once.{stands, IsLeft, NewOnce};
 
-/// A request is new only where no server transaction of its key stands, and then one stands. A step takes away no
-/// transaction but its own, and that only where the line of the table ends it.
+/// A request is new only where no server transaction of its key stands, and then one stands. A call takes a transaction
+/// away where its line ends it, and nowhere else; so over any list of calls a request is not new again, nor is a copy of
+/// it, while the transaction that it began lasts.
 pub fn once()
     ensures begins { (table : Contents) (request : Request) →
         IsNew (reception_of table (Kinds.Request request)).verdict → stands table request.parts ≡ false }
     ensures stands { (table : Contents) (request : Request) (source : Addr) (now : ℕ) →
         IsNew (reception_of table (Kinds.Request request)).verdict
         → stands (after_message table (Kinds.Request request) source now) request.parts ≡ true }
-    ensures goes_on { (table : Contents) (id : ℕ) (t : Transaction) (step : Step) (fresh : Option (List ℕ)) (now : ℕ) (next : State) (parts : Parts) →
-        at table.slots id ≡ Some t → step.next ≡ Some next → is_server next ≡ is_server t.state
-        → stands (stepped table id t step fresh now) parts ≡ stands table parts }
-    ensures ends { (table : Contents) (id : ℕ) (t : Transaction) (step : Step) (fresh : Option (List ℕ)) (now : ℕ) (parts : Parts) →
-        at table.slots id ≡ Some t → step.next ≡ None → is_asked parts (Some t) ≡ false
-        → stands (stepped table id t step fresh now) parts ≡ stands table parts }
+    ensures left { (table : Contents) (call : Call) (id : ℕ) → IsLeft table call id }
+    ensures once { (table : Contents) (request : Request) (source : Addr) (now : ℕ) (calls : List Call) →
+        NewOnce table request source now calls }
+{}
+
+/// An answer goes up or is swallowed only where a client transaction stands whose request it replies to: branch, Call-ID,
+/// tag of From, number and method agree, and the tag of To where the request has one. Its state before is told.
+pub fn replies()
+    ensures reply { (answer : Parts) (request : Parts) → (is_reply answer request ≡ true) ↔ RepliesTo answer request }
+    ensures taken { (table : Contents) (response : Response) →
+        RepliesWhereTaken table response.parts (reception_of table (Kinds.Response response)) }
 {}

@@ -26,7 +26,7 @@ pub use error::TableError;
 pub use input::{Class, Input, TimerKind};
 pub use invite_client::InviteClient;
 pub use invite_server::InviteServer;
-pub use laws::once;
+pub use laws::{once, replies};
 pub use other_client::OtherClient;
 pub use other_server::OtherServer;
 pub use outcome::{Fired, Outgoing, Reception, Started, Verdict};

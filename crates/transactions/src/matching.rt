@@ -1,12 +1,11 @@
 //! Which message belongs to which request (RFC 3261 sections 17.1.3, 17.2.3 and 9.2).
 
-ghost use Rattle.std.specs.Prelude.{◌≡◌, ◌↔◌, IsTrue, is_some};
+ghost use Rattle.std.specs.Prelude.{◌≡◌, is_some};
 ghost use Rattle.std.specs.Option.{option_copied};
-ghost use Rattle.sip_uri.specs.Binding.{same_text, same_host};
 ghost use Rattle.transactions.specs.Matching.{value_of, branch_in, tag_in, same_sent_by, same_top, is_method, served_method, is_copy, is_reply, keeps_to_tag, is_same_call, is_merged_with};
 
 use sip_message::{Parts, Via};
-use sip_uri::{Host, NameAddr, Param, param_named};
+use sip_uri::{NameAddr, Param, param_named, same_host, same_text};
 use text::Text;
 
 /// The port of a sent-by that names none (RFC 3261 section 18.1.1).
@@ -34,27 +33,6 @@ pub(crate) fn tag_in(party: &NameAddr) -> Option<&Text>
     ensures { option_copied result ≡ tag_in party.now }
 {
     value_of(party.params.as_slice(), b"tag")
-}
-
-fn same_text(a: Option<&Text>, b: Option<&Text>) -> bool
-    ensures test { result ≡ same_text (option_copied a.entry) (option_copied b.entry) }
-    ensures relation { IsTrue result ↔ (option_copied a.entry ≡ option_copied b.entry) }
-{
-    match (a, b) {
-        (None, None) => true,
-        (Some(a), Some(b)) => a == b,
-        _ => false,
-    }
-}
-
-fn same_host(a: &Host, b: &Host) -> bool
-    ensures { result ≡ same_host a.now b.now }
-{
-    match (a, b) {
-        (Host::Ip4(a), Host::Ip4(b)) => a == b,
-        (Host::Name(a), Host::Name(b)) => a.as_bytes().eq_ignore_ascii_case(b.as_bytes()),
-        _ => false,
-    }
 }
 
 fn same_sent_by(a: &Via, b: &Via) -> bool

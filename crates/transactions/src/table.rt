@@ -1,6 +1,6 @@
 //! The table of transactions, with its timers.
 
-ghost use Rattle.std.specs.Prelude.{ℕ, List, Option, ◌≡◌, ◌<◌, ◌≤◌, ◌^◌, [], OnOk, OnErr, IfOk, IfErr, Some, None, IsSome, position, option_map, slice_set, nat_lt, length, ◌++◌, ◌∷◌, if◌then◌else◌, true, IsTrue};
+ghost use Rattle.std.specs.Prelude.{ℕ, List, Option, ◌≡◌, ◌<◌, ◌≤◌, ◌^◌, [], OnOk, OnErr, IfOk, IfErr, Some, None, IfSome, IsSome, is_some, false, position, option_map, slice_set, nat_lt, length, ◌++◌, ◌∷◌, if◌then◌else◌, true, IsTrue};
 ghost use Rattle.sip_uri.specs.declared.uri.Addr.{Addr};
 ghost use Rattle.timers.specs.Queue.{first, first_due};
 ghost use Rattle.sip_message.specs.Grammar.{ReadsMessage};
@@ -9,13 +9,13 @@ ghost use Rattle.sip_message.specs.WritingMessage.{IsWrittenMessage};
 ghost use Rattle.sip_message.specs.declared.message.Message.TheVariants as Kinds;
 ghost use Rattle.transactions.specs.declared.transaction.Transaction.{Transaction};
 ghost use Rattle.transactions.specs.Limits.{most_served};
+ghost use Rattle.transactions.specs.Lines.{follows, starts_with_lines, has_sent, is_answer};
 ghost use Rattle.transactions.specs.Slots.{at, is_asked, is_answered, free_number, named, serving, is_serving};
 ghost use Rattle.transactions.specs.Steps.{IsShort};
 ghost use Rattle.transactions.specs.Transactions.{served, asking, asking_timers, went, outgoing};
 ghost use Rattle.transactions.specs.Contents.{stepped, table_at, line_at, placed, opened, reception_at, input_of, verdict_by, begun, RefusesBegun, stray, request_reception, ack_at, ack_by, ack_for, response_input, response_reception, reception_of, after_begun, after_request, after_response, after_message, IsNew, RefusesMessage, after_start, answer_input, after_answer, answer_sent, RefusesAnswer, after_abandon, RefusesAbandon, fired_by, fired_of, after_fire, is_due, RefusesFire, merged};
 
 use crate::ack::ack_text;
-use crate::copies::{copied_text, request_text, response_text};
 use crate::error::TableError;
 use crate::input::{Input, class_of};
 use crate::matching::{has_to_tag, is_method};
@@ -26,7 +26,7 @@ use crate::step::{Sending, Starts, Step};
 use crate::stopping::{has_come, moment, set_all, stop};
 use crate::transaction::{TimerId, Transaction, asking, asking_timers, sent, served, went};
 use crate::verdicts::{fired_by, input_of, verdict_by};
-use sip_message::{Message, Request, Response};
+use sip_message::{Message, Request, Response, write_request, write_response};
 use sip_uri::Addr;
 use std::alloc::{AllocError, Global};
 use std::marker::Model;
@@ -47,10 +47,14 @@ pub struct Table {
 
 impl Model for Table {
     ghost use Rattle.transactions.specs.Contents.{Contents};
+    ghost use Rattle.transactions.specs.Lines.{IsFireable};
 
     ghost Value = { Contents };
 
     ghost view = { λ t. record { slots = t.slots.items; timers = t.timers.timers } };
+
+    // So each timer that is due does something when it fires.
+    ghost invariant = { λ t. IsFireable t.slots.items t.timers.timers };
 }
 
 impl Table {
@@ -99,8 +103,8 @@ impl Table {
         ensures table { OnOk result (self.new ≡ after_start self.old request.now to now) }
         ensures err { OnErr result (self.new ≡ self.old) }
     {
-        let bytes = request_text(self.alloc, request)?;
-        let kept = copied_text(&bytes)?;
+        let bytes = write_request(self.alloc, request)?;
+        let kept = bytes.clone()?;
         let transaction = asking(request, to, kept)?;
         let id = self.open(transaction, asking_timers(&request.parts), now)?;
         Ok(Started {
@@ -134,8 +138,8 @@ impl Table {
             return Err(TableError::AfterFinal);
         };
         let to = transaction.place;
-        let bytes = response_text(self.alloc, response)?;
-        let kept = copied_text(&bytes)?;
+        let bytes = write_response(self.alloc, response)?;
+        let kept = bytes.clone()?;
         self.carry_out(id, step, Some(kept), now)?;
         Ok(Outgoing { to, bytes })
     }
@@ -158,7 +162,7 @@ impl Table {
         Ok(())
     }
 
-    /// Lets a timer fire that is due.
+    /// Lets a timer fire that is due. One that is not due, or not set, is refused (X1), and no other.
     pub fn fire(&mut self, timer: TimerId, now: u64) -> Result<Fired, TableError>
         requires { now < 2 ^ 60 }
         ensures fired { IfOk result (λ fired. Some fired ≡ fired_of (at self.old.slots timer.id) timer.kind) }
@@ -171,22 +175,23 @@ impl Table {
             return Err(TableError::Unknown);
         }
         let Some(transaction) = transaction_at(&self.slots, timer.id) else {
-            return Err(TableError::Unknown);
+            unreachable!()
         };
         let Some(step) = advance(transaction.state, Input::Fires(timer.kind)) else {
-            return Err(TableError::Unknown);
+            unreachable!()
         };
         let send = sent(transaction, &None, step.send)?;
         let Some(fired) = fired_by(step.told, send) else {
-            return Err(TableError::Unknown);
+            unreachable!()
         };
         self.carry_out(timer.id, step, None, now)?;
         Ok(fired)
     }
 
-    /// The timer that is due first, and its moment. Takes no memory.
+    /// The timer that is due first, and its moment. It is one that `fire` takes. Takes no memory.
     pub fn first_due(&self, now: u64) -> Option<Timer<TimerId>>
-        ensures { result ≡ first_due self.now.timers now }
+        ensures first { result ≡ first_due self.now.timers now }
+        ensures due { IfSome result (λ timer. IsTrue (is_due self.now timer.key now)) }
     {
         self.timers.first_due(now)
     }
@@ -305,7 +310,8 @@ impl Table {
         fresh: Option<Text>,
         now: u64,
     ) -> Result<Reception, AllocError>
-        requires { now < 2 ^ 60 }
+        requires moment { now < 2 ^ 60 }
+        requires not_ours { is_answer input ≡ false }
         ensures reception { IfOk result (λ r. r ≡ reception_at id (at self.old.slots id) input fresh) }
         ensures old { IfOk result (λ r. IsNew r.verdict → ⊥) }
         ensures table { OnOk result (self.new ≡ table_at self.old id (at self.old.slots id) input fresh now) }
@@ -342,6 +348,7 @@ impl Table {
         requires there { IsSome (at self.old.slots id) }
         requires moment { now < 2 ^ 60 }
         requires short { IsShort step.starts }
+        requires follows { (t : Transaction) → at self.old.slots id ≡ Some t → IsTrue (follows t.state (is_some fresh) step) }
         ensures ok { OnOk result ((t : Transaction) → at self.old.slots id ≡ Some t → self.new ≡ stepped self.old id t step fresh now) }
         ensures err { OnErr result (self.new ≡ self.old) }
     {
@@ -361,6 +368,8 @@ impl Table {
     ) -> Result<usize, AllocError>
         requires moment { now < 2 ^ 60 }
         requires short { IsShort starts }
+        requires lines { IsTrue (starts_with_lines transaction.state starts) }
+        requires sent { IsTrue (has_sent (Some transaction)) }
         ensures id { IfOk result (λ id. id ≡ free_number self.old.slots) }
         ensures table { OnOk result (self.new ≡ opened self.old transaction starts now) }
         ensures err { OnErr result (self.new ≡ self.old) }

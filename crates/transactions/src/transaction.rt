@@ -1,10 +1,11 @@
 //! A transaction.
 
-ghost use Rattle.std.specs.Prelude.{◌≡◌, ◌*◌, IfOk, option_map};
+ghost use Rattle.std.specs.Prelude.{◌≡◌, ◌*◌, IfOk, IsTrue, Some, false, option_map};
+ghost use Rattle.transactions.specs.Lines.{repeats, has_sent, starts_with_lines};
 ghost use Rattle.transactions.specs.Steps.{IsShort, timer, t1};
 ghost use Rattle.transactions.specs.Transactions.{served, served_state, asking, asking_state, asking_timers, went, outgoing, sent};
 
-use crate::copies::{copied_parts, copied_text, copied_uri};
+use crate::copies::copied_uri;
 use crate::input::TimerKind;
 use crate::invite_client::InviteClient;
 use crate::invite_server::InviteServer;
@@ -41,10 +42,11 @@ pub struct Transaction {
 
 /// The transaction that a request of another begins.
 pub(crate) fn served(request: &Request, source: Addr) -> Result<Transaction, AllocError>
-    ensures { IfOk result (λ t. t ≡ served request.now source) }
+    ensures served { IfOk result (λ t. t ≡ served request.now source) }
+    ensures sent { IfOk result (λ t. IsTrue (has_sent (Some t))) }
 {
     let uri = copied_uri(&request.uri)?;
-    let parts = copied_parts(&request.parts)?;
+    let parts = request.parts.clone()?;
     Ok(Transaction {
         uri,
         parts,
@@ -55,7 +57,8 @@ pub(crate) fn served(request: &Request, source: Addr) -> Result<Transaction, All
 }
 
 fn served_state(parts: &Parts) -> State
-    ensures { result ≡ served_state parts.now }
+    ensures state { result ≡ served_state parts.now }
+    ensures silent { repeats result ≡ false }
 {
     if is_method(parts, b"INVITE") {
         State::InviteServer(InviteServer::Proceeding)
@@ -66,10 +69,11 @@ fn served_state(parts: &Parts) -> State
 
 /// The transaction that a request of the server's own begins, with its bytes.
 pub(crate) fn asking(request: &Request, to: Addr, bytes: Text) -> Result<Transaction, AllocError>
-    ensures { IfOk result (λ t. t ≡ asking request.now to bytes) }
+    ensures asking { IfOk result (λ t. t ≡ asking request.now to bytes) }
+    ensures sent { IfOk result (λ t. IsTrue (has_sent (Some t))) }
 {
     let uri = copied_uri(&request.uri)?;
-    let parts = copied_parts(&request.parts)?;
+    let parts = request.parts.clone()?;
     Ok(Transaction {
         uri,
         parts,
@@ -105,9 +109,11 @@ fn starts_two(again: TimerKind, limit: TimerKind) -> Starts
 }
 
 /// The timers of a request of the server's own: when it goes again, and when it is given up.
+#[tactic(auto, unfolding(crate::specs::Machines::row_of, crate::specs::InviteClient::invite_client_row, crate::specs::OtherClient::other_client_row))]
 pub(crate) fn asking_timers(parts: &Parts) -> Starts
     ensures timers { result ≡ asking_timers parts.now }
     ensures short { IsShort result }
+    ensures lines { IsTrue (starts_with_lines (asking_state parts.now) result) }
 {
     if is_method(parts, b"INVITE") {
         starts_two(TimerKind::A, TimerKind::B)
@@ -136,7 +142,7 @@ fn outgoing(place: Addr, bytes: &Option<Text>) -> Result<Option<Outgoing>, Alloc
         None => Ok(None),
         Some(bytes) => Ok(Some(Outgoing {
             to: place,
-            bytes: copied_text(bytes)?,
+            bytes: bytes.clone()?,
         })),
     }
 }

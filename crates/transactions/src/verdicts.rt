@@ -1,7 +1,8 @@
 //! How a line of the machines reads as an answer of the table.
 
-ghost use Rattle.std.specs.Prelude.{◌≡◌};
+ghost use Rattle.std.specs.Prelude.{◌≡◌, false};
 ghost use Rattle.transactions.specs.Contents.{input_of, verdict_by, fired_by, IsNew};
+ghost use Rattle.transactions.specs.Lines.{is_answer};
 
 use crate::input::Input;
 use crate::matching::is_method;
@@ -11,7 +12,8 @@ use sip_message::Parts;
 
 /// What a request of a transaction that stands is to it.
 pub(crate) fn input_of(parts: &Parts) -> Input
-    ensures { result ≡ input_of parts.now }
+    ensures input { result ≡ input_of parts.now }
+    ensures not_ours { is_answer result ≡ false }
 {
     if is_method(parts, b"ACK") {
         Input::Ack
