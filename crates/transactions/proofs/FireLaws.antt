@@ -1,16 +1,14 @@
 -- Each timer that is set has a line, whatever is done.
-use Rattle.std.proofs.Common.{◌≡◌, ◌≢◌, ℕ, ◌<◌, Bool, true, false, cond, not, ◌&&◌, ◌||◌, eqb, ltb, ◌+◌, List, [], ◌∷◌, ◌++◌, length, get_or, set, filter, find, Option, Some, None, option_map, codes, is_some, is_none, nat_lt, nat_le, refl, ap, sym, subst, ◌∙◌, inl, inr, arith}
+use Rattle.std.proofs.Common.{◌≡◌, ◌≢◌, ℕ, ◌<◌, Bool, true, false, cond, not, ◌&&◌, ◌||◌, eqb, ◌+◌, List, [], ◌∷◌, ◌++◌, length, get_or, set, filter, find, Option, Some, None, option_map, is_some, nat_lt, nat_le, refl, ap, sym, subst, ◌∙◌, inl, inr, arith}
 use Rattle.std.specs.Prelude.{IfSome, IsSome}
 use Rattle.std.specs.List.{All, list_all}
-use Rattle.std.proofs.lemmas.Bool.{false≢true, and_parts, and_from, and_left, or_right, not-true, cases_eq, cond_both, eq-eqb, eqb-true, ne_eqb}
+use Rattle.std.proofs.lemmas.Bool.{false≢true, and_parts, and_from, not-true, cases_eq, cond_both, eq-eqb, eqb-true}
 use Rattle.std.proofs.lemmas.List.{get_or-set_other, get_or-set_same}
 use Rattle.std.proofs.lemmas.List.Elements.{All-nil, All-cons, All-head, All-tail, All-filter, All-set, All-push, All-weaker, filter_passes}
 use Rattle.std.proofs.lemmas.List.Sums.{AllPass-from_list_all}
 use Rattle.timers.specs.declared.timers.Timer.{Timer}
 use Rattle.timers.specs.Queue.{put, without, moment, first_due}
 use Rattle.sip_uri.specs.declared.uri.Addr.{Addr}
-use Rattle.sip_message.specs.declared.message.Parts.{Parts}
-use Rattle.sip_message.specs.declared.message.Request.{Request}
 use Rattle.transactions.specs.declared.input.Input.TheVariants as inputs
 use Rattle.transactions.specs.declared.input.TimerKind.{TimerKind}
 use Rattle.transactions.specs.declared.input.TimerKind.TheVariants.{A, B, D, E, F, G, H, I, J, K, L, M, N}
@@ -28,13 +26,13 @@ use Rattle.transactions.specs.declared.step.Stops.TheVariants as stops
 use Rattle.transactions.specs.declared.step.Step.{Step}
 use Rattle.transactions.specs.declared.transaction.TimerId.{TimerId}
 use Rattle.transactions.specs.declared.transaction.Transaction.{Transaction}
-use Rattle.transactions.specs.Machines.{row_of, is_server}
+use Rattle.transactions.specs.Machines.{row_of}
 use Rattle.transactions.specs.Slots.{at, free_number}
-use Rattle.transactions.specs.Timing.{place_of, same_timer, timer_of, without_kinds, stopped, stopped_by, start, started}
+use Rattle.transactions.specs.Timing.{place_of, same_timer, timer_of, stopped_by, start, started}
 use Rattle.transactions.specs.Transactions.{went, latest, outgoing, sent}
 use Rattle.transactions.specs.Contents.{Contents, stepped, opened, placed, fired_by, fired_step, fired_of, has_come, is_due}
 use Rattle.transactions.specs.Lines.{has_line, has_line_at, has_sent, repeats, IsFireable, every_kind, is_stopped, runs_on, starts_with_lines, stops_every, starts_none, follows_to, follows}
-use Rattle.transactions.proofs.LastingLaws.{within, none_some, placed_other, placed_own}
+use Rattle.transactions.proofs.LastingLaws.{within, placed_other, placed_own}
 use Rattle.transactions.proofs.RowLaws.{row_fires, fires_by}
 
 abbrev HasLine : List (Option Transaction) → Timer TimerId → Type 0

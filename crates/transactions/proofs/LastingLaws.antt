@@ -1,9 +1,7 @@
 -- What a list of calls leaves of a transaction.
-use Rattle.std.proofs.Common.{◌≡◌, ◌≢◌, ℕ, ◌<◌, ◌≤◌, Bool, true, false, cond, ◌&&◌, ltb, eqb, not, List, [], ◌∷◌, ◌++◌, length, get_or, set, Option, Some, None, option_map, codes, nat_lt, is_some, is_none, position, refl, ap, sym, subst, ◌∙◌, inl, inr, arith}
+use Rattle.std.proofs.Common.{◌≡◌, ◌≢◌, ℕ, ◌<◌, Bool, true, false, cond, ◌&&◌, eqb, not, List, [], ◌∷◌, ◌++◌, length, set, Option, Some, None, option_map, codes, nat_lt, is_some, is_none, position, refl, ap, sym, subst, ◌∙◌, inl, inr, arith}
 use Rattle.std.specs.Prelude.{IfSome, IsSome}
 use Rattle.std.specs.Cmp.{booleans_Decides}
-use Rattle.std.specs.List.{position_or_len}
-use Prim.Native.Nat.{suc}
 use Rattle.std.proofs.Math.Seq.{get_or-append_seam}
 use Rattle.std.proofs.lemmas.Bool.{false≢true, and_parts, and_from, and_left, cases_lt, cases_eq, eq-eqb, ne_eqb, ltb-true, ltb-false}
 use Rattle.std.proofs.lemmas.List.{get_or-set_other, get_or-set_same, get_or_append_left, get_or_past}
@@ -26,10 +24,10 @@ use Rattle.transactions.specs.Machines.{row_of, is_server}
 use Rattle.transactions.specs.Matching.{is_copy, is_method}
 use Rattle.transactions.specs.Slots.{at, is_asked, is_answered, free_number}
 use Rattle.transactions.specs.Transactions.{went, served, served_state, asking}
-use Rattle.transactions.specs.Contents.{Contents, stepped_by, table_at, opened, placed, begun, stray, reception_of, request_reception, after_message, after_request, after_begun, after_response, input_of, response_input, answer_input, ack_at, IsNew}
+use Rattle.transactions.specs.Contents.{Contents, stepped_by, table_at, opened, placed, stray, reception_of, request_reception, after_message, after_request, after_response, input_of, response_input, answer_input, ack_at, IsNew}
 use Rattle.transactions.specs.Calls.{Call, Receive, Start, Answer, Abandon, Fire, Leave, after, after_all, tells, noticed, is_end, is_ended}
 use Rattle.transactions.specs.Lines.{follows, follows_to, is_answer}
-use Rattle.transactions.specs.Once.{stands, IsSameRequest, IsLeftBy, IsLeft, Lasts, NewOnce}
+use Rattle.transactions.specs.Once.{IsLeftBy, IsLeft, Lasts, NewOnce}
 use Rattle.transactions.proofs.OnceLaws.{begins, none_asked, no_ack, by_transaction, served_side}
 use Rattle.transactions.proofs.RowLaws.{row_follows}
 

@@ -1,5 +1,5 @@
 -- A request is new once.
-use Rattle.std.proofs.Common.{◌≡◌, ℕ, ◌<◌, ◌+◌, Bool, true, false, cond, not, ◌&&◌, ◌||◌, ltb, List, [], ◌∷◌, ◌++◌, length, get_or, set, Option, Some, None, codes, nat_eq, unwrap_or, nat_lt, position, is_some, refl, ap, sym, ◌∙◌, arith}
+use Rattle.std.proofs.Common.{◌≡◌, ℕ, ◌<◌, ◌+◌, Bool, true, false, cond, not, ◌&&◌, ◌||◌, ltb, List, [], ◌∷◌, ◌++◌, length, set, Option, Some, None, codes, nat_eq, unwrap_or, nat_lt, position, is_some, refl, ap, sym, ◌∙◌, arith}
 use Rattle.std.specs.List.{position_or_len, list_any}
 use Rattle.std.specs.Str.{str_to_ascii_lowercase}
 use Rattle.std.specs.Cmp.Lexicographic.{pointwise, bytes_decides}
@@ -8,7 +8,7 @@ use Rattle.std.proofs.Math.ListN.{length-set}
 use Rattle.std.proofs.lemmas.Bool.{ltb-true}
 use Rattle.std.proofs.lemmas.Bool.Decides.{nat_tests}
 use Rattle.std.proofs.lemmas.List.{get_or-set_same}
-use Rattle.std.proofs.lemmas.List.Folds.{position_or_len-set, list_any_at, list_any-append}
+use Rattle.std.proofs.lemmas.List.Folds.{list_any_at, list_any-append}
 use Rattle.sip_uri.specs.declared.uri.Addr.{Addr}
 use Rattle.sip_uri.specs.declared.uri.Host.{Host}
 use Rattle.sip_uri.specs.declared.uri.Host.TheVariants.{Ip4, Name}
@@ -23,7 +23,6 @@ use Rattle.transactions.specs.declared.outcome.Verdict.{Verdict}
 use Rattle.transactions.specs.declared.outcome.Verdict.TheVariants as verdicts
 use Rattle.transactions.specs.declared.invite_server.InviteServer.TheVariants as invite
 use Rattle.transactions.specs.declared.other_server.OtherServer.TheVariants as other
-use Rattle.transactions.specs.declared.state.State.{State}
 use Rattle.transactions.specs.declared.state.State.TheVariants as machine
 use Rattle.transactions.specs.declared.step.Starts.TheVariants as starts
 use Rattle.transactions.specs.declared.step.Sending.{Sending}
@@ -35,8 +34,8 @@ use Rattle.transactions.specs.declared.transaction.Transaction.{Transaction}
 use Rattle.transactions.specs.Machines.{row_of, is_server}
 use Rattle.transactions.specs.Matching.{is_copy, is_method, served_method, same_top, same_sent_by, branch_in, default_port}
 use Rattle.transactions.specs.Slots.{at, is_asked, free_number}
-use Rattle.transactions.specs.Transactions.{went, served, served_state}
-use Rattle.transactions.specs.Contents.{Contents, stepped, upward, repeat_by, reception_by, reception_at, request_reception, reception_of, after_message, after_request, opened, placed, stray, input_of, IsNew}
+use Rattle.transactions.specs.Transactions.{served, served_state}
+use Rattle.transactions.specs.Contents.{Contents, upward, repeat_by, reception_by, reception_at, request_reception, reception_of, after_message, after_request, opened, placed, stray, input_of, IsNew}
 use Rattle.transactions.specs.Once.{stands}
 
 -- ---- only New is new

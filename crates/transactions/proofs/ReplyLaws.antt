@@ -1,7 +1,7 @@
 -- An answer that is taken replies to a request.
-use Rattle.std.proofs.Common.{◌≡◌, ◌↔◌, ℕ, Bool, true, false, not, ◌&&◌, eqb, List, Option, Some, None, nat_eq, position, refl, ap, sym, subst, ◌∙◌}
+use Rattle.std.proofs.Common.{◌≡◌, ◌↔◌, ℕ, true, false, not, List, Option, Some, None, position, refl, ap, sym, subst}
 use Rattle.std.specs.Prelude.{IsSome}
-use Rattle.std.specs.Cmp.Lexicographic.{pointwise, bytes_decides}
+use Rattle.std.specs.Cmp.Lexicographic.{bytes_decides}
 use Rattle.std.proofs.lemmas.Bool.{false≢true, and_parts, and_from, not-true, eqb-true, eq-eqb}
 use Rattle.std.proofs.lemmas.List.Quantifiers.{position-Some}
 use Rattle.sip_uri.specs.Binding.{same_text}
@@ -18,10 +18,10 @@ use Rattle.transactions.specs.declared.step.Step.{Step}
 use Rattle.transactions.specs.declared.transaction.Transaction.{Transaction}
 use Rattle.transactions.specs.Inputs.{class_of}
 use Rattle.transactions.specs.Machines.{row_of, is_server}
-use Rattle.transactions.specs.Matching.{branch_in, tag_in, is_same_call, keeps_tag, keeps_to_tag, is_reply, RepliesTo}
+use Rattle.transactions.specs.Matching.{branch_in, tag_in, keeps_tag, is_reply, RepliesTo}
 use Rattle.transactions.specs.Slots.{at, is_answered}
 use Rattle.transactions.specs.Contents.{Contents, reception_at, reception_by, reception_of, response_reception, response_input, verdict_by, ack_at}
-use Rattle.transactions.specs.Replies.{IsTaken, IsReplyTo, RepliesWhereTaken}
+use Rattle.transactions.specs.Replies.{RepliesWhereTaken}
 use Rattle.transactions.proofs.OnceLaws.{own_text, own_bytes}
 
 -- ---- the test is the relation

@@ -1,5 +1,5 @@
 -- Which request an answer that is taken replies to.
-use Rattle.std.specs.Prelude.{◌≡◌, ℕ, false, Option, Some}
+use Rattle.std.specs.Prelude.{◌≡◌, ℕ, false, Some}
 use Rattle.sip_message.specs.declared.message.Parts.{Parts}
 use Rattle.transactions.specs.declared.outcome.Reception.{Reception}
 use Rattle.transactions.specs.declared.outcome.Verdict.{Verdict}

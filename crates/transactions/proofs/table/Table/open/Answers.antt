@@ -1,4 +1,4 @@
-use Rattle.std.proofs.Common.{◌≡◌, ap, ◌∙◌}
+use Rattle.std.proofs.Common.{ap, ◌∙◌}
 use Rattle.transactions.specs.Slots.{free_number}
 use Rattle.transactions.proofs.FireLaws.{fireable_placed}
 use Rattle.transactions.proofs.table.Table.open.Goals as goal

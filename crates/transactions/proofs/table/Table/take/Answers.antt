@@ -1,4 +1,4 @@
-use Rattle.std.proofs.Common.{◌≡◌, is_some, ap, ◌∙◌}
+use Rattle.std.proofs.Common.{is_some, ap, ◌∙◌}
 use Rattle.transactions.specs.Lines.{is_answer}
 use Rattle.transactions.specs.Slots.{at}
 use Rattle.transactions.proofs.FireLaws.{follows_there}
