@@ -1,14 +1,14 @@
 -- A request is new once.
-use Rattle.std.proofs.Common.{◌≡◌, ℕ, ◌<◌, ◌+◌, Bool, true, false, cond, not, ◌&&◌, ◌||◌, ltb, List, [], ◌∷◌, ◌++◌, length, set, Option, Some, None, codes, nat_eq, unwrap_or, nat_lt, position, is_some, refl, ap, sym, ◌∙◌, arith}
-use Rattle.std.specs.List.{position_or_len, list_any}
+use Rattle.std.proofs.Common.{◌≡◌, ℕ, ◌<◌, Bool, true, false, cond, ◌&&◌, ◌||◌, List, [], ◌∷◌, ◌++◌, length, set, Option, Some, None, codes, nat_eq, unwrap_or, nat_lt, position, is_some, refl, ap, sym, ◌∙◌, arith}
+use Rattle.std.specs.List.{list_any}
 use Rattle.std.specs.Str.{str_to_ascii_lowercase}
 use Rattle.std.specs.Cmp.Lexicographic.{pointwise, bytes_decides}
-use Prim.Native.Nat.{suc}
 use Rattle.std.proofs.Math.ListN.{length-set}
 use Rattle.std.proofs.lemmas.Bool.{ltb-true}
 use Rattle.std.proofs.lemmas.Bool.Decides.{nat_tests}
 use Rattle.std.proofs.lemmas.List.{get_or-set_same}
 use Rattle.std.proofs.lemmas.List.Folds.{list_any_at, list_any-append}
+use Rattle.text.proofs.Lists.{is_some-position}
 use Rattle.sip_uri.specs.declared.uri.Addr.{Addr}
 use Rattle.sip_uri.specs.declared.uri.Host.{Host}
 use Rattle.sip_uri.specs.declared.uri.Host.TheVariants.{Ip4, Name}
@@ -65,22 +65,6 @@ by_transaction id None input fresh h = h
 by_transaction id (Some t) input fresh h = by_step id t input fresh (row_of t.state input) h
 
 -- ---- none stands before
-
-ltb-suc : (m n : ℕ) → ltb m n ≡ ltb (1 + m) (suc n)
-ltb-suc m n = grind (arith, nat_tests)
-
-list_any_is : {X : Type 0} (p : X → Bool) (xs : List X) → list_any p xs ≡ ltb (position_or_len p xs) (length xs)
-list_any_is p [] = refl
-list_any_is p (x ∷ xs) =
-    elim (p x) as (λ b. b || list_any p xs ≡ ltb (cond (not b) (1 + position_or_len p xs) 0) (suc (length xs))) [
-      | true ↦ grind (arith, nat_tests)
-      | false ↦ list_any_is p xs ∙ ltb-suc (position_or_len p xs) (length xs)
-    ]
-
-is_some-position : {X : Type 0} (p : X → Bool) (xs : List X) → is_some (position p xs) ≡ list_any p xs
-is_some-position p xs =
-    elim (ltb (position_or_len p xs) (length xs)) as (λ b. is_some (cond b (Some (position_or_len p xs)) None) ≡ b) [ true ↦ refl | false ↦ refl ]
-    ∙ sym (list_any_is p xs)
 
 begun_only : (table : Contents) (r : Request) (number : Option ℕ) → IsNew (request_reception table r number).verdict → number ≡ None
 begun_only table r None h = refl
