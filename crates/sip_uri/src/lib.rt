@@ -24,6 +24,3 @@ pub use name_addr::{read_name_addr, write_name_addr};
 pub use read::{read_host, read_uri};
 pub use uri::{Addr, Host, NameAddr, Param, Params, Uri};
 pub use write::{put_host, put_ip4, put_param, put_params, write_uri};
-
-#[cfg(test)]
-mod tests;

@@ -1,6 +1,6 @@
-use super::*;
 use std::process::Abort;
 use std::test::*;
+use timers::*;
 
 // Two timers at one moment, of which the first set is set anew.
 fn fire_by_moment(rt: &impl Abort, timers: &mut Timers<char>) -> Result<(), Fail> {

@@ -1,4 +1,4 @@
-use super::*;
+use sip_uri::*;
 use std::test::*;
 
 fn read_back(rt: &HostRuntime, text: &[u8]) -> Result<Vec<u8>, UriError> {

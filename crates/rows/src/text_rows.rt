@@ -1,5 +1,5 @@
-use super::*;
 use std::test::*;
+use text::*;
 
 #[test]
 fn texts_and_lists(rt: HostRuntime) -> Result<(), Fail> {

@@ -1,0 +1,10 @@
+//! Worked rows of the crates below, as data, and each of their public calls once on its happy path. Nothing but tests: what a
+//! proof cannot see, with values that come from outside. The crates themselves have none, so that each is proved once.
+#![tactic(auto)]
+
+#[cfg(test)]
+mod sip_uri_rows;
+#[cfg(test)]
+mod text_rows;
+#[cfg(test)]
+mod timers_rows;
