@@ -10,7 +10,7 @@ ghost use Rattle.dialogs.specs.Making.{is_invite, reached_at, party_named, calle
 ghost use Rattle.dialogs.specs.Written.{IsSound};
 
 use crate::contact_uri::read_contact_uri;
-use crate::copies::{copied_display, copied_text, copied_uri};
+use crate::copies::copied_uri;
 use crate::identifiers::{DialogId, tag_text};
 use crate::state::{Dialog, Party};
 use sip_message::{Request, Response};
@@ -21,7 +21,7 @@ use text::Text;
 fn party_named(name: &NameAddr) -> Result<Party, AllocError>
     ensures { IfOk result (λ party. party ≡ party_named name.now) }
 {
-    let display = copied_display(&name.display)?;
+    let display = name.display.clone()?;
     let uri = copied_uri(&name.uri)?;
     Ok(Party { display, uri })
 }
@@ -34,7 +34,7 @@ fn identifiers(
 ) -> Result<DialogId, AllocError>
     ensures { IfOk result (λ id. id ≡ record { call_id = call_id.now; ours = ours.now; theirs = theirs.now }) }
 {
-    let call_id = copied_text(call_id)?;
+    let call_id = call_id.clone()?;
     let ours = Text::from_slice(alloc, ours)?;
     let theirs = Text::from_slice(alloc, theirs)?;
     Ok(DialogId {

@@ -1,17 +1,16 @@
 //! Requests in a dialog (RFC 3261 section 12.2.1.1).
 
-ghost use Rattle.std.specs.Prelude.{◌≡◌, ◌++◌, ◌∷◌, ◌≤◌, ℕ, [], decimal, codes, OnOk, OnErr, IfOk, IfErr, Some};
-ghost use Rattle.sip_message.specs.Lookup.{named};
+ghost use Rattle.std.specs.Prelude.{◌≡◌, ◌≤◌, OnOk, OnErr, IfOk, IfErr, Some};
 ghost use Rattle.sip_uri.specs.NameAddr.{name_addr_text};
 ghost use Rattle.dialogs.specs.Counting.{following, greatest_for, RefusesNext};
 ghost use Rattle.dialogs.specs.Requests.{tag_params, tagged, cseq_text, parts_in, request_headers, request_in};
 
-use crate::copies::{copied_display, copied_text, copied_uri};
+use crate::copies::copied_uri;
 use crate::error::DialogError;
 use crate::method::Method;
 use crate::state::{Dialog, Party};
-use sip_message::{CSeq, Header, Headers, Parts, Request, Vias};
-use sip_uri::{NameAddr, Param, Params, Uri, write_name_addr};
+use sip_message::{CSeq, Headers, Parts, Request, Vias, tag_param};
+use sip_uri::{NameAddr, Params, Uri, write_name_addr};
 use std::alloc::{AllocError, Global};
 use text::{Text, put_number};
 
@@ -25,16 +24,14 @@ fn tag_params(alloc: Global, tag: &Text) -> Result<Params, AllocError>
     if tag.as_bytes().is_empty() {
         return Ok(Params::from_vec(params));
     }
-    let name = Text::from_slice(alloc, b"tag")?;
-    let value = Some(copied_text(tag)?);
-    params.push(Param { name, value })?;
+    params.push(tag_param(alloc, tag.as_bytes())?)?;
     Ok(Params::from_vec(params))
 }
 
 fn tagged(alloc: Global, party: &Party, tag: &Text) -> Result<NameAddr, AllocError>
     ensures { IfOk result (λ name. name ≡ tagged party.now tag.now) }
 {
-    let display = copied_display(&party.display)?;
+    let display = party.display.clone()?;
     let uri = copied_uri(&party.uri)?;
     let params = tag_params(alloc, tag)?;
     Ok(NameAddr {
@@ -60,31 +57,18 @@ fn cseq_text(alloc: Global, number: u32, method: Method) -> Result<Text, AllocEr
     Ok(Text::from_vec(out))
 }
 
-fn push_header(
-    alloc: Global,
-    headers: &mut Vec<Header>,
-    name: &[u8],
-    value: &[u8],
-) -> Result<(), AllocError>
-    ensures { OnOk result (headers.new.items ≡ headers.old.items ++ named name.now value.now ∷ []) }
-{
-    let header = Header::of(alloc, name, value)?;
-    headers.push(header)?;
-    Ok(())
-}
-
 /// The header fields of a request, but for its Via and for those that its body needs.
 #[tactic(auto, unfolding(crate::specs::Requests::request_headers))]
 fn request_headers(alloc: Global, parts: &Parts) -> Result<Headers, AllocError>
     ensures { IfOk result (λ hs. hs ≡ request_headers parts.now) }
 {
-    let mut headers = Vec::new(alloc);
-    push_header(alloc, &mut headers, b"Max-Forwards", b"70")?;
-    push_header(alloc, &mut headers, b"From", parts.from_text.as_bytes())?;
-    push_header(alloc, &mut headers, b"To", parts.to_text.as_bytes())?;
-    push_header(alloc, &mut headers, b"Call-ID", parts.call_id.as_bytes())?;
-    push_header(alloc, &mut headers, b"CSeq", parts.cseq_text.as_bytes())?;
-    Ok(Headers::from_vec(headers))
+    let mut headers = Headers::from_vec(Vec::new(alloc));
+    headers.add(alloc, b"Max-Forwards", b"70")?;
+    headers.add(alloc, b"From", parts.from_text.as_bytes())?;
+    headers.add(alloc, b"To", parts.to_text.as_bytes())?;
+    headers.add(alloc, b"Call-ID", parts.call_id.as_bytes())?;
+    headers.add(alloc, b"CSeq", parts.cseq_text.as_bytes())?;
+    Ok(headers)
 }
 
 #[tactic(auto, unfolding(crate::specs::Requests::parts_in))]
@@ -100,7 +84,7 @@ fn parts_in(
     let to = tagged(alloc, &dialog.theirs, &dialog.id.theirs)?;
     let from_text = name_text(alloc, &from)?;
     let to_text = name_text(alloc, &to)?;
-    let call_id = copied_text(&dialog.id.call_id)?;
+    let call_id = dialog.id.call_id.clone()?;
     let name = Text::from_slice(alloc, method.as_bytes())?;
     let cseq_text = cseq_text(alloc, number, method)?;
     Ok(Parts {
