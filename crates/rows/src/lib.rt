@@ -3,6 +3,8 @@
 #![tactic(auto)]
 
 #[cfg(test)]
+mod dialogs_rows;
+#[cfg(test)]
 mod sip_uri_rows;
 #[cfg(test)]
 mod text_rows;
