@@ -1,5 +1,5 @@
 -- Each timer that is set has a line, whatever is done.
-use Rattle.std.proofs.Common.{◌≡◌, ◌≢◌, ℕ, ◌<◌, Bool, true, false, cond, not, ◌&&◌, ◌||◌, eqb, ◌+◌, List, [], ◌∷◌, ◌++◌, length, get_or, set, filter, find, Option, Some, None, option_map, is_some, nat_lt, nat_le, refl, ap, sym, subst, ◌∙◌, inl, inr, arith}
+use Rattle.std.proofs.Common.{◌≡◌, ◌≢◌, ℕ, ◌<◌, Bool, true, false, cond, not, ◌&&◌, ◌||◌, eqb, ◌+◌, List, [], ◌∷◌, ◌++◌, length, get_or, set, filter, find, Option, Some, None, option_map, is_some, nat_lt, refl, ap, sym, subst, ◌∙◌, inl, inr, arith}
 use Rattle.std.specs.Prelude.{IfSome, IsSome}
 use Rattle.std.specs.List.{All, list_all}
 use Rattle.std.proofs.lemmas.Bool.{false≢true, and_parts, and_from, not-true, cases_eq, cond_both, eq-eqb, eqb-true}
@@ -7,7 +7,7 @@ use Rattle.std.proofs.lemmas.List.{get_or-set_other, get_or-set_same}
 use Rattle.std.proofs.lemmas.List.Elements.{All-nil, All-cons, All-head, All-tail, All-filter, All-set, All-push, All-weaker, filter_passes}
 use Rattle.std.proofs.lemmas.List.Sums.{AllPass-from_list_all}
 use Rattle.timers.specs.declared.timers.Timer.{Timer}
-use Rattle.timers.specs.Queue.{put, without, moment, first_due}
+use Rattle.timers.specs.Queue.{put, without, moment}
 use Rattle.sip_uri.specs.declared.uri.Addr.{Addr}
 use Rattle.transactions.specs.declared.input.Input.TheVariants as inputs
 use Rattle.transactions.specs.declared.input.TimerKind.{TimerKind}
@@ -70,9 +70,6 @@ same_timer_is a b h =
     let ids = eqb-true a.id b.id parts.0 in
     let kinds = same_kind a.kind b.kind (eqb-true (place_of a.kind) (place_of b.kind) parts.1) in
     ap (λ n. record { id = n; kind = a.kind }) ids ∙ ap (λ k. record { id = b.id; kind = k }) kinds
-
-own_timer : (a : TimerId) → same_timer a a ≡ true
-own_timer a = rw (eq-eqb a.id a.id refl, eq-eqb (place_of a.kind) (place_of a.kind) refl) refl
 
 -- ---- lists of timers
 
@@ -314,16 +311,6 @@ pub due_fires : (table : Contents) (timer : TimerId) (now : ℕ) → IsFireable 
     → is_some (fired_of (at table.slots timer.id) timer.kind) ≡ true
 due_fires table timer now fireable due =
     fires_at table.slots timer (at table.slots timer.id) refl (due_line table.slots table.timers timer now fireable.lines due) fireable.sent
-
-first_by : (t : Timer TimerId) (ts : List (Timer TimerId)) (now : ℕ) (b : Bool) → nat_le t.at now ≡ b
-    → IfSome (cond b (Some t) None) (λ x. has_come now (moment same_timer (t ∷ ts) x.key) ≡ true)
-first_by t ts now true e = rw (own_timer t.key) e
-first_by t ts now false e = tt
-
--- the first that is due is due
-pub first_is_due : (timers : List (Timer TimerId)) (now : ℕ) → IfSome (first_due timers now) (λ x. has_come now (moment same_timer timers x.key) ≡ true)
-first_is_due [] now = tt
-first_is_due (t ∷ ts) now = first_by t ts now (nat_le t.at now) refl
 
 pub fires_then : (slots : List (Option Transaction)) (timers : List (Timer TimerId)) (table : Contents) (timer : TimerId) (now : ℕ)
     → IsFireable slots timers → record { slots = slots; timers = timers } ≡ table → true ≡ is_due table timer now
