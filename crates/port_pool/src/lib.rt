@@ -21,6 +21,3 @@ pub use pair::Pair;
 pub use pool::Pool;
 pub use relay_line::RelayLine;
 pub use relay_table::RelayTable;
-
-#[cfg(test)]
-mod tests;

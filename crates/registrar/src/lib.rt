@@ -12,8 +12,6 @@ mod refusal;
 mod register;
 mod registrar;
 mod targets;
-#[cfg(test)]
-mod tests;
 
 pub use binding::Binding;
 pub use laws::laws_of_bindings;

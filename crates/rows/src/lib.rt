@@ -5,6 +5,12 @@
 #[cfg(test)]
 mod dialogs_rows;
 #[cfg(test)]
+mod port_pool_rows;
+#[cfg(test)]
+mod registrar_rows;
+#[cfg(test)]
+mod sdp_rows;
+#[cfg(test)]
 mod sip_uri_rows;
 #[cfg(test)]
 mod text_rows;

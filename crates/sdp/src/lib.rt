@@ -30,6 +30,3 @@ pub use place::{Place, place_of};
 pub use read::read_description;
 pub use way::{Way, way_of};
 pub use write::write_description;
-
-#[cfg(test)]
-mod tests;

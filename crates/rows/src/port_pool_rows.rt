@@ -1,6 +1,6 @@
 ghost use Rattle.std.specs.Prelude.{◌≡◌};
 
-use super::*;
+use port_pool::*;
 use sip_uri::Addr;
 use std::test::*;
 

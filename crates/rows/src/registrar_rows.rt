@@ -1,4 +1,4 @@
-use super::*;
+use registrar::*;
 use sip_uri::{Host, Params, Uri};
 use std::alloc::{AllocError, Global};
 use std::test::*;

@@ -1,4 +1,4 @@
-use super::*;
+use sdp::*;
 use std::test::*;
 use text::Text;
 
