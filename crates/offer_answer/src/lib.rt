@@ -23,6 +23,3 @@ pub use laws::{
 pub use range::OwnRange;
 pub use readdressing::{ServerOrigin, readdress};
 pub use stream::{Side, Stream};
-
-#[cfg(test)]
-mod tests;

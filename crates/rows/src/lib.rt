@@ -5,6 +5,8 @@
 #[cfg(test)]
 mod dialogs_rows;
 #[cfg(test)]
+mod offer_answer_rows;
+#[cfg(test)]
 mod port_pool_rows;
 #[cfg(test)]
 mod registrar_rows;

@@ -1,6 +1,6 @@
 ghost use Rattle.std.specs.Prelude.{◌<◌};
 
-use super::*;
+use offer_answer::*;
 use sdp::{Description, DescriptionError, read_description, write_description};
 use sip_uri::Addr;
 use std::alloc::{AllocError, Global};
