@@ -7,3 +7,14 @@ pub mod LifeTests
 pub mod LastTests
 pub mod Growing
 pub mod Promised
+pub mod Members
+pub mod Apart
+pub mod Words
+pub mod OneEvent
+pub mod NewExchanges
+pub mod Keeps
+pub mod Offering
+pub mod Settling
+pub mod Settles
+pub mod Parting
+pub mod Sessions

@@ -9,7 +9,8 @@ use Rattle.offer_answer.specs.Joined.{is_at_server, joined}
 use Rattle.offer_answer.specs.Rows.{HasRows}
 use Rattle.call_trace.specs.declared.datagram.Datagram.{Datagram}
 use Rattle.call_trace.specs.declared.datagram.Dialog.{Dialog}
-use Rattle.call_trace.specs.Promise.{Session, IsRelayed, Meets, Relays, MediaPromise, AllRelayed}
+use Rattle.call_trace.specs.declared.call.Session.{Session}
+use Rattle.call_trace.specs.Promise.{IsRelayed, Meets, Relays, MediaPromise, AllRelayed}
 
 -- the law of offer_answer
 abbrev pub JoinedIsDirect : Type 0

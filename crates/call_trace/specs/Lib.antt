@@ -6,3 +6,8 @@ pub mod Calls
 pub mod Promise
 pub mod Places
 pub mod Computed
+pub mod Listed
+pub mod Stands
+pub mod Lives
+pub mod Events
+pub mod Moves

@@ -1,13 +1,13 @@
 -- The media promise, of a trace and a relay table.
 use Rattle.std.specs.Prelude.{◌≡◌, ℕ, List, Option, Some, ◌⊎◌, IsTrue}
 use Rattle.sip_uri.specs.declared.uri.Addr.{Addr}
-use Rattle.sdp.specs.declared.description.Description.{Description}
 use Rattle.offer_answer.specs.Alike.{Alike}
 use Rattle.offer_answer.specs.Direct.{direct}
 use Rattle.offer_answer.specs.Joined.{is_at_server, joined}
 use Rattle.offer_answer.specs.Rows.{HasRows}
 use Rattle.call_trace.specs.declared.datagram.Datagram.{Datagram}
 use Rattle.call_trace.specs.declared.datagram.Dialog.{Dialog}
+use Rattle.call_trace.specs.declared.call.Session.{Session}
 use Rattle.call_trace.specs.Exchanges.{Exchange, IsLast}
 use Rattle.call_trace.specs.Passing.{IsPassedOn, PassedTogether}
 use Rattle.call_trace.specs.Calls.{CallOf, Live, Open}
@@ -18,13 +18,6 @@ pub record AreLast (methods : List (List ℕ)) (t : List Datagram) (dx dy : Dial
   pub last_y : IsLast methods t dy y
   pub passed_on : IsPassedOn x y
   pub alone : (e f : Exchange) → IsLast methods t dx e → IsLast methods t dy f → PassedTogether e f → (e ≡ x) × (f ≡ y)
-
--- the four descriptions of a session: X offers, Y answers
-pub record Session : Type 0 where
-  pub offer_taken : Description
-  pub answer_sent : Description
-  pub offer_sent : Description
-  pub answer_taken : Description
 
 -- what was said in the two exchanges
 pub record AreSaid (x y : Exchange) (s : Session) : Type 0 where

@@ -4,6 +4,7 @@
 //! stands a plain program that computes it: lists, no cleverness.
 #![tactic(auto)]
 
+mod call;
 mod calling;
 mod datagram;
 mod dialogs;
@@ -12,11 +13,13 @@ mod kinds;
 mod lasting;
 mod laws;
 mod lives;
+mod moving;
 mod offers;
 mod passing;
 mod replying;
 mod search;
 
+pub use call::{Call, Offer, Session, Settled, Stage};
 pub use calling::is_call;
 pub use datagram::{Datagram, Dialog, Direction, Kind, Message};
 pub use dialogs::{dialog_of, is_named};
@@ -24,6 +27,7 @@ pub use exchange::{Places, is_exchange, is_last};
 pub use lasting::are_last;
 pub use laws::{calls_stay, exchanges_stay, relayed_is_promised};
 pub use lives::{has_begun, has_ended, is_live};
+pub use moving::moves_keep;
 pub use offers::is_open;
 pub use passing::{are_passed_together, is_passed_on};
 pub use replying::replies;

@@ -1,0 +1,51 @@
+//! Calls as records: what an agent must remember of them, seen from the trace.
+
+use crate::datagram::{Dialog, Message};
+use sdp::Description;
+
+/// The four descriptions of a session (RFC 3264): one end offers and the other answers, each through the server.
+#[derive(Clone, Debug, Drop)]
+pub struct Session {
+    pub offer_taken: Description,
+    pub answer_sent: Description,
+    pub offer_sent: Description,
+    pub answer_taken: Description,
+}
+
+/// A session, and which end offered it.
+#[derive(Clone, Debug, Drop)]
+pub struct Settled {
+    pub by_caller: bool,
+    pub session: Session,
+}
+
+/// How far a call has come.
+#[derive(Clone, Debug, Drop)]
+pub enum Stage {
+    /// The callee was asked and has not answered. A call that is cancelled is listed no more.
+    Asked,
+    /// It was answered, and this was settled last. Whether the ACK came is no matter.
+    Answered(Settled),
+    /// One end has left it; the other waits for its BYE.
+    Ending,
+}
+
+/// An offer that was passed on and has no final response yet.
+#[derive(Clone, Debug, Drop)]
+pub struct Offer {
+    pub by_caller: bool,
+    /// The request that was taken.
+    pub came: Message,
+    /// The request that was sent to the other end.
+    pub went: Message,
+}
+
+/// A call of two dialogs.
+#[derive(Clone, Debug, Drop)]
+pub struct Call {
+    pub caller: Dialog,
+    /// The callee's tag is empty until it answers.
+    pub callee: Dialog,
+    pub stage: Stage,
+    pub offer: Option<Offer>,
+}
