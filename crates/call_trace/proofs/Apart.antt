@@ -1,8 +1,8 @@
 -- Calls that share no tag of ours.
-use Rattle.std.proofs.Common.{◌≡◌, ◌≢◌, ℕ, zero, suc, List, [], ◌∷◌, ◌++◌, Bool, true, false, not, Some, ◌⊎◌, inl, inr, refl, sym, ◌∙◌, ap, subst}
+use Rattle.std.proofs.Common.{◌≡◌, ◌≢◌, ℕ, zero, suc, List, [], ◌∷◌, ◌++◌, Bool, true, false, not, Some, inl, inr, refl, sym, subst}
 use Rattle.std.specs.Prelude.{slice_get, slice_set, remove}
 use Rattle.call_trace.specs.declared.call.Call.{Call}
-use Rattle.call_trace.specs.Listed.{AllOf, AnyOf}
+use Rattle.call_trace.specs.Listed.{AllOf}
 use Rattle.call_trace.specs.Stands.{leg, IsTagOf, Apart, AllApart, HasTags}
 use Rattle.call_trace.proofs.Members.{all_at, all_append, all_weaker, all_set, all_remove, all_both}
 

@@ -1,28 +1,26 @@
 -- What stands of a call, and which pairs of dialogs are calls, after an event that leaves them alone.
-use Rattle.std.proofs.Common.{◌≡◌, ◌≢◌, ℕ, zero, suc, ◌+◌, ◌<◌, ◌≤◌, List, [], ◌∷◌, ◌++◌, length, Bool, true, false, not, Option, Some, None, ◌⊎◌, inl, inr, refl, sym, ◌∙◌, ap, subst, arith}
-use Rattle.std.specs.Prelude.{slice_get, slice_set, remove, IsTrue}
-use Rattle.call_trace.specs.declared.datagram.Direction.TheVariants.{Taken, Sent}
+use Rattle.std.proofs.Common.{◌≡◌, ℕ, suc, ◌+◌, ◌<◌, ◌≤◌, List, ◌++◌, length, Bool, not, Option, Some, ◌⊎◌, inl, inr, sym, ◌∙◌, ap, subst, arith}
+use Rattle.std.specs.Prelude.{IsTrue}
+use Rattle.call_trace.specs.declared.datagram.Direction.TheVariants.{Sent}
 use Rattle.call_trace.specs.declared.datagram.Message.{Message}
 use Rattle.call_trace.specs.declared.datagram.Datagram.{Datagram}
 use Rattle.call_trace.specs.declared.datagram.Dialog.{Dialog}
 use Rattle.call_trace.specs.declared.call.Session.{Session}
-use Rattle.call_trace.specs.declared.call.Settled.{Settled}
-use Rattle.call_trace.specs.declared.call.Stage.TheVariants.{Asked, Answered, Ending}
 use Rattle.call_trace.specs.declared.call.Offer.{Offer}
 use Rattle.call_trace.specs.declared.call.Call.{Call}
-use Rattle.call_trace.specs.Messages.{ack, is_success, is_final, is_listed, asks}
+use Rattle.call_trace.specs.Messages.{ack, is_final, is_listed, asks}
 use Rattle.call_trace.specs.Exchanges.{At, TakesFinal, Exchange, IsExchange}
 use Rattle.call_trace.specs.Passing.{IsPassedOn}
 use Rattle.call_trace.specs.Calls.{IsFirst, AreBegun, CallOf, Ended}
-use Rattle.call_trace.specs.Stands.{leg, IsOffered, Offered, IsSettled, SettledIn, IsFirstOffer, CallStands, IsTagOf, Apart, AllApart, HasTags, IsCallOf, AsksAt, Known, StandsAfter}
-use Rattle.call_trace.specs.Events.{taken_at, sent_at, passed, NoneAsked, IsUnused, IsIdle, IsIdleTaken, plain, refusal_acknowledged, again, due, calm, swallowed}
+use Rattle.call_trace.specs.Stands.{leg, IsOffered, Offered, SettledIn, CallStands, AllApart, HasTags, IsCallOf, AsksAt, Known, StandsAfter}
+use Rattle.call_trace.specs.Events.{passed, NoneAsked, IsIdle, IsIdleTaken, plain, refusal_acknowledged, again, due, calm, swallowed}
 use Rattle.call_trace.specs.Listed.{AllOf, AnyOf}
 use Rattle.call_trace.proofs.AtLaws.{at_within, at_left, at_back, at_split}
 use Rattle.call_trace.proofs.Growing.{exchange_back, call_left, ended_left}
-use Rattle.call_trace.proofs.Members.{all_at, all_weaker, all_both}
+use Rattle.call_trace.proofs.Members.{all_at, all_weaker}
 use Rattle.call_trace.proofs.Words.{not_both, plain_asks, other_asks, offer_asks, reply_is_listed, calm_final}
-use Rattle.call_trace.proofs.OneEvent.{Events, events_more, same_old, one_taken_more, FineAsks, Copies, copies_more, one_birth_more, Part, came, went, part_of, taken_first, root_differs}
-use Rattle.call_trace.proofs.NewExchanges.{NoNew, last_left, exchange_new, idle_makes_none}
+use Rattle.call_trace.proofs.OneEvent.{Events, events_more, same_old, one_taken_more, FineAsks, Copies, copies_more, one_birth_more, taken_first, root_differs}
+use Rattle.call_trace.proofs.NewExchanges.{NoNew, last_left, idle_makes_none}
 
 -- ---- a call that the event leaves alone
 

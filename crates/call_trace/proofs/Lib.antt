@@ -18,3 +18,7 @@ pub mod Settling
 pub mod Settles
 pub mod Parting
 pub mod Sessions
+pub mod Living
+pub mod LivingMoves
+pub mod Standing
+pub mod Running

@@ -1,5 +1,5 @@
 -- Lists of calls of which each one, or some one, has a property.
-use Rattle.std.proofs.Common.{◌≡◌, ℕ, zero, suc, List, [], ◌∷◌, ◌++◌, Some, ◌⊎◌, inl, inr, refl, sym, ap, subst}
+use Rattle.std.proofs.Common.{◌≡◌, ℕ, zero, suc, List, [], ◌∷◌, ◌++◌, Some, ◌⊎◌, inl, inr, refl, subst}
 use Rattle.std.specs.Prelude.{slice_get, slice_set, remove}
 use Rattle.call_trace.specs.Listed.{AllOf, AnyOf}
 

@@ -1,6 +1,6 @@
 -- Which exchanges one more event makes.
-use Rattle.std.proofs.Common.{◌≡◌, ◌≢◌, ℕ, zero, suc, ◌+◌, ◌<◌, ◌≤◌, List, [], ◌∷◌, ◌++◌, length, Bool, true, false, not, if◌then◌else◌, Option, Some, None, ◌⊎◌, inl, inr, refl, sym, ◌∙◌, ap, subst, arith}
-use Rattle.std.specs.Prelude.{slice_get, IsTrue}
+use Rattle.std.proofs.Common.{◌≡◌, ◌≢◌, ℕ, ◌+◌, ◌<◌, ◌≤◌, List, [], ◌++◌, length, Bool, true, false, not, if◌then◌else◌, Option, Some, ◌⊎◌, inl, inr, refl, sym, ◌∙◌, ap, subst, arith}
+use Rattle.std.specs.Prelude.{IsTrue}
 use Rattle.call_trace.specs.declared.datagram.Direction.{Direction}
 use Rattle.call_trace.specs.declared.datagram.Direction.TheVariants.{Taken, Sent}
 use Rattle.call_trace.specs.declared.datagram.Kind.{Kind}
@@ -8,16 +8,16 @@ use Rattle.call_trace.specs.declared.datagram.Kind.TheVariants.{Request, Respons
 use Rattle.call_trace.specs.declared.datagram.Message.{Message}
 use Rattle.call_trace.specs.declared.datagram.Datagram.{Datagram}
 use Rattle.call_trace.specs.declared.datagram.Dialog.{Dialog}
-use Rattle.call_trace.specs.Messages.{ack, is_request, is_success, is_final, is_listed, asks, is_answer, Replies}
-use Rattle.call_trace.specs.Dialogs.{is_ours_in_from, our_tag, dialog_of}
-use Rattle.call_trace.specs.Exchanges.{At, TakesFinal, NoneTakenBefore, Exchange, IsServed, IsMade, IsExchange, IsLast}
+use Rattle.call_trace.specs.Messages.{ack, is_request, is_success, is_listed}
+use Rattle.call_trace.specs.Dialogs.{is_ours_in_from, our_tag}
+use Rattle.call_trace.specs.Exchanges.{At, TakesFinal, Exchange, IsMade, IsExchange, IsLast}
 use Rattle.call_trace.specs.Stands.{AsksAt}
 use Rattle.call_trace.specs.Events.{taken_at, sent_at, passed, IsIdle, IsIdleTaken, plain, refusal_acknowledged, again, due, calm, swallowed}
 use Rattle.call_trace.specs.Listed.{AllOf}
-use Rattle.call_trace.proofs.AtLaws.{at_within, at_left, at_back, at_split}
+use Rattle.call_trace.proofs.AtLaws.{at_within, at_left, at_split}
 use Rattle.call_trace.proofs.Growing.{exchange_left, exchange_back}
 use Rattle.call_trace.proofs.Members.{all_at}
-use Rattle.call_trace.proofs.Words.{not_both, request_is_no_success, success_is_final, request_of, request_asks, offer_asks, answer_succeeds, reply_is_listed, plain_accepts, calm_final}
+use Rattle.call_trace.proofs.Words.{request_is_no_success, success_is_final, request_of, offer_asks, answer_succeeds, reply_is_listed, plain_accepts, calm_final}
 use Rattle.call_trace.proofs.OneEvent.{Part, came, went, part_of, Copies, asks_left}
 
 -- ---- the tag of an exchange

@@ -1,29 +1,26 @@
 -- An offer is passed on: the callee is asked, or either end offers again.
-use Rattle.std.proofs.Common.{◌≡◌, ◌≢◌, ℕ, zero, suc, ◌+◌, ◌<◌, ◌≤◌, List, [], ◌∷◌, ◌++◌, length, Bool, true, false, not, Option, Some, None, ◌⊎◌, inl, inr, refl, sym, ◌∙◌, ap, subst, arith}
-use Rattle.std.specs.Prelude.{slice_get, slice_set, remove, IsTrue}
-use Rattle.call_trace.specs.declared.datagram.Direction.TheVariants.{Taken, Sent}
+use Rattle.std.proofs.Common.{◌≡◌, ℕ, zero, suc, ◌+◌, ◌≤◌, List, [], ◌∷◌, ◌++◌, length, Bool, true, false, not, Some, ◌⊎◌, inl, inr, refl, sym, ◌∙◌, ap, subst, arith}
+use Rattle.std.specs.Prelude.{slice_get, slice_set, IsTrue}
 use Rattle.call_trace.specs.declared.datagram.Message.{Message}
 use Rattle.call_trace.specs.declared.datagram.Datagram.{Datagram}
 use Rattle.call_trace.specs.declared.datagram.Dialog.{Dialog}
 use Rattle.call_trace.specs.declared.call.Settled.{Settled}
-use Rattle.call_trace.specs.declared.call.Stage.TheVariants.{Asked, Answered, Ending}
+use Rattle.call_trace.specs.declared.call.Stage.TheVariants.{Answered}
 use Rattle.call_trace.specs.declared.call.Offer.{Offer}
 use Rattle.call_trace.specs.declared.call.Call.{Call}
-use Rattle.call_trace.specs.Messages.{is_request, is_final, is_success, asks, is_offer, Replies}
+use Rattle.call_trace.specs.Messages.{is_request, is_success, asks, is_offer}
 use Rattle.call_trace.specs.Exchanges.{At, TakesFinal, Exchange, IsExchange}
-use Rattle.call_trace.specs.Calls.{CallOf}
-use Rattle.call_trace.specs.Stands.{leg, IsOffered, Offered, SettledIn, IsFirstOffer, CallStands, IsTagOf, Apart, HasTags, IsCallOf, StandsAfter}
-use Rattle.call_trace.specs.Events.{taken_at, sent_at, passed, NoneAsked, IsUnused, IsIdle, plain}
-use Rattle.call_trace.specs.Moves.{Asks, IsNewCall, new_call, reoffered, without_offer}
-use Rattle.call_trace.specs.Listed.{AllOf, AnyOf}
+use Rattle.call_trace.specs.Stands.{leg, Offered, SettledIn, IsFirstOffer, CallStands, HasTags, IsCallOf, StandsAfter}
+use Rattle.call_trace.specs.Events.{taken_at, sent_at, passed, IsUnused, IsIdle, plain}
+use Rattle.call_trace.specs.Moves.{Asks, IsNewCall, new_call, reoffered}
+use Rattle.call_trace.specs.Listed.{AllOf}
 use Rattle.call_trace.proofs.AtLaws.{at_right, at_split}
-use Rattle.call_trace.proofs.Growing.{call_left}
 use Rattle.call_trace.proofs.Members.{all_at, all_append, all_weaker, all_set, any_left, any_set}
-use Rattle.call_trace.proofs.Apart.{leg_tag, set_others, apart_set, apart_push}
+use Rattle.call_trace.proofs.Apart.{apart_set, apart_push}
 use Rattle.call_trace.proofs.Words.{request_is_no_final, request_is_no_success, request_asks, offer_asks, answer_succeeds, plain_asks}
-use Rattle.call_trace.proofs.OneEvent.{offset, came, went, taken_stands, sent_stands, taken_first, FineAsks, IsCopy}
+use Rattle.call_trace.proofs.OneEvent.{came, went, taken_stands, sent_stands, taken_first, FineAsks, IsCopy}
 use Rattle.call_trace.proofs.NewExchanges.{from_response, exchange_new, NoNew, idle_no_answer}
-use Rattle.call_trace.proofs.Keeps.{Foreign, NoServed, Keeps, no_new_serves_none, settled_left, offered_left, stand_left, known_more, assembled}
+use Rattle.call_trace.proofs.Keeps.{Foreign, no_new_serves_none, stand_left, known_more, assembled}
 
 -- one of two
 pub two_at : (a b m : Message) (i : ℕ) → slice_get (a ∷ b ∷ []) i ≡ Some m → ((i ≡ 0) × (a ≡ m)) ⊎ ((i ≡ 1) × (b ≡ m))

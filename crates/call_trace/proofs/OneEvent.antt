@@ -1,5 +1,5 @@
 -- What one more event does to the places and to the requests of a trace.
-use Rattle.std.proofs.Common.{◌≡◌, ◌≢◌, ℕ, zero, suc, ◌+◌, ◌<◌, List, [], ◌∷◌, ◌++◌, map, length, Bool, true, false, not, Option, Some, None, ◌⊎◌, inl, inr, refl, sym, ◌∙◌, ap, subst, arith}
+use Rattle.std.proofs.Common.{◌≡◌, ℕ, zero, suc, ◌+◌, ◌<◌, List, [], ◌∷◌, ◌++◌, map, length, Option, Some, None, ◌⊎◌, inl, inr, refl, sym, ◌∙◌, ap, subst, arith}
 use Rattle.std.specs.Prelude.{slice_get, IsTrue}
 use Rattle.call_trace.specs.declared.datagram.Direction.{Direction}
 use Rattle.call_trace.specs.declared.datagram.Direction.TheVariants.{Taken, Sent}
@@ -7,13 +7,12 @@ use Rattle.call_trace.specs.declared.datagram.Kind.{Kind}
 use Rattle.call_trace.specs.declared.datagram.Kind.TheVariants.{Request, Response}
 use Rattle.call_trace.specs.declared.datagram.Message.{Message}
 use Rattle.call_trace.specs.declared.datagram.Datagram.{Datagram}
-use Rattle.call_trace.specs.declared.call.Call.{Call}
 use Rattle.call_trace.specs.Messages.{is_request, asks}
 use Rattle.call_trace.specs.Dialogs.{is_ours_in_from}
 use Rattle.call_trace.specs.Exchanges.{At}
-use Rattle.call_trace.specs.Stands.{AsksAt, AskedAt, StandsAfter}
+use Rattle.call_trace.specs.Stands.{AsksAt, AskedAt}
 use Rattle.call_trace.specs.Events.{taken_at, sent_at, passed, NoneAsked, IsUnused}
-use Rattle.call_trace.proofs.AtLaws.{at_within, at_left, at_right, at_split}
+use Rattle.call_trace.proofs.AtLaws.{at_left, at_split}
 use Rattle.call_trace.proofs.Words.{not_both, request_asks}
 
 -- ---- the datagrams of the event

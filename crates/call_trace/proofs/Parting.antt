@@ -1,28 +1,28 @@
 -- A call ends, or an answer is of no call: and the refusal of a later offer.
-use Rattle.std.proofs.Common.{◌≡◌, ◌≢◌, ℕ, zero, suc, ◌+◌, ◌<◌, ◌≤◌, List, [], ◌∷◌, ◌++◌, length, Bool, true, false, not, Option, Some, None, ◌⊎◌, inl, inr, refl, sym, ◌∙◌, ap, subst, arith}
+use Rattle.std.proofs.Common.{◌≡◌, ℕ, suc, ◌+◌, ◌<◌, ◌≤◌, List, [], ◌∷◌, ◌++◌, length, Bool, not, Option, Some, inl, inr, refl, sym, ◌∙◌, ap, subst, arith}
 use Rattle.std.specs.Prelude.{slice_get, slice_set, remove, IsTrue}
-use Rattle.call_trace.specs.declared.datagram.Direction.TheVariants.{Taken, Sent}
+use Rattle.call_trace.specs.declared.datagram.Direction.TheVariants.{Taken}
 use Rattle.call_trace.specs.declared.datagram.Message.{Message}
 use Rattle.call_trace.specs.declared.datagram.Datagram.{Datagram}
 use Rattle.call_trace.specs.declared.datagram.Dialog.{Dialog}
 use Rattle.call_trace.specs.declared.call.Settled.{Settled}
-use Rattle.call_trace.specs.declared.call.Stage.TheVariants.{Asked, Answered, Ending}
+use Rattle.call_trace.specs.declared.call.Stage.TheVariants.{Asked, Answered}
 use Rattle.call_trace.specs.declared.call.Offer.{Offer}
 use Rattle.call_trace.specs.declared.call.Call.{Call}
-use Rattle.call_trace.specs.Messages.{ack, bye, is_request, is_final, is_ok, is_success, is_method, is_listed, asks, Replies}
-use Rattle.call_trace.specs.Dialogs.{our_tag, dialog_of}
+use Rattle.call_trace.specs.Messages.{ack, bye, is_request, is_success, is_listed, asks, Replies}
+use Rattle.call_trace.specs.Dialogs.{our_tag}
 use Rattle.call_trace.specs.Exchanges.{At, TakesFinal, Exchange, IsExchange}
 use Rattle.call_trace.specs.Calls.{Ended}
-use Rattle.call_trace.specs.Stands.{leg, IsOffered, Offered, SettledIn, CallStands, IsTagOf, Apart, AllApart, HasTags, IsCallOf, StandsAfter}
-use Rattle.call_trace.specs.Events.{taken_at, sent_at, passed, dialog_sent, IsIdle, IsIdleTaken, EndsNow, before, left, served, IsParting, idle, bye_sent, bye_answered, acknowledged, IsPartingTaken, unmoved, answered}
+use Rattle.call_trace.specs.Stands.{leg, CallStands, IsTagOf, AllApart, HasTags, IsCallOf, StandsAfter}
+use Rattle.call_trace.specs.Events.{taken_at, sent_at, passed, IsIdle, IsIdleTaken, EndsNow, before, left, served, IsParting, idle, bye_sent, bye_answered, acknowledged, IsPartingTaken, unmoved, answered}
 use Rattle.call_trace.specs.Moves.{without_offer, ending}
-use Rattle.call_trace.specs.Listed.{AllOf, AnyOf}
+use Rattle.call_trace.specs.Listed.{AllOf}
 use Rattle.call_trace.proofs.AtLaws.{at_right}
 use Rattle.call_trace.proofs.Growing.{ended_left}
-use Rattle.call_trace.proofs.Members.{all_at, all_weaker, all_both, all_set, all_remove, any_set, any_remove}
+use Rattle.call_trace.proofs.Members.{all_at, all_set, all_remove, any_set, any_remove}
 use Rattle.call_trace.proofs.Apart.{leg_tag, leg_some, set_others, apart_set, apart_remove}
 use Rattle.call_trace.proofs.Words.{not_both, request_of, request_asks, other_asks, request_is_no_success, ok_is_success, method_is, answer_succeeds}
-use Rattle.call_trace.proofs.OneEvent.{offset, Part, came, went, taken_stands, sent_stands, taken_first, FineAsks, Copies, copies_more, root_differs}
+use Rattle.call_trace.proofs.OneEvent.{offset, came, went, taken_stands, sent_stands, taken_first, FineAsks, Copies, copies_more, root_differs}
 use Rattle.call_trace.proofs.NewExchanges.{tag_response_taken, exchange_tag, exchange_new, answer_listed, idle_no_answer, idle_taken_no_answer}
 use Rattle.call_trace.proofs.Keeps.{Foreign, NoServed, Keeps, stand_left, known_more, assembled, idle_asks, fine_idle, idle_answers_none}
 use Rattle.call_trace.proofs.Offering.{request_no_answer, settled_same, listed_same}

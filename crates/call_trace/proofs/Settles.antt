@@ -1,5 +1,5 @@
 -- An answer is passed on: the first one of a call, or a later one.
-use Rattle.std.proofs.Common.{◌≡◌, ◌≢◌, ℕ, zero, suc, ◌+◌, ◌<◌, ◌≤◌, List, [], ◌∷◌, ◌++◌, length, Bool, true, false, not, Option, Some, None, ◌⊎◌, inl, inr, refl, sym, ◌∙◌, ap, subst, arith}
+use Rattle.std.proofs.Common.{◌≡◌, ℕ, suc, ◌<◌, ◌≤◌, List, [], ◌∷◌, ◌++◌, length, Bool, true, not, Some, inl, inr, refl, sym, ◌∙◌, ap, subst, arith}
 use Rattle.std.specs.Prelude.{slice_get, slice_set, IsTrue}
 use Rattle.call_trace.specs.declared.datagram.Direction.TheVariants.{Taken, Sent}
 use Rattle.call_trace.specs.declared.datagram.Message.{Message}
@@ -7,27 +7,26 @@ use Rattle.call_trace.specs.declared.datagram.Datagram.{Datagram}
 use Rattle.call_trace.specs.declared.datagram.Dialog.{Dialog}
 use Rattle.call_trace.specs.declared.call.Session.{Session}
 use Rattle.call_trace.specs.declared.call.Settled.{Settled}
-use Rattle.call_trace.specs.declared.call.Stage.TheVariants.{Asked, Answered, Ending}
+use Rattle.call_trace.specs.declared.call.Stage.TheVariants.{Asked, Answered}
 use Rattle.call_trace.specs.declared.call.Offer.{Offer}
 use Rattle.call_trace.specs.declared.call.Call.{Call}
-use Rattle.call_trace.specs.Messages.{invite, ack, is_request, is_method, is_offer, is_listed, asks, Replies}
+use Rattle.call_trace.specs.Messages.{invite, ack, is_request, is_method, is_listed, asks}
 use Rattle.call_trace.specs.Dialogs.{our_tag, dialog_of}
 use Rattle.call_trace.specs.Exchanges.{At, TakesFinal, Exchange, IsExchange}
 use Rattle.call_trace.specs.Passing.{IsPassedOn}
-use Rattle.call_trace.specs.Calls.{IsFirst, CallOf, Ended}
-use Rattle.call_trace.specs.Stands.{leg, IsOffered, Offered, IsSettled, SettledIn, IsFirstOffer, CallStands, IsTagOf, Apart, HasTags, IsCallOf, AsksAt, AskedAt, Known, StandsAfter}
-use Rattle.call_trace.specs.Events.{taken_at, sent_at, passed}
+use Rattle.call_trace.specs.Calls.{IsFirst, CallOf}
+use Rattle.call_trace.specs.Stands.{leg, IsOffered, Offered, IsSettled, SettledIn, IsFirstOffer, CallStands, IsTagOf, Apart, HasTags, IsCallOf, AsksAt, AskedAt, StandsAfter}
+use Rattle.call_trace.specs.Events.{taken_at, sent_at}
 use Rattle.call_trace.specs.Moves.{Answers, tagged, settled_first, settled_later}
-use Rattle.call_trace.specs.Listed.{AllOf, AnyOf}
 use Rattle.call_trace.proofs.AtLaws.{at_within, at_same, at_left, at_split}
 use Rattle.call_trace.proofs.Growing.{call_left, ended_left}
-use Rattle.call_trace.proofs.Members.{all_at, all_weaker, all_both, all_set, any_set, any_new}
+use Rattle.call_trace.proofs.Members.{all_at, all_both, all_set, any_set, any_new}
 use Rattle.call_trace.proofs.Apart.{leg_tag, leg_some, legs_differ, set_others, apart_set}
 use Rattle.call_trace.proofs.Words.{not_both, request_of, request_asks, offer_asks, other_asks}
-use Rattle.call_trace.proofs.OneEvent.{Events, events_more, event_of, Part, came, went, part_of, sent_part, taken_first, OneTaken, one_taken_more, FineAsks, IsCopy, Copies, copies_more, OneBirth, one_birth_more}
-use Rattle.call_trace.proofs.NewExchanges.{tag_response_taken, tag_response_sent, exchange_tag, exchange_new, NoNew}
-use Rattle.call_trace.proofs.Keeps.{Foreign, call_split, settled_left, stand_left, assembled}
-use Rattle.call_trace.proofs.Offering.{two_at, request_no_answer, legs_same, listed_same}
+use Rattle.call_trace.proofs.OneEvent.{Events, event_of, came, went, part_of, sent_part, taken_first, OneTaken, one_taken_more, FineAsks, OneBirth, one_birth_more}
+use Rattle.call_trace.proofs.NewExchanges.{tag_response_taken, tag_response_sent, exchange_tag, exchange_new}
+use Rattle.call_trace.proofs.Keeps.{Foreign, call_split, stand_left, assembled}
+use Rattle.call_trace.proofs.Offering.{two_at, request_no_answer, legs_same}
 use Rattle.call_trace.proofs.Settling.{settling, served, made, dialog_served, dialog_made, settled_now}
 
 -- neither the ACK nor the 2xx may carry an offer

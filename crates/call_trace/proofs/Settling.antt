@@ -1,22 +1,21 @@
 -- An answer is passed on: the two exchanges that it makes.
-use Rattle.std.proofs.Common.{◌≡◌, ◌≢◌, ℕ, zero, suc, ◌+◌, ◌<◌, ◌≤◌, List, [], ◌∷◌, ◌++◌, length, Bool, true, false, not, if◌then◌else◌, Option, Some, None, ◌⊎◌, inl, inr, refl, sym, ◌∙◌, ap, subst, arith, length-append}
-use Rattle.std.specs.Prelude.{slice_get, IsTrue}
+use Rattle.std.proofs.Common.{◌≡◌, ◌≢◌, ℕ, ◌+◌, ◌<◌, ◌≤◌, List, [], ◌∷◌, ◌++◌, length, not, if◌then◌else◌, Some, ◌⊎◌, inl, inr, refl, sym, ◌∙◌, ap, subst, arith, length-append}
+use Rattle.std.specs.Prelude.{IsTrue}
 use Rattle.call_trace.specs.declared.datagram.Direction.TheVariants.{Taken, Sent}
 use Rattle.call_trace.specs.declared.datagram.Message.{Message}
 use Rattle.call_trace.specs.declared.datagram.Datagram.{Datagram}
 use Rattle.call_trace.specs.declared.datagram.Dialog.{Dialog}
 use Rattle.call_trace.specs.declared.call.Session.{Session}
 use Rattle.call_trace.specs.declared.call.Offer.{Offer}
-use Rattle.call_trace.specs.Messages.{ack, is_request, is_success, is_answer, is_offer, asks, Replies}
-use Rattle.call_trace.specs.Dialogs.{our_tag, their_tag, dialog_of}
-use Rattle.call_trace.specs.Exchanges.{At, TakesFinal, NoneTakenBefore, NoneSentBefore, Exchange, IsServed, IsMade, IsExchange, IsLast}
-use Rattle.call_trace.specs.Promise.{AreSaid}
+use Rattle.call_trace.specs.Messages.{ack, is_request, is_offer, Replies}
+use Rattle.call_trace.specs.Dialogs.{our_tag, dialog_of}
+use Rattle.call_trace.specs.Exchanges.{TakesFinal, NoneSentBefore, Exchange, IsExchange}
 use Rattle.call_trace.specs.Stands.{IsOffered, IsSettled}
-use Rattle.call_trace.specs.Events.{taken_at, sent_at, passed, dialog_sent, AreNewBytes, IsUnused}
+use Rattle.call_trace.specs.Events.{taken_at, sent_at, passed}
 use Rattle.call_trace.specs.Moves.{Answers}
 use Rattle.call_trace.proofs.AtLaws.{at_within, at_left, at_back, at_right, at_split}
-use Rattle.call_trace.proofs.Words.{not_both, request_of, answer_succeeds, request_is_no_success}
-use Rattle.call_trace.proofs.OneEvent.{Part, came, went, part_of, taken_stands, sent_stands}
+use Rattle.call_trace.proofs.Words.{request_of}
+use Rattle.call_trace.proofs.OneEvent.{came, went, part_of, taken_stands, sent_stands}
 use Rattle.call_trace.proofs.NewExchanges.{tag_response_sent, from_request, from_response, to_response, exchange_tag, exchange_new}
 use Rattle.call_trace.proofs.Offering.{two_at, request_no_answer}
 

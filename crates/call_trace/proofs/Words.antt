@@ -1,12 +1,12 @@
 -- What kinds and methods of messages say of one another.
-use Rattle.std.proofs.Common.{◌≡◌, ◌≢◌, ℕ, List, [], Bool, true, false, not, ◌&&◌, ◌||◌, ◌⊎◌, inl, inr, refl, sym, ◌∙◌, ap, subst, nat_eq, nat_le, nat_lt, ◌==◌}
+use Rattle.std.proofs.Common.{◌≡◌, ℕ, List, Bool, true, false, not, ◌&&◌, ◌||◌, refl, sym, subst, nat_le, nat_lt}
 use Rattle.std.specs.Prelude.{IsTrue, is_some}
 use Rattle.std.specs.Cmp.Lexicographic.{bytes_decides}
 use Rattle.std.proofs.lemmas.Bool.Decides.{Decides-eqb}
 use Rattle.call_trace.specs.declared.datagram.Kind.{Kind}
 use Rattle.call_trace.specs.declared.datagram.Kind.TheVariants.{Request, Response}
 use Rattle.call_trace.specs.declared.datagram.Message.{Message}
-use Rattle.call_trace.specs.Messages.{invite, ack, bye, is_request, is_final, is_ok, is_success, is_method, is_listed, is_request_of, asks, accepts, is_offer, is_answer, Replies}
+use Rattle.call_trace.specs.Messages.{invite, ack, bye, is_request, is_final, is_ok, is_success, is_method, is_listed, is_request_of, asks, is_offer, is_answer, Replies}
 use Rattle.call_trace.specs.Events.{is_plain, is_calm}
 
 pub and_left : (a b : Bool) → IsTrue (a && b) → IsTrue a

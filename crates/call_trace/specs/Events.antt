@@ -1,5 +1,5 @@
 -- The datagrams of one event, and what they may be without a move of any call.
-use Rattle.std.specs.Prelude.{◌≡◌, ◌≢◌, ℕ, List, [], ◌∷◌, map, Bool, not, ◌&&◌, ◌||◌, Option, Some, None, slice_get, ◌⊎◌, IsTrue}
+use Rattle.std.specs.Prelude.{◌≡◌, ◌≢◌, ℕ, List, ◌∷◌, map, Bool, not, ◌&&◌, ◌||◌, Option, Some, None, slice_get, ◌⊎◌, IsTrue}
 use Rattle.call_trace.specs.declared.datagram.Direction.TheVariants.{Taken, Sent}
 use Rattle.call_trace.specs.declared.datagram.Message.{Message}
 use Rattle.call_trace.specs.declared.datagram.Datagram.{Datagram}

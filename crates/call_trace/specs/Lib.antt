@@ -11,3 +11,4 @@ pub mod Stands
 pub mod Lives
 pub mod Events
 pub mod Moves
+pub mod Runs

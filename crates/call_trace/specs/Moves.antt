@@ -9,8 +9,8 @@ use Rattle.call_trace.specs.declared.call.Stage.TheVariants.{Asked, Answered, En
 use Rattle.call_trace.specs.declared.call.Offer.{Offer}
 use Rattle.call_trace.specs.declared.call.Call.{Call}
 use Rattle.call_trace.specs.Messages.{invite, ack, is_final, is_success, is_method, is_offer, is_answer, is_request_of, Replies}
-use Rattle.call_trace.specs.Stands.{leg, IsTagOf, Apart, HasTags}
-use Rattle.call_trace.specs.Events.{passed, dialog_sent, is_plain, IsIdle, IsIdleTaken, IsUnused, IsNewTag, AreNewBytes, EndsNow, IsParting, IsPartingTaken}
+use Rattle.call_trace.specs.Stands.{leg, Apart, HasTags}
+use Rattle.call_trace.specs.Events.{dialog_sent, is_plain, IsIdle, IsIdleTaken, IsUnused, IsNewTag, AreNewBytes, EndsNow, IsParting, IsPartingTaken}
 use Rattle.call_trace.specs.Listed.{AllOf}
 
 -- ---- an offer is passed on

@@ -1,12 +1,11 @@
 -- How calls stand after a trace: which exchanges are their last, which offers are open.
 use Rattle.std.specs.Prelude.{◌≡◌, ◌≢◌, ℕ, ◌<◌, List, [], ◌∷◌, Bool, true, false, not, Some, ◌⊎◌, IsTrue}
 use Rattle.call_trace.specs.declared.datagram.Direction.TheVariants.{Taken, Sent}
-use Rattle.call_trace.specs.declared.datagram.Message.{Message}
 use Rattle.call_trace.specs.declared.datagram.Datagram.{Datagram}
 use Rattle.call_trace.specs.declared.datagram.Dialog.{Dialog}
 use Rattle.call_trace.specs.declared.call.Session.{Session}
 use Rattle.call_trace.specs.declared.call.Settled.{Settled}
-use Rattle.call_trace.specs.declared.call.Stage.TheVariants.{Asked, Answered, Ending}
+use Rattle.call_trace.specs.declared.call.Stage.TheVariants.{Asked, Answered}
 use Rattle.call_trace.specs.declared.call.Offer.{Offer}
 use Rattle.call_trace.specs.declared.call.Call.{Call}
 use Rattle.call_trace.specs.Messages.{invite, ack, bye, is_listed, is_method, asks, is_offer}

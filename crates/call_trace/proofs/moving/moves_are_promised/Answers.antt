@@ -1,0 +1,11 @@
+use Rattle.std.proofs.Common.{length}
+use Rattle.call_trace.specs.Runs.{trace_from}
+use Rattle.call_trace.proofs.Running.{stands_from_none}
+use Rattle.call_trace.proofs.moving.moves_are_promised.Goals as goal
+
+pub returns : goal.returns
+returns c = record {
+  media = λ methods server table calls events off mv relayed.
+      c.standing_is_promised.ensures.media methods server table calls (length events) (trace_from 0 events) (stands_from_none methods calls events off mv) relayed;
+  lives = λ methods calls events off mv. c.standing_is_promised.ensures.lives methods calls (length events) (trace_from 0 events) (stands_from_none methods calls events off mv);
+}
