@@ -18,7 +18,7 @@ JoinedIsDirect =
     (server : List ℕ) (table : ℕ → Option Addr) (OX SX OY SY : Description) → Alike OX OY → Alike SY SX → IsTrue (is_at_server server SX) → IsTrue (is_at_server server OY)
     → HasRows table OX SX OY SY → joined server table OX SX OY SY ≡ direct OX SY
 
-relayed_meets : JoinedIsDirect → (methods : List (List ℕ)) (server : List ℕ) (table : ℕ → Option Addr) (t : List Datagram) (dx dy : Dialog)
+pub relayed_meets : JoinedIsDirect → (methods : List (List ℕ)) (server : List ℕ) (table : ℕ → Option Addr) (t : List Datagram) (dx dy : Dialog)
     → Relays methods server table t dx dy → Meets methods server table t dx dy
 relayed_meets law methods server table t dx dy r =
     let s : Session = r.2 in let relayed : IsRelayed server table s = r.5 in (

@@ -13,10 +13,10 @@ use Rattle.call_trace.specs.Messages.{bye, is_request, is_method}
 use Rattle.call_trace.specs.Exchanges.{At, Exchange, IsLast}
 use Rattle.call_trace.specs.Passing.{IsPassedOn, PassedTogether}
 use Rattle.call_trace.specs.Calls.{CallOf, Ended, Live}
-use Rattle.call_trace.specs.Promise.{IsRelayed, Relays, AllRelayed}
+use Rattle.call_trace.specs.Promise.{AreLast, IsRelayed, Meets, Relays, AllRelayed}
 use Rattle.call_trace.specs.Stands.{leg, IsSettled, CallStands, IsTagOf, HasTags, IsCallOf, AreOffering, StandsAfter}
 use Rattle.call_trace.specs.Lives.{IsLegOf, NoBye, LegsStand, Stands, IsOneCall, LivesExactly}
-use Rattle.call_trace.specs.Runs.{AreRelayed}
+use Rattle.call_trace.specs.Runs.{AreRelayed, AllMeet}
 use Rattle.call_trace.specs.Listed.{AnyOf}
 use Rattle.call_trace.proofs.AtLaws.{at_same}
 use Rattle.call_trace.proofs.Growing.{call_turned}
@@ -25,6 +25,8 @@ use Rattle.call_trace.proofs.Apart.{apart_same}
 use Rattle.call_trace.proofs.Words.{and_right, offer_asks, request_of}
 use Rattle.call_trace.proofs.NewExchanges.{tag_request_taken}
 use Rattle.call_trace.proofs.Settles.{asked_same}
+use Rattle.call_trace.proofs.Parting.{all_from_at}
+use Rattle.call_trace.proofs.Promised.{JoinedIsDirect, relayed_meets}
 
 -- ---- the last exchanges
 
@@ -69,7 +71,7 @@ lone_pair methods calls n t dx dy x y h lx ly on e f le lf together =
     ]
 
 -- an answered call is relayed, also while an offer is open
-call_meets : (methods : List (List ℕ)) (server : List ℕ) (table : ℕ → Option Addr) (calls : List Call) (n : ℕ) (t : List Datagram) (k : ℕ) (c : Call) (z : Settled) → StandsAfter methods calls n t → AreRelayed server table calls → slice_get calls k ≡ Some c
+pub call_meets : (methods : List (List ℕ)) (server : List ℕ) (table : ℕ → Option Addr) (calls : List Call) (n : ℕ) (t : List Datagram) (k : ℕ) (c : Call) (z : Settled) → StandsAfter methods calls n t → AreRelayed server table calls → slice_get calls k ≡ Some c
     → c.stage ≡ Answered z → Relays methods server table t (leg c z.by_caller) (leg c (not z.by_caller))
 call_meets methods server table calls n t k c z h relayed at stage =
     let s = (all_at (CallStands methods t) calls k c h.stand at).session z stage in
@@ -129,6 +131,11 @@ all_relayed methods server table calls n t h relayed dx dy call live_x live_y cl
             ]
           ])
     ]
+
+pub all_meet : JoinedIsDirect → (methods : List (List ℕ)) (server : List ℕ) (table : ℕ → Option Addr) (calls : List Call) (n : ℕ) (t : List Datagram) → Stands methods calls n t → AreRelayed server table calls → AllMeet methods server table t calls
+all_meet law methods server table calls n t h relayed =
+    all_from_at (λ c. (z : Settled) → c.stage ≡ Answered z → Meets methods server table t (leg c z.by_caller) (leg c (not z.by_caller))) calls
+    (λ k c at z stage. relayed_meets law methods server table t (leg c z.by_caller) (leg c (not z.by_caller)) (call_meets methods server table calls n t k c z h.sessions relayed at stage))
 
 -- ---- the live dialogs
 

@@ -10,9 +10,10 @@ ghost use Rattle.call_trace.specs.Stands.{AreOffering};
 ghost use Rattle.call_trace.specs.Lives.{Stands, LivesExactly};
 ghost use Rattle.call_trace.specs.Events.{passed};
 ghost use Rattle.call_trace.specs.Moves.{Move};
-ghost use Rattle.call_trace.specs.Runs.{Event, trace_from, Moves, AreRelayed};
+ghost use Rattle.call_trace.specs.Runs.{Event, trace_from, Moves, AreRelayed, AllMeet};
 
 use crate::laws::relayed_is_promised;
+use offer_answer::joined_is_direct;
 
 /// No calls stand after the empty trace. Where calls stand after a trace and an event is a move, the calls after the move
 /// stand after the trace with the event's datagrams; and so it is with lists of moves.
@@ -24,14 +25,18 @@ pub fn moves_keep()
         Moves methods n t old events new → Stands methods old n t → Stands methods new (n + length events) (t ++ trace_from n events) }
 {}
 
-/// Calls that stand after a trace, whose sessions the table relays, give the media promise. And the live dialogs are the
-/// legs of the calls that were answered; each is a call with exactly one other dialog.
+/// Calls that stand after a trace, whose sessions the table relays, give the media promise; and each answered call meets
+/// it, also while an offer is open. The live dialogs are the
+/// legs of the calls that were answered, and each is a call with exactly one other dialog.
 pub fn standing_is_promised()
     ensures media { (methods : List (List ℕ)) (server : List ℕ) (table : ℕ → Option Addr) (calls : List Call) (n : ℕ) (t : List Datagram) →
         Stands methods calls n t → AreRelayed server table calls → MediaPromise methods server table t }
+    ensures calls { (methods : List (List ℕ)) (server : List ℕ) (table : ℕ → Option Addr) (calls : List Call) (n : ℕ) (t : List Datagram) →
+        Stands methods calls n t → AreRelayed server table calls → AllMeet methods server table t calls }
     ensures lives { (methods : List (List ℕ)) (calls : List Call) (n : ℕ) (t : List Datagram) →
         Stands methods calls n t → LivesExactly methods calls t }
 {
+    joined_is_direct();
     relayed_is_promised()
 }
 
