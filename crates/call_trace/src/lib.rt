@@ -31,8 +31,3 @@ pub use moving::{moves_are_promised, moves_keep, standing_is_promised};
 pub use offers::is_open;
 pub use passing::{are_passed_together, is_passed_on};
 pub use replying::replies;
-
-#[cfg(test)]
-mod tests;
-#[cfg(test)]
-mod traces;

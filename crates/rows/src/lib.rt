@@ -3,6 +3,8 @@
 #![tactic(auto)]
 
 #[cfg(test)]
+mod call_trace_rows;
+#[cfg(test)]
 mod dialogs_rows;
 #[cfg(test)]
 mod offer_answer_rows;
@@ -18,3 +20,5 @@ mod sip_uri_rows;
 mod text_rows;
 #[cfg(test)]
 mod timers_rows;
+#[cfg(test)]
+mod trace_tables;

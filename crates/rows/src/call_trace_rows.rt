@@ -1,5 +1,5 @@
-use super::*;
-use crate::traces::*;
+use crate::trace_tables::*;
+use call_trace::*;
 use sdp::DescriptionError;
 use std::alloc::Global;
 use std::test::*;

@@ -1,6 +1,6 @@
 //! Traces as tables, for the tests: a line for each datagram.
 
-use crate::datagram::{Datagram, Dialog, Direction, Kind, Message};
+use call_trace::{Datagram, Dialog, Direction, Kind, Message};
 use sdp::{Description, DescriptionError, read_description};
 use std::alloc::{AllocError, Global};
 use text::{Text, Texts};
