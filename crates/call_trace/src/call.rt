@@ -4,7 +4,7 @@ use crate::datagram::{Dialog, Message};
 use sdp::Description;
 
 /// The four descriptions of a session (RFC 3264): one end offers and the other answers, each through the server.
-#[derive(Clone, Debug, Drop)]
+#[derive(Drop)]
 pub struct Session {
     pub offer_taken: Description,
     pub answer_sent: Description,
@@ -13,14 +13,14 @@ pub struct Session {
 }
 
 /// A session, and which end offered it.
-#[derive(Clone, Debug, Drop)]
+#[derive(Drop)]
 pub struct Settled {
     pub by_caller: bool,
     pub session: Session,
 }
 
 /// How far a call has come.
-#[derive(Clone, Debug, Drop)]
+#[derive(Drop)]
 pub enum Stage {
     /// The callee was asked and has not answered. A call that is cancelled is listed no more.
     Asked,
@@ -31,7 +31,7 @@ pub enum Stage {
 }
 
 /// An offer that was passed on and has no final response yet.
-#[derive(Clone, Debug, Drop)]
+#[derive(Drop)]
 pub struct Offer {
     pub by_caller: bool,
     /// The request that was taken.
@@ -41,7 +41,7 @@ pub struct Offer {
 }
 
 /// A call of two dialogs.
-#[derive(Clone, Debug, Drop)]
+#[derive(Drop)]
 pub struct Call {
     pub caller: Dialog,
     /// The callee's tag is empty until it answers.

@@ -1,7 +1,7 @@
 -- An INVITE that was read, and a 2xx to one, has one Contact address.
 use Rattle.std.proofs.Common.{◌≡◌, ℕ, Bool, true, false, not, ◌&&◌, cond, List, [], ◌∷◌, map, codes, refl, ap}
 use Rattle.std.specs.Prelude.{nat_eq, filter, IsTrue}
-use Rattle.std.specs.Cmp.Lexicographic.{pointwise}
+use Rattle.std.specs.Cmp.Lexicographic.{pointwise, bytes_decides}
 use Rattle.std.specs.List.{flat_map}
 use Rattle.std.specs.Str.{str_to_ascii_lowercase}
 use Rattle.text.specs.Pieces.{pieces}
@@ -15,12 +15,11 @@ use Rattle.sip_message.specs.Grammar.{SaysContact, ReadsMessage}
 use Rattle.sip_message.specs.Lookup.{is_named, values_named}
 use Rattle.sip_message.specs.Needs.{is_one_address, is_success}
 use Rattle.sip_message.specs.Values.{without_length}
-use Rattle.sip_message.proofs.ValueLaws.{same_text}
 use Rattle.dialogs.specs.Making.{is_invite}
 
 -- a Contact is no Content-Length
 other_name : (h : Header) → is_named (codes "Contact") h ≡ true → not (is_named (codes "Content-Length") h) ≡ true
-other_name h e = rw (same_text (str_to_ascii_lowercase h.name) (str_to_ascii_lowercase (codes "Contact")) e) refl
+other_name h e = rw ((bytes_decides (str_to_ascii_lowercase h.name) (str_to_ascii_lowercase (codes "Contact"))).0 e) refl
 
 values_kept : (hs : List Header) → values_named (codes "Contact") (without_length hs) ≡ values_named (codes "Contact") hs
 values_kept [] = refl

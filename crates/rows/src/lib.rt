@@ -22,3 +22,5 @@ mod text_rows;
 mod timers_rows;
 #[cfg(test)]
 mod trace_tables;
+#[cfg(test)]
+mod transactions_rows;
