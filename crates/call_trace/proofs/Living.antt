@@ -133,7 +133,7 @@ fine_ok methods t taken sent new m i c h at none stays k b tag =
               (let P : Message → Type 0 = λ v. IsTagOf c v.to_tag in subst P (sym same) tag)
         ]
         | bye_sent f e ↦ request_is_no_success m.kind (request_of bye m f) (ok_is_success m.kind k)
-        | bye_answered f g' e ↦ all_at (λ d. ¬ IsTagOf d m.to_tag) new i c e at tag
+        | bye_answered f g' e ↦ all_at (λ d. d.stage ≢ Ending → ¬ IsTagOf d m.to_tag) new i c e at stays tag
         | acknowledged f e ↦ request_is_no_success m.kind (request_of ack m f) (ok_is_success m.kind k)
       ]
       | asking g ↦ request_is_no_success m.kind (request_asks methods m g) (ok_is_success m.kind k)

@@ -4,6 +4,7 @@ use Rattle.call_trace.specs.declared.datagram.Direction.TheVariants.{Taken, Sent
 use Rattle.call_trace.specs.declared.datagram.Message.{Message}
 use Rattle.call_trace.specs.declared.datagram.Datagram.{Datagram}
 use Rattle.call_trace.specs.declared.datagram.Dialog.{Dialog}
+use Rattle.call_trace.specs.declared.call.Stage.TheVariants.{Ending}
 use Rattle.call_trace.specs.declared.call.Call.{Call}
 use Rattle.call_trace.specs.Messages.{invite, ack, bye, is_final, is_ok, is_success, is_listed, is_method, is_request_of, asks, Replies}
 use Rattle.call_trace.specs.Dialogs.{is_ours_in_from, dialog_of}
@@ -86,7 +87,8 @@ pub data EndsNow (t : List Datagram) (taken : Option Message) (sent : List Messa
 pub data IsParting (methods : List (List ℕ)) (t : List Datagram) (taken : Option Message) (sent : List Message) (left : List Call) (m : Message) : Type 0 where
   idle : IsIdle methods t taken m → IsParting methods t taken sent left m
   bye_sent : IsTrue (is_request_of bye m) → AllOf (SparesCall (sent_at 0 m)) left → IsParting methods t taken sent left m
-  bye_answered : IsTrue (is_ok m.kind) → IsTrue (is_method bye m.method) → AllOf (λ c. ¬ IsTagOf c m.to_tag) left → IsParting methods t taken sent left m
+  -- a 200 to a BYE in no call that goes on: one that is ending has been left by this end
+  bye_answered : IsTrue (is_ok m.kind) → IsTrue (is_method bye m.method) → AllOf (λ c. c.stage ≢ Ending → ¬ IsTagOf c m.to_tag) left → IsParting methods t taken sent left m
   -- the 2xx of a dialog that ends at once is acknowledged (RFC 3261 section 13.2.2.4)
   acknowledged : IsTrue (is_request_of ack m) → EndsNow t taken sent (dialog_sent m) → IsParting methods t taken sent left m
 
