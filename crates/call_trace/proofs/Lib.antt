@@ -22,3 +22,4 @@ pub mod Living
 pub mod LivingMoves
 pub mod Standing
 pub mod Running
+pub mod WorkedMoves

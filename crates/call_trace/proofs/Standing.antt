@@ -13,7 +13,7 @@ use Rattle.call_trace.specs.Messages.{bye, is_request, is_method}
 use Rattle.call_trace.specs.Exchanges.{At, Exchange, IsLast}
 use Rattle.call_trace.specs.Passing.{IsPassedOn, PassedTogether}
 use Rattle.call_trace.specs.Calls.{CallOf, Ended, Live}
-use Rattle.call_trace.specs.Promise.{AreLast, IsRelayed, Meets, Relays, AllRelayed}
+use Rattle.call_trace.specs.Promise.{IsRelayed, Meets, Relays, AllRelayed}
 use Rattle.call_trace.specs.Stands.{leg, IsSettled, CallStands, IsTagOf, HasTags, IsCallOf, AreOffering, StandsAfter}
 use Rattle.call_trace.specs.Lives.{IsLegOf, NoBye, LegsStand, Stands, IsOneCall, LivesExactly}
 use Rattle.call_trace.specs.Runs.{AreRelayed, AllMeet}

@@ -12,3 +12,4 @@ pub mod Lives
 pub mod Events
 pub mod Moves
 pub mod Runs
+pub mod Worked

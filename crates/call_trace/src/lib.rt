@@ -27,7 +27,7 @@ pub use exchange::{Places, is_exchange, is_last};
 pub use lasting::are_last;
 pub use laws::{calls_stay, exchanges_stay, relayed_is_promised};
 pub use lives::{has_begun, has_ended, is_live};
-pub use moving::{moves_are_promised, moves_keep, standing_is_promised};
+pub use moving::{calls_are_moves, moves_are_promised, moves_keep, standing_is_promised};
 pub use offers::is_open;
 pub use passing::{are_passed_together, is_passed_on};
 pub use replying::replies;

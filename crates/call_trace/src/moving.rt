@@ -1,10 +1,13 @@
 //! Laws of the moves: what each event does to the calls and to the trace, for all traces.
 
-ghost use Rattle.std.specs.Prelude.{◌≡◌, ℕ, suc, ◌+◌, List, [], ◌++◌, length, Option};
+ghost use Rattle.std.specs.Prelude.{◌≡◌, ℕ, suc, ◌+◌, List, [], ◌∷◌, ◌++◌, length, Option};
 ghost use Rattle.sip_uri.specs.declared.uri.Addr.{Addr};
 ghost use Rattle.call_trace.specs.declared.datagram.Message.{Message};
 ghost use Rattle.call_trace.specs.declared.datagram.Datagram.{Datagram};
+ghost use Rattle.call_trace.specs.declared.call.Session.{Session};
 ghost use Rattle.call_trace.specs.declared.call.Call.{Call};
+ghost use Rattle.call_trace.specs.Messages.{invite};
+ghost use Rattle.call_trace.specs.Worked.{plain_call, left_before_ack};
 ghost use Rattle.call_trace.specs.Promise.{MediaPromise};
 ghost use Rattle.call_trace.specs.Stands.{AreOffering};
 ghost use Rattle.call_trace.specs.Lives.{Stands, LivesExactly};
@@ -39,6 +42,13 @@ pub fn standing_is_promised()
     joined_is_direct();
     relayed_is_promised()
 }
+
+/// Calls are lists of moves, whatever their four descriptions: one that its caller ends, and one that the callee leaves before
+/// the caller's ACK has come.
+pub fn calls_are_moves()
+    ensures plain { (s : Session) → Moves (invite ∷ []) 0 [] [] (plain_call s) [] }
+    ensures left { (s : Session) → Moves (invite ∷ []) 0 [] [] (left_before_ack s) [] }
+{}
 
 /// After any list of moves from no calls: the media promise, where the table relays the calls' sessions; and which dialogs
 /// are live.

@@ -1,0 +1,196 @@
+-- The calls that are written out are moves.
+use Rattle.std.proofs.Common.{◌≡◌, ◌≢◌, ℕ, Bool, true, not, ◌&&◌, nat_eq, List, [], ◌∷◌, ◌++◌, codes, Some, inl, inr, refl, arith}
+use Rattle.std.specs.Prelude.{slice_get, IsTrue}
+use Rattle.std.specs.List.{list_any}
+use Rattle.std.specs.Cmp.Lexicographic.{pointwise, bytes_decides}
+use Rattle.call_trace.specs.declared.datagram.Direction.TheVariants.{Taken, Sent}
+use Rattle.call_trace.specs.declared.datagram.Kind.TheVariants.{Request, Response}
+use Rattle.call_trace.specs.declared.datagram.Message.{Message}
+use Rattle.call_trace.specs.declared.datagram.Datagram.{Datagram}
+use Rattle.call_trace.specs.declared.datagram.Dialog.{Dialog}
+use Rattle.call_trace.specs.declared.call.Session.{Session}
+use Rattle.call_trace.specs.declared.call.Call.{Call}
+use Rattle.call_trace.specs.Messages.{invite, Replies}
+use Rattle.call_trace.specs.Dialogs.{is_ours_in_from}
+use Rattle.call_trace.specs.Computed.{is_taken}
+use Rattle.call_trace.specs.Exchanges.{At}
+use Rattle.call_trace.specs.Calls.{Ended}
+use Rattle.call_trace.specs.Events.{passed, IsUnused, IsNewTag, AreNewBytes, calm, served, left, before, unmoved, bye_sent, bye_answered}
+use Rattle.call_trace.specs.Moves.{Move, Asks, IsNewCall, Answers, new_call, settled_first, tagged, ending, nothing, ask, settle_first, part, end}
+use Rattle.call_trace.specs.Runs.{Moves}
+use Rattle.call_trace.specs.Worked.{asked, trying, asked_on, accepted, acknowledged_on, accepted_on, acknowledged, ended, ended_well, ended_on, leaves, told, plain_call, left_before_ack}
+use Rattle.call_trace.proofs.AtLaws.{at_place, place_at}
+use Rattle.call_trace.proofs.PlaceTests.{decides_some}
+use Rattle.call_trace.proofs.MessageTests.{decides_itself, decides_sent}
+use Rattle.call_trace.proofs.Words.{and_both, not_both}
+
+-- ---- what a look through a trace tells
+
+some_true : {X : Type 0} (q : X → Bool) (t : List X) (i : ℕ) (x : X) → slice_get t i ≡ Some x → IsTrue (q x) → IsTrue (list_any q t)
+some_true q t i x e h = (decides_some q (λ v. IsTrue (q v)) (λ v. decides_itself (q v)) t).1 (i, x, e, h)
+
+differ : (a b : List ℕ) → IsTrue (not (pointwise nat_eq a b)) → a ≢ b
+differ a b h e = not_both (pointwise nat_eq a b) h ((bytes_decides a b).1 e)
+
+-- a request of ours with the branch, or a response to one
+abbrev uses : List ℕ → Datagram → Bool
+uses branch p = is_ours_in_from p.direction p.message.kind && pointwise nat_eq p.message.branch branch
+
+unused : (t : List Datagram) (branch : List ℕ) → IsTrue (not (list_any (uses branch) t)) → IsUnused t branch
+unused t branch h i p at ours same =
+    not_both (list_any (uses branch) t) h
+    (some_true (uses branch) t i p (place_at t i p at) (and_both (is_ours_in_from p.direction p.message.kind) (pointwise nat_eq p.message.branch branch) ours ((bytes_decides p.message.branch branch).1 same)))
+
+-- a datagram of ours with these bytes
+abbrev has_bytes : List ℕ → Datagram → Bool
+has_bytes bytes p = not (is_taken p.direction) && pointwise nat_eq p.message.bytes bytes
+
+new_bytes : (t : List Datagram) (bytes : List ℕ) → IsTrue (not (list_any (has_bytes bytes) t)) → AreNewBytes t bytes
+new_bytes t bytes h i p at out same =
+    not_both (list_any (has_bytes bytes) t) h
+    (some_true (has_bytes bytes) t i p (place_at t i p at) (and_both (not (is_taken p.direction)) (pointwise nat_eq p.message.bytes bytes) ((decides_sent p.direction).1 out) ((bytes_decides p.message.bytes bytes).1 same)))
+
+none_at : (i : ℕ) (p : Datagram) → At [] i p → ⊥
+none_at i p at = let e : slice_get [] i ≡ Some p = place_at [] i p at in cc
+
+none_ended : (tag : List ℕ) → IsNewTag [] tag
+none_ended tag = record { from = λ i p at out b. absurd (none_at i p at); to = λ i p at out k b. absurd (none_at i p at) }
+
+-- ---- the calls
+
+module _ (s : Session) where
+  abbrev methods : List (List ℕ)
+  methods = invite ∷ []
+
+  abbrev caller : Dialog
+  caller = record { call_id = codes "c1"; ours = codes "2.2"; theirs = codes "fa" }
+
+  abbrev callee : Dialog
+  callee = record { call_id = codes "2.3"; ours = codes "2.4"; theirs = [] }
+
+  abbrev begun : Call
+  begun = new_call caller callee (asked s) (asked_on s)
+
+  abbrev answered : Call
+  answered = settled_first begun (codes "tb") s
+
+  abbrev first : List Datagram
+  first = passed 0 (Some (asked s)) (trying ∷ asked_on s ∷ [])
+
+  abbrev second : List Datagram
+  second = first ++ passed 1 (Some (accepted s)) (acknowledged_on ∷ accepted_on s ∷ [])
+
+  asks : Asks methods [] caller callee (asked s) trying (asked_on s)
+  asks = record {
+    provisional = refl;
+    offer_came = refl;
+    offer_went = refl;
+    method = refl;
+    came_call = refl;
+    came_from = refl;
+    went_call = refl;
+    went_from = refl;
+    went_to = refl;
+    unused = λ i p at ours. absurd (none_at i p at);
+  }
+
+  is_new : IsNewCall [] [] (asked s) begun
+  is_new = record {
+    invite = refl;
+    no_tag = refl;
+    callee = refl;
+    tags = record { caller = differ (codes "2.2") [] refl; callee = differ (codes "2.4") [] refl; differ = differ (codes "2.2") (codes "2.4") refl };
+    apart = tt;
+    caller_new = none_ended (codes "2.2");
+    callee_new = none_ended (codes "2.4");
+  }
+
+  answers : Answers first caller (tagged callee (codes "tb")) (record { by_caller = true; came = asked s; went = asked_on s }) s (accepted s) acknowledged_on (accepted_on s)
+  answers = record {
+    answer_came = refl;
+    replies_came = record { response_kind = refl; request_kind = refl; branch = refl; call_id = refl; from_tag = refl; number = refl; method = refl; to_tag = inl refl };
+    answer_went = refl;
+    replies_went = record { response_kind = refl; request_kind = refl; branch = refl; call_id = refl; from_tag = refl; number = refl; method = refl; to_tag = inl refl };
+    to_tag = refl;
+    new_bytes = new_bytes first (codes "200 of ours") refl;
+    other_bytes = differ (codes "ACK of ours") (codes "200 of ours") refl;
+    ack = refl;
+    in_dialog = refl;
+    unused = unused first (codes "4.6") refl;
+    offer_taken = refl;
+    answer_sent = refl;
+    offer_sent = refl;
+    answer_taken = refl;
+  }
+
+  asked_for : Move methods [] [] (Some (asked s)) (trying ∷ asked_on s ∷ []) (begun ∷ [])
+  asked_for = ask caller callee (asked s) trying (asked_on s) asks is_new refl refl refl
+
+  answered_then : Move methods first (begun ∷ []) (Some (accepted s)) (acknowledged_on ∷ accepted_on s ∷ []) (answered ∷ [])
+  answered_then =
+      settle_first 0 begun (record { by_caller = true; came = asked s; went = asked_on s }) s (accepted s) acknowledged_on (accepted_on s) refl refl refl answers refl refl refl
+
+  -- ---- the caller ends it
+
+  abbrev third : List Datagram
+  third = second ++ passed 2 (Some acknowledged) []
+
+  acknowledged_then : Move methods second (answered ∷ []) (Some acknowledged) [] (answered ∷ [])
+  acknowledged_then = nothing (calm acknowledged refl refl) tt refl
+
+  served_well : Replies ended_well ended
+  served_well = record { response_kind = refl; request_kind = refl; branch = refl; call_id = refl; from_tag = refl; number = refl; method = refl; to_tag = inr refl }
+
+  ended_then : Move methods third (answered ∷ []) (Some ended) (ended_well ∷ ended_on ∷ []) []
+  ended_then =
+      end 0 answered refl (served 0 ended ended_well refl refl refl refl refl served_well) (left 1 ended_on refl refl refl)
+      (unmoved (calm ended refl refl)) (bye_answered refl refl tt, (bye_sent refl tt, tt)) refl
+
+  pub plain_is_moves : Moves methods 0 [] [] (plain_call s) []
+  plain_is_moves = (begun ∷ [], asked_for, (answered ∷ [], answered_then, (answered ∷ [], acknowledged_then, ([], ended_then, refl))))
+
+  -- ---- the callee leaves it before the ACK
+
+  abbrev bye_came : Message
+  bye_came = leaves Request (codes "BYE of the callee")
+
+  abbrev bye_served : Message
+  bye_served = leaves (Response 200) (codes "200 to the callee's BYE")
+
+  left_well : Replies bye_served bye_came
+  left_well = record { response_kind = refl; request_kind = refl; branch = refl; call_id = refl; from_tag = refl; number = refl; method = refl; to_tag = inr refl }
+
+  abbrev parted : List Datagram
+  parted = second ++ passed 2 (Some bye_came) (bye_served ∷ [])
+
+  left_then : Move methods second (answered ∷ []) (Some bye_came) (bye_served ∷ []) (ending answered ∷ [])
+  left_then =
+      part 0 answered (record { by_caller = true; session = s }) refl refl (inr (served 0 bye_came bye_served refl refl refl refl refl left_well))
+      (calm bye_came refl refl) (bye_answered refl refl (λ stays. absurd (stays refl), tt), tt) refl
+
+  callee_has_left : Ended parted (tagged callee (codes "tb"))
+  callee_has_left = inr (
+    6,
+    7,
+    record { event = 2; direction = Taken; message = bye_came },
+    record { event = 2; direction = Sent; message = bye_served },
+    record {
+      at_asked = at_place parted 6 (record { event = 2; direction = Taken; message = bye_came }) refl;
+      at_answered = at_place parted 7 (record { event = 2; direction = Sent; message = bye_served }) refl;
+      later = omega arith;
+      taken = refl;
+      ends = refl;
+      named = refl;
+      sent = refl;
+      ok = refl;
+      replies = left_well;
+    },
+  )
+
+  told_then : Move methods parted (ending answered ∷ []) (Some acknowledged) (told ∷ []) []
+  told_then =
+      end 0 (ending answered) refl (left 0 told refl refl refl) (before callee_has_left)
+      (unmoved (calm acknowledged refl refl)) (bye_sent refl tt, tt) refl
+
+  pub left_is_moves : Moves methods 0 [] [] (left_before_ack s) []
+  left_is_moves = (begun ∷ [], asked_for, (answered ∷ [], answered_then, (ending answered ∷ [], left_then, ([], told_then, refl))))

@@ -1,0 +1,8 @@
+use Rattle.call_trace.proofs.WorkedMoves.{plain_is_moves, left_is_moves}
+use Rattle.call_trace.proofs.moving.calls_are_moves.Goals as goal
+
+pub returns-clause-plain : goal.returns-clause-plain
+returns-clause-plain c = λ s. plain_is_moves s
+
+pub returns-clause-left : goal.returns-clause-left
+returns-clause-left c = λ s. left_is_moves s
