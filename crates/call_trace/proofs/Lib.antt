@@ -23,3 +23,4 @@ pub mod LivingMoves
 pub mod Standing
 pub mod Running
 pub mod WorkedMoves
+pub mod WorkedOffersMoves

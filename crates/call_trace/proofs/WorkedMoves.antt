@@ -15,10 +15,11 @@ use Rattle.call_trace.specs.Dialogs.{is_ours_in_from}
 use Rattle.call_trace.specs.Computed.{is_taken}
 use Rattle.call_trace.specs.Exchanges.{At}
 use Rattle.call_trace.specs.Calls.{Ended}
-use Rattle.call_trace.specs.Events.{passed, IsUnused, IsNewTag, AreNewBytes, calm, served, left, before, unmoved, bye_sent, bye_answered}
-use Rattle.call_trace.specs.Moves.{Move, Asks, IsNewCall, Answers, new_call, settled_first, tagged, ending, nothing, ask, settle_first, part, end}
+use Rattle.call_trace.specs.Events.{passed, IsUnused, IsNewTag, AreNewBytes, plain, calm, served, left, before, unmoved, idle, bye_sent, bye_answered}
+use Rattle.call_trace.specs.Events as events
+use Rattle.call_trace.specs.Moves.{Move, Asks, IsNewCall, Answers, new_call, settled_first, tagged, ending, nothing, ask, settle_first, decline, stray, part, end}
 use Rattle.call_trace.specs.Runs.{Moves}
-use Rattle.call_trace.specs.Worked.{asked, trying, asked_on, accepted, acknowledged_on, accepted_on, acknowledged, ended, ended_well, ended_on, leaves, told, plain_call, left_before_ack}
+use Rattle.call_trace.specs.Worked.{asked, trying, asked_on, accepted, acknowledged_on, accepted_on, acknowledged, ended, ended_well, ended_on, leaves, told, plain_call, left_before_ack, cancelled, cancelled_well, terminated, cancelled_on, cancelled_call}
 use Rattle.call_trace.proofs.AtLaws.{at_place, place_at}
 use Rattle.call_trace.proofs.PlaceTests.{decides_some}
 use Rattle.call_trace.proofs.MessageTests.{decides_itself, decides_sent}
@@ -29,14 +30,14 @@ use Rattle.call_trace.proofs.Words.{and_both, not_both}
 some_true : {X : Type 0} (q : X → Bool) (t : List X) (i : ℕ) (x : X) → slice_get t i ≡ Some x → IsTrue (q x) → IsTrue (list_any q t)
 some_true q t i x e h = (decides_some q (λ v. IsTrue (q v)) (λ v. decides_itself (q v)) t).1 (i, x, e, h)
 
-differ : (a b : List ℕ) → IsTrue (not (pointwise nat_eq a b)) → a ≢ b
+pub differ : (a b : List ℕ) → IsTrue (not (pointwise nat_eq a b)) → a ≢ b
 differ a b h e = not_both (pointwise nat_eq a b) h ((bytes_decides a b).1 e)
 
 -- a request of ours with the branch, or a response to one
 abbrev uses : List ℕ → Datagram → Bool
 uses branch p = is_ours_in_from p.direction p.message.kind && pointwise nat_eq p.message.branch branch
 
-unused : (t : List Datagram) (branch : List ℕ) → IsTrue (not (list_any (uses branch) t)) → IsUnused t branch
+pub unused : (t : List Datagram) (branch : List ℕ) → IsTrue (not (list_any (uses branch) t)) → IsUnused t branch
 unused t branch h i p at ours same =
     not_both (list_any (uses branch) t) h
     (some_true (uses branch) t i p (place_at t i p at) (and_both (is_ours_in_from p.direction p.message.kind) (pointwise nat_eq p.message.branch branch) ours ((bytes_decides p.message.branch branch).1 same)))
@@ -45,7 +46,7 @@ unused t branch h i p at ours same =
 abbrev has_bytes : List ℕ → Datagram → Bool
 has_bytes bytes p = not (is_taken p.direction) && pointwise nat_eq p.message.bytes bytes
 
-new_bytes : (t : List Datagram) (bytes : List ℕ) → IsTrue (not (list_any (has_bytes bytes) t)) → AreNewBytes t bytes
+pub new_bytes : (t : List Datagram) (bytes : List ℕ) → IsTrue (not (list_any (has_bytes bytes) t)) → AreNewBytes t bytes
 new_bytes t bytes h i p at out same =
     not_both (list_any (has_bytes bytes) t) h
     (some_true (has_bytes bytes) t i p (place_at t i p at) (and_both (not (is_taken p.direction)) (pointwise nat_eq p.message.bytes bytes) ((decides_sent p.direction).1 out) ((bytes_decides p.message.bytes bytes).1 same)))
@@ -68,16 +69,16 @@ module _ (s : Session) where
   abbrev callee : Dialog
   callee = record { call_id = codes "2.3"; ours = codes "2.4"; theirs = [] }
 
-  abbrev begun : Call
+  abbrev pub begun : Call
   begun = new_call caller callee (asked s) (asked_on s)
 
-  abbrev answered : Call
+  abbrev pub answered : Call
   answered = settled_first begun (codes "tb") s
 
   abbrev first : List Datagram
   first = passed 0 (Some (asked s)) (trying ∷ asked_on s ∷ [])
 
-  abbrev second : List Datagram
+  abbrev pub second : List Datagram
   second = first ++ passed 1 (Some (accepted s)) (acknowledged_on ∷ accepted_on s ∷ [])
 
   asks : Asks methods [] caller callee (asked s) trying (asked_on s)
@@ -123,10 +124,10 @@ module _ (s : Session) where
     answer_taken = refl;
   }
 
-  asked_for : Move methods [] [] (Some (asked s)) (trying ∷ asked_on s ∷ []) (begun ∷ [])
+  pub asked_for : Move methods [] [] (Some (asked s)) (trying ∷ asked_on s ∷ []) (begun ∷ [])
   asked_for = ask caller callee (asked s) trying (asked_on s) asks is_new refl refl refl
 
-  answered_then : Move methods first (begun ∷ []) (Some (accepted s)) (acknowledged_on ∷ accepted_on s ∷ []) (answered ∷ [])
+  pub answered_then : Move methods first (begun ∷ []) (Some (accepted s)) (acknowledged_on ∷ accepted_on s ∷ []) (answered ∷ [])
   answered_then =
       settle_first 0 begun (record { by_caller = true; came = asked s; went = asked_on s }) s (accepted s) acknowledged_on (accepted_on s) refl refl refl answers refl refl refl
 
@@ -194,3 +195,18 @@ module _ (s : Session) where
 
   pub left_is_moves : Moves methods 0 [] [] (left_before_ack s) []
   left_is_moves = (begun ∷ [], asked_for, (answered ∷ [], answered_then, (ending answered ∷ [], left_then, ([], told_then, refl))))
+
+  -- ---- it is cancelled
+
+  abbrev gone : List Datagram
+  gone = first ++ passed 1 (Some cancelled) (cancelled_well ∷ terminated ∷ cancelled_on ∷ [])
+
+  cancelled_then : Move methods first (begun ∷ []) (Some cancelled) (cancelled_well ∷ terminated ∷ cancelled_on ∷ []) []
+  cancelled_then = decline 0 begun refl refl (unmoved (calm cancelled refl refl)) (idle (plain refl), (idle (plain refl), (idle (plain refl), tt))) refl
+
+  crossed_then : Move methods gone [] (Some (accepted s)) (acknowledged_on ∷ ended_on ∷ []) []
+  crossed_then =
+      stray (events.answered (accepted s) refl refl tt) (events.acknowledged refl (left 1 ended_on refl refl refl), (bye_sent refl tt, tt)) refl
+
+  pub cancelled_is_moves : Moves methods 0 [] [] (cancelled_call s) []
+  cancelled_is_moves = (begun ∷ [], asked_for, ([], cancelled_then, ([], crossed_then, refl)))

@@ -13,3 +13,4 @@ pub mod Events
 pub mod Moves
 pub mod Runs
 pub mod Worked
+pub mod WorkedOffers

@@ -1,5 +1,5 @@
--- Two calls written out as events, with any four descriptions: one that the caller ends, and one that the callee leaves before
--- the caller's ACK has come.
+-- Calls written out as events, with any four descriptions: one that the caller ends, one that the callee leaves before the
+-- caller's ACK has come, and one that is cancelled while the callee accepts it.
 use Rattle.std.specs.Prelude.{ℕ, List, [], ◌∷◌, ◌++◌, codes, Option, Some, None}
 use Rattle.sdp.specs.declared.description.Description.{Description}
 use Rattle.call_trace.specs.declared.datagram.Kind.{Kind}
@@ -112,3 +112,26 @@ abbrev pub left_before_ack : Session → List Event
 left_before_ack s =
     beginning s ++ record { taken = Some (leaves Request (codes "BYE of the callee")); sent = leaves (Response 200) (codes "200 to the callee's BYE") ∷ [] }
     ∷ record { taken = Some acknowledged; sent = told ∷ [] } ∷ []
+
+-- ---- or it is cancelled, and the CANCEL crosses the callee's 2xx (RFC 3261 section 9)
+
+abbrev pub cancel : List ℕ
+cancel = codes "CANCEL"
+
+abbrev pub cancelled : Message
+cancelled = of_caller Request (codes "a1") [] 1 cancel None (codes "CANCEL of the caller")
+
+abbrev pub cancelled_well : Message
+cancelled_well = of_caller (Response 200) (codes "a1") (codes "2.2") 1 cancel None (codes "200 to the CANCEL")
+
+abbrev pub terminated : Message
+terminated = of_caller (Response 487) (codes "a1") (codes "2.2") 1 invite None (codes "487 to the caller")
+
+abbrev pub cancelled_on : Message
+cancelled_on = to_callee Request (codes "2.5") [] 1 cancel None (codes "CANCEL to the callee")
+
+abbrev pub cancelled_call : Session → List Event
+cancelled_call s =
+    record { taken = Some (asked s); sent = trying ∷ asked_on s ∷ [] }
+    ∷ record { taken = Some cancelled; sent = cancelled_well ∷ terminated ∷ cancelled_on ∷ [] }
+    ∷ record { taken = Some (accepted s); sent = acknowledged_on ∷ ended_on ∷ [] } ∷ []

@@ -7,7 +7,8 @@ ghost use Rattle.call_trace.specs.declared.datagram.Datagram.{Datagram};
 ghost use Rattle.call_trace.specs.declared.call.Session.{Session};
 ghost use Rattle.call_trace.specs.declared.call.Call.{Call};
 ghost use Rattle.call_trace.specs.Messages.{invite};
-ghost use Rattle.call_trace.specs.Worked.{plain_call, left_before_ack};
+ghost use Rattle.call_trace.specs.Worked.{plain_call, left_before_ack, cancelled_call};
+ghost use Rattle.call_trace.specs.WorkedOffers.{offers_again};
 ghost use Rattle.call_trace.specs.Promise.{MediaPromise};
 ghost use Rattle.call_trace.specs.Stands.{AreOffering};
 ghost use Rattle.call_trace.specs.Lives.{Stands, LivesExactly};
@@ -43,11 +44,14 @@ pub fn standing_is_promised()
     relayed_is_promised()
 }
 
-/// Calls are lists of moves, whatever their four descriptions: one that its caller ends, and one that the callee leaves before
-/// the caller's ACK has come.
+/// Calls are lists of moves, whatever their descriptions: one that its caller ends, one that the callee leaves before the
+/// caller's ACK has come, one that is cancelled while the callee accepts it, and one whose callee offers again, is refused,
+/// and offers again, while a second telephone answers.
 pub fn calls_are_moves()
     ensures plain { (s : Session) → Moves (invite ∷ []) 0 [] [] (plain_call s) [] }
     ensures left { (s : Session) → Moves (invite ∷ []) 0 [] [] (left_before_ack s) [] }
+    ensures cancelled { (s : Session) → Moves (invite ∷ []) 0 [] [] (cancelled_call s) [] }
+    ensures offers { (s r : Session) → Moves (invite ∷ []) 0 [] [] (offers_again s r) [] }
 {}
 
 /// After any list of moves from no calls: the media promise, where the table relays the calls' sessions; and which dialogs
