@@ -251,4 +251,8 @@ fn laws(_rt: HostRuntime) {
     exchanges_stay();
     calls_stay();
     relayed_is_promised();
+    moves_keep();
+    standing_is_promised();
+    moves_are_promised();
+    calls_are_moves();
 }
