@@ -43,7 +43,6 @@ fn with_headers(
 }
 
 /// The bytes of the answer with these further header fields.
-#[tactic(auto, unfolding(crate::specs::Answers::answered))]
 pub(crate) fn answered(
     alloc: Global,
     parts: &Parts,
