@@ -24,3 +24,13 @@ pub mod Standing
 pub mod Running
 pub mod WorkedMoves
 pub mod WorkedOffersMoves
+pub mod NewNames
+pub mod PlayedCalls
+pub mod PlayedSettling
+pub mod PlayedLeaving
+pub mod PlayedEnding
+pub mod PlayedTable
+pub mod PlayedAsking
+pub mod PlayedKeeps
+pub mod PlannedAnswers
+pub mod SparedCalls

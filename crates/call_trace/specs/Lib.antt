@@ -14,3 +14,6 @@ pub mod Moves
 pub mod Runs
 pub mod Worked
 pub mod WorkedOffers
+pub mod Playing
+pub mod Sending
+pub mod Player

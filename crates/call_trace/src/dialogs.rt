@@ -8,7 +8,7 @@ use crate::datagram::{Datagram, Dialog, Direction, Kind};
 use std::alloc::AllocError;
 use text::Text;
 
-fn is_ours_in_from(direction: Direction, kind: Kind) -> bool
+pub(crate) fn is_ours_in_from(direction: Direction, kind: Kind) -> bool
     ensures { result ≡ is_ours_in_from direction kind }
 {
     match (direction, kind) {

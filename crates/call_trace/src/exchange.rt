@@ -30,7 +30,7 @@ pub(crate) fn takes_final(datagram: &Datagram, request: &Message) -> bool
 }
 
 #[tactic(auto, unfolding(crate::specs::Computed::sends_bytes))]
-fn sends_bytes(datagram: &Datagram, bytes: &Text) -> bool
+pub(crate) fn sends_bytes(datagram: &Datagram, bytes: &Text) -> bool
     ensures { result ≡ sends_bytes datagram.now bytes.now }
 {
     !is_taken(datagram.direction) && datagram.message.bytes == *bytes

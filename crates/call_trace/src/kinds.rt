@@ -13,6 +13,8 @@ pub(crate) const ACK: &[u8] = b"ACK";
 
 pub(crate) const BYE: &[u8] = b"BYE";
 
+pub(crate) const CANCEL: &[u8] = b"CANCEL";
+
 pub(crate) fn is_taken(direction: Direction) -> bool
     ensures { result ≡ is_taken direction }
 {
@@ -40,7 +42,7 @@ pub(crate) fn is_final(kind: Kind) -> bool
     }
 }
 
-fn is_success(kind: Kind) -> bool
+pub(crate) fn is_success(kind: Kind) -> bool
     ensures { result ≡ is_success kind }
 {
     match kind {

@@ -36,3 +36,8 @@ pub fn relayed_is_promised()
 {
     joined_is_direct()
 }
+
+/// temporary
+pub fn played_laws()
+    ensures { (a : ℕ) → a ≡ a }
+{}

@@ -36,7 +36,8 @@ fn sent_to(address: &Address, port: u16) -> Option<Addr>
     }
 }
 
-fn destination(description: &Description, medium: &Media) -> Option<Addr>
+/// Where media for this medium are sent, if anywhere: to no address but an IPv4 address that is not 0.0.0.0 (RFC 3264 sections 5.1 and 8.4).
+pub fn destination(description: &Description, medium: &Media) -> Option<Addr>
     ensures { result ≡ destination description.now medium.now }
 {
     let place = place_of(description, medium)?;

@@ -14,7 +14,7 @@ mod readdressing;
 mod stream;
 
 pub use checks::{check_answer, check_offer};
-pub use direct::meaning;
+pub use direct::{destination, meaning};
 pub use fault::{AnswerFault, OfferFault};
 pub use laws::{
     alike_is_equivalence, fewer_rows, held_call, hold_passes, joined_is_direct, plain_call,

@@ -54,16 +54,16 @@ pub(crate) const RESUMED: &str = "9<INVITE h3 c1 fa 2.2 3 INVITE offer
 9>100 h3 c1 fa 2.2 3 INVITE -
 9>INVITE 9.9 2.3 2.4 tb 3 INVITE resume-on
 10<200 9.9 2.3 2.4 tb 3 INVITE resumed
-10>ACK a.10 2.3 2.4 tb 3 ACK -
+10>ACK 10.10 2.3 2.4 tb 3 ACK -
 10>200 h3 c1 fa 2.2 3 INVITE resumed-on
 11<ACK h4 c1 fa 2.2 3 ACK -";
 
 /// The caller holds by the address 0.0.0.0, and the 200 that set up the call comes once more.
 pub(crate) const HELD_NOWHERE: &str = "12<INVITE h5 c1 fa 2.2 4 INVITE nowhere
 12>100 h5 c1 fa 2.2 4 INVITE -
-12>INVITE c.11 2.3 2.4 tb 4 INVITE nowhere-on
-13<200 c.11 2.3 2.4 tb 4 INVITE answer
-13>ACK d.12 2.3 2.4 tb 4 ACK -
+12>INVITE 12.11 2.3 2.4 tb 4 INVITE nowhere-on
+13<200 12.11 2.3 2.4 tb 4 INVITE answer
+13>ACK 13.12 2.3 2.4 tb 4 ACK -
 13>200 h5 c1 fa 2.2 4 INVITE held-nowhere-on
 14<ACK h6 c1 fa 2.2 4 ACK -
 15<200 2.5 2.3 2.4 tb 1 INVITE answer
@@ -83,7 +83,7 @@ pub(crate) const THEN_ACCEPTED: &str = "9<INVITE m2 c1 fa 2.2 3 INVITE moved
 9>100 m2 c1 fa 2.2 3 INVITE -
 9>INVITE 9.8 2.3 2.4 tb 3 INVITE moved-on
 10<200 9.8 2.3 2.4 tb 3 INVITE answer
-10>ACK a.9 2.3 2.4 tb 3 ACK -
+10>ACK 10.9 2.3 2.4 tb 3 ACK -
 10>200 m2 c1 fa 2.2 3 INVITE again-on
 11<ACK m3 c1 fa 2.2 3 ACK -";
 

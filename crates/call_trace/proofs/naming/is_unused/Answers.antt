@@ -1,0 +1,5 @@
+use Rattle.call_trace.proofs.NewNames.{on_unused}
+use Rattle.call_trace.proofs.naming.is_unused.Goals as goal
+
+pub returns : goal.returns
+returns c = on_unused c.args.trace.now c.args.branch.now _ c.is_used.ensures

@@ -1,0 +1,5 @@
+use Rattle.call_trace.proofs.NewNames.{on_free_slot}
+use Rattle.call_trace.proofs.playing.is_free_slot.Goals as goal
+
+pub returns : goal.returns
+returns c = on_free_slot c.args.calls.now c.args.slot _ c.is_slot.ensures

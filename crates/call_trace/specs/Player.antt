@@ -1,0 +1,29 @@
+-- The player, as contracts see it.
+use Rattle.std.specs.Prelude.{◌≡◌, ℕ, suc, List, [], ◌∷◌, ◌++◌, Option}
+use Rattle.call_trace.specs.declared.datagram.Message.{Message}
+use Rattle.call_trace.specs.declared.datagram.Datagram.{Datagram}
+use Rattle.call_trace.specs.declared.playing.Playing.{Playing}
+use Rattle.call_trace.specs.Events.{passed}
+use Rattle.call_trace.specs.Lives.{Stands, LivesExactly}
+use Rattle.call_trace.specs.Promise.{MediaPromise}
+use Rattle.call_trace.specs.Runs.{AllMeet}
+use Rattle.call_trace.specs.Playing.{methods, calls_of, table_of}
+
+-- the server's address, the calls, the number of events so far, and the trace that they made
+pub record Played : Type 0 where
+  pub server : List ℕ
+  pub calls : List Playing
+  pub events : ℕ
+  pub trace : List Datagram
+
+-- one event more was played: it took this, if anything, and sent some messages
+abbrev pub HasPlayed : Played → Option Message → Played → Type 0
+HasPlayed old taken new = (sent : List Message) × (new.trace ≡ old.trace ++ passed old.events taken sent) × (new.events ≡ suc old.events) × (new.server ≡ old.server)
+
+-- The calls stand after the trace. Each of them that was answered, and so every call that is live, meets the media promise with the player's own relay
+-- table; and the live dialogs are exactly the legs of the answered calls, each of one call.
+pub record Keeps (p : Played) : Type 0 where
+  pub stands : Stands methods (calls_of p.trace p.calls) p.events p.trace
+  pub media : MediaPromise methods p.server (table_of p.calls) p.trace
+  pub calls : AllMeet methods p.server (table_of p.calls) p.trace (calls_of p.trace p.calls)
+  pub lives : LivesExactly methods (calls_of p.trace p.calls) p.trace

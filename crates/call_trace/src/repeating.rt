@@ -1,0 +1,193 @@
+//! Moves of the player that move no call: what is refused at once, repeated, late, or of no call.
+
+ghost use Rattle.std.specs.Prelude.{◌≡◌, ℕ, List, IfOk, IfSome, Some, None};
+ghost use Rattle.call_trace.specs.declared.datagram.Datagram.{Datagram};
+ghost use Rattle.call_trace.specs.declared.playing.Playing.{Playing};
+ghost use Rattle.call_trace.specs.declared.playing.Change.TheVariants.{Keep};
+ghost use Rattle.call_trace.specs.Events.{is_calm};
+ghost use Rattle.call_trace.specs.Playing.{methods};
+ghost use Rattle.call_trace.specs.Sending.{Plans};
+
+use crate::datagram::{Datagram, Kind, Message};
+use crate::kinds::{INVITE, is_final, is_method, is_request, is_success, is_taken};
+use crate::naming::copied_text;
+use crate::playing::{Change, Planned, Playing, leg_of};
+use crate::sending::{Context, one, response_to};
+use crate::answering::open_offer;
+use sdp::{Address, Description, Lines, MediaList, Origin};
+use std::alloc::AllocError;
+
+/// The calls stay as they are.
+pub(crate) fn kept(sent: Vec<Message>) -> Option<Planned>
+    ensures sent { IfSome result (λ e. e.sent.items ≡ sent.items) }
+    ensures change { IfSome result (λ e. e.change ≡ Keep) }
+{
+    Some(Planned {
+        sent,
+        change: Change::Keep,
+    })
+}
+
+fn copied_origin(origin: &Origin) -> Result<Origin, AllocError>
+    ensures { IfOk result (λ o. o ≡ origin.now) }
+{
+    origin.clone()
+}
+
+fn copied_lines(lines: &Lines) -> Result<Lines, AllocError>
+    ensures { IfOk result (λ l. l ≡ lines.now) }
+{
+    lines.clone()
+}
+
+fn copied_address(address: &Option<Address>) -> Result<Option<Address>, AllocError>
+    ensures { IfOk result (λ a. a ≡ address.now) }
+{
+    address.clone()
+}
+
+fn copied_media(media: &MediaList) -> Result<MediaList, AllocError>
+    ensures { IfOk result (λ m. m ≡ media.now) }
+{
+    media.clone()
+}
+
+fn copied_whole(description: &Description) -> Result<Description, AllocError>
+    ensures { IfOk result (λ d. d ≡ description.now) }
+{
+    let origin = copied_origin(&description.origin)?;
+    Ok(Description {
+        origin,
+        before: copied_lines(&description.before)?,
+        connection: copied_address(&description.connection)?,
+        after: copied_lines(&description.after)?,
+        media: copied_media(&description.media)?,
+    })
+}
+
+fn copied_description(
+    description: &Option<Description>,
+) -> Result<Option<Description>, AllocError>
+    ensures { IfOk result (λ d. d ≡ description.now) }
+{
+    match description {
+        Some(description) => Ok(Some(copied_whole(description)?)),
+        None => Ok(None),
+    }
+}
+
+pub(crate) fn copied(message: &Message) -> Result<Message, AllocError>
+    ensures { IfOk result (λ m. m ≡ message.now) }
+{
+    let description = copied_description(&message.description)?;
+    Ok(Message {
+        kind: message.kind,
+        branch: copied_text(&message.branch)?,
+        call_id: copied_text(&message.call_id)?,
+        from_tag: copied_text(&message.from_tag)?,
+        to_tag: copied_text(&message.to_tag)?,
+        number: message.number,
+        method: copied_text(&message.method)?,
+        description,
+        bytes: copied_text(&message.bytes)?,
+    })
+}
+
+/// Whether this is no final response to an INVITE.
+fn is_calm(message: &Message) -> bool
+    ensures { result ≡ is_calm methods message.now }
+{
+    !(is_final(message.kind) && is_method(INVITE, &message.method))
+}
+
+/// A request is refused at once.
+pub(crate) fn refuse(
+    context: Context,
+    came: &Message,
+    status: u16,
+) -> Result<Option<Planned>, AllocError>
+    ensures { IfOk result (λ o. IfSome o (λ e. (server : List ℕ) (t : List Datagram) (ps : List Playing) → Plans server context.event t ps (Some came.now) e)) }
+{
+    if !is_request(came.kind) || status < 300 {
+        return Ok(None);
+    }
+    let refusal = response_to(context, 1, came, status, &came.to_tag)?;
+    Ok(kept(one(context.alloc, refusal)?))
+}
+
+/// Nothing is sent.
+pub(crate) fn quiet(context: Context, came: &Message) -> Option<Planned>
+    ensures { IfSome result (λ e. (server : List ℕ) (t : List Datagram) (ps : List Playing) → Plans server context.event t ps (Some came.now) e) }
+{
+    if !is_calm(came) {
+        return None;
+    }
+    kept(Vec::new(context.alloc))
+}
+
+/// A provisional response is passed on to the end that offered (RFC 3261 section 13.3.1.1).
+pub(crate) fn ring(
+    context: Context,
+    trace: &[Datagram],
+    calls: &[Playing],
+    at: usize,
+    came: &Message,
+) -> Result<Option<Planned>, AllocError>
+    ensures { IfOk result (λ o. IfSome o (λ e. Plans context.server context.event trace.now calls.now (Some came.now) e)) }
+{
+    let (Some(found), Kind::Response(status)) = (open_offer(trace, calls, at, came), came.kind) else {
+        return Ok(None);
+    };
+    if 200 <= status {
+        return Ok(None);
+    }
+    let tag = &leg_of(found.call, found.asking.by_caller).ours;
+    let ringing = response_to(context, 1, &found.came.message, status, tag)?;
+    Ok(kept(one(context.alloc, ringing)?))
+}
+
+/// A request comes again, and what was answered is sent again (RFC 3261 section 17.2).
+pub(crate) fn repeat(
+    context: Context,
+    trace: &[Datagram],
+    calls: &[Playing],
+    place: usize,
+    came: &Message,
+) -> Result<Option<Planned>, AllocError>
+    ensures { IfOk result (λ o. IfSome o (λ e. Plans context.server context.event trace.now calls.now (Some came.now) e)) }
+{
+    let Some(answered) = trace.get(place) else {
+        return Ok(None);
+    };
+    if is_taken(answered.direction) || is_request(answered.message.kind) || !is_request(came.kind) {
+        return Ok(None);
+    }
+    // The 2xx is the core's: a timer sends it again, and not the request (RFC 6026 section 7.1).
+    if is_success(answered.message.kind) {
+        return Ok(kept(Vec::new(context.alloc)));
+    }
+    let again = copied(&answered.message)?;
+    Ok(kept(one(context.alloc, again)?))
+}
+
+/// A timer sends what stands at the place again, or nothing.
+pub(crate) fn fire(
+    context: Context,
+    trace: &[Datagram],
+    calls: &[Playing],
+    place: usize,
+) -> Result<Planned, AllocError>
+    ensures { IfOk result (λ e. Plans context.server context.event trace.now calls.now None e) }
+{
+    let mut sent = Vec::new(context.alloc);
+    if let Some(datagram) = trace.get(place) {
+        if !is_taken(datagram.direction) {
+            sent.push(copied(&datagram.message)?)?;
+        }
+    }
+    Ok(Planned {
+        sent,
+        change: Change::Keep,
+    })
+}
+
