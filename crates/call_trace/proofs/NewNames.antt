@@ -7,13 +7,11 @@ use Rattle.std.proofs.lemmas.Bool.{OnTrue_from}
 use Rattle.std.proofs.lemmas.Bool.Decides.{Decides-eqb}
 use Rattle.std.specs.Cmp.Lexicographic.{pointwise, bytes_decides}
 use Rattle.sip_uri.specs.declared.uri.Addr.{Addr}
-use Rattle.call_trace.specs.declared.datagram.Direction.TheVariants.{Sent}
 use Rattle.call_trace.specs.declared.datagram.Datagram.{Datagram}
 use Rattle.call_trace.specs.declared.playing.Playing.{Playing}
 use Rattle.call_trace.specs.Messages.{bye, is_ok, is_method, is_request_of}
 use Rattle.call_trace.specs.Dialogs.{is_ours_in_from}
 use Rattle.call_trace.specs.Computed.{is_taken, sends_bytes}
-use Rattle.call_trace.specs.Exchanges.{At}
 use Rattle.call_trace.specs.Listed.{AllOf}
 use Rattle.call_trace.specs.Events.{IsUnused, IsNewTag, AreNewBytes}
 use Rattle.call_trace.specs.Playing.{is_own, lead, table_of}

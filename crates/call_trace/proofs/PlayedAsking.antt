@@ -151,7 +151,7 @@ reoffered_is n t p b came trying w h =
     let same : call_of (after n t came trying w) p ≡ call_of t p = call_left t (passed n (Some came) (trying ∷ w ∷ [])) p h in
     let P : Offer → Type 0 = λ v. record { caller = p.caller; callee = p.callee; stage = (call_of (after n t came trying w) p).stage; offer = Some v } ≡ reoffered (call_of t p) b came w in
     let made : record { caller = p.caller; callee = p.callee; stage = (call_of (after n t came trying w) p).stage; offer = Some (record { by_caller = b; came = came; went = w }) } ≡ reoffered (call_of t p) b came w
-        = ap (λ (v : Call). record { caller = p.caller; callee = p.callee; stage = v.stage; offer = Some (record { by_caller = b; came = came; went = w }) }) same in
+    = ap (λ (v : Call). record { caller = p.caller; callee = p.callee; stage = v.stage; offer = Some (record { by_caller = b; came = came; went = w }) }) same in
     subst P (sym (offer_is n t came trying w b)) made
 
 some_same : (a b : Asking) → Some a ≡ Some b → a ≡ b

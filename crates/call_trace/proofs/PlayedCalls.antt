@@ -1,5 +1,5 @@
 -- The player's calls while the trace grows, and what is common to all of its moves.
-use Rattle.std.proofs.Common.{◌≡◌, ◌≢◌, ℕ, zero, suc, ◌+◌, ◌<◌, List, [], ◌∷◌, ◌++◌, length, map, Option, Some, None, option_map, refl, sym, ◌∙◌, ap, subst, arith, zero-add, length-append}
+use Rattle.std.proofs.Common.{◌≡◌, ◌≢◌, ℕ, zero, suc, ◌+◌, ◌<◌, List, [], ◌∷◌, ◌++◌, length, Option, Some, None, option_map, refl, sym, ◌∙◌, ap, subst, arith, zero-add, length-append}
 use Rattle.std.specs.Prelude.{slice_get, slice_set, remove}
 use Rattle.call_trace.specs.declared.datagram.Message.{Message}
 use Rattle.call_trace.specs.declared.datagram.Datagram.{Datagram}
@@ -13,7 +13,7 @@ use Rattle.call_trace.specs.declared.playing.Playing.{Playing}
 use Rattle.call_trace.specs.Listed.{AllOf}
 use Rattle.call_trace.specs.Events.{passed, IsIdle, IsIdleTaken}
 use Rattle.call_trace.specs.Moves.{Move, nothing}
-use Rattle.call_trace.specs.Playing.{methods, message_at, description_at, session_at, stage_of, offer_at, call_of, calls_of, port_told, IsTold, IsOfferTold, IsSessionTold, IsWithin, IsKept, SlotsApart, IsPlaying, Plays}
+use Rattle.call_trace.specs.Playing.{methods, message_at, description_at, session_at, stage_of, offer_at, call_of, calls_of, IsOfferTold, IsSessionTold, IsWithin, IsKept, SlotsApart, IsPlaying, Plays}
 use Rattle.call_trace.proofs.Members.{all_at, all_append, all_weaker, all_set, all_remove}
 use Rattle.call_trace.proofs.Growing.{ended_left}
 use Rattle.call_trace.proofs.Running.{stands_moved}

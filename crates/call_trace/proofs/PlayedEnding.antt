@@ -88,16 +88,17 @@ end_plays server n t ps k p b came ok leaving rest at within ends well replies l
     let get : slice_get (calls_of t ps) k ≡ Some (call_of t p) = get_call t ps k p at in
     let sent : List Message = ok ∷ leaving ∷ rest in
     let over : EndsNow t (Some came) sent p.caller × EndsNow t (Some came) sent p.callee =
-        both_legs (EndsNow t (Some came) sent) p b (serves_bye t (leg_of p b) came ok (leaving ∷ rest) within ends well replies) (left 1 leaving refl leaves left_in) in
+    both_legs (EndsNow t (Some came) sent) p b (serves_bye t (leg_of p b) came ok (leaving ∷ rest) within ends well replies) (left 1 leaving refl leaves left_in) in
     let tag : ok.to_tag ≡ (leg_of p b).ours = served_tag (leg_of p b) came ok within (leg_there t p b (all_at HasTags (calls_of t ps) k (call_of t p) st.tags get)) replies in
     let P : List ℕ → Type 0 = λ v. IsTagOf (call_of t p) v in
     let none : AllOf (λ c. ¬ IsTagOf c ok.to_tag) (remove (calls_of t ps) k) = others_tagless t ps k n p ok.to_tag st at (subst P (sym tag) (leg_ours t p b)) in
     let alone : AllOf (SparesCall (sent_at 0 leaving)) (remove (calls_of t ps) k) =
-        spares_others t ps k n p leaving st at leaves (subst P (ap (λ (v : Dialog). v.ours) (sym left_in)) (leg_ours t p (not b))) in
+    spares_others t ps k n p leaving st at leaves (subst P (ap (λ (v : Dialog). v.ours) (sym left_in)) (leg_ours t p (not b))) in
     removed_plays server n t ps (Some came) sent k h
-    (end k (call_of t p) get over.0 over.1 (request_unmoved t came (remove (calls_of t ps) k) (request_of bye came ends))
-    (bye_answered well (served_method came ok ends replies) (all_weaker (λ c. ¬ IsTagOf c ok.to_tag) (λ c. c.stage ≢ stages.Ending → ¬ IsTagOf c ok.to_tag) (λ c g stays. g) (remove (calls_of t ps) k) none),
-      (bye_sent leaves alone, plain_parts t (Some came) sent rest (remove (calls_of t ps) k) plains))
+    (end k (call_of t p) get over.0 over.1 (request_unmoved t came (remove (calls_of t ps) k) (request_of bye came ends)) (
+      bye_answered well (served_method came ok ends replies) (all_weaker (λ c. ¬ IsTagOf c ok.to_tag) (λ c. c.stage ≢ stages.Ending → ¬ IsTagOf c ok.to_tag) (λ c g stays. g) (remove (calls_of t ps) k) none),
+      (bye_sent leaves alone, plain_parts t (Some came) sent rest (remove (calls_of t ps) k) plains),
+    )
     refl)
 
 -- ---- the callee leaves, and the caller is told later
@@ -113,7 +114,7 @@ part_plays server n t ps k p z came ok rest at progress within ends well replies
     let tag : ok.to_tag ≡ p.callee.ours = served_tag p.callee came ok within tags.callee replies in
     let c : Call = ending (call_of t p) in
     let none : AllOf (λ d. d.stage ≢ stages.Ending → ¬ IsTagOf d ok.to_tag) (slice_set (calls_of t ps) k c) =
-        set_others HasTags (λ d. d.stage ≢ stages.Ending → ¬ IsTagOf d ok.to_tag) (calls_of t ps) k (call_of t p) c st.apart get st.tags (λ d apart g stays of. apart ok.to_tag of (inr tag)) (λ stays. absurd (stays refl)) in
+    set_others HasTags (λ d. d.stage ≢ stages.Ending → ¬ IsTagOf d ok.to_tag) (calls_of t ps) k (call_of t p) c st.apart get st.tags (λ d apart g stays of. apart ok.to_tag of (inr tag)) (λ stays. absurd (stays refl)) in
     replaced_plays server n t ps (Some came) sent k p (left_by_callee p) h at refl
     (record {
       within = record { offer = λ q e. absurd (cc); said = λ y e. absurd (cc) };

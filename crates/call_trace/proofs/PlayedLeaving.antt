@@ -13,7 +13,7 @@ use Rattle.call_trace.specs.declared.playing.Progress.{Progress}
 use Rattle.call_trace.specs.declared.playing.Progress.TheVariants.{Asked, Answered, Ending}
 use Rattle.call_trace.specs.declared.playing.Asking.{Asking}
 use Rattle.call_trace.specs.declared.playing.Playing.{Playing}
-use Rattle.call_trace.specs.Messages.{invite, ack, bye, is_request, is_final, is_success, is_method, is_listed, is_request_of, asks, Replies}
+use Rattle.call_trace.specs.Messages.{invite, ack, bye, cancel, is_request, is_final, is_success, is_method, is_listed, is_request_of, asks, Replies}
 use Rattle.call_trace.specs.Exchanges.{At, TakesFinal}
 use Rattle.call_trace.specs.Listed.{AllOf}
 use Rattle.call_trace.specs.Stands.{leg, CallStands, IsTagOf, HasTags, StandsAfter}
@@ -22,7 +22,6 @@ use Rattle.call_trace.specs.Events.{sent_at, dialog_sent, is_plain, is_calm, IsI
 use Rattle.call_trace.specs.Moves.{decline, stray}
 use Rattle.call_trace.specs.Playing.{methods, message_at, stage_of, offer_at, call_of, calls_of, Plays}
 use Rattle.call_trace.specs.Sending.{HasTag, Spares, response_to}
-use Rattle.call_trace.specs.Worked.{cancel}
 use Rattle.std.specs.Cmp.Lexicographic.{bytes_decides}
 use Rattle.call_trace.proofs.AtLaws.{at_place}
 use Rattle.call_trace.proofs.Members.{all_at, all_weaker}

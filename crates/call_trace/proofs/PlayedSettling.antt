@@ -183,7 +183,7 @@ settle_first_plays server n t ps k p q ca we m a u dx dy at eg eo gc gw am re ex
     let R : Message → Type 0 = λ v. Replies m v in
     let d : IsAnswered server t n p.slot q m a u dx dy = answered_so server t n p q m a u dx dy p.caller.ours kept eo ex' ey on' in
     let answers : Answers t p.caller (tagged p.callee m.to_tag) (offer_at t q) (session_at (t ++ s) z) m a u =
-        answers_played t n p.caller (tagged p.callee m.to_tag) q m a u dx d.offer_sent dy d.answer_sent d.said am (subst R (sym mw) re) ack' server (port_told p.slot q.by_caller) on' other in
+    answers_played t n p.caller (tagged p.callee m.to_tag) q m a u dx d.offer_sent dy d.answer_sent d.said am (subst R (sym mw) re) ack' server (port_told p.slot q.by_caller) on' other in
     let p' : Playing = settled_as p (tagged p.callee m.to_tag) z (ends_of true dx dy) in
     let led : ends_of true dx dy ≡ ends_of q.by_caller dx dy = ap (λ b. ends_of b dx dy) (sym by) in
     let same : call_of (t ++ s) p' ≡ settled_first (call_of t p) m.to_tag (session_at (t ++ s) z) = rw by refl in
@@ -213,7 +213,7 @@ settle_later_plays server n t ps k p y q ca we m a u dx dy at eg eo gc gw am re 
     let R : Message → Type 0 = λ v. Replies m v in
     let d : IsAnswered server t n p.slot q m a u dx dy = answered_so server t n p q m a u dx dy (leg c b).ours kept eo ex' ey on' in
     let answers : Answers t (leg c b) (leg c (not b)) (offer_at t q) (session_at (t ++ s) z) m a u =
-        answers_played t n (leg c b) (leg c (not b)) q m a u dx d.offer_sent dy d.answer_sent d.said am (subst R (sym mw) re) (subst A (leg_same t p (not b)) ack') server (port_told p.slot b) on' other in
+    answers_played t n (leg c b) (leg c (not b)) q m a u dx d.offer_sent dy d.answer_sent d.said am (subst R (sym mw) re) (subst A (leg_same t p (not b)) ack') server (port_told p.slot b) on' other in
     replaced_plays server n t ps (Some m) (a ∷ u ∷ []) k p (settled_as p p.callee z (ends_of b dx dy)) h at refl
     (settled_kept server t n p p.callee q m a u dx d.offer_sent dy d.answer_sent (ends_of b dx dy) d.came_before d.went_before d.said d.offer d.answer refl)
     (settle_later k c (settled_at t y) (offer_at t q) (session_at (t ++ s) z) m a u (get_call t ps k p at) (ap (stage_of t) eg) (ap (option_map (offer_at t)) eo) answers refl refl refl)
@@ -262,4 +262,4 @@ release_plays server n t ps k p z q we m a u at eg eo gw final refused re ack' b
     replaced_plays server n t ps (Some m) (a ∷ u ∷ []) k p (with_offer p None) h at refl
     (released_kept server (t ++ s) p (kept_left server t s p kept))
     (release k c (settled_at t z) o m (get_call t ps k p at) (ap (stage_of t) eg) (ap (option_map (offer_at t)) eo) final refused (subst R (sym mw) re) refl (idle, (plain spared, tt))
-      (ap (λ (v : Call). slice_set (calls_of t ps) k (without_offer v)) (call_left t s p kept.within)))
+    (ap (λ (v : Call). slice_set (calls_of t ps) k (without_offer v)) (call_left t s p kept.within)))

@@ -95,11 +95,12 @@ behind a slot x ends table n h port own = let e : is_own a port ≡ false = othe
 
 table_leads : (ps : List Playing) → SlotsApart ps → AllOf (λ (p : Playing). Leads (table_of ps) p.slot p.ends) ps
 table_leads [] a = tt
-table_leads (x ∷ ps) a =
-    (λ port own. rw own refl,
-    all_weaker (λ (v : Playing). (x.slot ≢ v.slot) × Leads (table_of ps) v.slot v.ends) (λ (v : Playing). Leads (table_of (x ∷ ps)) v.slot v.ends)
-    (λ v g. behind x.slot v.slot x.ends v.ends (table_of ps) g.0 g.1) ps
-    (all_both (λ (v : Playing). x.slot ≢ v.slot) (λ (v : Playing). Leads (table_of ps) v.slot v.ends) ps a.0 (table_leads ps a.1)))
+table_leads (x ∷ ps) a = (
+  λ port own. rw own refl,
+  all_weaker (λ (v : Playing). (x.slot ≢ v.slot) × Leads (table_of ps) v.slot v.ends) (λ (v : Playing). Leads (table_of (x ∷ ps)) v.slot v.ends)
+      (λ v g. behind x.slot v.slot x.ends v.ends (table_of ps) g.0 g.1) ps
+      (all_both (λ (v : Playing). x.slot ≢ v.slot) (λ (v : Playing). Leads (table_of ps) v.slot v.ends) ps a.0 (table_leads ps a.1)),
+)
 
 -- ---- the rows of a session
 

@@ -41,6 +41,9 @@ ack = codes "ACK"
 abbrev pub bye : List ℕ
 bye = codes "BYE"
 
+abbrev pub cancel : List ℕ
+cancel = codes "CANCEL"
+
 -- the method is one of these
 abbrev pub is_listed : List (List ℕ) → List ℕ → Bool
 is_listed methods method = list_any (λ name. pointwise nat_eq name method) methods

@@ -1,5 +1,5 @@
 -- The player, as contracts see it.
-use Rattle.std.specs.Prelude.{◌≡◌, ℕ, suc, List, [], ◌∷◌, ◌++◌, Option}
+use Rattle.std.specs.Prelude.{◌≡◌, ℕ, suc, List, ◌++◌, Option}
 use Rattle.call_trace.specs.declared.datagram.Message.{Message}
 use Rattle.call_trace.specs.declared.datagram.Datagram.{Datagram}
 use Rattle.call_trace.specs.declared.playing.Playing.{Playing}

@@ -1,5 +1,5 @@
 -- The player's calls: what it remembers of each, and how that stands for a call of the trace.
-use Rattle.std.specs.Prelude.{◌≡◌, ◌≢◌, ℕ, ◌<◌, ◌+◌, ◌*◌, ◌==◌, ◌||◌, Bool, true, false, not, List, [], ◌∷◌, map, All, Option, Some, None, option_map, slice_get, suc, length, ◌++◌, IsTrue, if◌then◌else◌}
+use Rattle.std.specs.Prelude.{◌≡◌, ◌≢◌, ℕ, ◌<◌, ◌+◌, ◌*◌, ◌==◌, ◌||◌, Bool, true, false, not, List, [], ◌∷◌, map, Option, Some, None, option_map, slice_get, suc, length, ◌++◌, IsTrue, if◌then◌else◌}
 use Rattle.sip_uri.specs.declared.uri.Addr.{Addr}
 use Rattle.sdp.specs.declared.description.Origin.{Origin}
 use Rattle.sdp.specs.declared.description.Media.{Media}
@@ -8,7 +8,7 @@ use Rattle.offer_answer.specs.Alike.{Alike}
 use Rattle.offer_answer.specs.Direct.{destination}
 use Rattle.offer_answer.specs.Joined.{is_at_server}
 use Rattle.offer_answer.specs.Readdressed.{told_ports}
-use Rattle.offer_answer.specs.Rows.{Named, above, ports_named}
+use Rattle.offer_answer.specs.Rows.{above}
 use Rattle.call_trace.specs.declared.datagram.Kind.TheVariants.{Request}
 use Rattle.call_trace.specs.declared.datagram.Message.{Message}
 use Rattle.call_trace.specs.declared.datagram.Datagram.{Datagram}

@@ -6,7 +6,7 @@ use Rattle.call_trace.specs.declared.datagram.Kind.{Kind}
 use Rattle.call_trace.specs.declared.datagram.Kind.TheVariants.{Request, Response}
 use Rattle.call_trace.specs.declared.datagram.Message.{Message}
 use Rattle.call_trace.specs.declared.call.Session.{Session}
-use Rattle.call_trace.specs.Messages.{invite, ack, bye}
+use Rattle.call_trace.specs.Messages.{invite, ack, bye, cancel}
 use Rattle.call_trace.specs.Runs.{Event}
 
 -- what a message of the caller's leg, and one of the callee's, has in common with the others
@@ -114,9 +114,6 @@ left_before_ack s =
     ∷ record { taken = Some acknowledged; sent = told ∷ [] } ∷ []
 
 -- ---- or it is cancelled, and the CANCEL crosses the callee's 2xx (RFC 3261 section 9)
-
-abbrev pub cancel : List ℕ
-cancel = codes "CANCEL"
 
 abbrev pub cancelled : Message
 cancelled = of_caller Request (codes "a1") [] 1 cancel None (codes "CANCEL of the caller")

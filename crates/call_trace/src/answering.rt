@@ -12,7 +12,10 @@ ghost use Rattle.call_trace.specs.Sending.{IsAckOn, IsAnswerOn, Plans};
 use crate::datagram::{Datagram, Dialog, Kind, Message};
 use crate::kinds::{ACK, is_answer};
 use crate::naming::copied_text;
-use crate::playing::{Asking, Change, Planned, Playing, Progress, ends_of, leg_of, port_told, said_at, settled_as, with_offer};
+use crate::playing::{
+    Asking, Change, Planned, Playing, Progress, ends_of, leg_of, port_told, said_at, settled_as,
+    with_offer,
+};
 use crate::replying::is_reply;
 use crate::sending::{Context, ack_on, answer_on, request_in, response_to, two};
 use sdp::Description;
@@ -91,14 +94,8 @@ fn answers(
         return Ok(None);
     };
     let number = found.went.message.number;
-    let Some(accepted) = answer_on(
-        context,
-        trace,
-        &found.came.message,
-        offerer,
-        answer,
-        port,
-    )? else {
+    let Some(accepted) = answer_on(context, trace, &found.came.message, offerer, answer, port)?
+    else {
         return Ok(None);
     };
     let Some(ack) = ack_on(context, drawn, trace, answerer, number)? else {
@@ -138,7 +135,10 @@ pub(crate) fn settle_first(
     let Some(found) = open_offer(trace, calls, at, came) else {
         return Ok(None);
     };
-    let (Progress::Asked, true) = (found.call.progress, is_answer(came) && found.asking.by_caller) else {
+    let (Progress::Asked, true) = (
+        found.call.progress,
+        is_answer(came) && found.asking.by_caller,
+    ) else {
         return Ok(None);
     };
     let (Some(offer), Some(answer)) = (&found.came.message.description, &came.description) else {
@@ -148,7 +148,16 @@ pub(crate) fn settle_first(
         return Ok(None);
     };
     let callee = tagged(&found.call.callee, &came.to_tag)?;
-    let Some(both) = answers(context, drawn, trace, found, &found.call.caller.ours, &callee, answer)? else {
+    let Some(both) = answers(
+        context,
+        drawn,
+        trace,
+        found,
+        &found.call.caller.ours,
+        &callee,
+        answer,
+    )?
+    else {
         return Ok(None);
     };
     let call = settled_as(found.call, &callee, said, ends_of(true, offer, answer))?;
@@ -182,7 +191,16 @@ pub(crate) fn settle_later(
     let by_caller = found.asking.by_caller;
     let offerer = leg_of(found.call, by_caller);
     let answerer = leg_of(found.call, !by_caller);
-    let Some(both) = answers(context, drawn, trace, found, &offerer.ours, answerer, answer)? else {
+    let Some(both) = answers(
+        context,
+        drawn,
+        trace,
+        found,
+        &offerer.ours,
+        answerer,
+        answer,
+    )?
+    else {
         return Ok(None);
     };
     let call = settled_as(
@@ -230,7 +248,8 @@ pub(crate) fn release(
 ) -> Result<Option<Planned>, AllocError>
     ensures { IfOk result (λ o. IfSome o (λ e. Plans context.server context.event trace.now calls.now (Some came.now) e)) }
 {
-    let (Some(found), Kind::Response(status)) = (open_offer(trace, calls, at, came), came.kind) else {
+    let (Some(found), Kind::Response(status)) = (open_offer(trace, calls, at, came), came.kind)
+    else {
         return Ok(None);
     };
     let Progress::Answered(_) = found.call.progress else {
@@ -254,7 +273,8 @@ pub(crate) fn decline(
 ) -> Result<Option<Planned>, AllocError>
     ensures { IfOk result (λ o. IfSome o (λ e. Plans context.server context.event trace.now calls.now (Some came.now) e)) }
 {
-    let (Some(found), Kind::Response(status)) = (open_offer(trace, calls, at, came), came.kind) else {
+    let (Some(found), Kind::Response(status)) = (open_offer(trace, calls, at, came), came.kind)
+    else {
         return Ok(None);
     };
     let Progress::Asked = found.call.progress else {

@@ -11,8 +11,8 @@ use crate::kinds::INVITE;
 use crate::naming::{copied_text, is_fresh, name};
 use crate::numbering::next_number;
 use crate::playing::{
-    Asking, Change, NO_ENDS, Planned, Playing, Progress, asking_at, call_at, free_slot, is_free_slot, leg_of,
-    port_told, with_offer,
+    Asking, Change, NO_ENDS, Planned, Playing, Progress, asking_at, call_at, free_slot,
+    is_free_slot, leg_of, port_told, with_offer,
 };
 use crate::replying::is_absent;
 use crate::sending::{Context, is_offer, offer_on, response_to, two};
@@ -73,7 +73,11 @@ pub(crate) fn ask(
         return Ok(None);
     };
     let call = new_call(context, drawn, came, slot, asking)?;
-    if !is_offer(came) || !is_absent(&came.to_tag) || !is_free_slot(calls, slot) || !is_fresh(trace, calls, &call) {
+    if !is_offer(came)
+        || !is_absent(&came.to_tag)
+        || !is_free_slot(calls, slot)
+        || !is_fresh(trace, calls, &call)
+    {
         return Ok(None);
     }
     let Some(went) = offer_on(context, drawn, trace, &call.callee, 1, offer, port)? else {

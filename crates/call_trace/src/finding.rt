@@ -31,7 +31,10 @@ pub(crate) fn is_in(dialog: &Dialog, message: &Message) -> bool
 pub(crate) fn leg_with(calls: &[Playing], message: &Message) -> Option<Leg> {
     for (at, call) in calls.iter().enumerate() {
         if is_in(&call.caller, message) {
-            return Some(Leg { at, by_caller: true });
+            return Some(Leg {
+                at,
+                by_caller: true,
+            });
         }
         if is_in(&call.callee, message) {
             return Some(Leg {

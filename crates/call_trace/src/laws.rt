@@ -36,8 +36,3 @@ pub fn relayed_is_promised()
 {
     joined_is_direct()
 }
-
-/// temporary
-pub fn played_laws()
-    ensures { (a : ℕ) → a ≡ a }
-{}

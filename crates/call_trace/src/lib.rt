@@ -14,8 +14,8 @@ mod exchange;
 mod finding;
 mod kinds;
 mod lasting;
-mod leaving;
 mod laws;
+mod leaving;
 mod lives;
 mod moving;
 mod naming;
@@ -29,7 +29,6 @@ mod repeating;
 mod replying;
 mod search;
 mod sending;
-
 mod straying;
 
 pub use call::{Call, Offer, Session, Settled, Stage};

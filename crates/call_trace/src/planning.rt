@@ -9,7 +9,8 @@ use crate::asking::{ask, reoffer};
 use crate::datagram::{Datagram, Kind, Message};
 use crate::exchange::Places;
 use crate::finding::{
-    acknowledged_at, answered_at, asked_at, asking_call, cancelled_call, is_acknowledged, last_response, leg_with,
+    acknowledged_at, answered_at, asked_at, asking_call, cancelled_call, is_acknowledged,
+    last_response, leg_with,
 };
 use crate::kinds::{ACK, BYE, CANCEL, INVITE, is_method, is_success};
 use crate::leaving::{close, end, give_up, part, take_back, tell};

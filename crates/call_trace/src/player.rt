@@ -172,7 +172,8 @@ impl Player {
         let Some(next) = self.events.checked_add(1) else {
             return Ok(Outcome::Shed);
         };
-        let Some(planned) = plan(context, &mut self.drawn, &self.trace, &self.calls, &message)? else {
+        let Some(planned) = plan(context, &mut self.drawn, &self.trace, &self.calls, &message)?
+        else {
             return Ok(Outcome::Shed);
         };
         let event = datagrams(self.alloc, self.events, Some(message), planned.sent)?;

@@ -8,12 +8,12 @@ ghost use Rattle.call_trace.specs.Events.{is_calm};
 ghost use Rattle.call_trace.specs.Playing.{methods};
 ghost use Rattle.call_trace.specs.Sending.{Plans};
 
+use crate::answering::open_offer;
 use crate::datagram::{Datagram, Kind, Message};
 use crate::kinds::{INVITE, is_final, is_method, is_request, is_success, is_taken};
 use crate::naming::copied_text;
 use crate::playing::{Change, Planned, Playing, leg_of};
 use crate::sending::{Context, one, response_to};
-use crate::answering::open_offer;
 use sdp::{Address, Description, Lines, MediaList, Origin};
 use std::alloc::AllocError;
 
@@ -65,9 +65,7 @@ fn copied_whole(description: &Description) -> Result<Description, AllocError>
     })
 }
 
-fn copied_description(
-    description: &Option<Description>,
-) -> Result<Option<Description>, AllocError>
+fn copied_description(description: &Option<Description>) -> Result<Option<Description>, AllocError>
     ensures { IfOk result (λ d. d ≡ description.now) }
 {
     match description {
@@ -135,7 +133,8 @@ pub(crate) fn ring(
 ) -> Result<Option<Planned>, AllocError>
     ensures { IfOk result (λ o. IfSome o (λ e. Plans context.server context.event trace.now calls.now (Some came.now) e)) }
 {
-    let (Some(found), Kind::Response(status)) = (open_offer(trace, calls, at, came), came.kind) else {
+    let (Some(found), Kind::Response(status)) = (open_offer(trace, calls, at, came), came.kind)
+    else {
         return Ok(None);
     };
     if 200 <= status {
@@ -190,4 +189,3 @@ pub(crate) fn fire(
         change: Change::Keep,
     })
 }
-

@@ -40,7 +40,11 @@ pub(crate) fn one(alloc: Global, first: Message) -> Result<Vec<Message>, AllocEr
     Ok(sent)
 }
 
-pub(crate) fn two(alloc: Global, first: Message, second: Message) -> Result<Vec<Message>, AllocError>
+pub(crate) fn two(
+    alloc: Global,
+    first: Message,
+    second: Message,
+) -> Result<Vec<Message>, AllocError>
     ensures { IfOk result (λ sent. sent.items ≡ first ∷ second ∷ []) }
 {
     let mut sent = Vec::new(alloc);

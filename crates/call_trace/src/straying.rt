@@ -62,9 +62,7 @@ pub(crate) fn swallow(
 fn is_same(dialog: &Dialog, other: &Dialog) -> bool
     ensures { result ≡ same_dialog dialog.now other.now }
 {
-    dialog.call_id == other.call_id
-        && dialog.ours == other.ours
-        && dialog.theirs == other.theirs
+    dialog.call_id == other.call_id && dialog.ours == other.ours && dialog.theirs == other.theirs
 }
 
 /// Whether a BYE in the dialog leaves the call alone.

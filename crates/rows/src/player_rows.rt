@@ -32,22 +32,26 @@ fn is_same_description(
 
 /// The lines from `s=` on.
 fn behind_origin(text: &[u8]) -> &[u8] {
-    let at = text.windows(3).position(|three| three == b"\ns=".as_slice());
+    let at = text
+        .windows(3)
+        .position(|three| three == b"\ns=".as_slice());
     &text[at.unwrap_or(0)..]
 }
 
 fn is_same(alloc: Global, played: &Datagram, expected: &Datagram) -> Result<bool, AllocError> {
     let (a, b) = (&played.message, &expected.message);
-    Ok(played.event == expected.event
-        && played.direction == expected.direction
-        && a.kind == b.kind
-        && a.branch == b.branch
-        && a.call_id == b.call_id
-        && a.from_tag == b.from_tag
-        && a.to_tag == b.to_tag
-        && a.number == b.number
-        && a.method == b.method
-        && is_same_description(alloc, &a.description, &b.description)?)
+    Ok(
+        played.event == expected.event
+            && played.direction == expected.direction
+            && a.kind == b.kind
+            && a.branch == b.branch
+            && a.call_id == b.call_id
+            && a.from_tag == b.from_tag
+            && a.to_tag == b.to_tag
+            && a.number == b.number
+            && a.method == b.method
+            && is_same_description(alloc, &a.description, &b.description)?,
+    )
 }
 
 /// The place of what a timer sends again: the first such datagram of the trace.
@@ -162,7 +166,15 @@ fn repeated(rt: HostRuntime) -> Result<(), Fail> {
 
 #[test]
 fn hold_and_resume(rt: HostRuntime) -> Result<(), Fail> {
-    let tables = [ASKED, ANSWERED, ACKNOWLEDGED, HOLD_ASKED, HELD, RESUMED, HELD_NOWHERE];
+    let tables = [
+        ASKED,
+        ANSWERED,
+        ACKNOWLEDGED,
+        HOLD_ASKED,
+        HELD,
+        RESUMED,
+        HELD_NOWHERE,
+    ];
     let (player, others) = checked(rt.alloc(), &tables)?;
     assert_eq!(rt; others, 0);
     assert_eq!(rt; hops(&player), [to(BOB, 6000), to(BOB, 6001), None, None]);
@@ -174,7 +186,10 @@ fn refused_and_accepted(rt: HostRuntime) -> Result<(), Fail> {
     let (refused, others) = checked(rt.alloc(), &[ASKED, ANSWERED, ACKNOWLEDGED, REFUSED])?;
     assert_eq!(rt; others, 0);
     assert_eq!(rt; hops(&refused), talking(5004));
-    let (accepted, others) = checked(rt.alloc(), &[ASKED, ANSWERED, ACKNOWLEDGED, REFUSED, THEN_ACCEPTED])?;
+    let (accepted, others) = checked(
+        rt.alloc(),
+        &[ASKED, ANSWERED, ACKNOWLEDGED, REFUSED, THEN_ACCEPTED],
+    )?;
     assert_eq!(rt; others, 0);
     assert_eq!(rt; hops(&accepted), talking(5010));
     Ok(())
@@ -182,14 +197,20 @@ fn refused_and_accepted(rt: HostRuntime) -> Result<(), Fail> {
 
 #[test]
 fn glare(rt: HostRuntime) -> Result<(), Fail> {
-    let (_, others) = checked(rt.alloc(), &[ASKED, ANSWERED, ACKNOWLEDGED, GLARE_ASKED, GLARE_REFUSED])?;
+    let (_, others) = checked(
+        rt.alloc(),
+        &[ASKED, ANSWERED, ACKNOWLEDGED, GLARE_ASKED, GLARE_REFUSED],
+    )?;
     assert_eq!(rt; others, 0);
     Ok(())
 }
 
 #[test]
 fn cancelled(rt: HostRuntime) -> Result<(), Fail> {
-    let (player, others) = checked(rt.alloc(), &[ASKED, ANSWERED, ACKNOWLEDGED, CANCELLED, CROSSED])?;
+    let (player, others) = checked(
+        rt.alloc(),
+        &[ASKED, ANSWERED, ACKNOWLEDGED, CANCELLED, CROSSED],
+    )?;
     assert_eq!(rt; others, 0);
     assert_eq!(rt; hops(&player), talking(5010));
     Ok(())

@@ -15,7 +15,7 @@ returns c =
     let D : Both → Type 0 = λ r. r.ack.bytes ≢ r.passed_on.bytes in
     planned_plans c.args.context.server c.args.context.event c.args.trace.now c.args.calls.now c.args.came.now c.planned.result (both.ack ∷ both.passed_on ∷ []) (Replace c.args.at c.in_ok-call.call) c.planned.ensures.sent c.planned.ensures.change
     (settled_later_planned c.args.context.server c.args.context.event c.args.trace.now c.args.calls.now c.args.at found.call.now c.in-Answered-true.field-0-0 found.asking found.came.now found.went.now c.args.came.now both.ack both.passed_on
-      c.in-Some-Some.offer c.in-Some-Some.answer c.leg_of-offerer.result.now c.leg_of-answerer.result.now c.in-Some-said_at.said c.ends_of.result c.in_ok-call.call
-      c.in-Some.ensures.call c.in-Answered-true.is-0 c.in-Some.ensures.asking c.in-Some.ensures.came c.in-Some.ensures.went (sym c.in-Answered-true.ensures) c.in-Some.ensures.replies c.in-Some-Some.is-0 c.in-Some-Some.is-1
-      c.leg_of-offerer.ensures c.leg_of-answerer.ensures c.in-Some-said_at.ensures c.ends_of.ensures c.in_ok-call.ensures
-      (if_both A c.in_ok-both.field-0 both c.in-Some-2.is c.in_ok-both.ensures.ack) (if_both O c.in_ok-both.field-0 both c.in-Some-2.is c.in_ok-both.ensures.accepted) (if_both D c.in_ok-both.field-0 both c.in-Some-2.is c.in_ok-both.ensures.bytes))
+    c.in-Some-Some.offer c.in-Some-Some.answer c.leg_of-offerer.result.now c.leg_of-answerer.result.now c.in-Some-said_at.said c.ends_of.result c.in_ok-call.call
+    c.in-Some.ensures.call c.in-Answered-true.is-0 c.in-Some.ensures.asking c.in-Some.ensures.came c.in-Some.ensures.went (sym c.in-Answered-true.ensures) c.in-Some.ensures.replies c.in-Some-Some.is-0 c.in-Some-Some.is-1
+    c.leg_of-offerer.ensures c.leg_of-answerer.ensures c.in-Some-said_at.ensures c.ends_of.ensures c.in_ok-call.ensures
+    (if_both A c.in_ok-both.field-0 both c.in-Some-2.is c.in_ok-both.ensures.ack) (if_both O c.in_ok-both.field-0 both c.in-Some-2.is c.in_ok-both.ensures.accepted) (if_both D c.in_ok-both.field-0 both c.in-Some-2.is c.in_ok-both.ensures.bytes))

@@ -1,4 +1,4 @@
-use Rattle.std.proofs.Common.{◌≡◌, ℕ, List, [], ◌∷◌, Some, None, not, length, refl, subst, sym, rules}
+use Rattle.std.proofs.Common.{◌≡◌, ℕ, List, [], ◌∷◌, Some, not, length, refl, subst, sym, rules}
 use Rattle.std.specs.Prelude.{slice_get, slice_set, IsTrue}
 use Rattle.std.proofs.lemmas.Bool.{OnTrue_at}
 use Rattle.sdp.specs.declared.description.Description.{Description}
@@ -6,7 +6,6 @@ use Rattle.call_trace.specs.declared.datagram.Message.{Message}
 use Rattle.call_trace.specs.declared.datagram.Datagram.{Datagram}
 use Rattle.call_trace.specs.declared.datagram.Dialog.{Dialog}
 use Rattle.call_trace.specs.declared.playing.Said.{Said}
-use Rattle.call_trace.specs.declared.playing.Progress.TheVariants.{Answered}
 use Rattle.call_trace.specs.declared.playing.Playing.{Playing}
 use Rattle.call_trace.specs.Messages.{is_offer}
 use Rattle.call_trace.specs.Events.{is_plain}

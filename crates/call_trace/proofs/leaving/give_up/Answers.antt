@@ -4,7 +4,7 @@ use Rattle.std.specs.Prelude.{remove}
 use Rattle.call_trace.specs.declared.datagram.Message.{Message}
 use Rattle.call_trace.specs.Messages.{is_request_of}
 use Rattle.call_trace.specs.Events.{is_plain}
-use Rattle.call_trace.specs.Worked.{cancel}
+use Rattle.call_trace.specs.Messages.{cancel}
 use Rattle.call_trace.specs.Playing.{methods, Plays}
 use Rattle.call_trace.proofs.Members.{all_append}
 use Rattle.call_trace.proofs.PlayedLeaving.{cancel_plain, cancel_request, give_up_plays}

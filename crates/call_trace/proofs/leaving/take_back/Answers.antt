@@ -1,7 +1,7 @@
 use Rattle.std.proofs.Common.{sym, ◌∙◌, ap, subst, List, ◌∷◌, ◌++◌, Some, IsTrue}
 use Rattle.call_trace.specs.declared.datagram.Message.{Message}
 use Rattle.call_trace.specs.Messages.{is_request_of}
-use Rattle.call_trace.specs.Worked.{cancel}
+use Rattle.call_trace.specs.Messages.{cancel}
 use Rattle.call_trace.specs.Playing.{Plays}
 use Rattle.call_trace.proofs.PlayedLeaving.{cancel_plain, cancel_request, take_back_plays}
 use Rattle.call_trace.proofs.leaving.take_back.Goals as goal

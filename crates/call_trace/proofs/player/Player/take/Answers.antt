@@ -1,6 +1,4 @@
-use Rattle.std.proofs.Common.{◌≡◌, ◌≢◌, ℕ, suc, List, ◌++◌, Option, Some, sym, ◌∙◌, ap, subst, rules}
-use Rattle.std.specs.Prelude.{IfSome}
-use Rattle.call_trace.specs.declared.datagram.Message.{Message}
+use Rattle.std.proofs.Common.{◌≡◌, ℕ, suc, List, ◌++◌, Some, sym, subst, rules}
 use Rattle.call_trace.specs.declared.datagram.Datagram.{Datagram}
 use Rattle.call_trace.specs.declared.playing.Playing.{Playing}
 use Rattle.call_trace.specs.declared.playing.Planned.{Planned}
