@@ -9,8 +9,6 @@ mod dialogs_rows;
 #[cfg(test)]
 mod offer_answer_rows;
 #[cfg(test)]
-mod player_rows;
-#[cfg(test)]
 mod port_pool_rows;
 #[cfg(test)]
 mod registrar_rows;
