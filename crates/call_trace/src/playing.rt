@@ -190,13 +190,14 @@ pub(crate) fn with_offer(call: &Playing, offer: Option<Asking>) -> Result<Playin
     ensures { IfOk result (λ p. p ≡ with_offer call.now offer) }
 {
     let caller = copied_dialog(&call.caller)?;
+    let ends = call.ends;
     Ok(Playing {
         caller,
         callee: copied_dialog(&call.callee)?,
         slot: call.slot,
         progress: call.progress,
         offer,
-        ends: call.ends,
+        ends,
     })
 }
 
@@ -204,9 +205,9 @@ pub(crate) fn settled_as(
     call: &Playing,
     callee: &Dialog,
     said: Said,
-    ends: Ends,
+    led: Ends,
 ) -> Result<Playing, AllocError>
-    ensures { IfOk result (λ p. p ≡ settled_as call.now callee.now said ends) }
+    ensures { IfOk result (λ p. p ≡ settled_as call.now callee.now said led) }
 {
     let caller = copied_dialog(&call.caller)?;
     Ok(Playing {
@@ -215,7 +216,7 @@ pub(crate) fn settled_as(
         slot: call.slot,
         progress: Progress::Answered(said),
         offer: None,
-        ends,
+        ends: led,
     })
 }
 
