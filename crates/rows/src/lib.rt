@@ -9,6 +9,8 @@ mod dialogs_rows;
 #[cfg(test)]
 mod offer_answer_rows;
 #[cfg(test)]
+mod player_rows;
+#[cfg(test)]
 mod port_pool_rows;
 #[cfg(test)]
 mod registrar_rows;
