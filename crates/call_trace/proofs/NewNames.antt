@@ -21,7 +21,7 @@ use Rattle.call_trace.proofs.PlaceTests.{decides_some}
 use Rattle.call_trace.proofs.MessageTests.{decides_itself, decides_sent}
 use Rattle.call_trace.proofs.Words.{and_left, and_right, and_both, or_left, or_right, not_both}
 
-some_true : {X : Type 0} (q : X → Bool) (t : List X) (i : ℕ) (x : X) → slice_get t i ≡ Some x → IsTrue (q x) → IsTrue (list_any q t)
+pub some_true : {X : Type 0} (q : X → Bool) (t : List X) (i : ℕ) (x : X) → slice_get t i ≡ Some x → IsTrue (q x) → IsTrue (list_any q t)
 some_true q t i x e h = (decides_some q (λ v. IsTrue (q v)) (λ v. decides_itself (q v)) t).1 (i, x, e, h)
 
 pub differ : (a b : List ℕ) → IsTrue (not (pointwise nat_eq a b)) → a ≢ b

@@ -21,7 +21,7 @@ use Rattle.call_trace.specs.Playing.{methods, message_at, settled_at, offer_at, 
 use Rattle.call_trace.specs.Sending.{IsOfferOn, IsFresh, HasTag, IsIn, IsAskedFor}
 use Rattle.call_trace.proofs.Members.{all_at}
 use Rattle.call_trace.proofs.Words.{offer_asks, listed_asks}
-use Rattle.call_trace.proofs.PlayedCalls.{message_right, call_left, kept_left, get_call, replaced_plays, added_plays}
+use Rattle.call_trace.proofs.PlayedCalls.{leg_is, message_right, call_left, kept_left, get_call, replaced_plays, added_plays}
 
 -- ---- INVITE
 
@@ -140,10 +140,6 @@ ask_plays server n t ps p came trying w d asked fresh slots offers no_tag has on
     (is_new t ps p came w asked fresh offers no_tag) refl refl refl))
 
 -- ---- a later offer
-
-leg_is : (t : List Datagram) (p : Playing) (b : Bool) → leg_of p b ≡ leg (call_of t p) b
-leg_is t p true = refl
-leg_is t p false = refl
 
 reoffered_is : (n : ℕ) (t : List Datagram) (p : Playing) (b : Bool) (came trying w : Message) → IsWithin (length t) p
     → call_of (after n t came trying w) (with_offer p (Some (asking_at b (length t)))) ≡ reoffered (call_of t p) b came w

@@ -1,5 +1,5 @@
 -- The player's calls while the trace grows, and what is common to all of its moves.
-use Rattle.std.proofs.Common.{◌≡◌, ◌≢◌, ℕ, zero, suc, ◌+◌, ◌<◌, List, [], ◌∷◌, ◌++◌, length, Option, Some, None, option_map, refl, sym, ◌∙◌, ap, subst, arith, zero-add, length-append}
+use Rattle.std.proofs.Common.{Bool, true, false, ◌≡◌, ◌≢◌, ℕ, zero, suc, ◌+◌, ◌<◌, List, [], ◌∷◌, ◌++◌, length, Option, Some, None, option_map, refl, sym, ◌∙◌, ap, subst, arith, zero-add, length-append}
 use Rattle.std.specs.Prelude.{slice_get, slice_set, remove}
 use Rattle.call_trace.specs.declared.datagram.Message.{Message}
 use Rattle.call_trace.specs.declared.datagram.Datagram.{Datagram}
@@ -11,9 +11,10 @@ use Rattle.call_trace.specs.declared.playing.Progress.TheVariants.{Asked, Answer
 use Rattle.call_trace.specs.declared.playing.Asking.{Asking}
 use Rattle.call_trace.specs.declared.playing.Playing.{Playing}
 use Rattle.call_trace.specs.Listed.{AllOf}
+use Rattle.call_trace.specs.Stands.{leg}
 use Rattle.call_trace.specs.Events.{passed, IsIdle, IsIdleTaken}
 use Rattle.call_trace.specs.Moves.{Move, nothing}
-use Rattle.call_trace.specs.Playing.{methods, message_at, description_at, session_at, stage_of, offer_at, call_of, calls_of, IsOfferTold, IsSessionTold, IsWithin, IsKept, SlotsApart, IsPlaying, Plays}
+use Rattle.call_trace.specs.Playing.{leg_of, methods, message_at, description_at, session_at, stage_of, offer_at, call_of, calls_of, IsOfferTold, IsSessionTold, IsWithin, IsKept, SlotsApart, IsPlaying, Plays}
 use Rattle.call_trace.proofs.Members.{all_at, all_append, all_weaker, all_set, all_remove}
 use Rattle.call_trace.proofs.Growing.{ended_left}
 use Rattle.call_trace.proofs.Running.{stands_moved}
@@ -32,6 +33,9 @@ get_right (x ∷ t) s i = let n : length (x ∷ t) + i ≡ suc (length t + i) = 
 message_of_same : (t t' : List Datagram) (i k : ℕ) → slice_get t' k ≡ slice_get t i → message_at t' k ≡ message_at t i
 message_of_same t t' i k e = rw e refl
 
+pub message_is : (t : List Datagram) (i : ℕ) (p : Datagram) → slice_get t i ≡ Some p → message_at t i ≡ p.message
+message_is t i p e = rw e refl
+
 pub message_left : (t s : List Datagram) (i : ℕ) → i < length t → message_at (t ++ s) i ≡ message_at t i
 message_left t s i h = message_of_same t (t ++ s) i i (get_left t s i h)
 
@@ -42,6 +46,10 @@ pub description_left : (t s : List Datagram) (i : ℕ) → i < length t → desc
 description_left t s i h = rw (message_left t s i h) refl
 
 -- ---- a call
+
+pub leg_is : (t : List Datagram) (p : Playing) (b : Bool) → leg_of p b ≡ leg (call_of t p) b
+leg_is t p true = refl
+leg_is t p false = refl
 
 pub session_left : (t s : List Datagram) (z : Said) → (z.offer_taken < length t) × (z.answer_sent < length t) × (z.offer_sent < length t) × (z.answer_taken < length t) → session_at (t ++ s) z ≡ session_at t z
 session_left t s z h =

@@ -27,7 +27,7 @@ use Rattle.call_trace.proofs.AtLaws.{at_place}
 use Rattle.call_trace.proofs.Members.{all_at, all_weaker}
 use Rattle.call_trace.proofs.Apart.{leg_tag, remove_others}
 use Rattle.call_trace.proofs.Words.{and_left, and_right, and_both, request_of, request_asks, offer_asks}
-use Rattle.call_trace.proofs.PlayedCalls.{get_call, kept_plays, idle_plays, removed_plays}
+use Rattle.call_trace.proofs.PlayedCalls.{message_is, get_call, kept_plays, idle_plays, removed_plays}
 
 -- ---- what is common
 
@@ -60,9 +60,6 @@ Went t p q m = (k : ℕ) × (w : Datagram) × At t k w × (w.direction ≡ Sent)
 
 offer_is : (t : List Datagram) (p : Playing) (q : Asking) → p.offer ≡ Some q → (call_of t p).offer ≡ Some (offer_at t q)
 offer_is t p q e = rw e refl
-
-message_is : (t : List Datagram) (i : ℕ) (w : Datagram) → slice_get t i ≡ Some w → message_at t i ≡ w.message
-message_is t i w e = rw e refl
 
 went_stands : (t : List Datagram) (p : Playing) (q : Asking) (w : Datagram) → CallStands methods t (call_of t p) → p.progress ≡ Asked → p.offer ≡ Some q → slice_get t q.went ≡ Some w → Went t p q w.message
 went_stands t p q w st e f at =

@@ -21,12 +21,9 @@ use Rattle.call_trace.specs.Playing.{methods, message_at, description_at, sessio
 use Rattle.call_trace.specs.Sending.{IsAnswerOn, IsAckOn}
 use Rattle.call_trace.proofs.Members.{all_at}
 use Rattle.call_trace.proofs.Words.{and_both, request_asks, listed_asks, offer_asks}
-use Rattle.call_trace.proofs.PlayedCalls.{message_left, message_right, call_left, kept_left, get_call, replaced_plays}
+use Rattle.call_trace.proofs.PlayedCalls.{message_is, leg_is, message_left, message_right, call_left, kept_left, get_call, replaced_plays}
 
 -- ---- what stands at a place
-
-message_there : (t : List Datagram) (i : ℕ) (p : Datagram) → slice_get t i ≡ Some p → message_at t i ≡ p.message
-message_there t i p e = rw e refl
 
 described : (t : List Datagram) (i : ℕ) (m : Message) (d : Description) → message_at t i ≡ m → m.description ≡ Some d → description_at t i ≡ d
 described t i m d e f = let g : (message_at t i).description ≡ Some d = ap (λ (v : Message). v.description) e ∙ f in rw g refl
@@ -45,10 +42,6 @@ sent_there : (t : List Datagram) (n : ℕ) (m a u : Message) → message_at (t +
 sent_there t n m a u = message_right t (passed n (Some m) (a ∷ u ∷ [])) 2
 
 -- ---- the answer
-
-leg_same : (t : List Datagram) (p : Playing) (b : Bool) → leg_of p b ≡ leg (call_of t p) b
-leg_same t p true = refl
-leg_same t p false = refl
 
 -- the descriptions of the session of an offer and of its answer, in the longer trace
 record AreSaidBy (t : List Datagram) (n : ℕ) (q : Asking) (m a u : Message) (dx ex dy ey : Description) : Type 0 where
@@ -174,8 +167,8 @@ settle_first_plays server n t ps k p q ca we m a u dx dy at eg eo gc gw am re ex
     let z : Said = said_at q (length t) in
     let kept : IsKept server t p = all_at (IsKept server t) ps k p h.kept at in
     let by : q.by_caller ≡ true = first_by_caller server n t ps k p q h at eg eo in
-    let mc : message_at t q.came ≡ ca.message = message_there t q.came ca gc in
-    let mw : message_at t q.went ≡ we.message = message_there t q.went we gw in
+    let mc : message_at t q.came ≡ ca.message = message_is t q.came ca gc in
+    let mw : message_at t q.went ≡ we.message = message_is t q.went we gw in
     let ex' : (message_at t q.came).description ≡ Some dx = ap (λ (v : Message). v.description) mc ∙ ex in
     let P : Message → Type 0 = λ v. IsAnswerOn server (port_told p.slot true) t v p.caller.ours dy u in
     let Q : Bool → Type 0 = λ v. IsAnswerOn server (port_told p.slot v) t (message_at t q.came) p.caller.ours dy u in
@@ -203,17 +196,17 @@ settle_later_plays server n t ps k p y q ca we m a u dx dy at eg eo gc gw am re 
     let b : Bool = q.by_caller in
     let c : Call = call_of t p in
     let kept : IsKept server t p = all_at (IsKept server t) ps k p h.kept at in
-    let mc : message_at t q.came ≡ ca.message = message_there t q.came ca gc in
-    let mw : message_at t q.went ≡ we.message = message_there t q.went we gw in
+    let mc : message_at t q.came ≡ ca.message = message_is t q.came ca gc in
+    let mw : message_at t q.went ≡ we.message = message_is t q.went we gw in
     let ex' : (message_at t q.came).description ≡ Some dx = ap (λ (v : Message). v.description) mc ∙ ex in
     let P : Message → Type 0 = λ v. IsAnswerOn server (port_told p.slot b) t v (leg_of p b).ours dy u in
     let Q : Dialog → Type 0 = λ v. IsAnswerOn server (port_told p.slot b) t (message_at t q.came) v.ours dy u in
-    let on' : IsAnswerOn server (port_told p.slot b) t (message_at t q.came) (leg c b).ours dy u = subst Q (leg_same t p b) (subst P (sym mc) on) in
+    let on' : IsAnswerOn server (port_told p.slot b) t (message_at t q.came) (leg c b).ours dy u = subst Q (leg_is t p b) (subst P (sym mc) on) in
     let A : Dialog → Type 0 = λ v. IsAckOn t v a in
     let R : Message → Type 0 = λ v. Replies m v in
     let d : IsAnswered server t n p.slot q m a u dx dy = answered_so server t n p q m a u dx dy (leg c b).ours kept eo ex' ey on' in
     let answers : Answers t (leg c b) (leg c (not b)) (offer_at t q) (session_at (t ++ s) z) m a u =
-    answers_played t n (leg c b) (leg c (not b)) q m a u dx d.offer_sent dy d.answer_sent d.said am (subst R (sym mw) re) (subst A (leg_same t p (not b)) ack') server (port_told p.slot b) on' other in
+    answers_played t n (leg c b) (leg c (not b)) q m a u dx d.offer_sent dy d.answer_sent d.said am (subst R (sym mw) re) (subst A (leg_is t p (not b)) ack') server (port_told p.slot b) on' other in
     replaced_plays server n t ps (Some m) (a ∷ u ∷ []) k p (settled_as p p.callee z (ends_of b dx dy)) h at refl
     (settled_kept server t n p p.callee q m a u dx d.offer_sent dy d.answer_sent (ends_of b dx dy) d.came_before d.went_before d.said d.offer d.answer refl)
     (settle_later k c (settled_at t y) (offer_at t q) (session_at (t ++ s) z) m a u (get_call t ps k p at) (ap (stage_of t) eg) (ap (option_map (offer_at t)) eo) answers refl refl refl)
@@ -256,7 +249,7 @@ release_plays server n t ps k p z q we m a u at eg eo gw final refused re ack' b
     let kept : IsKept server t p = all_at (IsKept server t) ps k p h.kept at in
     let here : CallStands methods t c = all_at (CallStands methods t) (calls_of t ps) k c h.stands.sessions.stand (get_call t ps k p at) in
     let offered : Offered methods t (leg c q.by_caller) (leg c (not q.by_caller)) o = here.offer o (ap (option_map (offer_at t)) eo) in
-    let mw : message_at t q.went ≡ we.message = message_there t q.went we gw in
+    let mw : message_at t q.went ≡ we.message = message_is t q.went we gw in
     let R : Message → Type 0 = λ v. Replies m v in
     let idle : IsIdle methods t (Some m) a = refusal_idle t (Some m) (leg c q.by_caller) (leg c (not q.by_caller)) o a offered ack' (branch ∙ ap (λ (v : Message). v.branch) (sym mw)) in
     replaced_plays server n t ps (Some m) (a ∷ u ∷ []) k p (with_offer p None) h at refl

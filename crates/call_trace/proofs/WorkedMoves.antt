@@ -1,5 +1,5 @@
 -- The calls that are written out are moves.
-use Rattle.std.proofs.Common.{◌≡◌, ◌≢◌, ℕ, Bool, true, not, ◌&&◌, nat_eq, List, [], ◌∷◌, ◌++◌, codes, Some, inl, inr, refl, arith}
+use Rattle.std.proofs.Common.{◌≡◌, ℕ, Bool, true, not, ◌&&◌, nat_eq, List, [], ◌∷◌, ◌++◌, codes, Some, inl, inr, refl, arith}
 use Rattle.std.specs.Prelude.{slice_get, IsTrue}
 use Rattle.std.specs.List.{list_any}
 use Rattle.std.specs.Cmp.Lexicographic.{pointwise, bytes_decides}
@@ -11,7 +11,6 @@ use Rattle.call_trace.specs.declared.datagram.Dialog.{Dialog}
 use Rattle.call_trace.specs.declared.call.Session.{Session}
 use Rattle.call_trace.specs.declared.call.Call.{Call}
 use Rattle.call_trace.specs.Messages.{invite, Replies}
-use Rattle.call_trace.specs.Dialogs.{is_ours_in_from}
 use Rattle.call_trace.specs.Computed.{is_taken}
 use Rattle.call_trace.specs.Exchanges.{At}
 use Rattle.call_trace.specs.Calls.{Ended}
@@ -21,26 +20,11 @@ use Rattle.call_trace.specs.Moves.{Move, Asks, IsNewCall, Answers, new_call, set
 use Rattle.call_trace.specs.Runs.{Moves}
 use Rattle.call_trace.specs.Worked.{asked, trying, asked_on, accepted, acknowledged_on, accepted_on, acknowledged, ended, ended_well, ended_on, leaves, told, plain_call, left_before_ack, cancelled, cancelled_well, terminated, cancelled_on, cancelled_call}
 use Rattle.call_trace.proofs.AtLaws.{at_place, place_at}
-use Rattle.call_trace.proofs.PlaceTests.{decides_some}
-use Rattle.call_trace.proofs.MessageTests.{decides_itself, decides_sent}
+use Rattle.call_trace.proofs.NewNames.{some_true, differ, unused}
+use Rattle.call_trace.proofs.MessageTests.{decides_sent}
 use Rattle.call_trace.proofs.Words.{and_both, not_both}
 
 -- ---- what a look through a trace tells
-
-some_true : {X : Type 0} (q : X → Bool) (t : List X) (i : ℕ) (x : X) → slice_get t i ≡ Some x → IsTrue (q x) → IsTrue (list_any q t)
-some_true q t i x e h = (decides_some q (λ v. IsTrue (q v)) (λ v. decides_itself (q v)) t).1 (i, x, e, h)
-
-pub differ : (a b : List ℕ) → IsTrue (not (pointwise nat_eq a b)) → a ≢ b
-differ a b h e = not_both (pointwise nat_eq a b) h ((bytes_decides a b).1 e)
-
--- a request of ours with the branch, or a response to one
-abbrev uses : List ℕ → Datagram → Bool
-uses branch p = is_ours_in_from p.direction p.message.kind && pointwise nat_eq p.message.branch branch
-
-pub unused : (t : List Datagram) (branch : List ℕ) → IsTrue (not (list_any (uses branch) t)) → IsUnused t branch
-unused t branch h i p at ours same =
-    not_both (list_any (uses branch) t) h
-    (some_true (uses branch) t i p (place_at t i p at) (and_both (is_ours_in_from p.direction p.message.kind) (pointwise nat_eq p.message.branch branch) ours ((bytes_decides p.message.branch branch).1 same)))
 
 -- a datagram of ours with these bytes
 abbrev has_bytes : List ℕ → Datagram → Bool

@@ -15,7 +15,8 @@ use Rattle.call_trace.specs.Stands.{AsksAt}
 use Rattle.call_trace.specs.Worked.{asked_on, accepted}
 use Rattle.call_trace.specs.WorkedOffers.{offered, trying_offer, offered_on, refused, refusal_ack, refused_on, again_offered, trying_again, again_on, agreed, agreed_ack, agreed_on, second_answer, second_ack, second_bye, callee_ends, callee_served, caller_told, offers_again}
 use Rattle.call_trace.proofs.AtLaws.{at_place}
-use Rattle.call_trace.proofs.WorkedMoves.{differ, unused, new_bytes, begun, answered, second, asked_for, answered_then}
+use Rattle.call_trace.proofs.NewNames.{differ, unused}
+use Rattle.call_trace.proofs.WorkedMoves.{new_bytes, begun, answered, second, asked_for, answered_then}
 
 module _ (s r : Session) where
   abbrev methods : List (List ℕ)

@@ -21,7 +21,7 @@ abbrev pub HasPlayed : Played → Option Message → Played → Type 0
 HasPlayed old taken new = (sent : List Message) × (new.trace ≡ old.trace ++ passed old.events taken sent) × (new.events ≡ suc old.events) × (new.server ≡ old.server)
 
 -- The calls stand after the trace. Each of them that was answered, and so every call that is live, meets the media promise with the player's own relay
--- table; and the live dialogs are exactly the legs of the answered calls, each of one call.
+-- table. Both legs of each answered call are live, and each live dialog is a leg of a call that was answered, and a call with exactly one other dialog.
 pub record Keeps (p : Played) : Type 0 where
   pub stands : Stands methods (calls_of p.trace p.calls) p.events p.trace
   pub media : MediaPromise methods p.server (table_of p.calls) p.trace

@@ -10,6 +10,7 @@ ghost use Rattle.call_trace.specs.Playing.{methods, port_told};
 ghost use Rattle.call_trace.specs.Sending.{IsAckOn, IsAnswerOn, Plans};
 
 use crate::datagram::{Datagram, Dialog, Kind, Message};
+use crate::dialogs::answered_in;
 use crate::kinds::{ACK, is_answer};
 use crate::naming::copied_text;
 use crate::playing::{
@@ -226,11 +227,7 @@ fn refusals(
     ensures plain { IfOk result (λ r. IsTrue (is_plain methods r.passed_on)) }
 {
     let went = &found.went.message;
-    let dialog = Dialog {
-        call_id: copied_text(&went.call_id)?,
-        ours: copied_text(&went.from_tag)?,
-        theirs: copied_text(&response.to_tag)?,
-    };
+    let dialog = answered_in(response)?;
     let branch = copied_text(&went.branch)?;
     let ack = request_in(context, 1, &dialog, branch, went.number, ACK)?;
     let tag = &leg_of(found.call, found.asking.by_caller).ours;

@@ -3,8 +3,10 @@
 ghost use Rattle.std.specs.Prelude.{◌≡◌, ◌↔◌, IsTrue, IfOk};
 ghost use Rattle.call_trace.specs.Dialogs.{is_ours_in_from, our_tag, their_tag, dialog_of};
 ghost use Rattle.call_trace.specs.Computed.{names};
+ghost use Rattle.call_trace.specs.Sending.{answered_in};
 
-use crate::datagram::{Datagram, Dialog, Direction, Kind};
+use crate::datagram::{Datagram, Dialog, Direction, Kind, Message};
+use crate::naming::copied_text;
 use std::alloc::AllocError;
 use text::Text;
 
@@ -39,20 +41,25 @@ fn their_tag(datagram: &Datagram) -> &Text
     }
 }
 
-fn copied(text: &Text) -> Result<Text, AllocError>
-    ensures { IfOk result (λ t. t ≡ text.now) }
-{
-    text.clone()
-}
-
 /// The dialog that the datagram's identifiers name.
 pub fn dialog_of(datagram: &Datagram) -> Result<Dialog, AllocError>
     ensures { IfOk result (λ d. d ≡ dialog_of datagram.now) }
 {
     Ok(Dialog {
-        call_id: copied(&datagram.message.call_id)?,
-        ours: copied(our_tag(datagram))?,
-        theirs: copied(their_tag(datagram))?,
+        call_id: copied_text(&datagram.message.call_id)?,
+        ours: copied_text(our_tag(datagram))?,
+        theirs: copied_text(their_tag(datagram))?,
+    })
+}
+
+/// The dialog that a response of the other end names.
+pub(crate) fn answered_in(response: &Message) -> Result<Dialog, AllocError>
+    ensures { IfOk result (λ d. d ≡ answered_in response.now) }
+{
+    Ok(Dialog {
+        call_id: copied_text(&response.call_id)?,
+        ours: copied_text(&response.from_tag)?,
+        theirs: copied_text(&response.to_tag)?,
     })
 }
 

@@ -9,6 +9,7 @@ ghost use Rattle.call_trace.specs.Listed.{AllOf};
 ghost use Rattle.call_trace.specs.Sending.{Spares, same_dialog, spares, answered_in, WasAnswered, Plans};
 
 use crate::datagram::{Datagram, Dialog, Message};
+use crate::dialogs::answered_in;
 use crate::exchange::{Places, takes_final};
 use crate::kinds::{ACK, INVITE, is_final, is_request_of, is_taken};
 use crate::naming::{copied_text, is_free_tag, name};
@@ -88,17 +89,6 @@ fn is_of_none(calls: &[Playing], dialog: &Dialog) -> bool
     ensures { OnTrue result (AllOf (Spares dialog.now) calls.now) }
 {
     all_spared(calls, dialog)
-}
-
-/// The dialog that a response names.
-fn answered_in(came: &Message) -> Result<Dialog, AllocError>
-    ensures { IfOk result (λ d. d ≡ answered_in came.now) }
-{
-    Ok(Dialog {
-        call_id: copied_text(&came.call_id)?,
-        ours: copied_text(&came.from_tag)?,
-        theirs: copied_text(&came.to_tag)?,
-    })
 }
 
 /// The ACK and the BYE for a dialog that ends at once (RFC 3261 section 13.2.2.4).
