@@ -1,5 +1,5 @@
 -- A dialog that is of no call, and what the player sends without a move.
-use Rattle.std.proofs.Common.{◌≡◌, ◌≢◌, ℕ, List, [], ◌∷◌, ◌++◌, Vec, Global, Bool, true, false, not, ◌&&◌, nat_eq, nat_le, nat_lt, ◌<◌, ◌≤◌, le-ltb, inl, inr, Option, Some, None, refl, sym, ◌∙◌, ap, subst}
+use Rattle.std.proofs.Common.{if◌then◌else◌, ◌≡◌, ◌≢◌, ℕ, List, [], ◌∷◌, ◌++◌, Vec, Global, Bool, true, false, not, ◌&&◌, nat_eq, nat_le, nat_lt, ◌<◌, ◌≤◌, le-ltb, inl, inr, Option, Some, None, refl, sym, ◌∙◌, ap, subst}
 use Rattle.std.specs.Prelude.{slice_get, IsTrue, IfSome}
 use Rattle.std.specs.Bool.{OnTrue}
 use Rattle.std.specs.List.{list_all}
@@ -24,7 +24,7 @@ use Rattle.call_trace.specs.Computed.{is_taken, takes_final}
 use Rattle.call_trace.specs.Listed.{AllOf}
 use Rattle.call_trace.specs.Events.{dialog_sent, IsIdle, plain, refusal_acknowledged, again, IsIdleTaken, calm}
 use Rattle.call_trace.specs.Playing.{methods, Plays}
-use Rattle.call_trace.specs.Sending.{request_in, response_to, changed, WasAnswered, Plans, Spares, same_dialog, spares_at, spares}
+use Rattle.call_trace.specs.Sending.{request_in, response_to, changed, WasAnswered, again_of, sent_again, Plans, Spares, same_dialog, spares_at, spares}
 use Rattle.call_trace.proofs.AtLaws.{at_place}
 use Rattle.call_trace.proofs.PlayedCalls.{idle_plays}
 use Rattle.call_trace.proofs.MessageTests.{decides_takes_final}
@@ -94,10 +94,6 @@ no_request (Response s) b e = refl
 pub response_again : (t : List Datagram) (taken : Option Message) (k : ℕ) (q : Datagram) → slice_get t k ≡ Some q → is_taken q.direction ≡ false → is_request q.message.kind ≡ false → IsIdle methods t taken q.message
 response_again t taken k q at out response = again k q (at_place t k q at) (sent_out q.direction out) refl (inl (no_request q.message.kind (is_listed methods q.message.method) response))
 
--- anything of ours again, where a timer fired
-pub datagram_again : (t : List Datagram) (k : ℕ) (q : Datagram) → slice_get t k ≡ Some q → is_taken q.direction ≡ false → IsIdle methods t None q.message
-datagram_again t k q at out = again k q (at_place t k q at) (sent_out q.direction out) refl (inr (λ m e. absurd (cc)))
-
 truth_not : (b : Bool) → (IsTrue b → ⊥) → IsTrue (not b)
 truth_not true h = absurd (h refl)
 truth_not false h = refl
@@ -166,3 +162,15 @@ request_method m y branch name bytes n e = let P : Message → Type 0 = λ v. Is
 
 pub request_dialog : (m : Message) (y : Dialog) (branch name bytes : List ℕ) (n : ℕ) → m ≡ request_in y branch n name bytes → dialog_sent m ≡ y
 request_dialog m y branch name bytes n e = ap dialog_sent e
+
+-- what a timer sends again moves no call
+pub again_idle : (t : List Datagram) (i : ℕ) → AllOf (IsIdle methods t None) (sent_again t i)
+again_idle t i = stands (slice_get t i) refl
+  where
+    sent : (q : Datagram) (d : Direction) → slice_get t i ≡ Some q → q.direction ≡ d → AllOf (IsIdle methods t None) (if is_taken d then [] else q.message ∷ [])
+    sent q Taken e f = tt
+    sent q Sent e f = (again i q (at_place t i q e) f refl (inr (λ m g. absurd (cc))), tt)
+
+    stands : (o : Option Datagram) → slice_get t i ≡ o → AllOf (IsIdle methods t None) (again_of o)
+    stands None e = tt
+    stands (Some q) e = sent q q.direction e refl

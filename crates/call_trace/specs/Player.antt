@@ -20,6 +20,13 @@ pub record Played : Type 0 where
 abbrev pub HasPlayed : Played → Option Message → Played → Type 0
 HasPlayed old taken new = (sent : List Message) × (new.trace ≡ old.trace ++ passed old.events taken sent) × (new.events ≡ suc old.events) × (new.server ≡ old.server)
 
+-- an event that sent these messages and moved no call
+pub record HasSent (old : Played) (taken : Option Message) (sent : List Message) (new : Played) : Type 0 where
+  pub trace : new.trace ≡ old.trace ++ passed old.events taken sent
+  pub events : new.events ≡ suc old.events
+  pub calls : new.calls ≡ old.calls
+  pub server : new.server ≡ old.server
+
 -- The calls stand after the trace. Each of them that was answered, and so every call that is live, meets the media promise with the player's own relay
 -- table. Both legs of each answered call are live, and each live dialog is a leg of a call that was answered, and a call with exactly one other dialog.
 pub record Keeps (p : Played) : Type 0 where

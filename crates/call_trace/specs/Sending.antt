@@ -1,5 +1,5 @@
 -- What the player sends, and what it asks of the names that it makes.
-use Rattle.std.specs.Prelude.{◌≡◌, ◌≢◌, ℕ, Bool, true, not, ◌&&◌, ◌||◌, nat_eq, List, [], ◌∷◌, ◌++◌, Option, Some, None, slice_get, slice_set, remove, ◌⊎◌, IsTrue}
+use Rattle.std.specs.Prelude.{◌≡◌, ◌≢◌, ℕ, Bool, true, not, ◌&&◌, ◌||◌, nat_eq, List, [], ◌∷◌, ◌++◌, Option, Some, None, slice_get, slice_set, remove, ◌⊎◌, IsTrue, if◌then◌else◌}
 use Rattle.std.specs.Cmp.Lexicographic.{pointwise}
 use Rattle.sdp.specs.declared.description.Description.{Description}
 use Rattle.call_trace.specs.declared.exchange.Places.{Places}
@@ -142,3 +142,11 @@ abbrev pub WasAnswered : List Datagram → Places → List ℕ → Type 0
 WasAnswered t at branch =
     (q : Datagram) × (r : Datagram) × (slice_get t at.asked ≡ Some q) × (q.direction ≡ Sent) × IsTrue (asks methods q.message) × (q.message.branch ≡ branch)
     × (slice_get t at.answered ≡ Some r) × TakesFinal r q.message
+
+-- what stands at a place, if it was sent
+abbrev pub again_of : Option Datagram → List Message
+again_of None = []
+again_of (Some p) = if is_taken p.direction then [] else p.message ∷ []
+
+abbrev pub sent_again : List Datagram → ℕ → List Message
+sent_again t i = again_of (slice_get t i)

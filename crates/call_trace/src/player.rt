@@ -5,8 +5,8 @@ ghost use Rattle.offer_answer.specs.Direct.{hold_address};
 ghost use Rattle.call_trace.specs.declared.player.Outcome.TheVariants.{Entered, Shed};
 ghost use Rattle.call_trace.specs.Events.{passed};
 ghost use Rattle.call_trace.specs.Playing.{IsPlaying, table_of};
-ghost use Rattle.call_trace.specs.Sending.{changed};
-ghost use Rattle.call_trace.specs.Player.{Played, HasPlayed, Keeps};
+ghost use Rattle.call_trace.specs.Sending.{changed, sent_again};
+ghost use Rattle.call_trace.specs.Player.{Played, HasPlayed, HasSent, Keeps};
 
 use crate::datagram::{Datagram, Direction, Message};
 use crate::moving::standing_is_promised;
@@ -185,7 +185,7 @@ impl Player {
     /// A timer fires: what stands at the place of the trace is sent again, if it was sent. Without memory the player is as
     /// before.
     pub fn fire(&mut self, place: usize) -> Result<Outcome, AllocError>
-        ensures entered { IfOk result (λ o. o ≡ Entered → HasPlayed self.old None self.new) }
+        ensures entered { IfOk result (λ o. o ≡ Entered → HasSent self.old None (sent_again self.old.trace place) self.new) }
         ensures shed { IfOk result (λ o. o ≡ Shed → self.new ≡ self.old) }
         ensures keeps { Keeps self.new }
         ensures err { OnErr result (self.new ≡ self.old) }

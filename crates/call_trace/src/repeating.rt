@@ -6,7 +6,7 @@ ghost use Rattle.call_trace.specs.declared.playing.Playing.{Playing};
 ghost use Rattle.call_trace.specs.declared.playing.Change.TheVariants.{Keep};
 ghost use Rattle.call_trace.specs.Events.{is_calm};
 ghost use Rattle.call_trace.specs.Playing.{methods};
-ghost use Rattle.call_trace.specs.Sending.{Plans};
+ghost use Rattle.call_trace.specs.Sending.{sent_again, Plans};
 
 use crate::answering::open_offer;
 use crate::datagram::{Datagram, Kind, Message};
@@ -169,6 +169,24 @@ pub(crate) fn repeat(
     Ok(kept(one(context.alloc, again)?))
 }
 
+/// What stands at the place, if it was sent.
+#[tactic(auto, unfolding(crate::specs::Sending::sent_again))]
+fn sent_again(
+    context: Context,
+    trace: &[Datagram],
+    place: usize,
+) -> Result<Vec<Message>, AllocError>
+    ensures { IfOk result (λ sent. sent.items ≡ sent_again trace.now place) }
+{
+    let Some(datagram) = trace.get(place) else {
+        return Ok(Vec::new(context.alloc));
+    };
+    if is_taken(datagram.direction) {
+        return Ok(Vec::new(context.alloc));
+    }
+    one(context.alloc, copied(&datagram.message)?)
+}
+
 /// A timer sends what stands at the place again, or nothing.
 pub(crate) fn fire(
     context: Context,
@@ -176,16 +194,12 @@ pub(crate) fn fire(
     calls: &[Playing],
     place: usize,
 ) -> Result<Planned, AllocError>
-    ensures { IfOk result (λ e. Plans context.server context.event trace.now calls.now None e) }
+    ensures sent { IfOk result (λ e. e.sent.items ≡ sent_again trace.now place) }
+    ensures change { IfOk result (λ e. e.change ≡ Keep) }
+    ensures plans { IfOk result (λ e. Plans context.server context.event trace.now calls.now None e) }
 {
-    let mut sent = Vec::new(context.alloc);
-    if let Some(datagram) = trace.get(place) {
-        if !is_taken(datagram.direction) {
-            sent.push(copied(&datagram.message)?)?;
-        }
-    }
     Ok(Planned {
-        sent,
+        sent: sent_again(context, trace, place)?,
         change: Change::Keep,
     })
 }
