@@ -20,14 +20,14 @@ use Rattle.call_trace.specs.declared.playing.Planned.{Planned}
 use Rattle.call_trace.specs.declared.playing.Change.{Change}
 use Rattle.call_trace.specs.declared.playing.Change.TheVariants.{Keep}
 use Rattle.call_trace.specs.Messages.{invite, ack, is_request, is_final, is_success, is_listed, is_request_of, asks}
-use Rattle.call_trace.specs.Computed.{is_taken, takes_final}
+use Rattle.call_trace.specs.Computed.{is_taken, takes_final, on}
 use Rattle.call_trace.specs.Listed.{AllOf}
 use Rattle.call_trace.specs.Events.{dialog_sent, IsIdle, plain, refusal_acknowledged, again, IsIdleTaken, calm}
 use Rattle.call_trace.specs.Playing.{methods, Plays}
-use Rattle.call_trace.specs.Sending.{request_in, response_to, changed, WasAnswered, again_of, sent_again, Plans, Spares, same_dialog, spares_at, spares}
+use Rattle.call_trace.specs.Sending.{request_in, response_to, changed, asks_by, was_answered, WasAnswered, again_of, sent_again, Plans, Spares, same_dialog, spares_at, spares}
 use Rattle.call_trace.proofs.AtLaws.{at_place}
 use Rattle.call_trace.proofs.PlayedCalls.{idle_plays}
-use Rattle.call_trace.proofs.MessageTests.{decides_takes_final}
+use Rattle.call_trace.proofs.MessageTests.{decides_takes_final, decides_sent}
 use Rattle.call_trace.proofs.Words.{and_left, and_right, and_both, not_both, invite_asks, other_asks}
 
 -- ---- dialogs
@@ -145,17 +145,20 @@ none_sent v w same none = ap (λ (x : Vec Message Global). x.items) same ∙ non
 
 -- ---- dialogs that end at once
 
-pub was_answered : (t : List Datagram) (at : Places) (branch : List ℕ) (q r : Datagram) (b : Bool) → slice_get t at.asked ≡ Some q → is_taken q.direction ≡ false → IsTrue (is_request_of invite q.message) → q.message.branch ≡ branch → slice_get t at.answered ≡ Some r
-    → b ≡ takes_final r q.message → OnTrue b (WasAnswered t at branch)
-was_answered t at branch q r b asked out request same answered e =
-    OnTrue_from b (WasAnswered t at branch) (λ h. (q, r, asked, sent_out q.direction out, invite_asks methods q.message refl request, same, answered, (decides_takes_final q.message r).0 (sym e ∙ h)))
-
-pub same_bytes : (a b : List ℕ) → false ≡ not (pointwise nat_eq a b) → a ≡ b
-same_bytes a b e = (bytes_decides a b).0 (is_true (pointwise nat_eq a b) e)
+pub on_answered : (t : List Datagram) (at : Places) (branch : List ℕ) (b : Bool) → b ≡ was_answered t at branch → OnTrue b (WasAnswered t at branch)
+unfolding was_answered
+on_answered t at branch b e = OnTrue_from b (WasAnswered t at branch) (λ h. stand (slice_get t at.asked) (slice_get t at.answered) refl refl (sym e ∙ h))
   where
-    is_true : (v : Bool) → false ≡ not v → IsTrue v
-    is_true true h = refl
-    is_true false h = absurd (cc)
+    stand : (o p : Option Datagram) → slice_get t at.asked ≡ o → slice_get t at.answered ≡ p → IsTrue (on (λ q. on (λ r. asks_by branch q && takes_final r q.message) p) o) → WasAnswered t at branch
+    stand None p f g h = absurd (cc)
+    stand (Some q) None f g h = absurd (cc)
+    stand (Some q) (Some r) f g h =
+        let asks : IsTrue (asks_by branch q) = and_left (asks_by branch q) (takes_final r q.message) h in
+        let request : IsTrue (is_request_of invite q.message && pointwise nat_eq q.message.branch branch) = and_right (not (is_taken q.direction)) _ asks in
+        (q, r, f, (decides_sent q.direction).0 (and_left (not (is_taken q.direction)) _ asks),
+        invite_asks methods q.message refl (and_left (is_request_of invite q.message) _ request),
+        (bytes_decides q.message.branch branch).0 (and_right (is_request_of invite q.message) _ request),
+        g, (decides_takes_final q.message r).0 (and_right (asks_by branch q) (takes_final r q.message) h))
 
 pub request_method : (m : Message) (y : Dialog) (branch name bytes : List ℕ) (n : ℕ) → m ≡ request_in y branch n name bytes → IsTrue (is_request_of name m)
 request_method m y branch name bytes n e = let P : Message → Type 0 = λ v. IsTrue (is_request_of name v) in subst P (sym e) ((bytes_decides name name).1 refl)

@@ -1,5 +1,6 @@
 -- What the player sends, and what it asks of the names that it makes.
 use Rattle.std.specs.Prelude.{◌≡◌, ◌≢◌, ℕ, Bool, true, not, ◌&&◌, ◌||◌, nat_eq, List, [], ◌∷◌, ◌++◌, Option, Some, None, slice_get, slice_set, remove, ◌⊎◌, IsTrue, if◌then◌else◌}
+use Rattle.std.specs.List.{list_any}
 use Rattle.std.specs.Cmp.Lexicographic.{pointwise}
 use Rattle.sdp.specs.declared.description.Description.{Description}
 use Rattle.call_trace.specs.declared.exchange.Places.{Places}
@@ -16,7 +17,7 @@ use Rattle.call_trace.specs.declared.playing.Change.{Change}
 use Rattle.call_trace.specs.declared.playing.Change.TheVariants.{Keep, Add, Replace, Remove}
 use Rattle.call_trace.specs.Messages.{invite, ack, bye, is_ok, is_answer, is_method, is_offer, is_request_of, asks, Replies}
 use Rattle.call_trace.specs.Exchanges.{TakesFinal}
-use Rattle.call_trace.specs.Computed.{is_taken}
+use Rattle.call_trace.specs.Computed.{is_taken, is_absent, takes_final, on_both}
 use Rattle.call_trace.specs.Dialogs.{is_ours_in_from}
 use Rattle.call_trace.specs.Listed.{AllOf}
 use Rattle.call_trace.specs.Events.{dialog_sent, IsUnused, IsNewTag, AreNewBytes}
@@ -87,6 +88,12 @@ abbrev pub HasTag : List ℕ → Playing → Type 0
 HasTag tag p = (tag ≡ p.caller.ours) ⊎ (tag ≡ p.callee.ours)
 
 -- the tags of a new call: there, made now, and of no other call
+abbrev pub is_fresh : List Datagram → List Playing → Playing → Bool
+is_fresh t ps p =
+    not (is_absent p.caller.ours) && (not (is_absent p.callee.ours) && (not (pointwise nat_eq p.caller.ours p.callee.ours)
+    && (not (list_any (is_tag_of p.caller.ours) ps) && (not (list_any (is_tag_of p.callee.ours) ps)
+    && (not (list_any (leaves_from p.caller.ours) t || list_any (served_at p.caller.ours) t) && not (list_any (leaves_from p.callee.ours) t || list_any (served_at p.callee.ours) t))))))
+
 pub record IsFresh (t : List Datagram) (ps : List Playing) (p : Playing) : Type 0 where
   pub caller : p.caller.ours ≢ []
   pub callee : p.callee.ours ≢ []
@@ -103,6 +110,9 @@ pub record Spares (d : Dialog) (p : Playing) : Type 0 where
   pub first : p.progress ≡ Asked → d.ours ≢ p.callee.ours
 
 -- the message is in the dialog, as one that the other end sends
+abbrev pub is_in : Dialog → Message → Bool
+is_in y m = pointwise nat_eq m.call_id y.call_id && (pointwise nat_eq m.from_tag y.theirs && pointwise nat_eq m.to_tag y.ours)
+
 pub record IsIn (y : Dialog) (m : Message) : Type 0 where
   pub call_id : m.call_id ≡ y.call_id
   pub from_tag : m.from_tag ≡ y.theirs
@@ -138,6 +148,12 @@ abbrev pub answered_in : Message → Dialog
 answered_in m = record { call_id = m.call_id; ours = m.from_tag; theirs = m.to_tag }
 
 -- a request stands at the first place that was sent with this branch, and at the second the final response to it
+abbrev pub asks_by : List ℕ → Datagram → Bool
+asks_by branch q = not (is_taken q.direction) && (is_request_of invite q.message && pointwise nat_eq q.message.branch branch)
+
+unfoldable pub was_answered : List Datagram → Places → List ℕ → Bool
+was_answered t at branch = on_both (λ q r. asks_by branch q && takes_final r q.message) t at
+
 abbrev pub WasAnswered : List Datagram → Places → List ℕ → Type 0
 WasAnswered t at branch =
     (q : Datagram) × (r : Datagram) × (slice_get t at.asked ≡ Some q) × (q.direction ≡ Sent) × IsTrue (asks methods q.message) × (q.message.branch ≡ branch)

@@ -1,8 +1,9 @@
 //! Which call a message is of, and what stands in the trace. What is found here is looked at again by the move that
 //! it is found for.
 
+ghost use Rattle.std.specs.Prelude.{◌≡◌};
 ghost use Rattle.std.specs.Bool.{OnTrue};
-ghost use Rattle.call_trace.specs.Sending.{IsIn};
+ghost use Rattle.call_trace.specs.Sending.{is_in, IsIn};
 
 use crate::datagram::{Datagram, Dialog, Message};
 use crate::exchange::takes_final;
@@ -20,7 +21,8 @@ pub(crate) struct Leg {
 
 /// Whether the message is in the dialog, as one that the other end sends.
 pub(crate) fn is_in(dialog: &Dialog, message: &Message) -> bool
-    ensures { OnTrue result (IsIn dialog.now message.now) }
+    ensures test { result ≡ is_in dialog.now message.now }
+    ensures inside { OnTrue result (IsIn dialog.now message.now) }
 {
     message.call_id == dialog.call_id
         && message.from_tag == dialog.theirs

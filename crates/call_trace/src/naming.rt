@@ -1,12 +1,12 @@
 //! Names that the player makes, tags, Call-IDs, branches and bytes, and whether they are new.
 
-ghost use Rattle.std.specs.Prelude.{◌≡◌, ◌||◌, IfOk};
+ghost use Rattle.std.specs.Prelude.{◌≡◌, ◌||◌, not, IfOk};
 ghost use Rattle.std.specs.List.{list_any};
 ghost use Rattle.std.specs.Bool.{OnTrue};
 ghost use Rattle.call_trace.specs.Events.{IsUnused, IsNewTag, AreNewBytes};
 ghost use Rattle.call_trace.specs.Computed.{sends_bytes};
 ghost use Rattle.call_trace.specs.Listed.{AllOf};
-ghost use Rattle.call_trace.specs.Sending.{uses, leaves_from, served_at, is_tag_of, HasTag, IsFresh};
+ghost use Rattle.call_trace.specs.Sending.{uses, leaves_from, served_at, is_tag_of, is_fresh, HasTag, IsFresh};
 
 use crate::datagram::{Datagram, Dialog};
 use crate::dialogs::is_ours_in_from;
@@ -68,7 +68,8 @@ fn is_used(trace: &[Datagram], branch: &Text) -> bool
 
 /// Whether no request of ours has the branch, and no response that was taken.
 pub(crate) fn is_unused(trace: &[Datagram], branch: &Text) -> bool
-    ensures { OnTrue result (IsUnused trace.now branch.now) }
+    ensures test { result ≡ not (list_any (uses branch.now) trace.now) }
+    ensures unused { OnTrue result (IsUnused trace.now branch.now) }
 {
     !is_used(trace, branch)
 }
@@ -81,7 +82,8 @@ fn are_sent(trace: &[Datagram], bytes: &Text) -> bool
 
 /// Whether nothing that was sent has these bytes.
 pub(crate) fn are_new_bytes(trace: &[Datagram], bytes: &Text) -> bool
-    ensures { OnTrue result (AreNewBytes trace.now bytes.now) }
+    ensures test { result ≡ not (list_any (λ p. sends_bytes p bytes.now) trace.now) }
+    ensures new { OnTrue result (AreNewBytes trace.now bytes.now) }
 {
     !are_sent(trace, bytes)
 }
@@ -123,7 +125,8 @@ fn has_ended(trace: &[Datagram], tag: &Text) -> bool
 
 /// Whether no BYE was sent with the tag in From, and no 200 to one with it in To.
 fn is_new_tag(trace: &[Datagram], tag: &Text) -> bool
-    ensures { OnTrue result (IsNewTag trace.now tag.now) }
+    ensures test { result ≡ not (list_any (leaves_from tag.now) trace.now || list_any (served_at tag.now) trace.now) }
+    ensures new { OnTrue result (IsNewTag trace.now tag.now) }
 {
     !has_ended(trace, tag)
 }
@@ -142,14 +145,16 @@ fn is_tag(calls: &[Playing], tag: &Text) -> bool
 
 /// Whether the tag is of no call.
 pub(crate) fn is_free_tag(calls: &[Playing], tag: &Text) -> bool
-    ensures { OnTrue result (AllOf (λ p. ¬ HasTag tag.now p) calls.now) }
+    ensures test { result ≡ not (list_any (is_tag_of tag.now) calls.now) }
+    ensures free { OnTrue result (AllOf (λ p. ¬ HasTag tag.now p) calls.now) }
 {
     !is_tag(calls, tag)
 }
 
 /// Whether the tags of a new call are there, new, and of no other call.
 pub(crate) fn is_fresh(trace: &[Datagram], calls: &[Playing], call: &Playing) -> bool
-    ensures { OnTrue result (IsFresh trace.now calls.now call.now) }
+    ensures test { result ≡ is_fresh trace.now calls.now call.now }
+    ensures fresh { OnTrue result (IsFresh trace.now calls.now call.now) }
 {
     !is_absent(&call.caller.ours)
         && !is_absent(&call.callee.ours)

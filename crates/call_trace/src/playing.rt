@@ -1,6 +1,6 @@
 //! What the player remembers of a call: of each message, only where it stands in the trace.
 
-ghost use Rattle.std.specs.Prelude.{◌≡◌, ◌≢◌, ◌==◌, IfOk, IfSome, Some, slice_get, find};
+ghost use Rattle.std.specs.Prelude.{◌≡◌, ◌≢◌, ◌==◌, not, IfOk, IfSome, Some, slice_get, find};
 ghost use Rattle.std.specs.Bool.{OnTrue};
 ghost use Rattle.std.specs.Option.{option_copied};
 ghost use Rattle.std.specs.List.{list_any};
@@ -117,7 +117,8 @@ fn is_slot(calls: &[Playing], slot: u16) -> bool
 
 /// Whether no call has the slot.
 pub(crate) fn is_free_slot(calls: &[Playing], slot: u16) -> bool
-    ensures { OnTrue result (AllOf (λ p. p.slot ≢ slot) calls.now) }
+    ensures test { result ≡ not (list_any (λ p. p.slot == slot) calls.now) }
+    ensures free { OnTrue result (AllOf (λ p. p.slot ≢ slot) calls.now) }
 {
     !is_slot(calls, slot)
 }

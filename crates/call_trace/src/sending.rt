@@ -27,7 +27,7 @@ pub(crate) struct Context {
 
 /// Whether this is an INVITE with a description.
 pub(crate) fn is_offer(message: &Message) -> bool
-    ensures { OnTrue result (IsTrue (is_offer methods message.now)) }
+    ensures { result ≡ is_offer methods message.now }
 {
     is_request_of(INVITE, message) && message.description.is_some()
 }

@@ -6,7 +6,7 @@ ghost use Rattle.std.specs.List.{list_all};
 ghost use Rattle.call_trace.specs.Messages.{ack, bye, is_request_of};
 ghost use Rattle.call_trace.specs.Events.{dialog_sent};
 ghost use Rattle.call_trace.specs.Listed.{AllOf};
-ghost use Rattle.call_trace.specs.Sending.{Spares, same_dialog, spares, answered_in, WasAnswered, Plans};
+ghost use Rattle.call_trace.specs.Sending.{Spares, same_dialog, spares, answered_in, asks_by, was_answered, WasAnswered, Plans};
 
 use crate::datagram::{Datagram, Dialog, Message};
 use crate::dialogs::answered_in;
@@ -20,20 +20,34 @@ use crate::sending::{Context, bye_in, one, request_in, two};
 use std::alloc::AllocError;
 use text::Text;
 
-/// Whether a request stands at the one place that was sent with the branch of the response, and at the other the final response to it.
-fn was_answered(trace: &[Datagram], places: Places, branch: &Text) -> bool
-    ensures { OnTrue result (WasAnswered trace.now places branch.now) }
+/// Whether this is an INVITE of ours with the branch.
+fn asks_by(branch: &Text, datagram: &Datagram) -> bool
+    ensures { result ≡ asks_by branch.now datagram.now }
 {
-    let (Some(asked), Some(answered)) = (trace.get(places.asked), trace.get(places.answered)) else {
+    !is_taken(datagram.direction)
+        && is_request_of(INVITE, &datagram.message)
+        && datagram.message.branch == *branch
+}
+
+#[tactic(auto, unfolding(crate::specs::Sending::was_answered))]
+fn stands_answered(trace: &[Datagram], places: Places, branch: &Text) -> bool
+    ensures { result ≡ was_answered trace.now places branch.now }
+{
+    let Some(asked) = trace.get(places.asked) else {
         return false;
     };
-    if is_taken(asked.direction) || !is_request_of(INVITE, &asked.message) {
+    let Some(answered) = trace.get(places.answered) else {
         return false;
-    }
-    if asked.message.branch != *branch {
-        return false;
-    }
-    takes_final(answered, &asked.message)
+    };
+    asks_by(branch, asked) && takes_final(answered, &asked.message)
+}
+
+/// Whether a request stands at the one place that was sent with the branch of the response, and at the other the final response to it.
+fn was_answered(trace: &[Datagram], places: Places, branch: &Text) -> bool
+    ensures test { result ≡ was_answered trace.now places branch.now }
+    ensures answered { OnTrue result (WasAnswered trace.now places branch.now) }
+{
+    stands_answered(trace, places, branch)
 }
 
 /// A final response to a request that was finally answered before: the ACK that stands at the place is sent again, if one
@@ -86,7 +100,8 @@ fn all_spared(calls: &[Playing], dialog: &Dialog) -> bool
 
 /// Whether a BYE in the dialog leaves each call alone.
 fn is_of_none(calls: &[Playing], dialog: &Dialog) -> bool
-    ensures { OnTrue result (AllOf (Spares dialog.now) calls.now) }
+    ensures test { result ≡ list_all (spares dialog.now) calls.now }
+    ensures spared { OnTrue result (AllOf (Spares dialog.now) calls.now) }
 {
     all_spared(calls, dialog)
 }

@@ -1,4 +1,4 @@
-use Rattle.std.proofs.Common.{◌≡◌, ◌≢◌, ℕ, List, [], ◌∷◌, ◌++◌, Some, true, false, length, refl, subst, sym, rules}
+use Rattle.std.proofs.Common.{◌≡◌, ◌≢◌, ℕ, List, [], ◌∷◌, ◌++◌, Some, true, false, length, refl, subst, sym, ◌∙◌, rules}
 use Rattle.std.specs.Prelude.{IsTrue}
 use Rattle.std.proofs.lemmas.Bool.{OnTrue_at}
 use Rattle.sdp.specs.declared.description.Description.{Description}
@@ -25,13 +25,13 @@ returns c =
     let came : Message = c.args.came.now in
     let w : Message = c.in-Some-2.went in
     let trying : Message = c.in_ok-trying.trying in
-    let offers : IsTrue (is_offer methods came) = OnTrue_at c.if-not-is_offer.false c.is_offer.ensures in
+    let offers : IsTrue (is_offer methods came) = sym c.is_offer.ensures ∙ c.if-not-is_offer.false in
     let absent : came.to_tag ≡ [] = (decides_absent came.to_tag).0 (search (rules)) in
     let place : c.in-Some-Some.asking ≡ asking_at true (length t) = search (rules) in
     let asked : IsAskedFor came (length t) p = c.in_ok-call.ensures.place (length t) place in
-    let fresh : IsFresh t ps p = OnTrue_at c.if-not-is_fresh.false c.is_fresh.ensures in
+    let fresh : IsFresh t ps p = OnTrue_at c.if-not-is_fresh.false c.is_fresh.ensures.fresh in
     let F : ℕ → Type 0 = λ v. AllOf (λ (q : Playing). q.slot ≢ v) ps in
-    let free : AllOf (λ (q : Playing). q.slot ≢ p.slot) ps = subst F (sym c.in_ok-call.ensures.slot) (OnTrue_at c.if-not-is_free_slot.false c.is_free_slot.ensures) in
+    let free : AllOf (λ (q : Playing). q.slot ≢ p.slot) ps = subst F (sym c.in_ok-call.ensures.slot) (OnTrue_at c.if-not-is_free_slot.false c.is_free_slot.ensures.free) in
     let on : IsOfferOn server (port_told p.slot false) t p.callee d w = search (rules) in
     let R : Message → Type 0 = λ v. IsTrue (is_plain methods v) in
     let plain : IsTrue (is_plain methods trying) = subst R (sym c.in_ok-trying.ensures) refl in

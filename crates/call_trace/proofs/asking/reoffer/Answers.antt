@@ -1,4 +1,4 @@
-use Rattle.std.proofs.Common.{◌≡◌, ℕ, List, [], ◌∷◌, Some, not, length, refl, subst, sym, rules}
+use Rattle.std.proofs.Common.{◌≡◌, ℕ, List, [], ◌∷◌, Some, not, length, refl, subst, sym, ◌∙◌, rules}
 use Rattle.std.specs.Prelude.{slice_get, slice_set, IsTrue}
 use Rattle.std.proofs.lemmas.Bool.{OnTrue_at}
 use Rattle.sdp.specs.declared.description.Description.{Description}
@@ -29,8 +29,8 @@ returns c =
     let server : List ℕ = c.args.context.server in
     let at : slice_get ps c.args.leg.at ≡ Some p = search (rules) in
     let V : Dialog → Type 0 = λ v. IsIn v came in
-    let within : IsIn (leg_of p b) came = subst V c.leg_of.ensures (OnTrue_at c.if-not-is_in.false c.is_in.ensures) in
-    let offers : IsTrue (is_offer methods came) = OnTrue_at c.if-not-is_offer.false c.is_offer.ensures in
+    let within : IsIn (leg_of p b) came = subst V c.leg_of.ensures (OnTrue_at c.if-not-is_in.false c.is_in.ensures.inside) in
+    let offers : IsTrue (is_offer methods came) = sym c.is_offer.ensures ∙ c.if-not-is_offer.false in
     let on : IsOfferOn server (port_told p.slot (not b)) t (leg_of p (not b)) d w = search (rules) in
     let R : Message → Type 0 = λ v. IsTrue (is_plain methods v) in
     let plain : IsTrue (is_plain methods trying) = subst R (sym c.in_ok-trying.ensures) refl in

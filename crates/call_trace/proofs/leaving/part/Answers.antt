@@ -18,5 +18,5 @@ returns c =
     subst P (sym c.in_ok-one.ensures)
     (subst L (sym c.in_ok-left.ensures)
     (part_plays c.args.context.server c.args.context.event c.args.trace.now c.args.calls.now c.args.at c.in-Some.call.now c.in-Answered.field-0 c.args.came.now c.in-Some-2.served []
-    (slice_get_read c.args.calls.now (length c.args.calls.now) c.args.at c.in-Some.call.now refl c.in-Some.ensures.lookup.3.0 c.in-Some.ensures.lookup.1) c.in-Answered.is (OnTrue_at (cc (c.if-not-is_in.false)) c.is_in.ensures) (cc (c.is_request_of.ensures, c.if-not-is_request_of.false))
+    (slice_get_read c.args.calls.now (length c.args.calls.now) c.args.at c.in-Some.call.now refl c.in-Some.ensures.lookup.3.0 c.in-Some.ensures.lookup.1) c.in-Answered.is (OnTrue_at (cc (c.if-not-is_in.false)) c.is_in.ensures.inside) (cc (c.is_request_of.ensures, c.if-not-is_request_of.false))
     (subst O c.in-Some-2.is c.in_ok-served.ensures.ok) (subst R c.in-Some-2.is c.in_ok-served.ensures.replies) tt))

@@ -13,6 +13,6 @@ returns c =
     let q = c.in-Some.asked.now in
     let a = c.in_ok-ack.ack in
     kept_plans c.kept.result c.args.context.server c.args.context.event t c.args.calls.now (Some came) c.in_ok-one.field-0.items (a ∷ []) c.kept.ensures.sent c.kept.ensures.change c.in_ok-one.ensures
-    (gone_plays c.args.context.server c.args.context.event t c.args.calls.now came (a ∷ []) (sym c.if-not-is_final.ensures) c.if-not-is_free_tag.ensures
+    (gone_plays c.args.context.server c.args.context.event t c.args.calls.now came (a ∷ []) (sym c.if-not-is_final.ensures) c.if-not-is_free_tag.ensures.free
     (one_idle t (Some came) a a refl (ack_idle t (Some came) c.args.asked q a (slice_get_read t _ c.args.asked q refl c.in-Some.ensures.lookup.3.0 c.in-Some.ensures.lookup.1) (sym c.is_taken.ensures ∙ c.if-is_taken.false) (sym c.if-not-is_request_of.ensures)
     (request_method a c.in_ok-dialog.dialog c.in_ok-branch.branch ack a.bytes came.number c.in_ok-ack.ensures) (sym (ap (λ (v : Message). v.branch) c.in_ok-ack.ensures ∙ c.in_ok-branch.ensures)))))

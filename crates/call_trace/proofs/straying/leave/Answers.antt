@@ -16,5 +16,5 @@ returns c =
       acknowledged = request_dialog a d c.in_ok-branch.branch ack a.bytes c.args.came.now.number c.in_ok-ack.ensures ∙ c.in_ok-dialog.ensures;
       bye = c.in_ok-bye.ensures.bye;
       ended = c.in_ok-bye.ensures.dialog ∙ c.in_ok-dialog.ensures;
-      spares = subst P c.in_ok-dialog.ensures c.if-not-is_of_none.ensures;
+      spares = subst P c.in_ok-dialog.ensures c.if-not-is_of_none.ensures.spared;
     }

@@ -23,4 +23,4 @@ returns c =
     let left_in : dialog_sent b ≡ d = subst (λ o. IfSome o (λ l. dialog_sent l.bye ≡ d)) c.in-Some.is left.ended in
     let spares : AllOf (Spares d) c.args.calls.now = subst (λ o. IfSome o (λ l. AllOf (Spares d) c.args.calls.now)) c.in-Some.is left.spares in
     kept_plans c.kept.result c.args.context.server c.args.context.event t c.args.calls.now (Some came) c.in_ok-two.field-0.items (a ∷ b ∷ []) c.kept.ensures.sent c.kept.ensures.change c.in_ok-two.ensures
-    (stray_plays c.args.context.server c.args.context.event t c.args.calls.now came a b d (sym c.if-not-is_final.ensures) c.if-not-is_free_tag.ensures acknowledges in_dialog ends left_in spares)
+    (stray_plays c.args.context.server c.args.context.event t c.args.calls.now came a b d (sym c.if-not-is_final.ensures) c.if-not-is_free_tag.ensures.free acknowledges in_dialog ends left_in spares)

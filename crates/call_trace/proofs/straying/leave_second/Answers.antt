@@ -23,5 +23,5 @@ returns c =
     let left_in : dialog_sent b ≡ d = subst (λ o. IfSome o (λ l. dialog_sent l.bye ≡ d)) c.in-Some.is left.ended in
     let spares : AllOf (Spares d) c.args.calls.now = subst (λ o. IfSome o (λ l. AllOf (Spares d) c.args.calls.now)) c.in-Some.is left.spares in
     kept_plans c.kept.result c.args.context.server c.args.context.event t c.args.calls.now (Some came) c.in_ok-two.field-0.items (a ∷ b ∷ []) c.kept.ensures.sent c.kept.ensures.change c.in_ok-two.ensures
-    (let w = c.if-not-was_answered.ensures in
+    (let w = c.if-not-was_answered.ensures.answered in
     stray_again_plays c.args.context.server c.args.context.event t c.args.calls.now came a b d c.args.places.asked c.args.places.answered w.0 w.1 w.2 w.3 w.4 w.5 w.6 w.7 acknowledges in_dialog ends left_in spares)

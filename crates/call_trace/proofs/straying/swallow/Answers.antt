@@ -24,6 +24,6 @@ returns c =
       | in-Some+else-not-is_taken w ↦ subst P (sym (none_sent c.match-get.sent c.new-sent.result w.sent-is c.new-sent.ensures.items)) tt
       | in_default w ↦ subst P (sym (none_sent c.match-get.sent c.new-sent.result w.sent-is c.new-sent.ensures.items)) tt
     ] in
-    let w = c.if-not-was_answered.ensures in
+    let w = c.if-not-was_answered.ensures.answered in
     kept_plans c.kept.result c.args.context.server c.args.context.event t c.args.calls.now (Some came) c.match-get.sent.items c.match-get.sent.items c.kept.ensures.sent c.kept.ensures.change refl
     (swallowed_plays c.args.context.server c.args.context.event t c.args.calls.now c.args.places.asked c.args.places.answered w.0 w.1 came c.match-get.sent.items w.2 w.3 w.4 w.5 w.6 w.7 idles)
