@@ -154,11 +154,16 @@ on_answered t at branch b e = OnTrue_from b (WasAnswered t at branch) (λ h. sta
     stand (Some q) None f g h = absurd (cc)
     stand (Some q) (Some r) f g h =
         let asks : IsTrue (asks_by branch q) = and_left (asks_by branch q) (takes_final r q.message) h in
-        let request : IsTrue (is_request_of invite q.message && pointwise nat_eq q.message.branch branch) = and_right (not (is_taken q.direction)) _ asks in
-        (q, r, f, (decides_sent q.direction).0 (and_left (not (is_taken q.direction)) _ asks),
-        invite_asks methods q.message refl (and_left (is_request_of invite q.message) _ request),
-        (bytes_decides q.message.branch branch).0 (and_right (is_request_of invite q.message) _ request),
-        g, (decides_takes_final q.message r).0 (and_right (asks_by branch q) (takes_final r q.message) h))
+        let request : IsTrue (is_request_of invite q.message && pointwise nat_eq q.message.branch branch) = and_right (not (is_taken q.direction)) _ asks in (
+          q,
+          r,
+          f,
+          (decides_sent q.direction).0 (and_left (not (is_taken q.direction)) _ asks),
+          invite_asks methods q.message refl (and_left (is_request_of invite q.message) _ request),
+          (bytes_decides q.message.branch branch).0 (and_right (is_request_of invite q.message) _ request),
+          g,
+          (decides_takes_final q.message r).0 (and_right (asks_by branch q) (takes_final r q.message) h),
+        )
 
 pub request_method : (m : Message) (y : Dialog) (branch name bytes : List ℕ) (n : ℕ) → m ≡ request_in y branch n name bytes → IsTrue (is_request_of name m)
 request_method m y branch name bytes n e = let P : Message → Type 0 = λ v. IsTrue (is_request_of name v) in subst P (sym e) ((bytes_decides name name).1 refl)

@@ -42,6 +42,9 @@ abbrev pub response_to : Message → ℕ → List ℕ → List ℕ → Message
 response_to m status tag bytes =
     record { kind = Response status; branch = m.branch; call_id = m.call_id; from_tag = m.from_tag; to_tag = tag; number = m.number; method = m.method; description = None; bytes = bytes }
 
+abbrev pub bare : Message → Message
+bare m = record { kind = m.kind; branch = m.branch; call_id = m.call_id; from_tag = m.from_tag; to_tag = m.to_tag; number = m.number; method = m.method; description = None; bytes = m.bytes }
+
 abbrev pub with_description : Message → Description → Message
 with_description m d =
     record { kind = m.kind; branch = m.branch; call_id = m.call_id; from_tag = m.from_tag; to_tag = m.to_tag; number = m.number; method = m.method; description = Some d; bytes = m.bytes }

@@ -6,7 +6,7 @@ ghost use Rattle.call_trace.specs.declared.playing.Playing.{Playing};
 ghost use Rattle.call_trace.specs.declared.playing.Change.TheVariants.{Keep};
 ghost use Rattle.call_trace.specs.Events.{is_calm};
 ghost use Rattle.call_trace.specs.Playing.{methods};
-ghost use Rattle.call_trace.specs.Sending.{sent_again, Plans};
+ghost use Rattle.call_trace.specs.Sending.{bare, sent_again, Plans};
 
 use crate::answering::open_offer;
 use crate::datagram::{Datagram, Kind, Message};
@@ -74,21 +74,30 @@ fn copied_description(description: &Option<Description>) -> Result<Option<Descri
     }
 }
 
-pub(crate) fn copied(message: &Message) -> Result<Message, AllocError>
-    ensures { IfOk result (λ m. m ≡ message.now) }
+/// A copy without the description.
+fn bare(message: &Message) -> Result<Message, AllocError>
+    ensures { IfOk result (λ m. m ≡ bare message.now) }
 {
-    let description = copied_description(&message.description)?;
+    let branch = copied_text(&message.branch)?;
     Ok(Message {
         kind: message.kind,
-        branch: copied_text(&message.branch)?,
+        branch,
         call_id: copied_text(&message.call_id)?,
         from_tag: copied_text(&message.from_tag)?,
         to_tag: copied_text(&message.to_tag)?,
         number: message.number,
         method: copied_text(&message.method)?,
-        description,
+        description: None,
         bytes: copied_text(&message.bytes)?,
     })
+}
+
+pub(crate) fn copied(message: &Message) -> Result<Message, AllocError>
+    ensures { IfOk result (λ m. m ≡ message.now) }
+{
+    let mut copy = bare(message)?;
+    copy.description = copied_description(&message.description)?;
+    Ok(copy)
 }
 
 /// Whether this is no final response to an INVITE.
