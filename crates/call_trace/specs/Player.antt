@@ -16,6 +16,10 @@ pub record Played : Type 0 where
   pub events : ℕ
   pub trace : List Datagram
 
+-- no event has this number
+abbrev pub events_end : ℕ
+events_end = 18446744073709551615
+
 -- one event more was played: it took this, if anything, and sent some messages
 abbrev pub HasPlayed : Played → Option Message → Played → Type 0
 HasPlayed old taken new = (sent : List Message) × (new.trace ≡ old.trace ++ passed old.events taken sent) × (new.events ≡ suc old.events) × (new.server ≡ old.server)

@@ -6,7 +6,7 @@ ghost use Rattle.call_trace.specs.declared.player.Outcome.TheVariants.{Entered, 
 ghost use Rattle.call_trace.specs.Events.{passed};
 ghost use Rattle.call_trace.specs.Playing.{IsPlaying, table_of};
 ghost use Rattle.call_trace.specs.Sending.{changed, sent_again};
-ghost use Rattle.call_trace.specs.Player.{Played, HasPlayed, HasSent, Keeps};
+ghost use Rattle.call_trace.specs.Player.{Played, HasPlayed, HasSent, Keeps, events_end};
 
 use crate::datagram::{Datagram, Direction, Message};
 use crate::moving::standing_is_promised;
@@ -182,11 +182,12 @@ impl Player {
         Ok(Outcome::Entered)
     }
 
-    /// A timer fires: what stands at the place of the trace is sent again, if it was sent. Without memory the player is as
-    /// before.
+    /// A timer fires: what stands at the place of the trace is sent again, if it was sent; it is shed where the events have no
+    /// number left. Without memory the player is as before.
     pub fn fire(&mut self, place: usize) -> Result<Outcome, AllocError>
         ensures entered { IfOk result (λ o. o ≡ Entered → HasSent self.old None (sent_again self.old.trace place) self.new) }
         ensures shed { IfOk result (λ o. o ≡ Shed → self.new ≡ self.old) }
+        ensures full { IfOk result (λ o. o ≡ Shed → self.old.events ≡ events_end) }
         ensures keeps { Keeps self.new }
         ensures err { OnErr result (self.new ≡ self.old) }
     {
