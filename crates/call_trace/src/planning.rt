@@ -136,8 +136,8 @@ fn plan_bye(
         return refuse(context, came, 500);
     }
     match call.progress {
-        Progress::Asked => refuse(context, came, 481),
-        Progress::Ending => close(context, trace, calls, leg.at, came),
+        Progress::Ending if leg.by_caller => close(context, trace, calls, leg.at, came),
+        Progress::Asked | Progress::Ending => refuse(context, came, 481),
         Progress::Answered(_) => {
             if leg.by_caller || call.offer.is_some() || is_acknowledged(trace, &call.caller) {
                 return end(context, drawn, trace, calls, leg, came);
