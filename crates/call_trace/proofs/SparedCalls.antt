@@ -1,6 +1,6 @@
 -- A dialog that is of no call, and what the player sends without a move.
 use Rattle.std.proofs.Common.{if◌then◌else◌, ◌≡◌, ◌≢◌, ℕ, List, [], ◌∷◌, ◌++◌, Vec, Global, Bool, true, false, not, ◌&&◌, nat_eq, nat_le, nat_lt, ◌<◌, ◌≤◌, le-ltb, inl, inr, Option, Some, None, refl, sym, ◌∙◌, ap, subst}
-use Rattle.std.specs.Prelude.{slice_get, IsTrue, IfSome}
+use Rattle.std.specs.Prelude.{slice_get, IsTrue, Result, Ok, Err, IfOk}
 use Rattle.std.specs.Bool.{OnTrue}
 use Rattle.std.specs.List.{list_all}
 use Rattle.std.specs.Cmp.Lexicographic.{pointwise, bytes_decides}
@@ -19,10 +19,10 @@ use Rattle.call_trace.specs.declared.exchange.Places.{Places}
 use Rattle.call_trace.specs.declared.playing.Planned.{Planned}
 use Rattle.call_trace.specs.declared.playing.Change.{Change}
 use Rattle.call_trace.specs.declared.playing.Change.TheVariants.{Keep}
-use Rattle.call_trace.specs.Messages.{invite, ack, is_request, is_final, is_success, is_listed, is_request_of, asks}
+use Rattle.call_trace.specs.Messages.{invite, ack, bye, is_request, is_final, is_success, is_ok, is_listed, is_request_of, asks, Replies}
 use Rattle.call_trace.specs.Computed.{is_taken, takes_final, on}
 use Rattle.call_trace.specs.Listed.{AllOf}
-use Rattle.call_trace.specs.Events.{dialog_sent, IsIdle, plain, refusal_acknowledged, again, IsIdleTaken, calm}
+use Rattle.call_trace.specs.Events.{dialog_sent, is_calm, IsIdle, plain, refusal_acknowledged, again, IsIdleTaken, calm}
 use Rattle.call_trace.specs.Playing.{methods, Plays}
 use Rattle.call_trace.specs.Sending.{request_in, response_to, changed, asks_by, was_answered, WasAnswered, again_of, sent_again, Plans, Spares, same_dialog, spares_at, spares}
 use Rattle.call_trace.proofs.AtLaws.{at_place}
@@ -108,30 +108,31 @@ ack_idle t taken k q a at out asks acknowledges branch = refusal_acknowledged k 
 
 -- ---- what was taken without a move
 
-pub request_taken : (t : List Datagram) (m : Message) → IsTrue (is_request m.kind) → IsIdleTaken methods t (Some m)
-request_taken t m h = calm m refl (calm_kind m.kind (is_listed methods m.method) h)
+pub request_calm : (m : Message) → IsTrue (is_request m.kind) → IsTrue (is_calm methods m)
+request_calm m h = calm_kind m.kind (is_listed methods m.method) h
   where
     calm_kind : (k : Kind) (b : Bool) → IsTrue (is_request k) → IsTrue (not (is_final k && b))
     calm_kind Request b h = refl
     calm_kind (Response s) b h = absurd (cc)
+
+pub request_taken : (t : List Datagram) (m : Message) → IsTrue (is_request m.kind) → IsIdleTaken methods t (Some m)
+request_taken t m h = calm m refl (request_calm m h)
 
 pub provisional_taken : (t : List Datagram) (m : Message) (s : ℕ) → m.kind ≡ Response s → s < 200 → IsIdleTaken methods t (Some m)
 provisional_taken t m s e h = calm m refl (rw (e, lt-leb 200 s h) refl)
 
 -- ---- plans that keep the calls
 
-pub kept_plans : (o : Option Planned) (server : List ℕ) (n : ℕ) (t : List Datagram) (ps : List Playing) (taken : Option Message) (items sent : List Message) → IfSome o (λ e. e.sent.items ≡ items) → IfSome o (λ e. e.change ≡ Keep) → items ≡ sent
-    → Plays server n t ps taken sent ps → IfSome o (λ e. Plans server n t ps taken e)
-kept_plans None server n t ps taken items sent a b e plays = tt
-kept_plans (Some p) server n t ps taken items sent a b e plays =
+pub kept_plans : (p : Planned) (server : List ℕ) (n : ℕ) (t : List Datagram) (ps : List Playing) (taken : Option Message) (items sent : List Message) → p.sent.items ≡ items → p.change ≡ Keep → items ≡ sent
+    → Plays server n t ps taken sent ps → Plans server n t ps taken p
+kept_plans p server n t ps taken items sent a b e plays =
     let P : List Message → Type 0 = λ v. Plays server n t ps taken v (changed ps p.change) in
     let Q : Change → Type 0 = λ v. Plays server n t ps taken sent (changed ps v) in
     subst P (sym (a ∙ e)) (subst Q (sym b) plays)
 
-pub idle_plans : (o : Option Planned) (n : ℕ) (taken : Option Message) (items sent : List Message) → IfSome o (λ e. e.sent.items ≡ items) → IfSome o (λ e. e.change ≡ Keep) → items ≡ sent
-    → ((t : List Datagram) → IsIdleTaken methods t taken) → ((t : List Datagram) → AllOf (IsIdle methods t taken) sent) → IfSome o (λ e. (server : List ℕ) (t : List Datagram) (ps : List Playing) → Plans server n t ps taken e)
-idle_plans None n taken items sent a b e tk idles = tt
-idle_plans (Some p) n taken items sent a b e tk idles = λ server t ps. kept_plans (Some p) server n t ps taken items sent a b e (idle_plays server n t ps taken sent (tk t) (idles t))
+pub idle_plans : (p : Planned) (n : ℕ) (taken : Option Message) (items sent : List Message) → p.sent.items ≡ items → p.change ≡ Keep → items ≡ sent
+    → ((t : List Datagram) → IsIdleTaken methods t taken) → ((t : List Datagram) → AllOf (IsIdle methods t taken) sent) → (server : List ℕ) (t : List Datagram) (ps : List Playing) → Plans server n t ps taken p
+idle_plans p n taken items sent a b e tk idles server t ps = kept_plans p server n t ps taken items sent a b e (idle_plays server n t ps taken sent (tk t) (idles t))
 
 -- one message, which is as the program says
 pub one_idle : (t : List Datagram) (taken : Option Message) (m u : Message) → m ≡ u → IsIdle methods t taken u → AllOf (IsIdle methods t taken) (m ∷ [])
@@ -142,6 +143,17 @@ one_sent v w before m same pushed none = ap (λ (x : Vec Message Global). x.item
 
 pub none_sent : (v w : Vec Message Global) → v ≡ w → w.items ≡ [] → v.items ≡ []
 none_sent v w same none = ap (λ (x : Vec Message Global). x.items) same ∙ none
+
+-- the 200 to a BYE replies to it
+pub served_ok : {E : Type 0} (r : Result Message E) (came : Message) → IfOk r (λ m. m ≡ response_to came 200 came.to_tag m.bytes) → IfOk r (λ m. IsTrue (is_ok m.kind))
+served_ok (Err x) came e = tt
+served_ok (Ok m) came e = let P : Message → Type 0 = λ v. IsTrue (is_ok v.kind) in subst P (sym e) refl
+
+pub served_replies : {E : Type 0} (r : Result Message E) (came : Message) → IsTrue (is_request_of bye came) → IfOk r (λ m. m ≡ response_to came 200 came.to_tag m.bytes) → IfOk r (λ m. Replies m came)
+served_replies (Err x) came h e = tt
+served_replies (Ok m) came h e =
+    let P : Message → Type 0 = λ v. Replies v came in
+    subst P (sym e) record { response_kind = refl; request_kind = and_left (is_request came.kind) _ h; branch = refl; call_id = refl; from_tag = refl; number = refl; method = refl; to_tag = inr refl }
 
 -- ---- dialogs that end at once
 

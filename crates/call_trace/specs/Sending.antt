@@ -20,7 +20,7 @@ use Rattle.call_trace.specs.Exchanges.{TakesFinal}
 use Rattle.call_trace.specs.Computed.{is_taken, is_absent, takes_final, on_both}
 use Rattle.call_trace.specs.Dialogs.{is_ours_in_from}
 use Rattle.call_trace.specs.Listed.{AllOf}
-use Rattle.call_trace.specs.Events.{dialog_sent, IsUnused, IsNewTag, AreNewBytes}
+use Rattle.call_trace.specs.Events.{dialog_sent, is_calm, IsUnused, IsNewTag, AreNewBytes}
 use Rattle.call_trace.specs.Playing.{methods, asking_at, IsTold, Plays}
 
 -- ---- what an event does to the player's calls
@@ -161,6 +161,10 @@ abbrev pub WasAnswered : List Datagram → Places → List ℕ → Type 0
 WasAnswered t at branch =
     (q : Datagram) × (r : Datagram) × (slice_get t at.asked ≡ Some q) × (q.direction ≡ Sent) × IsTrue (asks methods q.message) × (q.message.branch ≡ branch)
     × (slice_get t at.answered ≡ Some r) × TakesFinal r q.message
+
+-- what the player may shed: an offer, and a final response to an INVITE
+abbrev pub may_shed : Message → Bool
+may_shed m = is_offer methods m || not (is_calm methods m)
 
 -- what stands at a place, if it was sent
 abbrev pub again_of : Option Datagram → List Message

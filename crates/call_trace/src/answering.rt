@@ -11,6 +11,7 @@ ghost use Rattle.call_trace.specs.Sending.{IsAckOn, IsAnswerOn, Plans};
 
 use crate::datagram::{Datagram, Dialog, Kind, Message};
 use crate::dialogs::answered_in;
+use crate::finding::asking_call;
 use crate::kinds::{ACK, is_answer};
 use crate::naming::copied_text;
 use crate::playing::{
@@ -32,7 +33,7 @@ pub(crate) struct Found<'a> {
     pub went: &'a Datagram,
 }
 
-pub(crate) fn open_offer<'a>(
+fn open_offer<'a>(
     trace: &'a [Datagram],
     calls: &'a [Playing],
     at: usize,
@@ -56,6 +57,16 @@ pub(crate) fn open_offer<'a>(
         came,
         went,
     })
+}
+
+/// The open offer that a response is to.
+pub(crate) fn asked_offer<'a>(
+    trace: &'a [Datagram],
+    calls: &'a [Playing],
+    response: &Message,
+) -> Option<Found<'a>> {
+    let at = asking_call(calls, trace, response)?;
+    open_offer(trace, calls, at, response)
 }
 
 /// The dialog, once an answer with this To tag was taken in it.

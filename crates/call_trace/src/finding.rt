@@ -1,21 +1,25 @@
 //! Which call a message is of, and what stands in the trace. What is found here is looked at again by the move that
 //! it is found for.
 
-ghost use Rattle.std.specs.Prelude.{◌≡◌};
+ghost use Rattle.std.specs.Prelude.{◌≡◌, false, IfSome, Some, slice_get};
 ghost use Rattle.std.specs.Bool.{OnTrue};
+ghost use Rattle.call_trace.specs.Messages.{is_request};
+ghost use Rattle.call_trace.specs.Computed.{is_taken};
+ghost use Rattle.call_trace.specs.Playing.{leg_of};
 ghost use Rattle.call_trace.specs.Sending.{is_in, IsIn};
 
 use crate::datagram::{Datagram, Dialog, Message};
 use crate::exchange::takes_final;
-use crate::kinds::{ACK, INVITE, is_request_of, is_taken};
-use crate::playing::Playing;
+use crate::kinds::{ACK, INVITE, is_request, is_request_of, is_taken};
+use crate::playing::{Asking, Playing};
 use crate::replying::is_reply;
 use text::Text;
 
-/// A leg of a call.
+/// A leg of a call, and the call's place in the list.
 #[derive(Clone, Copy)]
-pub(crate) struct Leg {
+pub(crate) struct Leg<'a> {
     pub at: usize,
+    pub call: &'a Playing,
     pub by_caller: bool,
 }
 
@@ -29,23 +33,26 @@ pub(crate) fn is_in(dialog: &Dialog, message: &Message) -> bool
         && message.to_tag == dialog.ours
 }
 
+fn is_leg(call: &Playing, message: &Message) -> bool {
+    is_in(&call.caller, message) || is_in(&call.callee, message)
+}
+
 /// The leg that the request is in.
-pub(crate) fn leg_with(calls: &[Playing], message: &Message) -> Option<Leg> {
-    for (at, call) in calls.iter().enumerate() {
-        if is_in(&call.caller, message) {
-            return Some(Leg {
-                at,
-                by_caller: true,
-            });
-        }
-        if is_in(&call.callee, message) {
-            return Some(Leg {
-                at,
-                by_caller: false,
-            });
-        }
+pub(crate) fn leg_with<'a>(calls: &'a [Playing], message: &Message) -> Option<Leg<'a>>
+    ensures listed { IfSome result (λ l. slice_get calls.now l.at ≡ Some l.call.now) }
+    ensures inside { IfSome result (λ l. IsIn (leg_of l.call.now l.by_caller) message.now) }
+{
+    let at = calls.iter().position(|call| is_leg(call, message))?;
+    let call = calls.get(at)?;
+    let by_caller = is_in(&call.caller, message);
+    if !by_caller && !is_in(&call.callee, message) {
+        return None;
     }
-    None
+    Some(Leg {
+        at,
+        call,
+        by_caller,
+    })
 }
 
 fn is_asked_by(call: &Playing, trace: &[Datagram], message: &Message) -> bool {
@@ -80,15 +87,28 @@ fn is_cancelled_by(call: &Playing, trace: &[Datagram], message: &Message) -> boo
     }
 }
 
+/// A call whose open offer is taken back, its place in the list, and the offer.
+#[derive(Clone, Copy)]
+pub(crate) struct Cancelled<'a> {
+    pub at: usize,
+    pub call: &'a Playing,
+    pub asking: Asking,
+}
+
 /// The call whose open offer the CANCEL takes back (RFC 3261 section 9.1).
-pub(crate) fn cancelled_call(
-    calls: &[Playing],
+pub(crate) fn cancelled_call<'a>(
+    calls: &'a [Playing],
     trace: &[Datagram],
     message: &Message,
-) -> Option<usize> {
-    calls
+) -> Option<Cancelled<'a>>
+    ensures { IfSome result (λ d. slice_get calls.now d.at ≡ Some d.call.now) }
+{
+    let at = calls
         .iter()
-        .position(|call| is_cancelled_by(call, trace, message))
+        .position(|call| is_cancelled_by(call, trace, message))?;
+    let call = calls.get(at)?;
+    let asking = call.offer?;
+    Some(Cancelled { at, call, asking })
 }
 
 /// The place of the INVITE that was sent and that the response replies to.
@@ -147,13 +167,37 @@ pub(crate) fn is_acknowledged(trace: &[Datagram], dialog: &Dialog) -> bool {
     })
 }
 
-/// The place of the last response that was sent to the request.
-pub(crate) fn last_response(trace: &[Datagram], request: &Message) -> Option<usize> {
+/// A datagram of the trace, and its place.
+#[derive(Clone, Copy)]
+pub(crate) struct Reply<'a> {
+    pub at: usize,
+    pub datagram: &'a Datagram,
+}
+
+fn is_sent_reply(datagram: &Datagram, request: &Message) -> bool {
+    !is_taken(datagram.direction) && is_reply(&datagram.message, request)
+}
+
+fn last_place(trace: &[Datagram], request: &Message) -> Option<usize> {
     let mut last = None;
     for (at, datagram) in trace.iter().enumerate() {
-        if !is_taken(datagram.direction) && is_reply(&datagram.message, request) {
+        if is_sent_reply(datagram, request) {
             last = Some(at);
         }
     }
     last
+}
+
+/// The last response that was sent to the request.
+pub(crate) fn last_response<'a>(trace: &'a [Datagram], request: &Message) -> Option<Reply<'a>>
+    ensures stands { IfSome result (λ r. slice_get trace.now r.at ≡ Some r.datagram.now) }
+    ensures sent { IfSome result (λ r. is_taken r.datagram.now.direction ≡ false) }
+    ensures response { IfSome result (λ r. is_request r.datagram.now.message.kind ≡ false) }
+{
+    let at = last_place(trace, request)?;
+    let datagram = trace.get(at)?;
+    if is_taken(datagram.direction) || is_request(datagram.message.kind) {
+        return None;
+    }
+    Some(Reply { at, datagram })
 }

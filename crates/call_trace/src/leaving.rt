@@ -1,32 +1,32 @@
 //! Moves of the player: a call is given up, or its ends leave it.
 
-ghost use Rattle.std.specs.Prelude.{◌≡◌, IfOk, IfSome, Some, None, IsTrue, [], ◌∷◌};
-ghost use Rattle.call_trace.specs.Messages.{Replies, is_ok, is_request_of, bye};
-ghost use Rattle.call_trace.specs.Events.{is_plain, dialog_sent};
+ghost use Rattle.std.specs.Prelude.{◌≡◌, ℕ, List, IfOk, Some, IsTrue, slice_get};
+ghost use Rattle.call_trace.specs.declared.datagram.Datagram.{Datagram};
+ghost use Rattle.call_trace.specs.declared.playing.Playing.{Playing};
+ghost use Rattle.call_trace.specs.declared.playing.Said.{Said};
+ghost use Rattle.call_trace.specs.declared.playing.Progress.TheVariants.{Asked, Answered, Ending};
+ghost use Rattle.call_trace.specs.Messages.{Replies, is_ok, is_request, is_request_of, bye, cancel};
+ghost use Rattle.call_trace.specs.Events.{is_plain};
 ghost use Rattle.call_trace.specs.Listed.{AllOf};
-ghost use Rattle.call_trace.specs.Playing.{methods};
-ghost use Rattle.call_trace.specs.Sending.{Plans};
+ghost use Rattle.call_trace.specs.Playing.{methods, leg_of};
+ghost use Rattle.call_trace.specs.Sending.{IsIn, Plans};
 
-use crate::datagram::{Datagram, Dialog, Message};
-use crate::finding::{Leg, is_in};
-use crate::kinds::{ACK, BYE, CANCEL, is_method, is_request, is_request_of};
+use crate::datagram::{Datagram, Message};
+use crate::finding::{Cancelled, Leg};
+use crate::kinds::CANCEL;
 use crate::naming::copied_text;
 use crate::numbering::next_number;
-use crate::playing::{Asking, Change, Planned, Playing, Progress, left_by_callee, leg_of};
-use crate::replying::is_reply;
+use crate::playing::{Asking, Change, Planned, Playing, left_by_callee, leg_of};
 use crate::sending::{Context, bye_in, one, request_in, response_to, two};
 use std::alloc::AllocError;
 
 /// The 200 to a BYE.
-fn served(context: Context, came: &Message) -> Result<Option<Message>, AllocError>
-    ensures ok { IfOk result (λ o. IfSome o (λ m. IsTrue (is_ok m.kind))) }
-    ensures replies { IfOk result (λ o. IfSome o (λ m. Replies m came.now)) }
+fn served(context: Context, came: &Message) -> Result<Message, AllocError>
+    requires { IsTrue (is_request_of bye came.now) }
+    ensures ok { IfOk result (λ m. IsTrue (is_ok m.kind)) }
+    ensures replies { IfOk result (λ m. Replies m came.now) }
 {
-    let response = response_to(context, 1, came, 200, &came.to_tag)?;
-    if !is_reply(&response, came) {
-        return Ok(None);
-    }
-    Ok(Some(response))
+    response_to(context, 1, came, 200, &came.to_tag)
 }
 
 /// The response that ends an open offer, where one is open: the request was terminated (RFC 3261 section 21.4.25).
@@ -58,56 +58,43 @@ pub(crate) fn end(
     calls: &[Playing],
     leg: Leg,
     came: &Message,
-) -> Result<Option<Planned>, AllocError>
-    ensures { IfOk result (λ o. IfSome o (λ e. Plans context.server context.event trace.now calls.now (Some came.now) e)) }
+) -> Result<Planned, AllocError>
+    requires leaves { IsTrue (is_request_of bye came.now) }
+    requires listed { slice_get calls.now leg.at ≡ Some leg.call.now }
+    requires inside { IsIn (leg_of leg.call.now leg.by_caller) came.now }
+    ensures { IfOk result (λ e. Plans context.server context.event trace.now calls.now (Some came.now) e) }
 {
-    let Some(call) = calls.get(leg.at) else {
-        return Ok(None);
-    };
-    if !is_request_of(BYE, came) || !is_in(leg_of(call, leg.by_caller), came) {
-        return Ok(None);
-    }
-    let Some(served) = served(context, came)? else {
-        return Ok(None);
-    };
-    let other = leg_of(call, !leg.by_caller);
+    let Leg {
+        at,
+        call,
+        by_caller,
+    } = leg;
+    let served = served(context, came)?;
+    let other = leg_of(call, !by_caller);
     let leaving = bye_in(context, drawn, other, next_number(trace, other))?;
     let mut sent = two(context.alloc, served, leaving)?;
     let mut refused = terminated(context, trace, call)?;
     sent.append(&mut refused)?;
-    Ok(Some(Planned {
+    Ok(Planned {
         sent,
-        change: Change::Remove(leg.at),
-    }))
+        change: Change::Remove(at),
+    })
 }
 
 /// The callee leaves before the caller's ACK has come: the caller is told later (RFC 3261 section 15).
-pub(crate) fn part(
-    context: Context,
-    trace: &[Datagram],
-    calls: &[Playing],
-    at: usize,
-    came: &Message,
-) -> Result<Option<Planned>, AllocError>
-    ensures { IfOk result (λ o. IfSome o (λ e. Plans context.server context.event trace.now calls.now (Some came.now) e)) }
+pub(crate) fn part(context: Context, leg: Leg, came: &Message) -> Result<Planned, AllocError>
+    requires leaves { IsTrue (is_request_of bye came.now) }
+    requires inside { IsIn leg.call.now.callee came.now }
+    requires answered { (z : Said) × (leg.call.now.progress ≡ Answered z) }
+    ensures { IfOk result (λ e. (server : List ℕ) (t : List Datagram) (ps : List Playing) → slice_get ps leg.entry.at ≡ Some leg.entry.call.now
+        → Plans server context.event t ps (Some came.now) e) }
 {
-    let Some(call) = calls.get(at) else {
-        return Ok(None);
-    };
-    let Progress::Answered(_) = call.progress else {
-        return Ok(None);
-    };
-    if !is_request_of(BYE, came) || !is_in(&call.callee, came) {
-        return Ok(None);
-    }
-    let Some(served) = served(context, came)? else {
-        return Ok(None);
-    };
-    let left = left_by_callee(call)?;
-    Ok(Some(Planned {
+    let served = served(context, came)?;
+    let left = left_by_callee(leg.call)?;
+    Ok(Planned {
         sent: one(context.alloc, served)?,
-        change: Change::Replace(at, left),
-    }))
+        change: Change::Replace(leg.at, left),
+    })
 }
 
 /// The caller's ACK has come, and it is told that the callee has left.
@@ -116,51 +103,35 @@ pub(crate) fn tell(
     drawn: &mut u64,
     trace: &[Datagram],
     calls: &[Playing],
-    at: usize,
+    leg: Leg,
     came: &Message,
-) -> Result<Option<Planned>, AllocError>
-    ensures { IfOk result (λ o. IfSome o (λ e. Plans context.server context.event trace.now calls.now (Some came.now) e)) }
+) -> Result<Planned, AllocError>
+    requires request { IsTrue (is_request came.now.kind) }
+    requires listed { slice_get calls.now leg.at ≡ Some leg.call.now }
+    requires ending { leg.call.now.progress ≡ Ending }
+    ensures { IfOk result (λ e. Plans context.server context.event trace.now calls.now (Some came.now) e) }
 {
-    let Some(call) = calls.get(at) else {
-        return Ok(None);
-    };
-    let (Progress::Ending, true) = (call.progress, is_request(came.kind)) else {
-        return Ok(None);
-    };
-    let number = next_number(trace, &call.caller);
-    let leaving = bye_in(context, drawn, &call.caller, number)?;
-    Ok(Some(Planned {
+    let caller = &leg.call.caller;
+    let leaving = bye_in(context, drawn, caller, next_number(trace, caller))?;
+    Ok(Planned {
         sent: one(context.alloc, leaving)?,
-        change: Change::Remove(at),
-    }))
+        change: Change::Remove(leg.at),
+    })
 }
 
 /// The caller leaves, too, before it is told.
-pub(crate) fn close(
-    context: Context,
-    trace: &[Datagram],
-    calls: &[Playing],
-    at: usize,
-    came: &Message,
-) -> Result<Option<Planned>, AllocError>
-    ensures { IfOk result (λ o. IfSome o (λ e. Plans context.server context.event trace.now calls.now (Some came.now) e)) }
+pub(crate) fn close(context: Context, leg: Leg, came: &Message) -> Result<Planned, AllocError>
+    requires leaves { IsTrue (is_request_of bye came.now) }
+    requires inside { IsIn leg.call.now.caller came.now }
+    requires ending { leg.call.now.progress ≡ Ending }
+    ensures { IfOk result (λ e. (server : List ℕ) (t : List Datagram) (ps : List Playing) → slice_get ps leg.entry.at ≡ Some leg.entry.call.now
+        → Plans server context.event t ps (Some came.now) e) }
 {
-    let Some(call) = calls.get(at) else {
-        return Ok(None);
-    };
-    let Progress::Ending = call.progress else {
-        return Ok(None);
-    };
-    if !is_request_of(BYE, came) || !is_in(&call.caller, came) {
-        return Ok(None);
-    }
-    let Some(served) = served(context, came)? else {
-        return Ok(None);
-    };
-    Ok(Some(Planned {
+    let served = served(context, came)?;
+    Ok(Planned {
         sent: one(context.alloc, served)?,
-        change: Change::Remove(at),
-    }))
+        change: Change::Remove(leg.at),
+    })
 }
 
 /// The CANCEL for the callee (RFC 3261 section 9.1): it has the branch of the INVITE.
@@ -189,32 +160,27 @@ pub(crate) fn give_up(
     context: Context,
     trace: &[Datagram],
     calls: &[Playing],
-    at: usize,
+    cancelled: Cancelled,
     came: &Message,
-) -> Result<Option<Planned>, AllocError>
-    ensures { IfOk result (λ o. IfSome o (λ e. Plans context.server context.event trace.now calls.now (Some came.now) e)) }
+) -> Result<Planned, AllocError>
+    requires cancels { IsTrue (is_request_of cancel came.now) }
+    requires listed { slice_get calls.now cancelled.at ≡ Some cancelled.call.now }
+    requires asked { cancelled.call.now.progress ≡ Asked }
+    ensures { IfOk result (λ e. Plans context.server context.event trace.now calls.now (Some came.now) e) }
 {
-    let Some(call) = calls.get(at) else {
-        return Ok(None);
-    };
-    let (Progress::Asked, Some(asking)) = (call.progress, call.offer) else {
-        return Ok(None);
-    };
-    if !is_request_of(CANCEL, came) {
-        return Ok(None);
-    }
+    let call = cancelled.call;
     let mut sent = one(
         context.alloc,
         response_to(context, 1, came, 200, &call.caller.ours)?,
     )?;
     let mut refused = terminated(context, trace, call)?;
     sent.append(&mut refused)?;
-    let mut on = cancelling(context, trace, call, asking)?;
+    let mut on = cancelling(context, trace, call, cancelled.asking)?;
     sent.append(&mut on)?;
-    Ok(Some(Planned {
+    Ok(Planned {
         sent,
-        change: Change::Remove(at),
-    }))
+        change: Change::Remove(cancelled.at),
+    })
 }
 
 /// A later offer is taken back: the end that was asked is told, and its response decides.
@@ -222,28 +188,20 @@ pub(crate) fn take_back(
     context: Context,
     trace: &[Datagram],
     calls: &[Playing],
-    at: usize,
+    cancelled: Cancelled,
     came: &Message,
-) -> Result<Option<Planned>, AllocError>
-    ensures { IfOk result (λ o. IfSome o (λ e. Plans context.server context.event trace.now calls.now (Some came.now) e)) }
+) -> Result<Planned, AllocError>
+    requires { IsTrue (is_request_of cancel came.now) }
+    ensures { IfOk result (λ e. Plans context.server context.event trace.now calls.now (Some came.now) e) }
 {
-    let Some(call) = calls.get(at) else {
-        return Ok(None);
-    };
-    let (Progress::Answered(_), Some(asking)) = (call.progress, call.offer) else {
-        return Ok(None);
-    };
-    if !is_request_of(CANCEL, came) {
-        return Ok(None);
-    }
     let mut sent = one(
         context.alloc,
         response_to(context, 1, came, 200, &came.to_tag)?,
     )?;
-    let mut on = cancelling(context, trace, call, asking)?;
+    let mut on = cancelling(context, trace, cancelled.call, cancelled.asking)?;
     sent.append(&mut on)?;
-    Ok(Some(Planned {
+    Ok(Planned {
         sent,
         change: Change::Keep,
-    }))
+    })
 }

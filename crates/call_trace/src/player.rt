@@ -1,17 +1,17 @@
 //! The player: calls played over a trace, event by event.
 
-ghost use Rattle.std.specs.Prelude.{◌≡◌, ◌≢◌, suc, [], ◌++◌, Some, None, IfOk, OnOk, OnErr};
+ghost use Rattle.std.specs.Prelude.{◌≡◌, ◌≢◌, ◌⊎◌, IsTrue, [], ◌++◌, Some, None, IfOk, OnOk, OnErr};
 ghost use Rattle.offer_answer.specs.Direct.{hold_address};
 ghost use Rattle.call_trace.specs.declared.player.Outcome.TheVariants.{Entered, Shed};
 ghost use Rattle.call_trace.specs.Events.{passed};
 ghost use Rattle.call_trace.specs.Playing.{IsPlaying, table_of};
-ghost use Rattle.call_trace.specs.Sending.{changed, sent_again};
+ghost use Rattle.call_trace.specs.Sending.{changed, sent_again, may_shed};
 ghost use Rattle.call_trace.specs.Player.{Played, HasPlayed, HasSent, Keeps, events_end};
 
 use crate::datagram::{Datagram, Direction, Message};
 use crate::moving::standing_is_promised;
 use crate::planning::plan;
-use crate::playing::{Change, Planned, Playing, led};
+use crate::playing::{Change, Playing, led};
 use crate::repeating::fire;
 use crate::sending::Context;
 use sip_uri::Addr;
@@ -164,6 +164,7 @@ impl Player {
     pub fn take(&mut self, message: Message) -> Result<Outcome, AllocError>
         ensures entered { IfOk result (λ o. o ≡ Entered → HasPlayed self.old (Some message) self.new) }
         ensures shed { IfOk result (λ o. o ≡ Shed → self.new ≡ self.old) }
+        ensures owed { IfOk result (λ o. o ≡ Shed → (self.old.events ≡ events_end) ⊎ IsTrue (may_shed message)) }
         ensures keeps { Keeps self.new }
         ensures err { OnErr result (self.new ≡ self.old) }
     {

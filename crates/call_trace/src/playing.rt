@@ -6,7 +6,7 @@ ghost use Rattle.std.specs.Option.{option_copied};
 ghost use Rattle.std.specs.List.{list_any};
 ghost use Rattle.offer_answer.specs.Rows.{above};
 ghost use Rattle.call_trace.specs.Listed.{AllOf};
-ghost use Rattle.call_trace.specs.Playing.{leg_of, asking_at, said_at, with_offer, settled_as, left_by_callee, port_told, no_ends, ends_by, ends_of, is_own, lead, table_of};
+ghost use Rattle.call_trace.specs.Playing.{leg_of, asking_at, said_at, with_offer, settled_as, left_by_callee, port_told, ends_by, ends_of, is_own, lead, table_of};
 
 use crate::datagram::{Dialog, Message};
 use crate::naming::copied_dialog;

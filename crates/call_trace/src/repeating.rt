@@ -1,16 +1,20 @@
 //! Moves of the player that move no call: what is refused at once, repeated, late, or of no call.
 
-ghost use Rattle.std.specs.Prelude.{◌≡◌, ℕ, List, IfOk, IfSome, Some, None};
+ghost use Rattle.std.specs.Prelude.{◌≡◌, ◌≤◌, ◌<◌, ℕ, false, List, IfOk, Some, None, IsTrue, slice_get};
 ghost use Rattle.call_trace.specs.declared.datagram.Datagram.{Datagram};
 ghost use Rattle.call_trace.specs.declared.playing.Playing.{Playing};
 ghost use Rattle.call_trace.specs.declared.playing.Change.TheVariants.{Keep};
+ghost use Rattle.call_trace.specs.declared.datagram.Kind.TheVariants.{Response};
+ghost use Rattle.call_trace.specs.Messages.{is_request};
+ghost use Rattle.call_trace.specs.Computed.{is_taken};
 ghost use Rattle.call_trace.specs.Events.{is_calm};
 ghost use Rattle.call_trace.specs.Playing.{methods};
 ghost use Rattle.call_trace.specs.Sending.{bare, sent_again, Plans};
 
-use crate::answering::open_offer;
-use crate::datagram::{Datagram, Kind, Message};
-use crate::kinds::{INVITE, is_final, is_method, is_request, is_success, is_taken};
+use crate::answering::Found;
+use crate::datagram::{Datagram, Message};
+use crate::finding::Reply;
+use crate::kinds::{is_success, is_taken};
 use crate::naming::copied_text;
 use crate::playing::{Change, Planned, Playing, leg_of};
 use crate::sending::{Context, one, response_to};
@@ -18,14 +22,14 @@ use sdp::{Address, Description, Lines, MediaList, Origin};
 use std::alloc::AllocError;
 
 /// The calls stay as they are.
-pub(crate) fn kept(sent: Vec<Message>) -> Option<Planned>
-    ensures sent { IfSome result (λ e. e.sent.items ≡ sent.items) }
-    ensures change { IfSome result (λ e. e.change ≡ Keep) }
+pub(crate) fn kept(sent: Vec<Message>) -> Planned
+    ensures sent { result.sent.items ≡ sent.items }
+    ensures change { result.change ≡ Keep }
 {
-    Some(Planned {
+    Planned {
         sent,
         change: Change::Keep,
-    })
+    }
 }
 
 fn copied_origin(origin: &Origin) -> Result<Origin, AllocError>
@@ -100,81 +104,53 @@ pub(crate) fn copied(message: &Message) -> Result<Message, AllocError>
     Ok(copy)
 }
 
-/// Whether this is no final response to an INVITE.
-fn is_calm(message: &Message) -> bool
-    ensures { result ≡ is_calm methods message.now }
-{
-    !(is_final(message.kind) && is_method(INVITE, &message.method))
-}
-
 /// A request is refused at once.
-pub(crate) fn refuse(
-    context: Context,
-    came: &Message,
-    status: u16,
-) -> Result<Option<Planned>, AllocError>
-    ensures { IfOk result (λ o. IfSome o (λ e. (server : List ℕ) (t : List Datagram) (ps : List Playing) → Plans server context.event t ps (Some came.now) e)) }
+pub(crate) fn refuse(context: Context, came: &Message, status: u16) -> Result<Planned, AllocError>
+    requires request { IsTrue (is_request came.now.kind) }
+    requires refusal { 300 ≤ status }
+    ensures { IfOk result (λ e. (server : List ℕ) (t : List Datagram) (ps : List Playing) → Plans server context.event t ps (Some came.now) e) }
 {
-    if !is_request(came.kind) || status < 300 {
-        return Ok(None);
-    }
     let refusal = response_to(context, 1, came, status, &came.to_tag)?;
     Ok(kept(one(context.alloc, refusal)?))
 }
 
 /// Nothing is sent.
-pub(crate) fn quiet(context: Context, came: &Message) -> Option<Planned>
-    ensures { IfSome result (λ e. (server : List ℕ) (t : List Datagram) (ps : List Playing) → Plans server context.event t ps (Some came.now) e) }
+pub(crate) fn quiet(context: Context, came: &Message) -> Planned
+    requires { IsTrue (is_calm methods came.now) }
+    ensures { (server : List ℕ) (t : List Datagram) (ps : List Playing) → Plans server context.event t ps (Some came.now) result }
 {
-    if !is_calm(came) {
-        return None;
-    }
     kept(Vec::new(context.alloc))
 }
 
 /// A provisional response is passed on to the end that offered (RFC 3261 section 13.3.1.1).
 pub(crate) fn ring(
     context: Context,
-    trace: &[Datagram],
-    calls: &[Playing],
-    at: usize,
+    found: Found,
     came: &Message,
-) -> Result<Option<Planned>, AllocError>
-    ensures { IfOk result (λ o. IfSome o (λ e. Plans context.server context.event trace.now calls.now (Some came.now) e)) }
+    status: u16,
+) -> Result<Planned, AllocError>
+    requires kind { came.now.kind ≡ Response status }
+    requires provisional { status < 200 }
+    ensures { IfOk result (λ e. (server : List ℕ) (t : List Datagram) (ps : List Playing) → Plans server context.event t ps (Some came.now) e) }
 {
-    let (Some(found), Kind::Response(status)) = (open_offer(trace, calls, at, came), came.kind)
-    else {
-        return Ok(None);
-    };
-    if 200 <= status {
-        return Ok(None);
-    }
     let tag = &leg_of(found.call, found.asking.by_caller).ours;
     let ringing = response_to(context, 1, &found.came.message, status, tag)?;
     Ok(kept(one(context.alloc, ringing)?))
 }
 
 /// A request comes again, and what was answered is sent again (RFC 3261 section 17.2).
-pub(crate) fn repeat(
-    context: Context,
-    trace: &[Datagram],
-    calls: &[Playing],
-    place: usize,
-    came: &Message,
-) -> Result<Option<Planned>, AllocError>
-    ensures { IfOk result (λ o. IfSome o (λ e. Plans context.server context.event trace.now calls.now (Some came.now) e)) }
+pub(crate) fn repeat(context: Context, reply: Reply, came: &Message) -> Result<Planned, AllocError>
+    requires request { IsTrue (is_request came.now.kind) }
+    requires sent { is_taken reply.datagram.now.direction ≡ false }
+    requires response { is_request reply.datagram.now.message.kind ≡ false }
+    ensures { IfOk result (λ e. (server : List ℕ) (t : List Datagram) (ps : List Playing) → slice_get t reply.entry.at ≡ Some reply.entry.datagram.now
+        → Plans server context.event t ps (Some came.now) e) }
 {
-    let Some(answered) = trace.get(place) else {
-        return Ok(None);
-    };
-    if is_taken(answered.direction) || is_request(answered.message.kind) || !is_request(came.kind) {
-        return Ok(None);
-    }
     // The 2xx is the core's: a timer sends it again, and not the request (RFC 6026 section 7.1).
-    if is_success(answered.message.kind) {
+    if is_success(reply.datagram.message.kind) {
         return Ok(kept(Vec::new(context.alloc)));
     }
-    let again = copied(&answered.message)?;
+    let again = copied(&reply.datagram.message)?;
     Ok(kept(one(context.alloc, again)?))
 }
 

@@ -1,7 +1,6 @@
 //! Messages that the player sends.
 
 ghost use Rattle.std.specs.Prelude.{◌≡◌, ◌≢◌, IfOk, IfSome, IsTrue, [], ◌∷◌};
-ghost use Rattle.std.specs.Bool.{OnTrue};
 ghost use Rattle.offer_answer.specs.Direct.{hold_address};
 ghost use Rattle.call_trace.specs.Messages.{is_offer, is_request_of, bye};
 ghost use Rattle.call_trace.specs.Events.{dialog_sent};

@@ -14,7 +14,7 @@ use crate::exchange::{Places, takes_final};
 use crate::kinds::{ACK, INVITE, is_final, is_request_of, is_taken};
 use crate::naming::{copied_text, is_free_tag, name};
 use crate::numbering::next_number;
-use crate::playing::{Change, Planned, Playing, Progress};
+use crate::playing::{Planned, Playing, Progress};
 use crate::repeating::{copied, kept};
 use crate::sending::{Context, bye_in, one, request_in, two};
 use std::alloc::AllocError;
@@ -71,7 +71,7 @@ pub(crate) fn swallow(
             sent.push(copied(&datagram.message)?)?;
         }
     }
-    Ok(kept(sent))
+    Ok(Some(kept(sent)))
 }
 
 fn is_same(dialog: &Dialog, other: &Dialog) -> bool
@@ -153,7 +153,7 @@ pub(crate) fn leave_second(
     let Some(left) = leave(context, drawn, trace, calls, came)? else {
         return Ok(None);
     };
-    Ok(kept(two(context.alloc, left.ack, left.bye)?))
+    Ok(Some(kept(two(context.alloc, left.ack, left.bye)?)))
 }
 
 /// The 2xx to a request whose call is gone: its dialog is left at once.
@@ -172,7 +172,7 @@ pub(crate) fn leave_gone(
     let Some(left) = leave(context, drawn, trace, calls, came)? else {
         return Ok(None);
     };
-    Ok(kept(two(context.alloc, left.ack, left.bye)?))
+    Ok(Some(kept(two(context.alloc, left.ack, left.bye)?)))
 }
 
 /// The refusal of a request whose call is gone: it gets its ACK (RFC 3261 section 17.1.1.3).
@@ -197,5 +197,5 @@ pub(crate) fn acknowledge_gone(
     let dialog = answered_in(came)?;
     let branch = copied_text(&asked.message.branch)?;
     let ack = request_in(context, 1, &dialog, branch, came.number, ACK)?;
-    Ok(kept(one(context.alloc, ack)?))
+    Ok(Some(kept(one(context.alloc, ack)?)))
 }

@@ -1,22 +1,18 @@
-use Rattle.std.proofs.lemmas.Option.{slice_get_read}
-use Rattle.std.proofs.Common.{refl, length, sym, subst, List, [], ◌∷◌, Some, IsTrue, Option, IfSome}
-use Rattle.std.proofs.lemmas.Bool.{OnTrue_at}
+use Rattle.std.proofs.Common.{sym, subst, List, [], ◌∷◌, Some}
+use Rattle.std.specs.Prelude.{slice_set}
 use Rattle.call_trace.specs.declared.datagram.Message.{Message}
 use Rattle.call_trace.specs.declared.playing.Playing.{Playing}
 use Rattle.call_trace.specs.Playing.{Plays}
-use Rattle.call_trace.specs.Messages.{is_ok, Replies}
-use Rattle.std.specs.Prelude.{slice_set}
 use Rattle.call_trace.proofs.PlayedEnding.{part_plays}
 use Rattle.call_trace.proofs.leaving.part.Goals as goal
 
 pub returns : goal.returns
-returns c =
-    let P : List Message → Type 0 = λ v. Plays c.args.context.server c.args.context.event c.args.trace.now c.args.calls.now (Some c.args.came.now) v (slice_set c.args.calls.now c.args.at c.in_ok-left.left) in
-    let L : Playing → Type 0 = λ v. Plays c.args.context.server c.args.context.event c.args.trace.now c.args.calls.now (Some c.args.came.now) (c.in-Some-2.served ∷ []) (slice_set c.args.calls.now c.args.at v) in
-    let O : Option Message → Type 0 = λ v. IfSome v (λ m. IsTrue (is_ok m.kind)) in
-    let R : Option Message → Type 0 = λ v. IfSome v (λ m. Replies m c.args.came.now) in
+returns c = λ server t ps at.
+    let leg = c.args.leg in
+    let came = c.args.came.now in
+    let P : List Message → Type 0 = λ v. Plays server c.args.context.event t ps (Some came) v (slice_set ps leg.at c.in_ok-left.left) in
+    let L : Playing → Type 0 = λ v. Plays server c.args.context.event t ps (Some came) (c.in_ok-served.served ∷ []) (slice_set ps leg.at v) in
     subst P (sym c.in_ok-one.ensures)
     (subst L (sym c.in_ok-left.ensures)
-    (part_plays c.args.context.server c.args.context.event c.args.trace.now c.args.calls.now c.args.at c.in-Some.call.now c.in-Answered.field-0 c.args.came.now c.in-Some-2.served []
-    (slice_get_read c.args.calls.now (length c.args.calls.now) c.args.at c.in-Some.call.now refl c.in-Some.ensures.lookup.3.0 c.in-Some.ensures.lookup.1) c.in-Answered.is (OnTrue_at (cc (c.if-not-is_in.false)) c.is_in.ensures.inside) (cc (c.is_request_of.ensures, c.if-not-is_request_of.false))
-    (subst O c.in-Some-2.is c.in_ok-served.ensures.ok) (subst R c.in-Some-2.is c.in_ok-served.ensures.replies) tt))
+    (part_plays server c.args.context.event t ps leg.at leg.call.now c.requires.answered.0 came c.in_ok-served.served []
+    at c.requires.answered.1 c.requires.inside c.requires.leaves c.in_ok-served.ensures.ok c.in_ok-served.ensures.replies tt))
