@@ -1,5 +1,5 @@
-//! Which call a message is of, and what stands in the trace. What is found here is looked at again by the move that
-//! it is found for.
+//! Which call a message is of, and what stands in the trace. What is given as a bare place is looked at again by the move
+//! that it is found for.
 
 ghost use Rattle.std.specs.Prelude.{◌≡◌, false, IfSome, Some, slice_get};
 ghost use Rattle.std.specs.Bool.{OnTrue};
