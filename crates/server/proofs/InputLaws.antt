@@ -1,0 +1,57 @@
+-- What is kept of an input, piece by piece.
+use Rattle.std.proofs.Common.{◌≡◌, ℕ, zero, suc, ◌+◌, ◌-◌, ◌≤◌, List, [], ◌∷◌, ◌++◌, length, take, Option, Some, None, Result, Ok, Err, OnOk, refl, sym, ap, subst, ◌∙◌, append_assoc, arith, length-append}
+use Rattle.std.proofs.Math.Seq.{take-append-add}
+use Rattle.std.proofs.lemmas.List.{take_all, append-nil}
+use Rattle.std.specs.Io.KnownBytes.{Consumes, Appends}
+use Rattle.server.specs.declared.fault.Fault.{Fault}
+use Rattle.server.specs.Input.{most_kept, Takes, Reads}
+use Rattle.server.specs.Once.{once_of, Answers}
+
+-- all of a short list is taken
+pub take_fits : (n : ℕ) (xs ys : List ℕ) → length xs + length ys ≤ n → xs ++ ys ≡ take n (xs ++ ys)
+take_fits n xs ys le = sym (take_all n (xs ++ ys) (omega (arith, length-append xs ys)))
+
+-- as much of the second list as there is room for
+pub take_room : (n : ℕ) (xs ys : List ℕ) → length xs ≤ n → xs ++ take (n - length xs) ys ≡ take n (xs ++ ys)
+take_room n xs ys le =
+    let room : length xs + (n - length xs) ≡ n = omega arith in
+    sym (take-append-add xs ys (n - length xs)) ∙ ap (λ (k : ℕ). take k (xs ++ ys)) room
+
+-- what is kept of a front is kept of the whole
+take_kept : (n : ℕ) (xs ys : List ℕ) → take n (take n xs ++ ys) ≡ take n (xs ++ ys)
+take_kept zero xs ys = refl
+take_kept (suc n) [] ys = refl
+take_kept (suc n) (x ∷ xs) ys = ap (λ (t : List ℕ). x ∷ t) (take_kept n xs ys)
+
+consumes_more : (a b c : Option (List ℕ)) (xs ys : List ℕ) → Consumes a b xs → Consumes b c ys → Consumes a c (xs ++ ys)
+consumes_more None b c xs ys h k = tt
+consumes_more (Some as') None c xs ys h k = absurd h
+consumes_more (Some as') (Some bs) None xs ys h k = absurd k
+consumes_more (Some as') (Some bs) (Some cs) xs ys h k = h ∙ ap (λ (t : List ℕ). xs ++ t) k ∙ sym (append_assoc xs ys cs)
+
+abbrev no_bytes : List ℕ
+no_bytes = []
+
+pub takes_nothing : (a : Option (List ℕ)) → Takes a a []
+takes_nothing a = ([], none a, nil_is) where
+  none : (o : Option (List ℕ)) → Consumes o o []
+  none None = tt
+  none (Some xs) = refl
+
+  nil_is : no_bytes ≡ take most_kept no_bytes
+  nil_is = refl
+
+-- more was taken
+pub takes_more : (a b c : Option (List ℕ)) (kept bytes kept_after : List ℕ) → Takes a b kept → Consumes b c bytes → kept_after ≡ take most_kept (kept ++ bytes) → Takes a c kept_after
+takes_more a b c kept bytes kept_after h k e =
+    (h.0 ++ bytes, consumes_more a b c h.0 bytes h.1 k, e ∙ ap (λ (t : List ℕ). take most_kept (t ++ bytes)) h.2 ∙ take_kept most_kept h.0 bytes)
+
+-- nothing more was taken
+pub takes_same : (a b c : Option (List ℕ)) (kept : List ℕ) → Takes a b kept → Consumes b c [] → Takes a c kept
+takes_same a b c kept h k = (h.0 ++ [], consumes_more a b c h.0 [] h.1 k, h.2 ∙ ap (take most_kept) (sym (append-nil h.0)))
+
+-- an answer to all that was read was written, where it was written
+pub answered_all : (r : Result (Unit {0}) Fault) (left left_after held held_after : Option (List ℕ)) (datagram answer : List ℕ) → Reads left left_after datagram → answer ≡ once_of datagram → OnOk r (Appends held held_after answer)
+    → OnOk r (Answers left left_after held held_after)
+answered_all (Ok done) left left_after held held_after datagram answer reads is written = (datagram, reads, subst (λ (t : List ℕ). Appends held held_after t) is written)
+answered_all (Err e) left left_after held held_after datagram answer reads is written = tt

@@ -1,0 +1,76 @@
+//! Why the program ends before its work is done.
+
+use std::alloc::{AllocError, AllocFailed};
+use std::error::Error;
+use std::fmt;
+
+/// Why `once` gave up.
+#[derive(Clone, Copy, Debug, PartialEq, Eq)]
+pub enum Fault {
+    /// The input failed or never ended. Nothing was written.
+    Input,
+    /// The output failed. How much was written is open.
+    Output,
+    /// Memory ran out. Nothing was written.
+    OutOfMemory,
+}
+
+impl Fault {
+    ghost use Rattle.std.specs.Prelude.{◌≡◌};
+    ghost use Rattle.server.specs.Statuses.{status_of, fault_words_of};
+
+    /// The exit status.
+    pub fn status(self) -> u8
+        ensures { result ≡ status_of self }
+    {
+        match self {
+            Fault::Input | Fault::Output => 4,
+            Fault::OutOfMemory => 6,
+        }
+    }
+
+    /// The words for standard error, without a line end.
+    pub fn words(self) -> &'static str
+        ensures { result.now ≡ fault_words_of self }
+    {
+        match self {
+            Fault::Input | Fault::Output => "office: script",
+            Fault::OutOfMemory => "office: memory",
+        }
+    }
+}
+
+impl fmt::Display for Fault {
+    ghost use Rattle.std.specs.Prelude.{Some};
+    ghost use Rattle.server.specs.Statuses.{fault_words_of};
+
+    ghost output = { λ f. Some (fault_words_of f) };
+
+    fn fmt<W: fmt::Write>(&self, f: &mut fmt::Formatter<W>) -> fmt::Result {
+        f.write_str(self.words())
+    }
+}
+
+impl Error for Fault {}
+
+impl From<AllocError> for Fault {
+    ghost use Rattle.std.specs.Prelude.{◌≡◌};
+    ghost use Rattle.server.specs.declared.fault.Fault.TheVariants.{OutOfMemory};
+
+    ghost from_gives = { λ _ e. e ≡ OutOfMemory };
+
+    fn from(_e: AllocError) -> Fault {
+        Fault::OutOfMemory
+    }
+}
+
+impl<T: Drop> From<AllocFailed<T>> for Fault {
+    ghost use Rattle.std.specs.Prelude.{◌≡◌};
+    ghost use Rattle.server.specs.declared.fault.Fault.TheVariants.{OutOfMemory};
+
+    ghost from_gives = { λ _ e. e ≡ OutOfMemory };
+
+    fn from(_e: AllocFailed<T>) -> Fault {
+        Fault::OutOfMemory
+    }
+}

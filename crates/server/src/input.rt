@@ -1,0 +1,58 @@
+//! One datagram from a reader.
+
+ghost use Rattle.std.specs.Prelude.{◌≡◌, ◌≤◌, ◌++◌, take, length, vec_len, IfOk, IfErr, OnOk};
+ghost use Rattle.std.specs.Io.KnownBytes.{ReadConsumes};
+ghost use Rattle.server.specs.Input.{most_kept, Reads};
+
+use crate::fault::Fault;
+use std::alloc::{AllocError, Global};
+use std::io::Read;
+
+/// So many reads are made before an input counts as endless.
+const MOST_READS: u32 = 1_048_576;
+
+/// Bytes that are kept: one more than a datagram may have.
+const MOST_KEPT: usize = 16_385;
+
+/// Puts behind the kept bytes what there is room for.
+fn keep(whole: &mut Vec<u8>, bytes: &[u8]) -> Result<(), AllocError>
+    requires { vec_len whole.old ≤ most_kept }
+    ensures ok { OnOk result (whole.new.items ≡ take most_kept (whole.old.items ++ bytes.now)) }
+    ensures room { OnOk result (vec_len whole.new ≤ most_kept) }
+{
+    let room = MOST_KEPT - whole.len();
+    if bytes.len() <= room {
+        whole.extend_from_slice(bytes)?;
+        return Ok(());
+    }
+    whole.extend_from_slice(&bytes[..room])?;
+    Ok(())
+}
+
+/// Some bytes of the reader: none only at its end.
+fn read_some<R: Read>(reader: &mut R, chunk: &mut [u8]) -> Result<usize, Fault>
+    ensures bound { IfOk result (λ n. n ≤ length chunk.new) }
+    ensures bytes { ReadConsumes (R.remaining reader.old) (R.remaining reader.new) result chunk.new }
+    ensures fault { IfErr result (λ e. e ≡ Fault.Input) }
+{
+    match reader.read(chunk) {
+        Ok(count) => Ok(count),
+        Err(_) => Err(Fault::Input),
+    }
+}
+
+/// Reads to the end, and keeps the first bytes of it. An input that has not ended after so many reads is a fault.
+pub fn read_datagram<R: Read>(alloc: Global, reader: &mut R) -> Result<Vec<u8>, Fault>
+    ensures { IfOk result (λ v. Reads (R.remaining reader.old) (R.remaining reader.new) v.items) }
+{
+    let mut whole = Vec::new(alloc);
+    let mut chunk = [0u8; 4096];
+    for _ in 0..MOST_READS {
+        let count = read_some(reader, &mut chunk)?;
+        if count == 0 {
+            return Ok(whole);
+        }
+        keep(&mut whole, &chunk[..count])?;
+    }
+    Err(Fault::Input)
+}

@@ -1,0 +1,128 @@
+//! The command line.
+
+ghost use Rattle.std.specs.Prelude.{◌≡◌, ◌≢◌, map, codes, Some, None, option_map, IfOk, IfErr, IfSome, IfNone};
+ghost use Rattle.clap.specs.Simple.{app_of};
+ghost use Rattle.clap.specs.Matches.{subcommand_name_of};
+ghost use Rattle.server.specs.Words.{office_app, named_by, name_of, RefusesWords};
+
+use clap::error::ErrorKind;
+use clap::{ArgMatches, Command};
+use std::alloc::{AllocError, AllocFailed, Global};
+use std::error::Error;
+use std::fmt;
+
+/// What is asked of the program.
+#[derive(Clone, Copy, Debug, PartialEq, Eq)]
+pub enum Asked {
+    /// Answer one datagram of standard input on standard output.
+    Once,
+}
+
+/// Why a command line is refused.
+#[derive(Clone, Copy, Debug, PartialEq, Eq)]
+pub enum CommandError {
+    /// The words ask for nothing that the program does.
+    Words,
+    /// Memory ran out before the words were read.
+    OutOfMemory,
+}
+
+impl CommandError {
+    ghost use Rattle.std.specs.Prelude.{◌≡◌};
+    ghost use Rattle.server.specs.Statuses.{command_status_of, command_words_of};
+
+    /// The exit status.
+    pub fn status(self) -> u8
+        ensures { result ≡ command_status_of self }
+    {
+        match self {
+            CommandError::Words => 2,
+            CommandError::OutOfMemory => 6,
+        }
+    }
+
+    /// The words for standard error, without a line end.
+    pub fn words(self) -> &'static str
+        ensures { result.now ≡ command_words_of self }
+    {
+        match self {
+            CommandError::Words => "office: command line",
+            CommandError::OutOfMemory => "office: memory",
+        }
+    }
+}
+
+impl fmt::Display for CommandError {
+    ghost use Rattle.std.specs.Prelude.{Some};
+    ghost use Rattle.server.specs.Statuses.{command_words_of};
+
+    ghost output = { λ e. Some (command_words_of e) };
+
+    fn fmt<W: fmt::Write>(&self, f: &mut fmt::Formatter<W>) -> fmt::Result {
+        f.write_str(self.words())
+    }
+}
+
+impl Error for CommandError {}
+
+impl From<AllocError> for CommandError {
+    ghost use Rattle.std.specs.Prelude.{◌≡◌};
+    ghost use Rattle.server.specs.declared.words.CommandError.TheVariants.{OutOfMemory};
+
+    ghost from_gives = { λ _ e. e ≡ OutOfMemory };
+
+    fn from(_e: AllocError) -> CommandError {
+        CommandError::OutOfMemory
+    }
+}
+
+impl<T: Drop> From<AllocFailed<T>> for CommandError {
+    ghost use Rattle.std.specs.Prelude.{◌≡◌};
+    ghost use Rattle.server.specs.declared.words.CommandError.TheVariants.{OutOfMemory};
+
+    ghost from_gives = { λ _ e. e ≡ OutOfMemory };
+
+    fn from(_e: AllocFailed<T>) -> CommandError {
+        CommandError::OutOfMemory
+    }
+}
+
+fn office<'a>(alloc: Global) -> Result<Command<'a>, AllocError>
+    ensures { IfOk result (λ c. app_of c ≡ office_app) }
+{
+    let once = Command::new(alloc, "once");
+    let office = Command::new(alloc, "office").subcommand_required(true);
+    office.subcommand(once)
+}
+
+fn asked_by(matches: &ArgMatches<'_>) -> Option<Asked>
+    ensures some { IfSome result (λ a. subcommand_name_of matches.now ≡ Some (name_of a)) }
+    ensures none { IfNone result ((a : Asked) → subcommand_name_of matches.now ≡ Some (name_of a) → ⊥) }
+{
+    let (name, _) = matches.subcommand()?;
+    if name == "once" {
+        Some(Asked::Once)
+    } else {
+        None
+    }
+}
+
+/// Reads a command line, of which the first word is the program's own. A call for help is refused like any other word
+/// that asks for nothing.
+#[tactic(auto, unfolding(crate::specs::Words::named_by, crate::specs::Words::is_taken))]
+pub fn command<'a>(alloc: Global, words: &'a [&'a str]) -> Result<Asked, CommandError>
+    ensures asked { IfOk result (λ a. named_by (map (λ w. w.now) words.now) ≡ Some (name_of a)) }
+    ensures refused { IfErr result (λ e. RefusesWords (map (λ w. w.now) words.now) e) }
+{
+    let office = office(alloc)?;
+    match office.try_get_matches_from(words) {
+        Ok(matches) => asked_by(&matches).ok_or(CommandError::Words),
+        Err(error) => {
+            if error.kind() == ErrorKind::OutOfMemory {
+                Err(CommandError::OutOfMemory)
+            } else {
+                Err(CommandError::Words)
+            }
+        }
+    }
+}
