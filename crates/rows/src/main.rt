@@ -3,9 +3,24 @@
 #![tactic(auto)]
 
 mod notation;
+mod offer_answer_rows;
+mod port_pool_rows;
+mod port_pool_words;
+mod registrar_rows;
+mod registrar_words;
+mod sdp_rows;
+mod sdp_words;
+mod sip_uri_rows;
+mod sip_uri_words;
+mod stream_words;
 mod text_rows;
+mod timers_rows;
+mod words;
 
 use crate::notation::Notation;
+use crate::port_pool_rows::PortPoolRows;
+use crate::registrar_rows::RegistrarRows;
+use crate::timers_rows::TimersRows;
 use std::alloc::{AllocError, Global};
 use std::io;
 
@@ -13,12 +28,18 @@ use std::io;
 #[derive(Drop)]
 struct Rows {
     notation: Notation,
+    port_pool: PortPoolRows,
+    registrar: RegistrarRows,
+    timers: TimersRows,
 }
 
 impl Rows {
     fn new(alloc: Global) -> Rows {
         Rows {
             notation: Notation::new(alloc),
+            port_pool: PortPoolRows::new(alloc),
+            registrar: RegistrarRows::new(alloc),
+            timers: TimersRows::new(alloc),
         }
     }
 
@@ -31,7 +52,13 @@ impl Rows {
         args: &[&[u8]],
     ) -> Result<Option<String>, AllocError> {
         match crate_name {
+            "offer_answer" => offer_answer_rows::answer(alloc, call, args),
+            "port_pool" => self.port_pool.answer(alloc, call, args),
+            "registrar" => self.registrar.answer(alloc, call, args),
+            "sdp" => sdp_rows::answer(alloc, call, args),
+            "sip_uri" => sip_uri_rows::answer(alloc, call, args),
             "text" => text_rows::answer(alloc, call, args),
+            "timers" => self.timers.answer(alloc, call, args),
             _ => Ok(None),
         }
     }

@@ -88,7 +88,11 @@ impl Notation {
 
     fn text_of(&self, alloc: Global, word: &str) -> Result<Text, AllocError> {
         if let Some(name) = word.strip_prefix('$') {
-            let found = self.texts.iter().rev().find(|named| named.name.as_str() == name);
+            let found = self
+                .texts
+                .iter()
+                .rev()
+                .find(|named| named.name.as_str() == name);
             return match found {
                 Some(named) => Text::from_slice(alloc, &named.bytes),
                 None => Text::from_slice(alloc, b"no such text"),
