@@ -2,25 +2,42 @@
 //! are data, `stdin` and `stdout` beside this folder, so another row costs no proof. docs/RECIPES.md says how a row is written.
 #![tactic(auto)]
 
+mod addresses;
+mod call_trace_rows;
+mod dialog_calls;
+mod dialog_texts;
+mod dialogs_rows;
+mod header_rows;
+mod machine_rows;
+mod message_texts;
 mod notation;
 mod offer_answer_rows;
+mod player_rows;
 mod port_pool_rows;
 mod port_pool_words;
 mod registrar_rows;
 mod registrar_words;
 mod sdp_rows;
 mod sdp_words;
+mod server_rows;
+mod sip_message_rows;
 mod sip_uri_rows;
 mod sip_uri_words;
 mod stream_words;
+mod table_texts;
 mod text_rows;
 mod timers_rows;
+mod trace_tables;
+mod transactions_rows;
 mod words;
 
+use crate::call_trace_rows::CallTraceRows;
+use crate::dialogs_rows::DialogsRows;
 use crate::notation::Notation;
 use crate::port_pool_rows::PortPoolRows;
 use crate::registrar_rows::RegistrarRows;
 use crate::timers_rows::TimersRows;
+use crate::transactions_rows::TransactionsRows;
 use std::alloc::{AllocError, Global};
 use std::io;
 
@@ -31,6 +48,9 @@ struct Rows {
     port_pool: PortPoolRows,
     registrar: RegistrarRows,
     timers: TimersRows,
+    transactions: TransactionsRows,
+    dialogs: DialogsRows,
+    call_trace: CallTraceRows,
 }
 
 impl Rows {
@@ -40,6 +60,9 @@ impl Rows {
             port_pool: PortPoolRows::new(alloc),
             registrar: RegistrarRows::new(alloc),
             timers: TimersRows::new(alloc),
+            transactions: TransactionsRows::new(alloc),
+            dialogs: DialogsRows::new(alloc),
+            call_trace: CallTraceRows::new(alloc),
         }
     }
 
@@ -55,10 +78,15 @@ impl Rows {
             "offer_answer" => offer_answer_rows::answer(alloc, call, args),
             "port_pool" => self.port_pool.answer(alloc, call, args),
             "registrar" => self.registrar.answer(alloc, call, args),
+            "server" => server_rows::answer(alloc, call, args),
             "sdp" => sdp_rows::answer(alloc, call, args),
             "sip_uri" => sip_uri_rows::answer(alloc, call, args),
             "text" => text_rows::answer(alloc, call, args),
             "timers" => self.timers.answer(alloc, call, args),
+            "sip_message" => sip_message_rows::answer(alloc, call, args),
+            "transactions" => self.transactions.answer(alloc, call, args),
+            "dialogs" => self.dialogs.answer(alloc, call, args),
+            "call_trace" => self.call_trace.answer(alloc, call, args),
             _ => Ok(None),
         }
     }

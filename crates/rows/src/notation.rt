@@ -1,6 +1,8 @@
 //! How a row is written: words between `|`, in which `\r`, `\n`, `\t`, `\p` (a `|`), `\\` and `\xHH` stand for bytes, and `$NAME` for
 //! a text that earlier lines wrote down.
 
+ghost use Rattle.std.specs.Prelude.{IfSome, ◌<◌};
+
 use std::alloc::{AllocError, Global};
 use text::{Text, Texts};
 
@@ -18,7 +20,9 @@ pub(crate) struct Notation {
 }
 
 /// The value of a hexadecimal digit.
-fn digit(byte: u8) -> Option<u8> {
+fn digit(byte: u8) -> Option<u8>
+    ensures { IfSome result (λ value. value < 16) }
+{
     match byte {
         b'0'..=b'9' => Some(byte - b'0'),
         b'a'..=b'f' => Some(byte - b'a' + 10),
