@@ -15,6 +15,7 @@ mod offer_answer_rows;
 mod player_rows;
 mod port_pool_rows;
 mod port_pool_words;
+mod readdress_rows;
 mod registrar_rows;
 mod registrar_words;
 mod sdp_rows;

@@ -1,23 +1,17 @@
 //! Rows of calls of `offer_answer`, of a server at 192.0.2.1 with the relay ports 40000 to 40015.
 
-ghost use Rattle.std.specs.Prelude.{IsTrue};
-ghost use Rattle.offer_answer.specs.Readdressed.{has_ports};
-
-use crate::notation::{number, shown};
+use crate::readdress_rows::sent_text;
 use crate::stream_words::streams_words;
-use crate::words::{addr_words, port_of, said};
+use crate::words::{addr_words, said};
 use offer_answer::{
-    OwnRange, ServerOrigin, alike_is_equivalence, check_answer, check_offer, destination,
-    fewer_rows, held_call, hold_passes, joined_is_direct, meaning, plain_call, readdress,
-    relayed_is_direct, rows_lead,
+    OwnRange, alike_is_equivalence, check_answer, check_offer, destination, fewer_rows, held_call,
+    hold_passes, joined_is_direct, meaning, plain_call, relayed_is_direct, rows_lead,
 };
-use sdp::{Description, DescriptionError, Media, read_description, write_description};
+use sdp::{Description, DescriptionError, read_description};
 use std::alloc::{AllocError, Global};
 
-const SERVER: [u8; 4] = [192, 0, 2, 1];
-
 const RANGE: OwnRange = OwnRange {
-    ip: SERVER,
+    ip: [192, 0, 2, 1],
     first: 40000,
     last: 40015,
 };
@@ -107,55 +101,6 @@ fn first_destination(
     }
 }
 
-/// Whether no port is 0 for a medium whose port is not 0.
-fn have_ports(ports: &[u16], media: &[Media]) -> bool
-    ensures { IsTrue result → IsTrue (has_ports ports.now media.now) }
-{
-    match (ports, media) {
-        ([port, ports @ ..], [medium, media @ ..]) => {
-            (medium.port == 0 || *port != 0) && have_ports(ports, media)
-        }
-        _ => true,
-    }
-}
-
-/// The ports of a row, with spaces between them: none where the word is empty.
-fn ports_of(alloc: Global, word: &[u8]) -> Result<Vec<u16>, AllocError> {
-    let mut ports = Vec::new(alloc);
-    for port in word.split(|byte| *byte == b' ') {
-        if !port.is_empty() {
-            ports.push(port_of(port))?;
-        }
-    }
-    Ok(ports)
-}
-
-/// What the server sends in place of a description.
-fn sent_on(
-    alloc: Global,
-    text: &[u8],
-    origin: ServerOrigin,
-    ports: &[u8],
-) -> Result<String, DescriptionError> {
-    let description = read_description(alloc, text)?;
-    let ports = ports_of(alloc, ports)?;
-    let media = description.media.as_slice();
-    if origin.ip == [0, 0, 0, 0] || ports.len() != media.len() || !have_ports(&ports, media) {
-        return Ok(said(alloc, "a port for each medium")?);
-    }
-    let sent = readdress(alloc, &description, &ports, origin)?;
-    Ok(shown(alloc, write_description(alloc, &sent)?.as_bytes())?)
-}
-
-/// The server's origin with this id and version.
-fn origin(id: &[u8], version: &[u8]) -> ServerOrigin {
-    ServerOrigin {
-        id: number(id),
-        version: number(version),
-        ip: SERVER,
-    }
-}
-
 /// Calls what has a law for its contract.
 fn laws(alloc: Global) -> Result<String, DescriptionError> {
     alike_is_equivalence();
@@ -182,9 +127,7 @@ pub(crate) fn answer(
             meaning_of(alloc, &[at, offer], &[from, answer])
         }
         ("destination", [at, media]) => first_destination(alloc, at, media),
-        ("readdress", [text, id, version, ports]) => {
-            sent_on(alloc, text, origin(id, version), ports)
-        }
+        ("readdress", [text, id, version, ports]) => { sent_text(alloc, text, id, version, ports) }
         ("laws", []) => laws(alloc),
         _ => return Ok(None),
     };

@@ -69,12 +69,13 @@ fn are_others(port: u16, lines: &[RelayLine]) -> bool
 }
 
 /// Whether no port stands in two lines.
+#[tactic(auto, using(crate::proofs::RelayLines::stand_once_cons))]
 fn stand_once(lines: &[RelayLine]) -> bool
     ensures { IsTrue result → StandOnce lines.now }
 {
-    match lines {
-        [line, rest @ ..] => are_others(line.port, rest) && stand_once(rest),
-        [] => true,
+    match lines.split_first() {
+        Some((line, rest)) => are_others(line.port, rest) && stand_once(rest),
+        None => true,
     }
 }
 
