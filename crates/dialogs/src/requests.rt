@@ -1,8 +1,8 @@
 //! Requests in a dialog (RFC 3261 section 12.2.1.1).
 
-ghost use Rattle.std.specs.Prelude.{◌≡◌, ◌≤◌, OnOk, OnErr, IfOk, IfErr, Some};
+ghost use Rattle.std.specs.Prelude.{◌≡◌, ◌≤◌, [], OnOk, OnErr, IfOk, IfErr, Some};
 ghost use Rattle.sip_uri.specs.NameAddr.{name_addr_text};
-ghost use Rattle.dialogs.specs.Counting.{following, greatest_for, RefusesNext};
+ghost use Rattle.dialogs.specs.Counting.{method_text, following, greatest_for, RefusesNext};
 ghost use Rattle.dialogs.specs.Requests.{tag_params, tagged, cseq_text, parts_in, request_headers, request_in};
 
 use crate::copies::copied_uri;
@@ -71,6 +71,77 @@ fn request_headers(alloc: Global, parts: &Parts) -> Result<Headers, AllocError>
     Ok(headers)
 }
 
+/// A name, and its text.
+#[derive(Drop)]
+struct End {
+    name: NameAddr,
+    text: Text,
+}
+
+/// From and To of a request.
+#[derive(Drop)]
+struct Ends {
+    from: End,
+    to: End,
+}
+
+/// A CSeq, and its text.
+#[derive(Drop)]
+struct Sequence {
+    cseq: CSeq,
+    text: Text,
+}
+
+fn end_of(alloc: Global, party: &Party, tag: &Text) -> Result<End, AllocError>
+    ensures name { IfOk result (λ end. end.name ≡ tagged party.now tag.now) }
+    ensures text { IfOk result (λ end. end.text ≡ name_addr_text (tagged party.now tag.now)) }
+{
+    let name = tagged(alloc, party, tag)?;
+    let text = name_text(alloc, &name)?;
+    Ok(End { name, text })
+}
+
+fn ends_in(alloc: Global, dialog: &Dialog) -> Result<Ends, AllocError>
+    ensures from { IfOk result (λ ends. ends.from.name ≡ tagged dialog.now.ours dialog.now.id.ours) }
+    ensures from_text { IfOk result (λ ends. ends.from.text ≡ name_addr_text (tagged dialog.now.ours dialog.now.id.ours)) }
+    ensures to { IfOk result (λ ends. ends.to.name ≡ tagged dialog.now.theirs dialog.now.id.theirs) }
+    ensures to_text { IfOk result (λ ends. ends.to.text ≡ name_addr_text (tagged dialog.now.theirs dialog.now.id.theirs)) }
+{
+    let from = end_of(alloc, &dialog.ours, &dialog.id.ours)?;
+    let to = end_of(alloc, &dialog.theirs, &dialog.id.theirs)?;
+    Ok(Ends { from, to })
+}
+
+fn sequence_for(alloc: Global, number: u32, method: Method) -> Result<Sequence, AllocError>
+    ensures cseq { IfOk result (λ s. s.cseq ≡ record { number = number; method = method_text method }) }
+    ensures text { IfOk result (λ s. s.text ≡ cseq_text number method) }
+{
+    let name = Text::from_slice(alloc, method.as_bytes())?;
+    let text = cseq_text(alloc, number, method)?;
+    let cseq = CSeq {
+        number,
+        method: name,
+    };
+    Ok(Sequence { cseq, text })
+}
+
+/// The parts of these values. With no way out it keeps the proof of `parts_in` short.
+fn parts_with(alloc: Global, ends: Ends, call_id: Text, sequence: Sequence) -> Parts
+    ensures { result ≡ record { vias = []; from = ends.from.name; to = ends.to.name; call_id = call_id; cseq = sequence.cseq; from_text = ends.from.text; to_text = ends.to.text; cseq_text = sequence.text } }
+{
+    let Ends { from, to } = ends;
+    Parts {
+        vias: Vias::from_vec(Vec::new(alloc)),
+        from: from.name,
+        to: to.name,
+        call_id,
+        cseq: sequence.cseq,
+        from_text: from.text,
+        to_text: to.text,
+        cseq_text: sequence.text,
+    }
+}
+
 #[tactic(auto, unfolding(crate::specs::Requests::parts_in))]
 fn parts_in(
     alloc: Global,
@@ -80,26 +151,10 @@ fn parts_in(
 ) -> Result<Parts, AllocError>
     ensures { IfOk result (λ parts. parts ≡ parts_in dialog.now method number) }
 {
-    let from = tagged(alloc, &dialog.ours, &dialog.id.ours)?;
-    let to = tagged(alloc, &dialog.theirs, &dialog.id.theirs)?;
-    let from_text = name_text(alloc, &from)?;
-    let to_text = name_text(alloc, &to)?;
+    let ends = ends_in(alloc, dialog)?;
     let call_id = dialog.id.call_id.clone()?;
-    let name = Text::from_slice(alloc, method.as_bytes())?;
-    let cseq_text = cseq_text(alloc, number, method)?;
-    Ok(Parts {
-        vias: Vias::from_vec(Vec::new(alloc)),
-        from,
-        to,
-        call_id,
-        cseq: CSeq {
-            number,
-            method: name,
-        },
-        from_text,
-        to_text,
-        cseq_text,
-    })
+    let sequence = sequence_for(alloc, number, method)?;
+    Ok(parts_with(alloc, ends, call_id, sequence))
 }
 
 impl Dialog {
@@ -114,11 +169,13 @@ impl Dialog {
     ) -> Result<Request, AllocError>
         ensures request { IfOk result (λ r. r ≡ request_in self.now method number) }
     {
+        let uri = copied_uri(&self.target)?;
+        let name = Text::from_slice(alloc, method.as_bytes())?;
         let parts = parts_in(alloc, self, method, number)?;
         let headers = request_headers(alloc, &parts)?;
         Ok(Request {
-            method: Text::from_slice(alloc, method.as_bytes())?,
-            uri: copied_uri(&self.target)?,
+            method: name,
+            uri,
             parts,
             max_forwards: MAX_FORWARDS,
             headers,

@@ -1,7 +1,9 @@
 //! What is known of a dialog.
 
+use crate::copies::copied_dialog;
 use crate::identifiers::DialogId;
 use sip_uri::Uri;
+use std::alloc::AllocError;
 use std::marker::Model;
 use text::Text;
 
@@ -13,7 +15,7 @@ pub struct Party {
 }
 
 /// The state of a dialog (RFC 3261 section 12). No route set is kept: the server sends each request to the target.
-#[derive(Clone, Debug, Drop)]
+#[derive(Debug, Drop)]
 pub struct Dialog {
     pub id: DialogId,
     /// The local URI, with its display.
@@ -26,4 +28,14 @@ pub struct Dialog {
     pub local_number: Option<u32>,
     /// The number of the other end's last request, if there was one: below 2^31.
     pub remote_number: Option<u32>,
+}
+
+impl Clone for Dialog {
+    ghost use Rattle.std.specs.Prelude.{◌≡◌};
+
+    ghost is_clone = { λ v w. w ≡ v };
+
+    fn clone(&self) -> Result<Dialog, AllocError> {
+        copied_dialog(self)
+    }
 }

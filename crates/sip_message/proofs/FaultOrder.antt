@@ -21,7 +21,7 @@ use Rattle.sip_message.specs.Named.{at_most_one, exactly_one}
 use Rattle.sip_message.specs.Needs.{needs_contact, is_one_address}
 use Rattle.sip_message.specs.Party.{party_of}
 use Rattle.sip_message.specs.Reading.{contents_of}
-use Rattle.sip_message.specs.Values.{each_via, via_texts, some_vias, if_tagged, with_text, from_for, to_of, call_id_of, of_method, with_number, cseq_for, one_address, contact_for, hops_by, hops_of, type_by, type_of, parts_of, values_of, greatest_length, long_enough, body_by, body_of}
+use Rattle.sip_message.specs.Values.{each_via, via_texts, some_vias, if_tagged, with_text, from_for, to_of, call_id_of, of_method, with_number, cseq_for, one_address, contact_for, hops_by, hops_of, type_by, type_of, ends_for, parts_of, hops_behind, values_of, greatest_length, long_enough, body_by, body_of}
 
 -- a fault of header fields or body
 abbrev pub IsContentsFault : MessageError → Type 0
@@ -98,14 +98,17 @@ contact_fits start method fields = step (needs_contact start method) where
   step true = address_fits (contacts_of fields)
   step false = tt
 
+ends_fit : (start : Start) (fields : List Header) → FaultFits (ends_for start fields)
+ends_fit start fields =
+    then_fits (from_for start fields) _ (from_fits start fields) (λ from. then_fits (to_of fields) _ (to_fits fields) (λ to. tt))
+
 parts_fit : (start : Start) (fields : List Header) → FaultFits (parts_of start fields)
 unfolding parts_of
 parts_fit start fields =
     then_fits (some_vias (via_texts fields)) _ (vias_fit (via_texts fields)) (λ vias.
-    then_fits (from_for start fields) _ (from_fits start fields) (λ from.
-    then_fits (to_of fields) _ (to_fits fields) (λ to.
+    then_fits (ends_for start fields) _ (ends_fit start fields) (λ ends.
     then_fits (call_id_of fields) _ (call_id_fits fields) (λ call_id.
-    then_fits (cseq_for start fields) _ (cseq_fits start fields) (λ cseq. tt)))))
+    then_fits (cseq_for start fields) _ (cseq_fits start fields) (λ cseq. tt))))
 
 by_hops : (o : Option (List ℕ)) → FaultFits (hops_by o)
 by_hops None = tt
@@ -121,13 +124,17 @@ by_type (Some text) = test_fits Names.ContentType (is_media_type text) (Some tex
 type_fits : (fields : List Header) → FaultFits (type_of fields)
 type_fits fields = then_fits (at_most_one Names.ContentType (values_named (codes "Content-Type") fields)) type_by (at_most_fits Names.ContentType (values_named (codes "Content-Type") fields)) by_type
 
+behind_fit : (start : Start) (method : List ℕ) (fields : List Header) → FaultFits (hops_behind start method fields)
+behind_fit start method fields =
+    then_fits (contact_for start method fields) _ (contact_fits start method fields) (λ contact.
+    then_fits (hops_of fields) _ (hops_fit fields) (λ hops.
+    then_fits (type_of fields) _ (type_fits fields) (λ content_type. tt)))
+
 values_fit : (start : Start) (fields : List Header) → FaultFits (values_of start fields)
 unfolding values_of
 values_fit start fields =
     then_fits (parts_of start fields) _ (parts_fit start fields) (λ parts.
-    then_fits (contact_for start parts.cseq.method fields) _ (contact_fits start parts.cseq.method fields) (λ contact.
-    then_fits (hops_of fields) _ (hops_fit fields) (λ hops.
-    then_fits (type_of fields) _ (type_fits fields) (λ content_type. tt))))
+    then_fits (hops_behind start parts.cseq.method fields) _ (behind_fit start parts.cseq.method fields) (λ hops. tt))
 
 -- a text or a fault, by a test
 abbrev or_short : Bool → List ℕ → Result (List ℕ) MessageError

@@ -15,10 +15,11 @@ use Rattle.sip_message.specs.declared.headers.Header.{Header}
 use Rattle.sip_message.specs.declared.message.Message.{Message}
 use Rattle.sip_message.specs.declared.message.Message.TheVariants as Kinds
 use Rattle.sip_message.specs.declared.message.Parts.{Parts}
+use Rattle.sip_message.specs.declared.party.Ends.{Ends}
 use Rattle.sip_message.specs.declared.party.Party.{Party}
 use Rattle.sip_message.specs.declared.start.Start.{Start}
 use Rattle.sip_message.specs.declared.via.Via.{Via}
-use Rattle.sip_message.specs.Answerable.{readable_headers, vias_there, party_at, first_party, if_call_id, first_call_id, sequence_at, first_sequence, parts_with, parts_among, ended_lines}
+use Rattle.sip_message.specs.Answerable.{readable_headers, vias_there, party_at, first_party, if_call_id, first_call_id, sequence_at, first_sequence, first_ends, parts_among, ended_lines}
 use Rattle.sip_message.specs.CSeq.{cseq_of}
 use Rattle.sip_message.specs.Fields.{RawField, fields_of, is_raw_field, field_of}
 use Rattle.sip_message.specs.Form.{is_call_id}
@@ -27,7 +28,7 @@ use Rattle.sip_message.specs.Lines.{is_clean}
 use Rattle.sip_message.specs.Lookup.{is_named, first_named, value_named, values_named}
 use Rattle.sip_message.specs.Party.{party_of}
 use Rattle.sip_message.specs.Repeatable.{IsValue, CanBeRepeated, IfRepeatable, parts_in}
-use Rattle.sip_message.specs.Values.{via_texts}
+use Rattle.sip_message.specs.Values.{via_texts, parts_with}
 use Rattle.sip_message.specs.Via.{via_of}
 use Rattle.sip_message.specs.WritingHead.{is_written}
 use Rattle.sip_message.proofs.CleanLaws.{clean_pieces}
@@ -130,20 +131,24 @@ sequence_is hs sequence e k =
     let s = some_map (cseq_of v.0) (λ (c : CSeq). record { text = v.0; cseq = c }) sequence v.2 in
     subst (λ (x : Sequence). IsSequence x) s.2 (record { value = value_written (codes "CSeq") hs v.0 e v.1; reads = s.1 })
 
+abbrev both_ends : Party → Party → Ends
+both_ends from to = record { from = from; to = to }
+
 among_repeatable : (hs : List Header) (parts : Parts) → list_all is_written hs ≡ true → parts_among hs ≡ Some parts → CanBeRepeated parts
 unfolding parts_among
 among_repeatable hs parts e k =
     let vias = some_then (vias_there (via_texts hs)) _ parts k in
-    let from = some_then (first_party (codes "From") hs) _ parts vias.2 in
-    let to = some_then (first_party (codes "To") hs) _ parts from.2 in
-    let call_id = some_then (first_call_id hs) _ parts to.2 in
-    let cseq = some_map (first_sequence hs) (λ (s : Sequence). parts_with vias.0 from.0 to.0 call_id.0 s) parts call_id.2 in
+    let ends = some_then (first_ends hs) _ parts vias.2 in
+    let from = some_then (first_party (codes "From") hs) _ ends.0 ends.1 in
+    let to = some_map (first_party (codes "To") hs) (both_ends from.0) ends.0 from.2 in
+    let call_id = some_then (first_call_id hs) _ parts ends.2 in
+    let cseq = some_map (first_sequence hs) (λ (s : Sequence). parts_with vias.0 ends.0.from ends.0.to call_id.0 s) parts call_id.2 in
     let v = vias_some (via_texts hs) vias.0 vias.1 in
     let f = party_is (codes "From") hs from.0 e from.1 in
     let t = party_is (codes "To") hs to.0 e to.1 in
     let c = call_id_is hs call_id.0 e call_id.1 in
     let s = sequence_is hs cseq.0 e cseq.1 in
-    subst (λ (p : Parts). CanBeRepeated p) cseq.2 (record {
+    subst (λ (p : Parts). CanBeRepeated p) (ap (λ (e : Ends). parts_with vias.0 e.from e.to call_id.0 cseq.0) to.2 ∙ cseq.2) (record {
       some_via = v.0;
       via_texts = via_texts hs;
       vias_clean = pieces_clean (values_named (codes "Via") hs) (values_are (codes "Via") hs e);

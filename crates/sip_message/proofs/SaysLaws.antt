@@ -15,6 +15,7 @@ use Rattle.sip_message.specs.declared.error.MessageError.{MessageError}
 use Rattle.sip_message.specs.declared.error.MessageError.TheVariants.{Missing, Unreadable, Short}
 use Rattle.sip_message.specs.declared.headers.Header.{Header}
 use Rattle.sip_message.specs.declared.message.Parts.{Parts}
+use Rattle.sip_message.specs.declared.party.Ends.{Ends}
 use Rattle.sip_message.specs.declared.party.Party.{Party}
 use Rattle.sip_message.specs.declared.read.Contents.{Contents}
 use Rattle.sip_message.specs.declared.start.Start.{Start}
@@ -30,7 +31,7 @@ use Rattle.sip_message.specs.Named.{at_most_one, exactly_one}
 use Rattle.sip_message.specs.Needs.{is_tagged_for, is_method_for, needs_contact, is_one_address}
 use Rattle.sip_message.specs.Party.{party_of}
 use Rattle.sip_message.specs.Reading.{contents_of}
-use Rattle.sip_message.specs.Values.{with_via, each_via, via_texts, some_vias, if_tagged, with_text, from_for, to_of, call_id_of, of_method, with_number, cseq_for, one_address, contact_for, hops_by, hops_of, type_by, type_of, parts_of, values_of, greatest_length, long_enough, body_by, body_of}
+use Rattle.sip_message.specs.Values.{with_via, each_via, via_texts, some_vias, if_tagged, with_text, from_for, to_of, call_id_of, of_method, with_number, cseq_for, one_address, contact_for, hops_by, hops_of, type_by, type_of, ends_for, parts_with, parts_of, hops_behind, values_of, greatest_length, long_enough, body_by, body_of}
 use Rattle.sip_message.specs.Via.{via_of}
 
 -- ---- steps
@@ -179,32 +180,25 @@ cseq_is start fields s h =
 
 -- ---- the parts
 
-abbrev parts_from : List Via → Party → Party → List ℕ → Sequence → Parts
-parts_from vias from to call_id cseq = record {
-  vias = vias;
-  from = from.name;
-  to = to.name;
-  call_id = call_id;
-  cseq = cseq.cseq;
-  from_text = from.text;
-  to_text = to.text;
-  cseq_text = cseq.text;
-}
+abbrev both_ends : Party → Party → Ends
+both_ends from to = record { from = from; to = to }
 
 parts_are : (start : Start) (fields : List Header) (parts : Parts) → parts_of start fields ≡ Ok parts → SaysParts start fields parts
 unfolding parts_of
 parts_are start fields parts h =
     let vias = then_ok (some_vias (via_texts fields)) _ parts h in
-    let from = then_ok (from_for start fields) _ parts vias.2 in
-    let to = then_ok (to_of fields) _ parts from.2 in
-    let id = then_ok (call_id_of fields) _ parts to.2 in
+    let ends = then_ok (ends_for start fields) _ parts vias.2 in
+    let from = then_ok (from_for start fields) _ ends.0 ends.1 in
+    let to = then_ok (to_of fields) _ ends.0 from.2 in
+    let both : both_ends from.0 to.0 ≡ ends.0 = ok_is (both_ends from.0 to.0) ends.0 to.2 in
+    let id = then_ok (call_id_of fields) _ parts ends.2 in
     let cseq = then_ok (cseq_for start fields) _ parts id.2 in
     let v = some_vias_are (via_texts fields) vias.0 vias.1 in
     let f = from_is start fields from.0 from.1 in
     let t = to_is fields to.0 to.1 in
     let i = call_id_is fields id.0 id.1 in
     let c = cseq_is start fields cseq.0 cseq.1 in
-    subst (λ (p : Parts). SaysParts start fields p) (ok_is (parts_from vias.0 from.0 to.0 id.0 cseq.0) parts cseq.2) (record {
+    subst (λ (p : Parts). SaysParts start fields p) (ap (λ (e : Ends). parts_with vias.0 e.from e.to id.0 cseq.0) both ∙ ok_is (parts_with vias.0 ends.0.from ends.0.to id.0 cseq.0) parts cseq.2) (record {
       some_via = v.there;
       each_via = v.each;
       one_from = f.0.one;
@@ -331,10 +325,12 @@ values_are : (start : Start) (fields : List Header) (v : Values) → values_of s
 unfolding values_of
 values_are start fields v h =
     let parts = then_ok (parts_of start fields) _ v h in
-    let contact = then_ok (contact_for start parts.0.cseq.method fields) _ v parts.2 in
-    let hops = then_ok (hops_of fields) _ v contact.2 in
-    let kind = then_ok (type_of fields) _ v hops.2 in
-    subst (λ (x : Values). SaysValues start fields x) (ok_is (values parts.0 hops.0) v kind.2) (record {
+    let behind = then_ok (hops_behind start parts.0.cseq.method fields) _ v parts.2 in
+    let contact = then_ok (contact_for start parts.0.cseq.method fields) _ behind.0 behind.1 in
+    let hops = then_ok (hops_of fields) _ behind.0 contact.2 in
+    let kind = then_ok (type_of fields) _ behind.0 hops.2 in
+    let same : values parts.0 hops.0 ≡ v = ap (values parts.0) (ok_is hops.0 behind.0 kind.2) ∙ ok_is (values parts.0 behind.0) v behind.2 in
+    subst (λ (x : Values). SaysValues start fields x) same (record {
       says_parts = parts_are start fields parts.0 parts.1;
       says_contact = contact_is start parts.0.cseq.method fields contact.0 contact.1;
       says_hops = hops_are (values_named (codes "Max-Forwards") fields) hops.0 hops.1;

@@ -6,6 +6,7 @@ use Rattle.text.specs.Cut.{before, after}
 use Rattle.sip_message.specs.declared.cseq.Sequence.{Sequence}
 use Rattle.sip_message.specs.declared.headers.Header.{Header}
 use Rattle.sip_message.specs.declared.message.Parts.{Parts}
+use Rattle.sip_message.specs.declared.party.Ends.{Ends}
 use Rattle.sip_message.specs.declared.party.Party.{Party}
 use Rattle.sip_message.specs.declared.via.Via.{Via}
 use Rattle.sip_message.specs.CSeq.{cseq_of}
@@ -15,7 +16,7 @@ use Rattle.sip_message.specs.Lines.{begins_line_end, before_line_end, after_line
 use Rattle.sip_message.specs.Lookup.{value_named}
 use Rattle.sip_message.specs.Party.{party_of}
 use Rattle.sip_message.specs.Start.{begins_sip, is_part}
-use Rattle.sip_message.specs.Values.{each_via, via_texts}
+use Rattle.sip_message.specs.Values.{each_via, via_texts, parts_with}
 
 -- ---- the request line
 
@@ -88,28 +89,18 @@ sequence_at text = option_map (λ cseq. record { text = text; cseq = cseq }) (cs
 abbrev pub first_sequence : List Header → Option Sequence
 first_sequence headers = option_and_then sequence_at (value_named (codes "CSeq") headers)
 
-abbrev pub parts_with : List Via → Party → Party → List ℕ → Sequence → Parts
-parts_with vias from to call_id cseq = record {
-  vias = vias;
-  from = from.name;
-  to = to.name;
-  call_id = call_id;
-  cseq = cseq.cseq;
-  from_text = from.text;
-  to_text = to.text;
-  cseq_text = cseq.text;
-}
+abbrev pub first_ends : List Header → Option Ends
+first_ends headers =
+    option_and_then (λ from. option_map (λ to. record { from = from; to = to }) (first_party (codes "To") headers)) (first_party (codes "From") headers)
 
 unfoldable pub parts_among : List Header → Option Parts
 parts_among headers =
     option_and_then (λ vias.
-    option_and_then (λ from.
-    option_and_then (λ to.
+    option_and_then (λ ends.
     option_and_then (λ call_id.
-    option_map (λ cseq. parts_with vias from to call_id cseq) (first_sequence headers))
+    option_map (λ cseq. parts_with vias ends.from ends.to call_id cseq) (first_sequence headers))
     (first_call_id headers))
-    (first_party (codes "To") headers))
-    (first_party (codes "From") headers))
+    (first_ends headers))
     (vias_there (via_texts headers))
 
 -- ---- all

@@ -14,6 +14,7 @@ use Rattle.sip_message.specs.declared.headers.Header.{Header}
 use Rattle.sip_message.specs.declared.cseq.CSeq.{CSeq}
 use Rattle.sip_message.specs.declared.via.Via.{Via}
 use Rattle.sip_message.specs.declared.message.Parts.{Parts}
+use Rattle.sip_message.specs.declared.party.Ends.{Ends}
 use Rattle.sip_message.specs.declared.party.Party.{Party}
 use Rattle.sip_message.specs.declared.cseq.Sequence.{Sequence}
 use Rattle.sip_message.specs.declared.values.Values.{Values}
@@ -113,31 +114,39 @@ type_of headers = and_then (at_most_one Names.ContentType (values_named (codes "
 
 -- ---- all
 
+abbrev pub ends_for : Start → List Header → Result Ends MessageError
+ends_for start headers = and_then (from_for start headers) (λ from. and_then (to_of headers) (λ to. Ok (record { from = from; to = to })))
+
+abbrev pub parts_with : List Via → Party → Party → List ℕ → Sequence → Parts
+parts_with vias from to call_id cseq = record {
+  vias = vias;
+  from = from.name;
+  to = to.name;
+  call_id = call_id;
+  cseq = cseq.cseq;
+  from_text = from.text;
+  to_text = to.text;
+  cseq_text = cseq.text;
+}
+
 unfoldable pub parts_of : Start → List Header → Result Parts MessageError
 parts_of start headers =
     and_then (some_vias (via_texts headers)) (λ vias.
-    and_then (from_for start headers) (λ from.
-    and_then (to_of headers) (λ to.
+    and_then (ends_for start headers) (λ ends.
     and_then (call_id_of headers) (λ call_id.
     and_then (cseq_for start headers) (λ cseq.
-    Ok (record {
-      vias = vias;
-      from = from.name;
-      to = to.name;
-      call_id = call_id;
-      cseq = cseq.cseq;
-      from_text = from.text;
-      to_text = to.text;
-      cseq_text = cseq.text;
-    }))))))
+    Ok (parts_with vias ends.from ends.to call_id cseq)))))
+
+-- the hops, where Contact, Max-Forwards and Content-Type can be read
+abbrev pub hops_behind : Start → List ℕ → List Header → Result ℕ MessageError
+hops_behind start method headers =
+    and_then (contact_for start method headers) (λ contact. and_then (hops_of headers) (λ hops. and_then (type_of headers) (λ content_type. Ok hops)))
 
 unfoldable pub values_of : Start → List Header → Result Values MessageError
 values_of start headers =
     and_then (parts_of start headers) (λ parts.
-    and_then (contact_for start parts.cseq.method headers) (λ contact.
-    and_then (hops_of headers) (λ hops.
-    and_then (type_of headers) (λ content_type.
-    Ok (record { parts = parts; max_forwards = hops })))))
+    and_then (hops_behind start parts.cseq.method headers) (λ hops.
+    Ok (record { parts = parts; max_forwards = hops })))
 
 -- ---- the body
 

@@ -1,8 +1,12 @@
 //! Messages.
 
+ghost use Rattle.std.specs.Prelude.{◌≡◌};
+ghost use Rattle.sip_message.specs.Values.{parts_with};
+
 use crate::copies::copied_parts;
-use crate::cseq::CSeq;
+use crate::cseq::{CSeq, Sequence};
 use crate::headers::Headers;
+use crate::party::Ends;
 use crate::via::Via;
 use sip_uri::{NameAddr, Uri};
 use std::alloc::AllocError;
@@ -70,6 +74,23 @@ impl Clone for Parts {
 
     fn clone(&self) -> Result<Parts, AllocError> {
         copied_parts(self)
+    }
+}
+
+/// The parts of these values. With no way out it keeps the proofs of those that read or copy them short.
+pub(crate) fn parts_with(vias: Vias, ends: Ends, call_id: Text, sequence: Sequence) -> Parts
+    ensures { result ≡ parts_with vias ends.from ends.to call_id sequence }
+{
+    let Ends { from, to } = ends;
+    Parts {
+        vias,
+        from: from.name,
+        to: to.name,
+        call_id,
+        cseq: sequence.cseq,
+        from_text: from.text,
+        to_text: to.text,
+        cseq_text: sequence.text,
     }
 }
 

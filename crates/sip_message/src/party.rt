@@ -15,6 +15,13 @@ pub(crate) struct Party {
     pub name: NameAddr,
 }
 
+/// From and To.
+#[derive(Drop)]
+pub(crate) struct Ends {
+    pub from: Party,
+    pub to: Party,
+}
+
 fn tag_fits(tag: Option<&Param>) -> bool
     ensures { result ≡ tag_fits (option_copied tag.entry) }
 {

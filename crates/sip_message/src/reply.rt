@@ -9,10 +9,10 @@ ghost use Rattle.sip_message.specs.Repeatable.{CanBeRepeated, IsReadAgain};
 ghost use Rattle.sip_message.specs.Replies.{Replies};
 ghost use Rattle.sip_message.specs.Reply.{marked_top, puts_tag, tagged_params, tagged_to, tagged_text, replied, via_text, reply_headers, reply_of, tag_param, via_headers, answer_port, answer_address};
 
-use crate::copies::{copied_cseq, copied_display, copied_name, copied_text, copied_uri};
+use crate::copies::{copied_display, copied_party, copied_sequence, copied_text, copied_uri};
 use crate::headers::{Header, Headers};
-use crate::message::{Parts, Response, Vias};
-use crate::party::has_tag;
+use crate::message::{Parts, Response, Vias, parts_with};
+use crate::party::{Ends, Party, has_tag};
 use crate::reasons::reason_of;
 use crate::received::{asks_port, marked, numbers_fit};
 use crate::via::Via;
@@ -140,6 +140,27 @@ fn tagged_text(status: u16, to: &NameAddr, text: &Text, tag: &[u8]) -> Result<Te
     Ok(Text::from_vec(bytes))
 }
 
+fn replied_to(alloc: Global, parts: &Parts, status: u16, tag: &[u8]) -> Result<Party, AllocError>
+    ensures name { IfOk result (λ to. to.name ≡ tagged_to status parts.now.to tag.now) }
+    ensures text { IfOk result (λ to. to.text ≡ tagged_text status parts.now.to parts.now.to_text tag.now) }
+{
+    Ok(Party {
+        text: tagged_text(status, &parts.to, &parts.to_text, tag)?,
+        name: tagged_to(alloc, status, &parts.to, tag)?,
+    })
+}
+
+fn replied_ends(alloc: Global, parts: &Parts, status: u16, tag: &[u8]) -> Result<Ends, AllocError>
+    ensures from { IfOk result (λ ends. (ends.from.name ≡ parts.now.from) × (ends.from.text ≡ parts.now.from_text)) }
+    ensures name { IfOk result (λ ends. ends.to.name ≡ tagged_to status parts.now.to tag.now) }
+    ensures text { IfOk result (λ ends. ends.to.text ≡ tagged_text status parts.now.to parts.now.to_text tag.now) }
+{
+    Ok(Ends {
+        from: copied_party(&parts.from, &parts.from_text)?,
+        to: replied_to(alloc, parts, status, tag)?,
+    })
+}
+
 #[tactic(auto, unfolding(crate::specs::Reply::replied))]
 fn replied(
     alloc: Global,
@@ -151,18 +172,10 @@ fn replied(
     ensures { IfOk result (λ p. p ≡ replied parts.now source status tag.now) }
 {
     let vias = marked_top(alloc, &parts.vias, source)?;
-    let to = tagged_to(alloc, status, &parts.to, tag)?;
-    let to_text = tagged_text(status, &parts.to, &parts.to_text, tag)?;
-    Ok(Parts {
-        vias,
-        from: copied_name(&parts.from)?,
-        to,
-        call_id: copied_text(&parts.call_id)?,
-        cseq: copied_cseq(&parts.cseq)?,
-        from_text: copied_text(&parts.from_text)?,
-        to_text,
-        cseq_text: copied_text(&parts.cseq_text)?,
-    })
+    let ends = replied_ends(alloc, parts, status, tag)?;
+    let call_id = copied_text(&parts.call_id)?;
+    let cseq = copied_sequence(parts)?;
+    Ok(parts_with(vias, ends, call_id, cseq))
 }
 
 #[tactic(auto, unfolding(crate::specs::Reply::reply_of))]

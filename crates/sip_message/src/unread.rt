@@ -3,7 +3,7 @@
 ghost use Rattle.std.specs.Prelude.{◌≡◌, codes, option_map, IfOk};
 ghost use Rattle.std.specs.Option.{option_copied};
 ghost use Rattle.sip_message.specs.Repeatable.{IfRepeatable};
-ghost use Rattle.sip_message.specs.Answerable.{is_part_there, are_two_parts, asks_answer, is_asking_line, ended_lines, readable_headers, vias_there, party_at, first_party, first_call_id, sequence_at, first_sequence, parts_among, parts_behind, answerable_of};
+ghost use Rattle.sip_message.specs.Answerable.{is_part_there, are_two_parts, asks_answer, is_asking_line, ended_lines, readable_headers, vias_there, party_at, first_party, first_call_id, sequence_at, first_sequence, first_ends, parts_among, parts_behind, answerable_of};
 ghost use Rattle.sip_message.specs.Lines.{texts};
 ghost use Rattle.sip_message.specs.Values.{via_texts};
 
@@ -12,8 +12,8 @@ use crate::form::is_call_id;
 use crate::headers::Header;
 use crate::lines::{ended_lines, first_line};
 use crate::lookup::first_value;
-use crate::message::{Parts, Vias};
-use crate::party::{Party, read_party};
+use crate::message::{Parts, Vias, parts_with};
+use crate::party::{Ends, Party, read_party};
 use crate::readable::readable_headers;
 use crate::start::{begins_sip, is_part};
 use crate::vias::read_each;
@@ -97,6 +97,18 @@ fn first_sequence(alloc: Global, headers: &[Header]) -> Result<Option<Sequence>,
     }
 }
 
+fn first_ends(alloc: Global, headers: &[Header]) -> Result<Option<Ends>, AllocError>
+    ensures { IfOk result (λ ends. ends ≡ first_ends headers.now) }
+{
+    let Some(from) = first_party(alloc, headers, b"From")? else {
+        return Ok(None);
+    };
+    match first_party(alloc, headers, b"To")? {
+        Some(to) => Ok(Some(Ends { from, to })),
+        None => Ok(None),
+    }
+}
+
 #[tactic(auto, unfolding(crate::specs::Answerable::parts_among))]
 fn parts_among(alloc: Global, headers: &[Header]) -> Result<Option<Parts>, AllocError>
     ensures { IfOk result (λ parts. parts ≡ parts_among headers.now) }
@@ -104,28 +116,16 @@ fn parts_among(alloc: Global, headers: &[Header]) -> Result<Option<Parts>, Alloc
     let Some(vias) = read_each(alloc, headers)? else {
         return Ok(None);
     };
-    let Some(from) = first_party(alloc, headers, b"From")? else {
-        return Ok(None);
-    };
-    let Some(to) = first_party(alloc, headers, b"To")? else {
+    let Some(ends) = first_ends(alloc, headers)? else {
         return Ok(None);
     };
     let Some(call_id) = first_call_id(headers)? else {
         return Ok(None);
     };
-    let Some(cseq) = first_sequence(alloc, headers)? else {
-        return Ok(None);
-    };
-    Ok(Some(Parts {
-        vias: Vias::from_vec(vias),
-        from: from.name,
-        to: to.name,
-        call_id,
-        cseq: cseq.cseq,
-        from_text: from.text,
-        to_text: to.text,
-        cseq_text: cseq.text,
-    }))
+    match first_sequence(alloc, headers)? {
+        Some(cseq) => Ok(Some(parts_with(Vias::from_vec(vias), ends, call_id, cseq))),
+        None => Ok(None),
+    }
 }
 
 fn parts_behind(alloc: Global, rest: &[u8]) -> Result<Option<Parts>, AllocError>

@@ -1,17 +1,17 @@
 //! What the header fields of a message say.
 
 ghost use Rattle.sip_message.specs.Faults.{Gives};
-ghost use Rattle.sip_message.specs.Values.{from_for, to_of, call_id_of, cseq_for, contact_for, hops_of, type_of, parts_of, values_of};
+ghost use Rattle.sip_message.specs.Values.{from_for, to_of, call_id_of, cseq_for, contact_for, hops_of, type_of, ends_for, parts_of, hops_behind, values_of};
 
 use crate::contact::{ContactValue, contact_values};
 use crate::cseq::{Sequence, read_cseq};
 use crate::error::{HeaderName, MessageError};
 use crate::form::{is_call_id, is_media_type, read_max_forwards};
 use crate::headers::Header;
-use crate::message::Parts;
+use crate::message::{Parts, parts_with};
 use crate::named::{at_most_one, exactly_one};
 use crate::needs::{is_method_for, is_tagged_for, needs_contact};
-use crate::party::{Party, read_party};
+use crate::party::{Ends, Party, read_party};
 use crate::start::Start;
 use crate::vias::read_vias;
 use std::alloc::Global;
@@ -122,26 +122,41 @@ fn check_contact(
     }
 }
 
+#[tactic(auto, using(crate::proofs::FaultLaws::failed_then))]
+fn read_ends(alloc: Global, start: &Start, headers: &[Header]) -> Result<Ends, MessageError>
+    ensures { Gives result (ends_for start.now headers.now) }
+{
+    let from = read_from(alloc, start, headers)?;
+    let to = read_to(alloc, headers)?;
+    Ok(Ends { from, to })
+}
+
 /// What an answer repeats of the request.
 #[tactic(auto, unfolding(crate::specs::Values::parts_of), using(crate::proofs::FaultLaws::failed_then))]
 fn read_parts(alloc: Global, start: &Start, headers: &[Header]) -> Result<Parts, MessageError>
     ensures { Gives result (parts_of start.now headers.now) }
 {
     let vias = read_vias(alloc, headers)?;
-    let from = read_from(alloc, start, headers)?;
-    let to = read_to(alloc, headers)?;
+    let ends = read_ends(alloc, start, headers)?;
     let call_id = read_call_id(headers)?;
     let cseq = read_cseq_for(alloc, start, headers)?;
-    Ok(Parts {
-        vias,
-        from: from.name,
-        to: to.name,
-        call_id,
-        cseq: cseq.cseq,
-        from_text: from.text,
-        to_text: to.text,
-        cseq_text: cseq.text,
-    })
+    Ok(parts_with(vias, ends, call_id, cseq))
+}
+
+/// The hops of a message whose Contact and Content-Type can be read.
+#[tactic(auto, using(crate::proofs::FaultLaws::failed_then))]
+fn read_hops_behind(
+    alloc: Global,
+    start: &Start,
+    method: &Text,
+    headers: &[Header],
+) -> Result<u8, MessageError>
+    ensures { Gives result (hops_behind start.now method.now headers.now) }
+{
+    check_contact(alloc, start, method, headers)?;
+    let max_forwards = read_hops(headers)?;
+    let _content_type = read_type(alloc, headers)?;
+    Ok(max_forwards)
 }
 
 /// The values of a message's header fields. The faults come in the order of `HeaderName`.
@@ -154,9 +169,7 @@ pub(crate) fn read_values(
     ensures { Gives result (values_of start.now headers.now) }
 {
     let parts = read_parts(alloc, start, headers)?;
-    check_contact(alloc, start, &parts.cseq.method, headers)?;
-    let max_forwards = read_hops(headers)?;
-    let _content_type = read_type(alloc, headers)?;
+    let max_forwards = read_hops_behind(alloc, start, &parts.cseq.method, headers)?;
     Ok(Values {
         parts,
         max_forwards,

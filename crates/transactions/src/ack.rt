@@ -2,6 +2,7 @@
 
 ghost use Rattle.std.specs.Prelude.{◌≡◌, IfOk};
 ghost use Rattle.std.specs.Option.{option_copied};
+ghost use Rattle.sip_uri.specs.NameAddr.{name_addr_text};
 ghost use Rattle.sip_message.specs.Writing.{message_text};
 ghost use Rattle.sip_message.specs.declared.message.Message.TheVariants as Kinds;
 ghost use Rattle.transactions.specs.Ack.{top_only, tag_params, ack_to, ack_cseq, ack_cseq_text, ack_parts, ack_headers, ack_of};
@@ -68,22 +69,91 @@ fn ack_cseq(alloc: Global, number: u32) -> Result<CSeq, AllocError>
     Ok(CSeq { number, method })
 }
 
+// A name, and its text.
+#[derive(Drop)]
+struct End {
+    name: NameAddr,
+    text: Text,
+}
+
+// From and To of an ACK.
+#[derive(Drop)]
+struct Ends {
+    from: End,
+    to: End,
+}
+
+// A CSeq, and its text.
+#[derive(Drop)]
+struct Sequence {
+    cseq: CSeq,
+    text: Text,
+}
+
+fn ack_from(invite: &Parts) -> Result<End, AllocError>
+    ensures name { IfOk result (λ from. from.name ≡ invite.now.from) }
+    ensures text { IfOk result (λ from. from.text ≡ invite.now.from_text) }
+{
+    let name = copied_name(&invite.from)?;
+    let text = copied_text(&invite.from_text)?;
+    Ok(End { name, text })
+}
+
+fn written_to(alloc: Global, to: &NameAddr) -> Result<End, AllocError>
+    ensures name { IfOk result (λ end. end.name ≡ ack_to to.now) }
+    ensures text { IfOk result (λ end. end.text ≡ name_addr_text (ack_to to.now)) }
+{
+    let name = ack_to(alloc, to)?;
+    let text = write_name_addr(alloc, &name)?;
+    Ok(End { name, text })
+}
+
+fn ack_ends(alloc: Global, invite: &Parts, to: &NameAddr) -> Result<Ends, AllocError>
+    ensures from { IfOk result (λ ends. ends.from.name ≡ invite.now.from) }
+    ensures from_text { IfOk result (λ ends. ends.from.text ≡ invite.now.from_text) }
+    ensures to { IfOk result (λ ends. ends.to.name ≡ ack_to to.now) }
+    ensures to_text { IfOk result (λ ends. ends.to.text ≡ name_addr_text (ack_to to.now)) }
+{
+    let from = ack_from(invite)?;
+    let to = written_to(alloc, to)?;
+    Ok(Ends { from, to })
+}
+
+fn ack_sequence(alloc: Global, number: u32) -> Result<Sequence, AllocError>
+    ensures cseq { IfOk result (λ s. s.cseq ≡ ack_cseq number) }
+    ensures text { IfOk result (λ s. s.text ≡ ack_cseq_text number) }
+{
+    let cseq = ack_cseq(alloc, number)?;
+    let text = cseq_text(alloc, number)?;
+    Ok(Sequence { cseq, text })
+}
+
+// The parts of these values. With no way out it keeps the proof of `ack_parts` short.
+fn parts_with(vias: Vias, ends: Ends, call_id: Text, sequence: Sequence) -> Parts
+    ensures { result ≡ record { vias = vias; from = ends.from.name; to = ends.to.name; call_id = call_id; cseq = sequence.cseq; from_text = ends.from.text; to_text = ends.to.text; cseq_text = sequence.text } }
+{
+    let Ends { from, to } = ends;
+    Parts {
+        vias,
+        from: from.name,
+        to: to.name,
+        call_id,
+        cseq: sequence.cseq,
+        from_text: from.text,
+        to_text: to.text,
+        cseq_text: sequence.text,
+    }
+}
+
 #[tactic(auto, unfolding(crate::specs::Ack::ack_parts))]
 fn ack_parts(alloc: Global, invite: &Parts, answer: &Parts) -> Result<Parts, AllocError>
     ensures { IfOk result (λ p. p ≡ ack_parts invite.now answer.now) }
 {
-    let to = ack_to(alloc, &answer.to)?;
-    let to_text = write_name_addr(alloc, &to)?;
-    Ok(Parts {
-        vias: top_only(alloc, invite.vias.as_slice())?,
-        from: copied_name(&invite.from)?,
-        to,
-        call_id: copied_text(&invite.call_id)?,
-        cseq: ack_cseq(alloc, invite.cseq.number)?,
-        from_text: copied_text(&invite.from_text)?,
-        to_text,
-        cseq_text: cseq_text(alloc, invite.cseq.number)?,
-    })
+    let vias = top_only(alloc, invite.vias.as_slice())?;
+    let ends = ack_ends(alloc, invite, &answer.to)?;
+    let call_id = copied_text(&invite.call_id)?;
+    let sequence = ack_sequence(alloc, invite.cseq.number)?;
+    Ok(parts_with(vias, ends, call_id, sequence))
 }
 
 #[tactic(auto, unfolding(crate::specs::Ack::ack_headers))]
@@ -103,10 +173,10 @@ fn ack_headers(alloc: Global, parts: &Parts) -> Result<Headers, AllocError>
 fn ack_of(alloc: Global, uri: &Uri, invite: &Parts, answer: &Parts) -> Result<Request, AllocError>
     ensures { IfOk result (λ r. r ≡ ack_of uri.now invite.now answer.now) }
 {
-    let parts = ack_parts(alloc, invite, answer)?;
-    let headers = ack_headers(alloc, &parts)?;
     let uri = copied_uri(uri)?;
     let method = Text::from_slice(alloc, b"ACK")?;
+    let parts = ack_parts(alloc, invite, answer)?;
+    let headers = ack_headers(alloc, &parts)?;
     Ok(Request {
         method,
         uri,

@@ -399,17 +399,26 @@ fn place(
     Ok(())
 }
 
-// The next state of transaction id, or its end.
-fn write(slots: &mut Vec<Option<Transaction>>, id: usize, next: Option<State>, fresh: Option<Text>)
+// The next state of transaction id.
+fn advance_at(slots: &mut Vec<Option<Transaction>>, id: usize, state: State, fresh: Option<Text>)
     requires { IsSome (at slots.old.items id) }
-    ensures { (t : Transaction) → at slots.old.items id ≡ Some t → slots.new.items ≡ slice_set slots.old.items id (option_map (went t fresh) next) }
+    ensures { (t : Transaction) → at slots.old.items id ≡ Some t → slots.new.items ≡ slice_set slots.old.items id (Some (went t fresh state)) }
 {
     let slot = &mut slots[id];
     let Some(transaction) = slot.take() else {
         unreachable!()
     };
-    if let Some(state) = next {
-        *slot = Some(went(transaction, fresh, state));
+    *slot = Some(went(transaction, fresh, state));
+}
+
+// The next state of transaction id, or its end.
+fn write(slots: &mut Vec<Option<Transaction>>, id: usize, next: Option<State>, fresh: Option<Text>)
+    requires { IsSome (at slots.old.items id) }
+    ensures { (t : Transaction) → at slots.old.items id ≡ Some t → slots.new.items ≡ slice_set slots.old.items id (option_map (went t fresh) next) }
+{
+    match next {
+        Some(state) => advance_at(slots, id, state, fresh),
+        None => slots[id] = None,
     }
 }
 
