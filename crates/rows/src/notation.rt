@@ -15,7 +15,7 @@ struct Named {
 
 /// The texts that were written down.
 #[derive(Drop)]
-pub(crate) struct Notation {
+pub struct Notation {
     texts: Vec<Named>,
 }
 
@@ -64,14 +64,14 @@ fn unescaped(alloc: Global, word: &[u8]) -> Result<Vec<u8>, AllocError> {
 }
 
 impl Notation {
-    pub(crate) fn new(alloc: Global) -> Notation {
+    pub fn new(alloc: Global) -> Notation {
         Notation {
             texts: Vec::new(alloc),
         }
     }
 
     /// Whether a line is no row: an empty one, a comment behind `#`, or one that writes a text down.
-    pub(crate) fn takes(&mut self, alloc: Global, line: &str) -> Result<bool, AllocError> {
+    pub fn takes(&mut self, alloc: Global, line: &str) -> Result<bool, AllocError> {
         if let Some(name) = line.strip_prefix('=') {
             self.texts.push(Named {
                 name: name.to_string(alloc)?,
@@ -106,7 +106,7 @@ impl Notation {
     }
 
     /// The texts that the words of a row stand for.
-    pub(crate) fn texts_of(&self, alloc: Global, words: &[&str]) -> Result<Texts, AllocError> {
+    pub fn texts_of(&self, alloc: Global, words: &[&str]) -> Result<Texts, AllocError> {
         let mut texts = Vec::new(alloc);
         for word in words {
             texts.push(self.text_of(alloc, word)?)?;
@@ -133,7 +133,7 @@ fn put_shown(out: &mut String, byte: u8) -> Result<(), AllocError> {
 }
 
 /// Bytes as a row writes them.
-pub(crate) fn shown(alloc: Global, bytes: &[u8]) -> Result<String, AllocError> {
+pub fn shown(alloc: Global, bytes: &[u8]) -> Result<String, AllocError> {
     let mut out = String::new(alloc);
     for byte in bytes {
         put_shown(&mut out, *byte)?;
@@ -142,9 +142,24 @@ pub(crate) fn shown(alloc: Global, bytes: &[u8]) -> Result<String, AllocError> {
 }
 
 /// A number of a row; 0 where the word is none.
-pub(crate) fn number(word: &[u8]) -> u64 {
+pub fn number(word: &[u8]) -> u64 {
     match str::from_utf8(word) {
         Ok(word) => word.parse::<u64>().unwrap_or(0),
         Err(_) => 0,
     }
+}
+
+/// A number of a row below 2^16, as a port or a status; 0 where the word is none.
+pub fn u16_of(word: &[u8]) -> u16 {
+    u16::try_from(number(word)).unwrap_or(0)
+}
+
+/// A number of a row below 2^32; 0 where the word is none.
+pub fn u32_of(word: &[u8]) -> u32 {
+    u32::try_from(number(word)).unwrap_or(0)
+}
+
+/// A length or a place of a row; 0 where the word is none.
+pub fn usize_of(word: &[u8]) -> usize {
+    usize::try_from(number(word)).unwrap_or(0)
 }

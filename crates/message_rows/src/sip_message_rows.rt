@@ -1,0 +1,253 @@
+//! Rows of calls of `sip_message`.
+
+use crate::header_rows::of_headers;
+use crate::message_texts::{contacts_text, headers_text, parts_text, summary, vias_text};
+use rows::{address_of, address_words, number, said, shown, u16_of};
+use sip_message::{
+    Header, Message, MessageError, Parts, Response, Via, Vias, answerable, contacts, one_message,
+    read_message, reply_address, reply_to, via_headers, write_message, write_request,
+    write_response,
+};
+use sip_uri::Addr;
+use std::alloc::{AllocError, Global};
+use text::{Text, is_run_of_token};
+
+/// The message of these bytes, in a list of one, which is dropped as a whole.
+pub(crate) fn message_of(alloc: Global, bytes: &[u8]) -> Result<Vec<Message>, MessageError> {
+    let messages = vec![in alloc; read_message(alloc, bytes)?]?;
+    Ok(messages)
+}
+
+/// A fault in its words. Want of memory goes up.
+pub(crate) fn fault_text(alloc: Global, fault: MessageError) -> Result<String, AllocError> {
+    match fault {
+        MessageError::OutOfMemory => Err(AllocError),
+        fault => fault.to_string(alloc),
+    }
+}
+
+/// What an answer to the message repeats.
+fn parts_in(message: &Message) -> &Parts {
+    match message {
+        Message::Request(request) => &request.parts,
+        Message::Response(response) => &response.parts,
+    }
+}
+
+fn headers_in(message: &Message) -> &[Header] {
+    match message {
+        Message::Request(request) => request.headers.as_slice(),
+        Message::Response(response) => response.headers.as_slice(),
+    }
+}
+
+fn body_in(message: &Message) -> &[u8] {
+    match message {
+        Message::Request(request) => request.body.as_bytes(),
+        Message::Response(response) => response.body.as_bytes(),
+    }
+}
+
+/// The bytes of a message by the call for its kind.
+fn written_by_kind(alloc: Global, message: &Message) -> Result<Text, AllocError> {
+    match message {
+        Message::Request(request) => write_request(alloc, request),
+        Message::Response(response) => write_response(alloc, response),
+    }
+}
+
+fn by_kind_shown(alloc: Global, message: &Message) -> Result<String, AllocError> {
+    let text = written_by_kind(alloc, message)?;
+    shown(alloc, text.as_bytes())
+}
+
+fn message_shown(alloc: Global, message: &Message) -> Result<String, AllocError> {
+    let text = write_message(alloc, message)?;
+    shown(alloc, text.as_bytes())
+}
+
+fn response_shown(alloc: Global, response: &Response) -> Result<String, AllocError> {
+    let text = write_response(alloc, response)?;
+    shown(alloc, text.as_bytes())
+}
+
+/// The bytes of the answer to a request with these parts.
+fn reply_text(
+    alloc: Global,
+    parts: &Parts,
+    source: Addr,
+    status: u16,
+    tag: &[u8],
+) -> Result<String, AllocError> {
+    if !is_run_of_token(tag) {
+        return said(alloc, "no token");
+    }
+    let response = reply_to(alloc, parts, source, status, tag)?;
+    response_shown(alloc, &response)
+}
+
+/// A copy of the parts.
+fn copied_text(alloc: Global, parts: &Parts) -> Result<String, AllocError> {
+    let copy = parts.clone()?;
+    parts_text(alloc, &copy)
+}
+
+/// What can be answered of a request that can't be read, in a list of one, or none.
+fn found(alloc: Global, bytes: &[u8]) -> Result<Vec<Parts>, AllocError> {
+    match answerable(alloc, bytes)? {
+        Some(parts) => Ok(vec![in alloc; parts]?),
+        None => Ok(Vec::new(alloc)),
+    }
+}
+
+fn found_parts_text(alloc: Global, bytes: &[u8]) -> Result<String, AllocError> {
+    let parts = found(alloc, bytes)?;
+    match parts.first() {
+        Some(parts) => parts_text(alloc, parts),
+        None => said(alloc, "nothing"),
+    }
+}
+
+/// The answer to a request that can't be read, where there is one.
+fn found_reply_text(
+    alloc: Global,
+    bytes: &[u8],
+    source: Addr,
+    status: u16,
+    tag: &[u8],
+) -> Result<String, AllocError> {
+    let parts = found(alloc, bytes)?;
+    match parts.first() {
+        Some(parts) => reply_text(alloc, parts, source, status, tag),
+        None => said(alloc, "nothing"),
+    }
+}
+
+fn via_headers_text(alloc: Global, vias: &[Via]) -> Result<String, AllocError> {
+    let headers = via_headers(alloc, vias)?;
+    headers_text(alloc, headers.as_slice())
+}
+
+/// The Via values, taken out of a copy of their list and put into a list again.
+fn listed_vias_text(alloc: Global, vias: &Vias) -> Result<String, AllocError> {
+    let vias = Vias::from_vec(vias.clone()?.into_vec());
+    vias_text(alloc, vias.as_slice())
+}
+
+fn contacts_in(alloc: Global, message: &Message) -> Result<String, AllocError> {
+    let values = contacts(alloc, message)?;
+    contacts_text(alloc, &values)
+}
+
+/// What a call on a message that was read answers.
+fn of_message(
+    alloc: Global,
+    message: &Message,
+    call: &str,
+    more: &[&[u8]],
+) -> Result<Option<String>, AllocError> {
+    let parts = parts_in(message);
+    let answer = match (call, more) {
+        ("read", []) => summary(alloc, message),
+        ("parts", []) => parts_text(alloc, parts),
+        ("copied", []) => copied_text(alloc, parts),
+        ("headers", []) => headers_text(alloc, headers_in(message)),
+        ("body", []) => shown(alloc, body_in(message)),
+        ("contacts", []) => contacts_in(alloc, message),
+        ("write", []) => message_shown(alloc, message),
+        ("write_by_kind", []) => by_kind_shown(alloc, message),
+        ("via_headers", []) => via_headers_text(alloc, parts.vias.as_slice()),
+        ("vias", []) => listed_vias_text(alloc, &parts.vias),
+        ("reply", [source, code, tag]) => {
+            reply_text(alloc, parts, address_of(source), u16_of(code), tag)
+        }
+        ("reply_address", [source]) => {
+            address_words(alloc, reply_address(parts, address_of(source)))
+        }
+        _ => return Ok(None),
+    };
+    Ok(Some(answer?))
+}
+
+/// What a call on the bytes of a message answers.
+fn of_bytes(
+    alloc: Global,
+    bytes: &[u8],
+    call: &str,
+    more: &[&[u8]],
+) -> Result<Option<String>, AllocError> {
+    let messages = match message_of(alloc, bytes) {
+        Ok(messages) => messages,
+        Err(fault) => return Ok(Some(fault_text(alloc, fault)?)),
+    };
+    match messages.first() {
+        Some(message) => of_message(alloc, message, call, more),
+        None => Ok(None),
+    }
+}
+
+/// The text, and behind it a text as often as is said, and one more.
+fn repeated(
+    alloc: Global,
+    front: &[u8],
+    text: &[u8],
+    times: u64,
+    back: &[u8],
+) -> Result<Vec<u8>, AllocError> {
+    let mut out = Vec::from_slice(alloc, front)?;
+    for _ in 0..times {
+        out.extend_from_slice(text)?;
+    }
+    out.extend_from_slice(back)?;
+    Ok(out)
+}
+
+/// What the message with a text as often as is said answers when it is read.
+fn of_repeated(
+    alloc: Global,
+    front: &[u8],
+    text: &[u8],
+    times: u64,
+    back: &[u8],
+) -> Result<Option<String>, AllocError> {
+    let bytes = repeated(alloc, front, text, times, back)?;
+    of_bytes(alloc, &bytes, "read", &[])
+}
+
+/// What a call on bytes that may be no message answers.
+fn of_unread(
+    alloc: Global,
+    bytes: &[u8],
+    call: &str,
+    more: &[&[u8]],
+) -> Result<Option<String>, AllocError> {
+    let answer = match (call, more) {
+        ("answerable", []) => found_parts_text(alloc, bytes),
+        ("answer", [source, code, tag]) => {
+            found_reply_text(alloc, bytes, address_of(source), u16_of(code), tag)
+        }
+        ("read_repeated", [text, times, back]) => {
+            return of_repeated(alloc, bytes, text, number(times), back);
+        }
+        _ => return of_bytes(alloc, bytes, call, more),
+    };
+    Ok(Some(answer?))
+}
+
+/// What the row's call answers, if it is one of `sip_message`.
+pub(crate) fn answer(
+    alloc: Global,
+    call: &str,
+    args: &[&[u8]],
+) -> Result<Option<String>, AllocError> {
+    match (call, args) {
+        ("laws", []) => {
+            one_message();
+            Ok(Some(said(alloc, "hold")?))
+        }
+        ("tag_param" | "added" | "listed" | "first_value" | "values_named" | "contact_values", _) =>
+            { of_headers(alloc, call, args) }
+        (_, [bytes, more @ ..]) => of_unread(alloc, bytes, call, more),
+        _ => Ok(None),
+    }
+}

@@ -1,0 +1,174 @@
+//! Rows of calls of `port_pool`.
+
+ghost use Rattle.std.specs.Prelude.{◌≢◌, IsTrue, All};
+ghost use Rattle.port_pool.specs.Pool.{AreOwn, StandOnce};
+
+use crate::port_pool_words::{changes_words, hop_words, pairs_words};
+use port_pool::{Hop, Pair, Pool, PoolError, RelayLine};
+use rows::{number, number_or_none, said, u16_of};
+use sip_uri::{Addr, ip4};
+use std::alloc::{AllocError, Global};
+use text::cut_word;
+
+/// The pool that earlier rows left, if any made one.
+#[derive(Drop)]
+pub(crate) struct PortPoolRows {
+    pool: Option<Pool>,
+}
+
+/// What was found, or the letter and the words of the refusal.
+fn told(alloc: Global, outcome: Result<String, PoolError>) -> Result<String, AllocError> {
+    match outcome {
+        Ok(words) => Ok(words),
+        Err(PoolError::OutOfMemory) => Err(AllocError),
+        Err(fault) => fault.to_string(alloc),
+    }
+}
+
+/// A line of a call's rows, as `40000 192.0.2.11 6000 40002`, or `40000` alone for a port without a row.
+fn line_of(word: &[u8]) -> RelayLine {
+    let (port, rest) = cut_word(word);
+    let (ip, rest) = cut_word(rest);
+    let (to, from) = cut_word(rest);
+    RelayLine {
+        port: u16_of(port),
+        hop: ip4(ip).map(|ip| Hop {
+            to: Addr {
+                ip,
+                port: u16_of(to),
+            },
+            from: u16_of(from),
+        }),
+    }
+}
+
+/// The lines of a call's rows.
+fn lines_of(alloc: Global, words: &[&[u8]]) -> Result<Vec<RelayLine>, AllocError> {
+    let mut lines = Vec::new(alloc);
+    for word in words {
+        lines.push(line_of(word))?;
+    }
+    Ok(lines)
+}
+
+/// Whether the lines are all of ports of the call.
+fn are_own(pool: &Pool, call: u64, lines: &[RelayLine]) -> bool
+    ensures { IsTrue result → AreOwn pool.now call lines.now }
+{
+    lines
+        .iter()
+        .all(|line| pool.holder(line.port) == Some(call))
+}
+
+/// Whether no line is of this port.
+fn are_others(port: u16, lines: &[RelayLine]) -> bool
+    ensures { IsTrue result → All (λ l. port ≢ l.port) lines.now }
+{
+    lines.iter().all(|line| port != line.port)
+}
+
+/// Whether no port stands in two lines.
+#[tactic(auto, using(crate::proofs::RelayLines::stand_once_cons))]
+fn stand_once(lines: &[RelayLine]) -> bool
+    ensures { IsTrue result → StandOnce lines.now }
+{
+    match lines.split_first() {
+        Some((line, rest)) => are_others(line.port, rest) && stand_once(rest),
+        None => true,
+    }
+}
+
+/// A pool as wide as the row says, where there can be one.
+fn pool_of(alloc: Global, first: u16, pairs: u16) -> Result<Option<Pool>, AllocError> {
+    let end = u32::from(first) + 2 * u32::from(pairs);
+    if first % 2 != 0 || first < 1024 || pairs < 1 || pairs > 2048 || end > 65536 {
+        return Ok(None);
+    }
+    Ok(Some(Pool::new(alloc, first, pairs)?))
+}
+
+/// Gives a pair back, where its ports have no row.
+fn release(alloc: Global, pool: &mut Pool, call: u64, even: u16) -> Result<String, PoolError> {
+    if even == u16::MAX || pool.hop(even).is_some() || pool.hop(even + 1).is_some() {
+        return Ok(said(alloc, "the pair has a row")?);
+    }
+    pool.release(call, Pair { even })?;
+    Ok(said(alloc, "free")?)
+}
+
+/// Puts the rows of a call, where the lines are all of its ports, each port once.
+fn commit(
+    alloc: Global,
+    pool: &mut Pool,
+    call: u64,
+    words: &[&[u8]],
+) -> Result<String, AllocError> {
+    let lines = lines_of(alloc, words)?;
+    if !are_own(pool, call, &lines) || !stand_once(&lines) {
+        return said(alloc, "no lines of the call");
+    }
+    changes_words(alloc, &pool.commit(call, &lines)?)
+}
+
+/// What ends with a call.
+fn without(alloc: Global, pool: &mut Pool, call: u64) -> Result<String, AllocError> {
+    changes_words(alloc, &pool.drop_call(call)?)
+}
+
+/// The pairs that a call gets.
+fn reserve(alloc: Global, pool: &mut Pool, call: u64, pairs: u64) -> Result<String, PoolError> {
+    let pairs = usize::try_from(pairs).unwrap_or(0);
+    Ok(pairs_words(alloc, &pool.reserve(call, pairs)?)?)
+}
+
+/// What a call of the pool answers, if there is one.
+fn answer_of(
+    alloc: Global,
+    pool: &mut Pool,
+    call: &str,
+    args: &[&[u8]],
+) -> Result<Option<String>, AllocError> {
+    let answer = match (call, args) {
+        ("reserve", [owner, pairs]) => {
+            told(alloc, reserve(alloc, pool, number(owner), number(pairs)))
+        }
+        ("release", [owner, even]) => {
+            told(alloc, release(alloc, pool, number(owner), u16_of(even)))
+        }
+        ("commit", [owner, lines @ ..]) => commit(alloc, pool, number(owner), lines),
+        ("drop_call", [owner]) => without(alloc, pool, number(owner)),
+        ("holder", [port]) => number_or_none(alloc, pool.holder(u16_of(port))),
+        ("hop", [port]) => hop_words(alloc, pool.hop(u16_of(port))),
+        ("table", [port]) => hop_words(alloc, pool.table().hop(u16_of(port))),
+        ("laws", []) => {
+            pool.pairs_never_meet();
+            said(alloc, "called")
+        }
+        _ => return Ok(None),
+    };
+    Ok(Some(answer?))
+}
+
+impl PortPoolRows {
+    pub(crate) fn new(_alloc: Global) -> PortPoolRows {
+        PortPoolRows { pool: None }
+    }
+
+    /// What the row's call answers, if it is one of `port_pool`.
+    pub(crate) fn answer(
+        &mut self,
+        alloc: Global,
+        call: &str,
+        args: &[&[u8]],
+    ) -> Result<Option<String>, AllocError> {
+        if let ("new", [first, pairs]) = (call, args) {
+            self.pool = pool_of(alloc, u16_of(first), u16_of(pairs))?;
+            let made = self.pool.is_some();
+            return Ok(Some(said(alloc, if made { "made" } else { "no such pool" })?));
+        }
+        match &mut self.pool {
+            Some(pool) => answer_of(alloc, pool, call, args),
+            None => Ok(None),
+        }
+    }
+}

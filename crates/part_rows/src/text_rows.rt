@@ -1,0 +1,132 @@
+//! Rows of calls of `text`.
+
+use rows::{boxes, byte_of, number, number_or_none, said, shown, yes_or_no};
+use std::alloc::{AllocError, Global};
+use text::{
+    Text, Texts, Within, cut, cut_word, is_blank, is_run_of_digits, is_run_of_token, is_token_byte,
+    number_upto, pieces, put_number, same_without_case, trimmed, without_blanks,
+};
+
+/// What stands before a mark, and what stands behind it.
+fn cut_at(alloc: Global, text: &[u8], mark: u8) -> Result<String, AllocError> {
+    match cut(text, mark) {
+        (front, Some(back)) => boxes(alloc, &[front, back]),
+        (front, None) => boxes(alloc, &[front]),
+    }
+}
+
+/// What stands between the marks.
+fn pieces_at(alloc: Global, text: &[u8], mark: u8) -> Result<String, AllocError> {
+    boxes(alloc, &pieces(alloc, text, mark)?)
+}
+
+/// A word, and what stands behind its blank.
+fn word_of(alloc: Global, text: &[u8]) -> Result<String, AllocError> {
+    let (word, rest) = cut_word(text);
+    boxes(alloc, &[word, rest])
+}
+
+/// What stands in nothing, in angle brackets, in quotes, or behind a backslash in them.
+fn within_named(name: &[u8]) -> Within {
+    match name {
+        b"angles" => Within::Angles,
+        b"quotes" => Within::Quotes,
+        b"escape" => Within::Escape,
+        _ => Within::Nothing,
+    }
+}
+
+/// The name of what a byte stands in.
+fn name_of(within: Within) -> &'static str {
+    match within {
+        Within::Nothing => "nothing",
+        Within::Angles => "angles",
+        Within::Quotes => "quotes",
+        Within::Escape => "escape",
+    }
+}
+
+/// The bytes that a token may have, by rising number.
+fn token_bytes(alloc: Global) -> Result<String, AllocError> {
+    let mut found = Vec::new(alloc);
+    for byte in 0..=u8::MAX {
+        if is_token_byte(byte) {
+            found.push(byte)?;
+        }
+    }
+    shown(alloc, &found)
+}
+
+/// The bytes that are blanks, by rising number.
+fn blanks(alloc: Global) -> Result<String, AllocError> {
+    let mut found = Vec::new(alloc);
+    for byte in 0..=u8::MAX {
+        if is_blank(byte) {
+            found.push(byte)?;
+        }
+    }
+    boxes(alloc, &[&found])
+}
+
+/// The number of the digits, if it is not above the limit.
+fn read_number(alloc: Global, limit: u64, digits: &[u8]) -> Result<String, AllocError> {
+    let limit = u32::try_from(limit).unwrap_or(0);
+    number_or_none(alloc, number_upto(limit, digits).map(u64::from))
+}
+
+/// A text with a number behind it.
+fn with_number(alloc: Global, front: &[u8], number: u64) -> Result<String, AllocError> {
+    let mut out = Vec::from_slice(alloc, front)?;
+    put_number(&mut out, number)?;
+    boxes(alloc, &[&out])
+}
+
+/// Whether two texts are one byte by byte, each copied and taken apart before.
+fn are_same(alloc: Global, a: &[u8], b: &[u8]) -> Result<String, AllocError> {
+    let a = Text::from_slice(alloc, a)?.clone()?;
+    let b = Text::from_vec(Text::from_slice(alloc, b)?.into_vec());
+    yes_or_no(alloc, a == b)
+}
+
+/// Texts, made a list, taken apart and made a list again.
+fn listed(alloc: Global, words: &[&[u8]]) -> Result<String, AllocError> {
+    let mut list = Vec::new(alloc);
+    for word in words {
+        list.push(Text::from_slice(alloc, word)?)?;
+    }
+    let texts = Texts::from_vec(Texts::from_vec(list).into_vec());
+    let mut lent: Vec<&[u8]> = Vec::new(alloc);
+    for text in texts.as_slice() {
+        lent.push(text.as_bytes())?;
+    }
+    boxes(alloc, &lent)
+}
+
+/// What the row's call answers, if it is one of `text`.
+pub(crate) fn answer(
+    alloc: Global,
+    call: &str,
+    args: &[&[u8]],
+) -> Result<Option<String>, AllocError> {
+    let answer = match (call, args) {
+        ("cut", [text, mark]) => cut_at(alloc, text, byte_of(mark)),
+        ("cut_word", [text]) => word_of(alloc, text),
+        ("trimmed", [text]) => boxes(alloc, &[trimmed(text)]),
+        ("without_blanks", [text]) => boxes(alloc, &[without_blanks(text)]),
+        ("pieces", [text, mark]) => pieces_at(alloc, text, byte_of(mark)),
+        ("next", [within, byte]) => {
+            said(alloc, name_of(within_named(within).next(byte_of(byte))))
+        }
+        ("is_token_byte", []) => token_bytes(alloc),
+        ("is_blank", []) => blanks(alloc),
+        ("is_run_of_digits", [text]) => yes_or_no(alloc, is_run_of_digits(text)),
+        ("is_run_of_token", [text]) => yes_or_no(alloc, is_run_of_token(text)),
+        ("number_upto", [limit, digits]) => read_number(alloc, number(limit), digits),
+        ("put_number", [front, word]) => with_number(alloc, front, number(word)),
+        ("same_without_case", [a, b]) => yes_or_no(alloc, same_without_case(a, b)),
+        ("same", [a, b]) => are_same(alloc, a, b),
+        ("texts", words) => listed(alloc, words),
+        _ => return Ok(None),
+    };
+    Ok(Some(answer?))
+}

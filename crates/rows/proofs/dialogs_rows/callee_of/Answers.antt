@@ -1,6 +1,0 @@
-use Rattle.std.proofs.Common.{rules}
-use Rattle.rows.proofs.dialogs_rows.callee_of.Goals as goal
-
-pub as_callee-requires-clause-contact : goal.as_callee-requires-clause-contact
-as_callee-requires-clause-contact c =
-    c.invites_name_a_contact.ensures.request c.args.bytes.now c.args.invite.now c.requires (search rules)

@@ -1,0 +1,14 @@
+//! Worked rows: a line of the input names a call, and the program prints the line and what the call answers. The rows and their
+//! answers are data, `stdin` and `stdout` of each program of rows, so another row costs no proof. docs/RECIPES.md says how a row is
+//! written. Nothing of the server stands on this crate, and nothing is promised of it: what the programs print is compared.
+#![tactic(auto)]
+
+mod addresses;
+mod notation;
+mod playing;
+mod words;
+
+pub use crate::addresses::{address_of, address_words, ip4_words};
+pub use crate::notation::{Notation, number, shown, u16_of, u32_of, usize_of};
+pub use crate::playing::{Rows, play};
+pub use crate::words::{boxes, byte_of, number_or_none, put_boxed, said, yes_or_no};

@@ -1,0 +1,76 @@
+//! Readers and writers that give and take little, or fail.
+
+use std::io;
+use std::io::{ErrorKind, Read, Write};
+
+/// Gives a text with so many bytes a read at most, and fails at one of the reads, if there are as many.
+#[derive(Drop)]
+pub(crate) struct SlowReader<'a> {
+    pub(crate) left: &'a [u8],
+    size: usize,
+    reads: u64,
+    failing: u64,
+}
+
+impl Read for SlowReader<'_> {
+    fn read(&mut self, buf: &mut [u8]) -> io::Result<usize> {
+        self.reads = self.reads.saturating_add(1);
+        if self.reads == self.failing {
+            return Err(io::Error::from(ErrorKind::Other));
+        }
+        let count = self.size.min(buf.len()).min(self.left.len());
+        buf[..count].copy_from_slice(&self.left[..count]);
+        self.left = &self.left[count..];
+        Ok(count)
+    }
+}
+
+/// Gives a byte a read, and never ends.
+#[derive(Drop)]
+pub(crate) struct EndlessReader {
+    pub(crate) reads: u64,
+}
+
+impl Read for EndlessReader {
+    fn read(&mut self, buf: &mut [u8]) -> io::Result<usize> {
+        self.reads = self.reads.saturating_add(1);
+        if buf.is_empty() {
+            return Ok(0);
+        }
+        buf[0] = b'A';
+        Ok(1)
+    }
+}
+
+/// Takes so many bytes, and then fails.
+#[derive(Drop)]
+pub(crate) struct NarrowWriter {
+    pub(crate) room: usize,
+    pub(crate) written: usize,
+}
+
+impl Write for NarrowWriter {
+    fn write(&mut self, buf: &[u8]) -> io::Result<usize> {
+        if self.room == 0 {
+            return Err(io::Error::from(ErrorKind::Other));
+        }
+        let count = self.room.min(buf.len());
+        self.room -= count;
+        self.written = self.written.saturating_add(count);
+        Ok(count)
+    }
+
+    fn flush(&mut self) -> io::Result<()> {
+        Ok(())
+    }
+}
+
+/// Gives the text, so many bytes a read, and fails at this read; at none for 0.
+pub(crate) fn slow(text: &[u8], size: usize, failing: u64) -> SlowReader<'_> {
+    SlowReader {
+        left: text,
+        size,
+        reads: 0,
+        failing,
+    }
+}

@@ -1,0 +1,19 @@
+//! Rows of `call_trace`.
+#![tactic(auto)]
+
+mod call_trace_rows;
+mod player_rows;
+mod trace_tables;
+
+use crate::call_trace_rows::CallTraceRows;
+use rows::{Notation, play};
+use std::io;
+
+fn main(rt: HostRuntime) -> io::Result<()> {
+    let mut notation = Notation::new(rt.alloc());
+    let mut rows = CallTraceRows::new(rt.alloc());
+    for line in rt.lines(rt.alloc()) {
+        play(&rt, &mut notation, &mut rows, line?.as_str())?;
+    }
+    Ok(())
+}
