@@ -3,8 +3,9 @@
 use rows::{boxes, byte_of, number, number_or_none, said, shown, yes_or_no};
 use std::alloc::{AllocError, Global};
 use text::{
-    Text, Texts, Within, cut, cut_word, is_blank, is_run_of_digits, is_run_of_token, is_token_byte,
-    number_upto, pieces, put_number, same_without_case, trimmed, without_blanks,
+    Text, Texts, Within, cut, cut_piece, cut_word, is_blank, is_run_of_digits, is_run_of_token,
+    is_token_byte, number_upto, pieces, put_number, put_pieces, same_without_case, trimmed,
+    without_blanks,
 };
 
 /// What stands before a mark, and what stands behind it.
@@ -18,6 +19,21 @@ fn cut_at(alloc: Global, text: &[u8], mark: u8) -> Result<String, AllocError> {
 /// What stands between the marks.
 fn pieces_at(alloc: Global, text: &[u8], mark: u8) -> Result<String, AllocError> {
     boxes(alloc, &pieces(alloc, text, mark)?)
+}
+
+/// The first piece, and what stands behind its separator.
+fn first_piece(alloc: Global, text: &[u8], mark: u8) -> Result<String, AllocError> {
+    match cut_piece(text, mark) {
+        (first, Some(behind)) => boxes(alloc, &[first, behind]),
+        (first, None) => boxes(alloc, &[first]),
+    }
+}
+
+/// The pieces of two texts, one behind the other.
+fn pieces_of_two(alloc: Global, one: &[u8], other: &[u8], mark: u8) -> Result<String, AllocError> {
+    let mut found = pieces(alloc, one, mark)?;
+    put_pieces(&mut found, other, mark)?;
+    boxes(alloc, &found)
 }
 
 /// A word, and what stands behind its blank.
@@ -114,6 +130,8 @@ pub(crate) fn answer(
         ("trimmed", [text]) => boxes(alloc, &[trimmed(text)]),
         ("without_blanks", [text]) => boxes(alloc, &[without_blanks(text)]),
         ("pieces", [text, mark]) => pieces_at(alloc, text, byte_of(mark)),
+        ("cut_piece", [text, mark]) => first_piece(alloc, text, byte_of(mark)),
+        ("put_pieces", [one, other, mark]) => pieces_of_two(alloc, one, other, byte_of(mark)),
         ("next", [within, byte]) => {
             said(alloc, name_of(within_named(within).next(byte_of(byte))))
         }
