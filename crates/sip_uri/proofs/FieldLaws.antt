@@ -1,22 +1,79 @@
--- Parameters that were read in pieces.
-use Rattle.std.proofs.Common.{◌≡◌, ℕ, true, false, List, map, Some, None, refl, sym, ap, ◌∙◌}
+-- Parameters that are read piece by piece.
+use Rattle.std.proofs.Common.{◌≡◌, ℕ, ◌+◌, ◌<◌, Bool, true, false, cond, List, [], ◌∷◌, ◌++◌, length, map, Option, Some, None, IfSome, refl, sym, ap, ◌∙◌, append_assoc, arith}
 use Rattle.std.specs.Borrow.{Bor}
 use Rattle.std.specs.List.{list_all}
-use Rattle.std.proofs.lemmas.List.Folds.{list_all-map}
-use Rattle.text.specs.Pieces.{pieces}
+use Rattle.std.specs.Option.{option_copied}
+use Rattle.text.specs.Pieces.{pieces, pieces_behind}
 use Rattle.text.specs.declared.splitting.Within.TheVariants.{Nothing}
 use Rattle.sip_uri.specs.declared.uri.Param.{Param}
 use Rattle.sip_uri.specs.FieldParams.{is_field_param, is_field_params, field_param_of, field_params_of, field_params_read}
 
-test_of_pieces : (text : List ℕ) (ps : List (Bor (List ℕ))) → map (λ p. p.now) ps ≡ pieces 59 Nothing text → is_field_params text ≡ list_all (λ p. is_field_param p.now) ps
-unfolding is_field_params
-test_of_pieces text ps h = ap (list_all is_field_param) (sym h) ∙ list_all-map is_field_param (λ p. p.now) ps
+-- the bytes that are left, and one more where some piece is
+abbrev pub left_length : Option (List ℕ) → ℕ
+left_length None = 0
+left_length (Some text) = 1 + length text
 
-pub refused_pieces : (text : List ℕ) (ps : List (Bor (List ℕ))) → map (λ p. p.now) ps ≡ pieces 59 Nothing text → list_all (λ p. is_field_param p.now) ps ≡ false → field_params_read (Some text) ≡ None
-unfolding field_params_read
-refused_pieces text ps h test = rw (test_of_pieces text ps h, test) refl
+-- parameters in front of others, if these could be read
+abbrev pub resumed : List Param → Option (List Param) → Option (List Param)
+resumed front None = None
+resumed front (Some more) = Some (front ++ more)
 
-pub read_pieces : (text : List ℕ) (ps : List (Bor (List ℕ))) (found : List Param) → map (λ p. p.now) ps ≡ pieces 59 Nothing text → list_all (λ p. is_field_param p.now) ps ≡ true
-    → found ≡ map field_param_of (map (λ p. p.now) ps) → field_params_read (Some text) ≡ Some found
-unfolding field_params_read field_params_of
-read_pieces text ps found h test e = rw (test_of_pieces text ps h, test, e, h) refl
+-- what is read in all, once some parameters were read and this text is left
+abbrev pub read_behind : List Param → Option (List ℕ) → Option (List Param)
+read_behind front None = Some front
+read_behind front (Some text) = resumed front (field_params_read (Some text))
+
+pub nothing_read : (text : List ℕ) → read_behind [] (Some text) ≡ field_params_read (Some text)
+nothing_read text = same (field_params_read (Some text)) where
+  same : (o : Option (List Param)) → resumed [] o ≡ o
+  same None = refl
+  same (Some ps) = refl
+
+-- the parameters of pieces
+abbrev found_in : List (List ℕ) → Option (List Param)
+found_in ps = cond (list_all is_field_param ps) (Some (map field_param_of ps)) None
+
+read_is : (text : List ℕ) → field_params_read (Some text) ≡ found_in (pieces 59 Nothing text)
+unfolding field_params_read is_field_params field_params_of
+read_is text = refl
+
+-- a piece that is none
+pub piece_refused : (front : List Param) (text piece : List ℕ) (behind : Option (List ℕ)) → pieces_behind 59 piece behind ≡ pieces 59 Nothing text
+    → is_field_param piece ≡ false → read_behind front (Some text) ≡ None
+piece_refused front text piece behind cuts bad = ap (resumed front) (read_is text ∙ ap found_in (sym cuts) ∙ none behind) where
+  none : (o : Option (List ℕ)) → found_in (pieces_behind 59 piece o) ≡ None
+  none None = rw bad refl
+  none (Some rest) = rw bad refl
+
+-- one piece more
+pub piece_read : (front : List Param) (text piece : List ℕ) (behind : Option (List ℕ)) → pieces_behind 59 piece behind ≡ pieces 59 Nothing text
+    → is_field_param piece ≡ true → read_behind (front ++ field_param_of piece ∷ []) behind ≡ read_behind front (Some text)
+piece_read front text piece behind cuts good = more behind ∙ ap (resumed front) (sym (read_is text ∙ ap found_in (sym cuts))) where
+  joined : (ps : List (List ℕ)) → resumed (front ++ field_param_of piece ∷ []) (found_in ps) ≡ resumed front (found_in (piece ∷ ps))
+  joined ps = rw good (each (list_all is_field_param ps)) where
+    each : (b : Bool) → resumed (front ++ field_param_of piece ∷ []) (cond b (Some (map field_param_of ps)) None) ≡ resumed front (cond b (Some (field_param_of piece ∷ map field_param_of ps)) None)
+    each true = ap (λ (all : List Param). Some all) (append_assoc front (field_param_of piece ∷ []) (map field_param_of ps))
+    each false = refl
+
+  more : (o : Option (List ℕ)) → read_behind (front ++ field_param_of piece ∷ []) o ≡ resumed front (found_in (pieces_behind 59 piece o))
+  more None = rw good refl
+  more (Some rest) = ap (resumed (front ++ field_param_of piece ∷ [])) (read_is rest) ∙ joined (pieces 59 Nothing rest)
+
+-- less is left behind a piece
+pub left_shrinks : (behind : Option (Bor (List ℕ))) (text : List ℕ) → IfSome behind (λ rest. length rest.now < length text) → left_length (option_copied behind) < left_length (Some text)
+left_shrinks None text h = omega arith
+left_shrinks (Some rest) text h = omega (arith, h)
+
+-- ---- at a text that is left
+
+pub refused_here : (front : List Param) (left : Option (Bor (List ℕ))) (text : Bor (List ℕ)) (piece : List ℕ) (behind : Option (List ℕ)) (all : Option (List Param)) → left ≡ Some text
+    → pieces_behind 59 piece behind ≡ pieces 59 Nothing text.now → is_field_param piece ≡ false → read_behind front (option_copied left) ≡ all → None ≡ all
+refused_here front left text piece behind all is cuts bad so_far =
+    sym (piece_refused front text.now piece behind cuts bad) ∙ ap (λ (o : Option (Bor (List ℕ))). read_behind front (option_copied o)) (sym is) ∙ so_far
+
+pub read_here : (front more : List Param) (left : Option (Bor (List ℕ))) (text : Bor (List ℕ)) (piece : List ℕ) (behind : Option (List ℕ)) (all : Option (List Param)) → left ≡ Some text
+    → pieces_behind 59 piece behind ≡ pieces 59 Nothing text.now → is_field_param piece ≡ true → more ≡ front ++ field_param_of piece ∷ [] → read_behind front (option_copied left) ≡ all
+    → read_behind more behind ≡ all
+read_here front more left text piece behind all is cuts good put so_far =
+    ap (λ (ps : List Param). read_behind ps behind) put ∙ piece_read front text.now piece behind cuts good
+    ∙ ap (λ (o : Option (Bor (List ℕ))). read_behind front (option_copied o)) (sym is) ∙ so_far

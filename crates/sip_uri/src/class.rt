@@ -1,19 +1,46 @@
 //! The bytes of each part of a URI (RFC 3261 section 25.1).
 
 ghost use Rattle.std.specs.Prelude.{◌≡◌};
-ghost use Rattle.sip_uri.specs.Classes.{is_unreserved, is_plain_user, is_user_byte, is_label_byte, is_param_byte, is_header_byte};
+ghost use Rattle.sip_uri.specs.Classes.{is_plain_user, is_user_byte, is_label_byte, is_param_byte, is_header_byte};
 
-fn is_unreserved(b: u8) -> bool
-    ensures { result ≡ is_unreserved b }
-{
-    b.is_ascii_alphanumeric() || b"-_.!~*'()".contains(&b)
-}
+/// Each byte that a user has without an escape stands at its own place, and a bar at every other place.
+static PLAIN_USER_BYTES: [u8; 256] = *b"\
+    ||||||||||||||||||||||||||||||||\
+    |!||$|&'()*+,-./0123456789:;|=|?\
+    |ABCDEFGHIJKLMNOPQRSTUVWXYZ||||_\
+    |abcdefghijklmnopqrstuvwxyz|||~|\
+    ||||||||||||||||||||||||||||||||\
+    ||||||||||||||||||||||||||||||||\
+    ||||||||||||||||||||||||||||||||\
+    ||||||||||||||||||||||||||||||||";
+
+/// Each byte of a parameter stands at its own place, and a bar at every other place.
+static PARAM_BYTES: [u8; 256] = *b"\
+    ||||||||||||||||||||||||||||||||\
+    |!||$%&'()*+|-./0123456789:|||||\
+    |ABCDEFGHIJKLMNOPQRSTUVWXYZ[|]|_\
+    |abcdefghijklmnopqrstuvwxyz|||~|\
+    ||||||||||||||||||||||||||||||||\
+    ||||||||||||||||||||||||||||||||\
+    ||||||||||||||||||||||||||||||||\
+    ||||||||||||||||||||||||||||||||";
+
+/// Each byte of a header stands at its own place, and a bar at every other place.
+static HEADER_BYTES: [u8; 256] = *b"\
+    ||||||||||||||||||||||||||||||||\
+    |!||$%|'()*+|-./0123456789:||||?\
+    |ABCDEFGHIJKLMNOPQRSTUVWXYZ[|]|_\
+    |abcdefghijklmnopqrstuvwxyz|||~|\
+    ||||||||||||||||||||||||||||||||\
+    ||||||||||||||||||||||||||||||||\
+    ||||||||||||||||||||||||||||||||\
+    ||||||||||||||||||||||||||||||||";
 
 /// A byte that is written in a user as it is.
 pub fn is_plain_user(b: u8) -> bool
     ensures { result ≡ is_plain_user b }
 {
-    is_unreserved(b) || b"&=+$,;?/:".contains(&b)
+    PLAIN_USER_BYTES[usize::from(b)] != b'|'
 }
 
 pub fn is_user_byte(b: u8) -> bool
@@ -31,11 +58,11 @@ pub fn is_label_byte(b: u8) -> bool
 pub fn is_param_byte(b: u8) -> bool
     ensures { result ≡ is_param_byte b }
 {
-    is_unreserved(b) || b"[]/:&+$%".contains(&b)
+    PARAM_BYTES[usize::from(b)] != b'|'
 }
 
 pub fn is_header_byte(b: u8) -> bool
     ensures { result ≡ is_header_byte b }
 {
-    is_unreserved(b) || b"[]/?:+$%".contains(&b)
+    HEADER_BYTES[usize::from(b)] != b'|'
 }

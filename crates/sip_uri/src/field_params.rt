@@ -9,7 +9,7 @@ ghost use Rattle.sip_uri.specs.FieldParams.{is_bracket_byte, is_bracketed, is_fi
 use crate::quoted::is_quoted;
 use crate::uri::{Param, Params};
 use std::alloc::{AllocError, Global};
-use text::{Text, cut, is_run_of_token, pieces, trimmed};
+use text::{Text, cut, cut_piece, is_run_of_token, trimmed};
 
 fn is_bracket_byte(b: u8) -> bool
     ensures { result ≡ is_bracket_byte b }
@@ -61,12 +61,6 @@ fn is_field_param(piece: &[u8]) -> bool
         }
 }
 
-fn are_field_params(pieces: &[&[u8]]) -> bool
-    ensures { result ≡ list_all (λ p. is_field_param p.now) pieces.now }
-{
-    pieces.iter().all(|p| is_field_param(p))
-}
-
 fn field_param(alloc: Global, piece: &[u8]) -> Result<Param, AllocError>
     ensures { IfOk result (λ p. p ≡ field_param_of piece.now) }
 {
@@ -79,24 +73,21 @@ fn field_param(alloc: Global, piece: &[u8]) -> Result<Param, AllocError>
     Ok(Param { name, value })
 }
 
-fn list_of_field_params(alloc: Global, pieces: &[&[u8]]) -> Result<Vec<Param>, AllocError>
-    ensures { IfOk result (λ ps. ps.items ≡ map field_param_of (map (λ p. p.now) pieces.now)) }
-{
-    let mut params = Vec::new(alloc);
-    for piece in pieces {
-        params.push(field_param(alloc, piece)?)?;
-    }
-    Ok(params)
-}
-
+/// The parameters of a text, if each piece of it is of its form.
 fn field_params(alloc: Global, text: &[u8]) -> Result<Option<Params>, AllocError>
     ensures { IfOk result (λ o. o ≡ field_params_read (Some text.now)) }
 {
-    let pieces = pieces(alloc, text, b';')?;
-    if !are_field_params(&pieces) {
-        return Ok(None);
+    let mut params = Vec::new(alloc);
+    let mut left = Some(text);
+    while let Some(text) = left {
+        let (piece, behind) = cut_piece(text, b';');
+        if !is_field_param(piece) {
+            return Ok(None);
+        }
+        params.push(field_param(alloc, piece)?)?;
+        left = behind;
     }
-    Ok(Some(Params::from_vec(list_of_field_params(alloc, &pieces)?)))
+    Ok(Some(Params::from_vec(params)))
 }
 
 /// The parameters of a header field, each `name` or `name=value` with blanks round its parts and semicolons between

@@ -7,17 +7,16 @@ ghost use Rattle.sip_uri.specs.Classes.{is_label_byte};
 ghost use Rattle.sip_uri.specs.Hosts.{octet_of, ip4_of, begins_with, ends_with, is_label, without_dot, top_label, is_hostname, is_host};
 
 use crate::class::is_label_byte;
-use text::{cut, is_run_of_digits, number_upto};
+use text::{cut, number_upto};
 
 #[tactic(auto, unfolding(crate::specs::Hosts::octet_of))]
 fn octet(text: &[u8]) -> Option<u8>
     ensures { result ≡ octet_of text.now }
 {
-    if is_run_of_digits(text) && text.len() < 4 {
-        number_upto(255, text).map(|n| n as u8)
-    } else {
-        None
+    if text.is_empty() || text.len() > 3 {
+        return None;
     }
+    number_upto(255, text).map(|n| n as u8)
 }
 
 /// The four octets of an IPv4 address in dotted form.
@@ -99,7 +98,7 @@ fn begins_with_letter(text: &[u8]) -> bool
 }
 
 #[tactic(auto, unfolding(crate::specs::Hosts::is_hostname))]
-fn is_hostname(text: &[u8]) -> bool
+pub(crate) fn is_hostname(text: &[u8]) -> bool
     ensures { result ≡ is_hostname text.now }
 {
     let text = without_dot(text);

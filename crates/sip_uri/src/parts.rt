@@ -7,7 +7,7 @@ ghost use Rattle.sip_uri.specs.Classes.{is_user_byte, is_param_byte, is_header_b
 ghost use Rattle.sip_uri.specs.RawUri.{is_param, is_params, is_header, is_headers, escapes_well};
 
 use crate::class::{is_header_byte, is_param_byte, is_user_byte};
-use crate::hosts::is_host;
+use crate::hosts::is_hostname;
 use std::marker::Model;
 use text::{cut, is_run_of_digits, number_upto};
 
@@ -37,7 +37,8 @@ impl<'a> Model for Parts<'a> {
 }
 
 impl<'a> Parts<'a> {
-    ghost use Rattle.std.specs.Prelude.{◌≡◌};
+    ghost use Rattle.std.specs.Prelude.{◌≡◌, is_some};
+    ghost use Rattle.sip_uri.specs.Hosts.{ip4_of};
     ghost use Rattle.sip_uri.specs.RawUri.{raw_of, is_raw, has_good_escapes, has_good_port};
 
     /// The parts of a text: each ends where the byte that begins the next one first stands.
@@ -62,12 +63,13 @@ impl<'a> Parts<'a> {
     }
 
     /// Whether each part is of its form, but for escapes and the port's number.
-    #[tactic(auto, unfolding(crate::specs::RawUri::is_raw))]
-    pub fn is_well_formed(&self) -> bool
+    #[tactic(auto, unfolding(crate::specs::RawUri::is_raw, crate::specs::Hosts::is_host))]
+    pub fn is_well_formed(&self, has_address: bool) -> bool
+        requires { has_address ≡ is_some (ip4_of self.now.host) }
         ensures { result ≡ is_raw self.now }
     {
         self.user.is_none_or(is_user)
-            && is_host(self.host)
+            && (has_address || is_hostname(self.host))
             && self.port.is_none_or(|p| is_run_of_digits(p))
             && self.params.is_none_or(is_params)
             && self.headers.is_none_or(is_headers)

@@ -4,21 +4,24 @@ ghost use Rattle.std.specs.Prelude.{◌≡◌, ◌==◌, ◌≤◌, IsTrue, IfOk
 ghost use Rattle.std.specs.List.{slice_split};
 ghost use Rattle.std.specs.Option.{option_copied};
 ghost use Rattle.percent_encoding.specs.Percent.{percent_decode};
+ghost use Rattle.sip_uri.specs.Hosts.{ip4_of};
 ghost use Rattle.sip_uri.specs.Reading.{Gives, uri_of, value_of, host_of, host_read, param_of, fields_of, is_sip};
 ghost use Rattle.sip_uri.specs.Grammar.{ReadsUri, Refuses};
 ghost use Rattle.sip_uri.specs.declared.uri.Uri.{Uri};
 
 use crate::error::UriError;
-use crate::hosts::{ip4, is_host};
+use crate::hosts::{ip4, is_hostname};
 use crate::parts::Parts;
 use crate::uri::{Host, Param, Params, Uri};
 use std::alloc::{AllocError, Global};
 use text::{Text, cut, number_upto};
 
-fn host(alloc: Global, text: &[u8]) -> Result<Host, AllocError>
+/// The host of a text, whose octets these are where it is an address.
+fn host(alloc: Global, text: &[u8], octets: Option<[u8; 4]>) -> Result<Host, AllocError>
+    requires { octets ≡ ip4_of text.now }
     ensures { IfOk result (λ h. h ≡ host_of text.now) }
 {
-    match ip4(text) {
+    match octets {
         Some(octets) => Ok(Host::Ip4(octets)),
         None => Ok(Host::Name(Text::from_slice(alloc, text)?)),
     }
@@ -26,14 +29,15 @@ fn host(alloc: Global, text: &[u8]) -> Result<Host, AllocError>
 
 /// The host that the bytes are, as in a URI and in a Via (RFC 3261 section 25.1): an IPv4 address by its octets, or a host
 /// name as written. `None` for others.
-#[tactic(auto, unfolding(crate::specs::Reading::host_read))]
+#[tactic(auto, unfolding(crate::specs::Reading::host_read, crate::specs::Hosts::is_host))]
 pub fn read_host(alloc: Global, text: &[u8]) -> Result<Option<Host>, AllocError>
     ensures { IfOk result (λ o. o ≡ host_read text.now) }
 {
-    if !is_host(text) {
+    let octets = ip4(text);
+    if octets.is_none() && !is_hostname(text) {
         return Ok(None);
     }
-    Ok(Some(host(alloc, text)?))
+    Ok(Some(host(alloc, text, octets)?))
 }
 
 fn param(alloc: Global, text: &[u8]) -> Result<Param, AllocError>
@@ -77,14 +81,15 @@ fn user(alloc: Global, text: &[u8]) -> Result<Text, AllocError>
 }
 
 #[tactic(auto, unfolding(crate::specs::Reading::value_of))]
-fn value(alloc: Global, parts: &Parts) -> Result<Uri, AllocError>
+fn value(alloc: Global, parts: &Parts, octets: Option<[u8; 4]>) -> Result<Uri, AllocError>
+    requires { octets ≡ ip4_of parts.now.host }
     ensures { IfOk result (λ u. u ≡ value_of parts.now) }
 {
     let user = match parts.user {
         Some(text) => Some(user(alloc, text)?),
         None => None,
     };
-    let host = host(alloc, parts.host)?;
+    let host = host(alloc, parts.host, octets)?;
     let port = match parts.port {
         Some(port) => number_upto(65535, port).map(|n| n as u16),
         None => None,
@@ -116,7 +121,8 @@ fn read(alloc: Global, bytes: &[u8]) -> Result<Uri, UriError>
         return Err(UriError::Scheme);
     }
     let parts = Parts::of(&bytes[4..]);
-    if !parts.is_well_formed() {
+    let octets = ip4(parts.host);
+    if !parts.is_well_formed(octets.is_some()) {
         return Err(UriError::Malformed);
     }
     if !parts.has_good_escapes() {
@@ -125,7 +131,7 @@ fn read(alloc: Global, bytes: &[u8]) -> Result<Uri, UriError>
     if !parts.has_good_port() {
         return Err(UriError::Port);
     }
-    Ok(value(alloc, &parts)?)
+    Ok(value(alloc, &parts, octets)?)
 }
 
 /// The URI that the bytes are (RFC 3261 section 25.1, SIP-URI). Of several faults the first in the order of `UriError`

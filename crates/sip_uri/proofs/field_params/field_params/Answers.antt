@@ -1,9 +1,20 @@
-use Rattle.std.proofs.Common.{sym, rules}
-use Rattle.sip_uri.proofs.FieldLaws.{refused_pieces, read_pieces}
+use Rattle.std.proofs.Common.{◌∷◌, [], ◌++◌, ap, ◌∙◌, rules}
+use Rattle.std.specs.Option.{option_copied}
+use Rattle.sip_uri.specs.declared.uri.Param.{Param}
+use Rattle.sip_uri.proofs.FieldLaws.{nothing_read, refused_here, read_here, left_shrinks}
 use Rattle.sip_uri.proofs.field_params.field_params.Goals as goal
 
-pub returns-then-not-are_field_params : goal.returns-then-not-are_field_params
-returns-then-not-are_field_params c = sym (refused_pieces c.args.text.now c.in_ok-pieces.pieces.items c.in_ok-pieces.ensures (search rules))
+pub loop-left-init : goal.loop-left-init
+loop-left-init c = rw c.new-params.ensures.items (nothing_read c.args.text.now)
 
-pub returns : goal.returns
-returns c = sym (read_pieces c.args.text.now c.in_ok-pieces.pieces.items c.from_vec.result c.in_ok-pieces.ensures (search rules) (search rules))
+pub returns-then-not-is_field_param : goal.returns-then-not-is_field_param
+returns-then-not-is_field_param c =
+    refused_here c.loop-left.params.items c.loop-left.left c.in-Some.text c.cut_piece.result.0.now (option_copied c.cut_piece.result.1) _ c.in-Some.is c.cut_piece.ensures.pieces (search rules) c.loop-left.invariant
+
+pub loop-left-smaller : goal.loop-left-smaller
+loop-left-smaller c = rw c.in-Some.is (left_shrinks c.cut_piece.result.1 c.in-Some.text.now c.cut_piece.ensures.shorter)
+
+pub loop-left-preserved : goal.loop-left-preserved
+loop-left-preserved c =
+    read_here c.loop-left.params.items c.push.new.self.items c.loop-left.left c.in-Some.text c.cut_piece.result.0.now (option_copied c.cut_piece.result.1) _ c.in-Some.is c.cut_piece.ensures.pieces (search rules)
+    (c.in_ok-push.ensures.items ∙ ap (λ (p : Param). c.loop-left.params.items ++ p ∷ []) c.in_ok-field_param.ensures) c.loop-left.invariant
