@@ -24,3 +24,4 @@ pub mod ViaTrip
 pub mod MarkedTrip
 pub mod AnswerTrip
 pub mod RepeatableLaws
+mod NextLine

@@ -10,7 +10,7 @@ use crate::lookup::is_named;
 use crate::message::Message;
 use sip_uri::{NameAddr, UriError, read_name_addr};
 use std::alloc::{AllocError, Global};
-use text::{pieces, trimmed};
+use text::{put_pieces, trimmed};
 
 /// One value of a Contact header field.
 #[derive(Clone, Debug, Drop)]
@@ -51,8 +51,7 @@ fn contact_texts<'a>(alloc: Global, headers: &'a [Header]) -> Result<Vec<&'a [u8
         if !is_named(header, b"Contact") {
             continue;
         }
-        let found = pieces(alloc, header.value.as_bytes(), b',')?;
-        texts.extend_from_slice(&found)?;
+        put_pieces(&mut texts, header.value.as_bytes(), b',')?;
     }
     Ok(texts)
 }

@@ -8,10 +8,21 @@ use sip_uri::{Param, read_field_params};
 use std::alloc::{AllocError, Global};
 use text::{cut, is_run_of_digits, is_run_of_token, number_upto, trimmed};
 
+/// Each byte of a word stands at its own place, and a bar at every other place.
+static WORD_BYTES: [u8; 256] = *b"\
+    ||||||||||||||||||||||||||||||||\
+    |!\"||%|'()*+|-./0123456789:|<|>?\
+    |ABCDEFGHIJKLMNOPQRSTUVWXYZ[\\]|_\
+    `abcdefghijklmnopqrstuvwxyz{|}~|\
+    ||||||||||||||||||||||||||||||||\
+    ||||||||||||||||||||||||||||||||\
+    ||||||||||||||||||||||||||||||||\
+    ||||||||||||||||||||||||||||||||";
+
 fn is_word_byte(b: u8) -> bool
     ensures { result ≡ is_word_byte b }
 {
-    b.is_ascii_alphanumeric() || b"-.!%*_+`'~()<>:\\\"/[]?{}".contains(&b)
+    WORD_BYTES[usize::from(b)] != b'|'
 }
 
 fn all_word(text: &[u8]) -> bool

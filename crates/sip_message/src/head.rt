@@ -52,7 +52,7 @@ fn headers_of(alloc: Global, lines: &[&[u8]]) -> Result<Headers, HeadError>
     if lines.first().is_some_and(|line| begins_blank(line)) {
         return Err(HeadError::Line);
     }
-    let mut headers = Vec::new(alloc);
+    let mut headers = Vec::with_capacity(alloc, lines.len())?;
     for at in 0..lines.len() {
         if begins_blank(lines[at]) {
             continue;

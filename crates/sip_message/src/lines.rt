@@ -8,7 +8,11 @@ ghost use Rattle.sip_message.specs.Lines.{texts, lines_within, begins_line_end, 
 ghost use Rattle.sip_message.specs.Heads.{GivesLines};
 
 use crate::head::HeadError;
+use memchr::memchr3;
 use std::alloc::{AllocError, Global};
+
+/// Room for lines that is asked for at once: most messages have fewer.
+const LINES_AT_FIRST: usize = 16;
 
 fn begins_line_end(text: &[u8]) -> bool
     ensures { result ≡ begins_line_end text.now }
@@ -54,16 +58,15 @@ pub(crate) fn is_clean(text: &[u8]) -> bool
     text.iter().all(|b| is_text_byte(*b))
 }
 
-/// The first line, and what stands behind its end, where the line is clean.
+/// The first line, and what stands behind its end, where the line is clean: then its end is the first CR, LF or NUL.
 fn next_line(text: &[u8]) -> Option<(&[u8], &[u8])>
     ensures { option_map (λ x. (x.0.now, x.1.now)) result ≡ line_of text.now }
 {
-    let (line, after) = first_line(text);
-    let rest = after?;
-    if !is_clean(line) {
+    let at = memchr3(b'\r', b'\n', 0, text)?;
+    if !begins_line_end(&text[at..]) {
         return None;
     }
-    Some((line, rest))
+    Some((&text[..at], &text[at + 2..]))
 }
 
 /// The lines up to the empty line, fewer than the limit, and what stands behind it.
@@ -74,7 +77,7 @@ pub(crate) fn lines_within(
 ) -> Result<(Vec<&[u8]>, &[u8]), HeadError>
     ensures { GivesLines result (lines_within limit text.now) }
 {
-    let mut lines = Vec::new(alloc);
+    let mut lines = Vec::with_capacity(alloc, LINES_AT_FIRST)?;
     let mut rest = text;
     for _ in 0..limit {
         let Some((line, after)) = next_line(rest) else {

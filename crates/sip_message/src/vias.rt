@@ -15,7 +15,7 @@ use crate::lookup::is_named;
 use crate::message::Vias;
 use crate::via::{Via, read_via};
 use std::alloc::{AllocError, Global};
-use text::pieces;
+use text::put_pieces;
 
 /// The texts of all Via values, in order.
 fn via_texts<'a>(alloc: Global, headers: &'a [Header]) -> Result<Vec<&'a [u8]>, AllocError>
@@ -26,8 +26,7 @@ fn via_texts<'a>(alloc: Global, headers: &'a [Header]) -> Result<Vec<&'a [u8]>, 
         if !is_named(header, b"Via") {
             continue;
         }
-        let found = pieces(alloc, header.value.as_bytes(), b',')?;
-        texts.extend_from_slice(&found)?;
+        put_pieces(&mut texts, header.value.as_bytes(), b',')?;
     }
     Ok(texts)
 }
