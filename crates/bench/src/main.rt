@@ -1,119 +1,130 @@
-//! How long the server takes for a message. With no words it does one round of everything and prints nothing; with
-//! `measure` it prints, for each task, its bytes, nanoseconds a turn, and the ratio to a plain count of the CRs
-//! in the same bytes in the same run.
+//! What a message takes: a task is done so many rounds, so that counts of instructions and of allocations over two runs
+//! say what one round takes, whatever else the machine does.
+//!
+//! Words: a task and a number of rounds; with no words each task is done once. A task is the name of a file without `.bin`,
+//! which is read; behind it `+description`, where the description in its body is read too, or `+written`, where what was
+//! read is written again. Prints how often the task was done.
 #![tactic(auto)]
 
-mod messages;
-
-use crate::messages::{DESCRIPTION, INVITE, REGISTER};
 use sdp::{read_description, write_description};
-use sip_message::read_message;
+use sip_message::{Message, MessageError, read_message, write_message};
 use std::alloc::Global;
+use std::fs::Files;
 use std::hint::black_box;
-use std::rt::Clock;
-use std::time::Instant;
-use std::{env, io};
+use std::{env, fs, io};
 
-/// Messages in a measurement.
-const ROUNDS: u32 = 20_000;
+/// Every task.
+const TASKS: [&str; 10] = [
+    "invite",
+    "invite+description",
+    "invite+written",
+    "register",
+    "register+written",
+    "response",
+    "response+description",
+    "response+written",
+    "description",
+    "description+written",
+];
 
-/// What is timed.
-#[derive(Clone, Copy)]
-enum Task {
-    ReadMessage,
-    ReadDescription,
-    ReadAndWriteDescription,
+/// What becomes of what was read.
+#[derive(Clone, Copy, PartialEq, Eq)]
+enum More {
+    Nothing,
+    Description,
+    Written,
 }
 
-fn reads_description(alloc: Global, bytes: &[u8]) -> bool {
+fn body_of(message: &Message) -> &[u8] {
+    match message {
+        Message::Request(request) => request.body.as_bytes(),
+        Message::Response(response) => response.body.as_bytes(),
+    }
+}
+
+fn is_description(alloc: Global, bytes: &[u8]) -> bool {
     read_description(alloc, bytes).is_ok()
 }
 
-fn writes_description(alloc: Global, bytes: &[u8]) -> bool {
+fn is_written(alloc: Global, message: &Message) -> bool {
+    write_message(alloc, message).is_ok()
+}
+
+fn is_more_done(alloc: Global, message: &Message, more: More) -> bool {
+    match more {
+        More::Nothing => true,
+        More::Description => is_description(alloc, body_of(message)),
+        More::Written => is_written(alloc, message),
+    }
+}
+
+/// The message of these bytes, in a list of one, which is dropped as a whole.
+fn messages_of(alloc: Global, bytes: &[u8]) -> Result<Vec<Message>, MessageError> {
+    Ok(vec![in alloc; read_message(alloc, bytes)?]?)
+}
+
+/// Whether a message is read, and what there is to do with it done.
+fn is_message_done(alloc: Global, bytes: &[u8], more: More) -> bool {
+    match messages_of(alloc, bytes) {
+        Ok(messages) => messages
+            .iter()
+            .all(|message| is_more_done(alloc, message, more)),
+        Err(_) => false,
+    }
+}
+
+fn description_is_written(alloc: Global, bytes: &[u8]) -> bool {
     match read_description(alloc, bytes) {
         Ok(description) => write_description(alloc, &description).is_ok(),
         Err(_) => false,
     }
 }
 
-/// Whether the task was done.
-fn done(alloc: Global, task: Task, bytes: &[u8]) -> bool {
-    match task {
-        Task::ReadMessage => read_message(alloc, bytes).is_ok(),
-        Task::ReadDescription => reads_description(alloc, bytes),
-        Task::ReadAndWriteDescription => writes_description(alloc, bytes),
+/// Whether a round of the task is done.
+fn is_done(alloc: Global, name: &str, more: More, bytes: &[u8]) -> bool {
+    match (name, more) {
+        ("description", More::Written) => description_is_written(alloc, bytes),
+        ("description", _) => is_description(alloc, bytes),
+        _ => is_message_done(alloc, bytes, more),
     }
 }
 
-/// Does the task so many times; how often it was done.
-fn rounds(alloc: Global, task: Task, bytes: &[u8], rounds: u32) -> u32 {
+/// The file of a task, and what becomes of what was read.
+fn parts_of(task: &str) -> (&str, More) {
+    match task.split_once('+') {
+        Some((name, "description")) => (name, More::Description),
+        Some((name, _)) => (name, More::Written),
+        None => (task, More::Nothing),
+    }
+}
+
+/// Does a task so many rounds; how often it was done.
+fn times_done(alloc: Global, task: &str, bytes: &[u8], rounds: u32) -> u32 {
+    let (name, more) = parts_of(task);
     let mut times = 0u32;
     for _ in 0..rounds {
-        if done(alloc, task, black_box(bytes)) {
+        if is_done(alloc, name, more, black_box(bytes)) {
             times = times.saturating_add(1);
         }
     }
     times
 }
 
-/// Counts the CRs of the message so many times; how many there were.
-fn count_rounds(bytes: &[u8], rounds: u32) -> usize {
-    let mut found = 0usize;
-    for _ in 0..rounds {
-        let returns = black_box(bytes).iter().filter(|b| **b == b'\r').count();
-        found = found.saturating_add(returns);
-    }
-    found
-}
-
-/// Nanoseconds that a measurement took, at least one.
-fn since<R: Clock>(rt: &R, start: Instant) -> io::Result<u64> {
-    let taken = start.elapsed(rt)?;
-    let nanoseconds = taken
-        .as_secs()
-        .saturating_mul(1_000_000_000)
-        .saturating_add(u64::from(taken.subsec_nanos()));
-    Ok(nanoseconds.max(1))
-}
-
-fn measure<R: Clock + Print + AllocGlobal>(
-    rt: &R,
-    name: &str,
-    task: Task,
-    bytes: &[u8],
-) -> io::Result<()> {
-    let start = Instant::now(rt)?;
-    let times = rounds(rt.alloc(), task, bytes, ROUNDS);
-    let taken = since(rt, start)?;
-    let start = Instant::now(rt)?;
-    let found = count_rounds(bytes, ROUNDS);
-    let counting = since(rt, start)?;
-    let each = taken / u64::from(ROUNDS);
-    let tenths = taken.saturating_mul(10).checked_div(counting).unwrap_or(0);
-    let (whole, tenth) = (tenths / 10, tenths % 10);
-    let size = bytes.len();
-    println!(rt;
-        "{name}: {size} bytes, {each} ns a turn, {whole}.{tenth} times a count of CRs ({times} done, {found} CRs)"
-    )
+fn perform<R: Files + Print + AllocGlobal>(rt: &R, task: &str, rounds: u32) -> io::Result<()> {
+    let (name, _) = parts_of(task);
+    let bytes = fs::read(rt, format!(in rt.alloc(); "{name}.bin")?.as_str())?;
+    let times = times_done(rt.alloc(), task, &bytes, rounds);
+    println!(rt; "{task}: {times} of {rounds}")
 }
 
 fn main(rt: HostRuntime) -> io::Result<()> {
-    match env::args(&rt)?.nth(1) {
-        Some(word) if word.as_str() == "measure" => {
-            measure(&rt, "read INVITE", Task::ReadMessage, INVITE)?;
-            measure(&rt, "read REGISTER", Task::ReadMessage, REGISTER)?;
-            measure(&rt, "read description", Task::ReadDescription, DESCRIPTION)?;
-            measure(
-                &rt,
-                "read and write description",
-                Task::ReadAndWriteDescription,
-                DESCRIPTION,
-            )
-        }
+    let words: Vec<String> = env::args(&rt)?.skip(1).collect(rt.alloc())?;
+    match words.as_slice() {
+        [task, rounds] => perform(&rt, task.as_str(), rounds.parse::<u32>().unwrap_or(0)),
         _ => {
-            black_box(rounds(rt.alloc(), Task::ReadMessage, INVITE, 1));
-            black_box(rounds(rt.alloc(), Task::ReadMessage, REGISTER, 1));
-            black_box(rounds(rt.alloc(), Task::ReadAndWriteDescription, DESCRIPTION, 1));
+            for task in TASKS {
+                perform(&rt, task, 1)?;
+            }
             Ok(())
         }
     }
