@@ -1,6 +1,7 @@
 //! Rows of calls of `offer_answer`, of a server at 192.0.2.1 with the relay ports 40000 to 40015.
 
 use crate::readdress_rows::sent_text;
+use crate::sdp_rows::told;
 use crate::stream_words::streams_words;
 use offer_answer::{
     OwnRange, alike_is_equivalence, check_answer, check_offer, destination, fewer_rows, held_call,
@@ -16,15 +17,6 @@ const RANGE: OwnRange = OwnRange {
     first: 40000,
     last: 40015,
 };
-
-/// What was found, or the letter and the words of the description's fault.
-fn told(alloc: Global, outcome: Result<String, DescriptionError>) -> Result<String, AllocError> {
-    match outcome {
-        Ok(words) => Ok(words),
-        Err(DescriptionError::OutOfMemory) => Err(AllocError),
-        Err(fault) => fault.to_string(alloc),
-    }
-}
 
 /// The text of a description of 192.0.2.10 with this connection line and these media lines.
 fn text_of(alloc: Global, connection: &[u8], media: &[u8]) -> Result<Vec<u8>, AllocError> {

@@ -14,7 +14,10 @@ use std::alloc::{AllocError, Global};
 const FRONT: &[u8] = b"v=0\r\no=- 1 1 IN IP4 a\r\ns=-\r\n";
 
 /// What was read, or the letter and the words of its fault.
-fn told(alloc: Global, outcome: Result<String, DescriptionError>) -> Result<String, AllocError> {
+pub(crate) fn told(
+    alloc: Global,
+    outcome: Result<String, DescriptionError>,
+) -> Result<String, AllocError> {
     match outcome {
         Ok(words) => Ok(words),
         Err(DescriptionError::OutOfMemory) => Err(AllocError),
