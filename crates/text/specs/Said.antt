@@ -1,0 +1,8 @@
+-- What a text says: its bytes, wherever they stand.
+use Rattle.std.specs.Prelude.{ℕ, List}
+use Rattle.text.specs.declared.text.Form.{Form}
+use Rattle.text.specs.declared.text.Form.TheVariants.{Lent, Own}
+
+abbrev pub said : Form → List ℕ
+said (Lent bytes) = bytes.now
+said (Own bytes) = bytes.items
