@@ -6,7 +6,7 @@ use Rattle.std.specs.Option.{option_copied}
 use Rattle.text.specs.Pieces.{pieces, pieces_behind}
 use Rattle.text.specs.declared.splitting.Within.TheVariants.{Nothing}
 use Rattle.sip_uri.specs.declared.uri.Param.{Param}
-use Rattle.sip_uri.specs.FieldParams.{is_field_param, is_field_params, field_param_of, field_params_of, field_params_read}
+use Rattle.sip_uri.specs.FieldParams.{is_field_param, is_field_params, field_param_of, field_param_read, field_params_of, field_params_read}
 
 -- the bytes that are left, and one more where some piece is
 abbrev pub left_length : Option (List ℕ) → ℕ
@@ -66,14 +66,29 @@ left_shrinks (Some rest) text h = omega (arith, h)
 
 -- ---- at a text that is left
 
-pub refused_here : (front : List Param) (left : Option (Bor (List ℕ))) (text : Bor (List ℕ)) (piece : List ℕ) (behind : Option (List ℕ)) (all : Option (List Param)) → left ≡ Some text
-    → pieces_behind 59 piece behind ≡ pieces 59 Nothing text.now → is_field_param piece ≡ false → read_behind front (option_copied left) ≡ all → None ≡ all
-refused_here front left text piece behind all is cuts bad so_far =
-    sym (piece_refused front text.now piece behind cuts bad) ∙ ap (λ (o : Option (Bor (List ℕ))). read_behind front (option_copied o)) (sym is) ∙ so_far
+is_refused : (piece : List ℕ) → field_param_read piece ≡ None → is_field_param piece ≡ false
+unfolding field_param_read
+is_refused piece h = step (is_field_param piece) h where
+  step : (b : Bool) → cond b (Some (field_param_of piece)) None ≡ None → b ≡ false
+  step true e = absurd cc
+  step false e = refl
 
-pub read_here : (front more : List Param) (left : Option (Bor (List ℕ))) (text : Bor (List ℕ)) (piece : List ℕ) (behind : Option (List ℕ)) (all : Option (List Param)) → left ≡ Some text
-    → pieces_behind 59 piece behind ≡ pieces 59 Nothing text.now → is_field_param piece ≡ true → more ≡ front ++ field_param_of piece ∷ [] → read_behind front (option_copied left) ≡ all
+is_read : (piece : List ℕ) (param : Param) → field_param_read piece ≡ Some param → (is_field_param piece ≡ true) × (param ≡ field_param_of piece)
+unfolding field_param_read
+is_read piece param h = step (is_field_param piece) h where
+  step : (b : Bool) → cond b (Some (field_param_of piece)) None ≡ Some param → (b ≡ true) × (param ≡ field_param_of piece)
+  step true e = (refl, cc)
+  step false e = absurd cc
+
+pub refused_here : (front : List Param) (left : Option (Bor (List ℕ))) (text : Bor (List ℕ)) (piece : List ℕ) (behind : Option (List ℕ)) (all : Option (List Param)) → left ≡ Some text
+    → pieces_behind 59 piece behind ≡ pieces 59 Nothing text.now → field_param_read piece ≡ None → read_behind front (option_copied left) ≡ all → None ≡ all
+refused_here front left text piece behind all is cuts bad so_far =
+    sym (piece_refused front text.now piece behind cuts (is_refused piece bad)) ∙ ap (λ (o : Option (Bor (List ℕ))). read_behind front (option_copied o)) (sym is) ∙ so_far
+
+pub read_here : (front more : List Param) (left : Option (Bor (List ℕ))) (text : Bor (List ℕ)) (piece : List ℕ) (behind : Option (List ℕ)) (param : Param) (all : Option (List Param)) → left ≡ Some text
+    → pieces_behind 59 piece behind ≡ pieces 59 Nothing text.now → field_param_read piece ≡ Some param → more ≡ front ++ param ∷ [] → read_behind front (option_copied left) ≡ all
     → read_behind more behind ≡ all
-read_here front more left text piece behind all is cuts good put so_far =
-    ap (λ (ps : List Param). read_behind ps behind) put ∙ piece_read front text.now piece behind cuts good
+read_here front more left text piece behind param all is cuts good put so_far =
+    let read = is_read piece param good in
+    ap (λ (ps : List Param). read_behind ps behind) (put ∙ ap (λ (p : Param). front ++ p ∷ []) read.1) ∙ piece_read front text.now piece behind cuts read.0
     ∙ ap (λ (o : Option (Bor (List ℕ))). read_behind front (option_copied o)) (sym is) ∙ so_far

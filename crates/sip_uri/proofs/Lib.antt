@@ -1,6 +1,7 @@
 mod LabelLaws
 pub mod HostLaws
 mod RawLaws
+mod PlainUsers
 pub mod GrammarLaws
 mod Escapes
 pub mod RoundTrip

@@ -1,6 +1,6 @@
 -- What a text says, and the first fault of one that says nothing.
-use Rattle.std.specs.Prelude.{◌≡◌, ℕ, Bool, ◌==◌, List, [], take, drop, map, codes, Option, Some, None, option_map, option_and_then, Result, Ok, Err, if◌then◌else◌}
-use Rattle.std.specs.List.{slice_split}
+use Rattle.std.specs.Prelude.{◌≡◌, ℕ, Bool, not, ◌==◌, List, [], take, drop, map, codes, Option, Some, None, option_map, option_and_then, Result, Ok, Err, if◌then◌else◌}
+use Rattle.std.specs.List.{slice_split, list_all}
 use Rattle.std.specs.Str.{str_eq_ignore_ascii_case}
 use Rattle.percent_encoding.specs.Percent.{percent_decode}
 use Rattle.sip_uri.specs.declared.error.UriError.{UriError}
@@ -13,6 +13,10 @@ use Rattle.text.specs.Cut.{before, after}
 use Rattle.text.specs.Number.{number_upto}
 use Rattle.sip_uri.specs.Hosts.{ip4_of, is_host}
 use Rattle.sip_uri.specs.RawUri.{RawUri, raw_of, is_raw, has_good_escapes, has_good_port}
+
+-- a user in which nothing is escaped
+abbrev pub is_plain : List ℕ → Bool
+is_plain text = list_all (λ b. not (b == 37)) text
 
 -- A call gave what reading gives, unless memory ran out.
 abbrev pub Gives : {X : Type 0} → Result X UriError → Result X UriError → Type 0

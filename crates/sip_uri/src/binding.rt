@@ -40,7 +40,7 @@ pub fn same_host(a: &Host, b: &Host) -> bool
 }
 
 /// The first parameter of this name, without case.
-pub fn param_named<'a>(params: &'a [Param], name: &[u8]) -> Option<&'a Param>
+pub fn param_named<'m, 'a>(params: &'m [Param<'a>], name: &[u8]) -> Option<&'m Param<'a>>
     ensures { option_copied result ≡ param_named name.now params.now }
 {
     params

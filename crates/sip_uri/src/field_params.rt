@@ -4,7 +4,7 @@ ghost use Rattle.std.specs.Prelude.{◌≡◌, map, Some, IfOk};
 ghost use Rattle.std.specs.List.{list_all};
 ghost use Rattle.std.specs.Option.{option_copied};
 ghost use Rattle.text.specs.Class.{is_run_of};
-ghost use Rattle.sip_uri.specs.FieldParams.{is_bracket_byte, is_bracketed, is_field_value, is_field_param, field_param_of, field_params_read};
+ghost use Rattle.sip_uri.specs.FieldParams.{is_bracket_byte, is_bracketed, is_field_value, field_param_read, field_params_read};
 
 use crate::quoted::is_quoted;
 use crate::uri::{Param, Params};
@@ -49,42 +49,44 @@ fn is_field_value(text: &[u8]) -> bool
     is_run_of_token(text) || is_quoted(text) || is_bracketed(text)
 }
 
-#[tactic(auto, unfolding(crate::specs::FieldParams::is_field_param))]
-fn is_field_param(piece: &[u8]) -> bool
-    ensures { result ≡ is_field_param piece.now }
+/// The parameter that a piece is, if it is of its form.
+#[tactic(auto, unfolding(crate::specs::FieldParams::is_field_param, crate::specs::FieldParams::field_param_read))]
+fn field_param(piece: &[u8]) -> Option<Param<'_>>
+    ensures { result ≡ field_param_read piece.now }
 {
     let (name, value) = cut(piece, b'=');
-    is_run_of_token(trimmed(name))
-        && match value {
-            Some(value) => is_field_value(trimmed(value)),
-            None => true,
-        }
-}
-
-fn field_param(alloc: Global, piece: &[u8]) -> Result<Param, AllocError>
-    ensures { IfOk result (λ p. p ≡ field_param_of piece.now) }
-{
-    let (name, value) = cut(piece, b'=');
-    let name = Text::from_slice(alloc, trimmed(name))?;
+    let name = trimmed(name);
+    if !is_run_of_token(name) {
+        return None;
+    }
     let value = match value {
-        Some(value) => Some(Text::from_slice(alloc, trimmed(value))?),
+        Some(value) => {
+            let value = trimmed(value);
+            if !is_field_value(value) {
+                return None;
+            }
+            Some(Text::lent(value))
+        }
         None => None,
     };
-    Ok(Param { name, value })
+    Some(Param {
+        name: Text::lent(name),
+        value,
+    })
 }
 
 /// The parameters of a text, if each piece of it is of its form.
-fn field_params(alloc: Global, text: &[u8]) -> Result<Option<Params>, AllocError>
+fn field_params(alloc: Global, text: &[u8]) -> Result<Option<Params<'_>>, AllocError>
     ensures { IfOk result (λ o. o ≡ field_params_read (Some text.now)) }
 {
     let mut params = Vec::new(alloc);
     let mut left = Some(text);
     while let Some(text) = left {
         let (piece, behind) = cut_piece(text, b';');
-        if !is_field_param(piece) {
+        let Some(param) = field_param(piece) else {
             return Ok(None);
-        }
-        params.push(field_param(alloc, piece)?)?;
+        };
+        params.push(param)?;
         left = behind;
     }
     Ok(Some(Params::from_vec(params)))
@@ -93,7 +95,10 @@ fn field_params(alloc: Global, text: &[u8]) -> Result<Option<Params>, AllocError
 /// The parameters of a header field, each `name` or `name=value` with blanks round its parts and semicolons between
 /// them. `None` where the text has another form. A value in quotation marks keeps them.
 #[tactic(auto, unfolding(crate::specs::FieldParams::field_params_read))]
-pub fn read_field_params(alloc: Global, text: Option<&[u8]>) -> Result<Option<Params>, AllocError>
+pub fn read_field_params(
+    alloc: Global,
+    text: Option<&[u8]>,
+) -> Result<Option<Params<'_>>, AllocError>
     ensures { IfOk result (λ o. o ≡ field_params_read (option_copied text.entry)) }
 {
     match text {

@@ -25,10 +25,12 @@ pub fn ip4(text: &[u8]) -> Option<[u8; 4]>
     ensures { result ≡ ip4_of text.now }
 {
     let (a, rest) = cut(text, b'.');
+    let a = octet(a)?;
     let (b, rest) = cut(rest?, b'.');
+    let b = octet(b)?;
     let (c, rest) = cut(rest?, b'.');
-    let d = rest?;
-    Some([octet(a)?, octet(b)?, octet(c)?, octet(d)?])
+    let c = octet(c)?;
+    Some([a, b, c, octet(rest?)?])
 }
 
 fn all_label(text: &[u8]) -> bool

@@ -13,11 +13,11 @@ use crate::read::read_uri;
 use crate::uri::{NameAddr, Params};
 use crate::write::{put_params, write_uri};
 use std::alloc::{AllocError, Global};
-use text::Text;
+use text::{Text, lent};
 
 /// The header's parameters, where the whole is of its form but for the URI.
 #[tactic(auto, unfolding(crate::specs::NameAddr::name_params))]
-fn name_params(alloc: Global, parts: &NameParts) -> Result<Option<Params>, AllocError>
+fn name_params<'a>(alloc: Global, parts: &NameParts<'a>) -> Result<Option<Params<'a>>, AllocError>
     ensures { IfOk result (λ o. o ≡ name_params parts.now) }
 {
     if !parts.stands_well() {
@@ -26,17 +26,8 @@ fn name_params(alloc: Global, parts: &NameParts) -> Result<Option<Params>, Alloc
     read_field_params(alloc, parts.params)
 }
 
-fn copied(alloc: Global, text: Option<&[u8]>) -> Result<Option<Text>, AllocError>
-    ensures { IfOk result (λ o. o ≡ option_copied text.entry) }
-{
-    match text {
-        Some(text) => Ok(Some(Text::from_slice(alloc, text)?)),
-        None => Ok(None),
-    }
-}
-
 #[tactic(auto, unfolding(crate::specs::NameAddr::name_addr_of))]
-fn read(alloc: Global, bytes: &[u8]) -> Result<NameAddr, UriError>
+fn read(alloc: Global, bytes: &[u8]) -> Result<NameAddr<'_>, UriError>
     ensures { Gives result (name_addr_of bytes.now) }
 {
     let Some(parts) = parts_of(bytes) else {
@@ -51,9 +42,8 @@ fn read(alloc: Global, bytes: &[u8]) -> Result<NameAddr, UriError>
         return Err(UriError::Malformed);
     };
     let uri = uri?;
-    let display = copied(alloc, parts.display)?;
     Ok(NameAddr {
-        display,
+        display: lent(parts.display),
         uri,
         params,
     })
@@ -65,7 +55,7 @@ fn read(alloc: Global, bytes: &[u8]) -> Result<NameAddr, UriError>
 ///
 /// Another scheme of the URI is the first fault, where the outer form could be cut; then comes the form of the whole,
 /// then the URI's escapes and its port.
-pub fn read_name_addr(alloc: Global, bytes: &[u8]) -> Result<NameAddr, UriError>
+pub fn read_name_addr(alloc: Global, bytes: &[u8]) -> Result<NameAddr<'_>, UriError>
     // What is read is a name and an address with this value.
     ensures found { IfOk result (λ name. ReadsNameAddr bytes.now name) }
     // A name and an address is read, unless memory runs out.
@@ -90,7 +80,7 @@ fn put_display(out: &mut Vec<u8>, display: Option<&Text>) -> Result<(), AllocErr
 }
 
 #[tactic(auto, unfolding(crate::specs::NameAddr::name_addr_text))]
-fn write(alloc: Global, name: &NameAddr) -> Result<Text, AllocError>
+fn write(alloc: Global, name: &NameAddr) -> Result<Text<'static>, AllocError>
     ensures { IfOk result (λ t. t ≡ name_addr_text name.now) }
 {
     let uri = write_uri(alloc, &name.uri)?;
@@ -104,7 +94,7 @@ fn write(alloc: Global, name: &NameAddr) -> Result<Text, AllocError>
 }
 
 /// The text of a name and an address: `"display" <uri>;name=value`, without the display where there is none.
-pub fn write_name_addr(alloc: Global, name: &NameAddr) -> Result<Text, AllocError>
+pub fn write_name_addr(alloc: Global, name: &NameAddr) -> Result<Text<'static>, AllocError>
     // The text itself.
     ensures text { IfOk result (λ t. t ≡ name_addr_text name.now) }
     // What is written for a value that was read from some text is read again as that value.

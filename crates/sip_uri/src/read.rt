@@ -5,7 +5,7 @@ ghost use Rattle.std.specs.List.{slice_split};
 ghost use Rattle.std.specs.Option.{option_copied};
 ghost use Rattle.percent_encoding.specs.Percent.{percent_decode};
 ghost use Rattle.sip_uri.specs.Hosts.{ip4_of};
-ghost use Rattle.sip_uri.specs.Reading.{Gives, uri_of, value_of, host_of, host_read, param_of, fields_of, is_sip};
+ghost use Rattle.sip_uri.specs.Reading.{Gives, is_plain, uri_of, value_of, host_of, host_read, param_of, fields_of, is_sip};
 ghost use Rattle.sip_uri.specs.Grammar.{ReadsUri, Refuses};
 ghost use Rattle.sip_uri.specs.declared.uri.Uri.{Uri};
 
@@ -14,56 +14,54 @@ use crate::hosts::{ip4, is_hostname};
 use crate::parts::Parts;
 use crate::uri::{Host, Param, Params, Uri};
 use std::alloc::{AllocError, Global};
-use text::{Text, cut, number_upto};
+use text::{Text, cut, lent, number_upto};
 
 /// The host of a text, whose octets these are where it is an address.
-fn host(alloc: Global, text: &[u8], octets: Option<[u8; 4]>) -> Result<Host, AllocError>
+fn host(text: &[u8], octets: Option<[u8; 4]>) -> Host<'_>
     requires { octets ≡ ip4_of text.now }
-    ensures { IfOk result (λ h. h ≡ host_of text.now) }
+    ensures { result ≡ host_of text.now }
 {
     match octets {
-        Some(octets) => Ok(Host::Ip4(octets)),
-        None => Ok(Host::Name(Text::from_slice(alloc, text)?)),
+        Some(octets) => Host::Ip4(octets),
+        None => Host::Name(Text::lent(text)),
     }
 }
 
 /// The host that the bytes are, as in a URI and in a Via (RFC 3261 section 25.1): an IPv4 address by its octets, or a host
-/// name as written. `None` for others.
+/// name as written. `None` for others. Takes no memory.
 #[tactic(auto, unfolding(crate::specs::Reading::host_read, crate::specs::Hosts::is_host))]
-pub fn read_host(alloc: Global, text: &[u8]) -> Result<Option<Host>, AllocError>
-    ensures { IfOk result (λ o. o ≡ host_read text.now) }
+pub fn read_host(text: &[u8]) -> Option<Host<'_>>
+    ensures { result ≡ host_read text.now }
 {
     let octets = ip4(text);
     if octets.is_none() && !is_hostname(text) {
-        return Ok(None);
+        return None;
     }
-    Ok(Some(host(alloc, text, octets)?))
+    Some(host(text, octets))
 }
 
-fn param(alloc: Global, text: &[u8]) -> Result<Param, AllocError>
-    ensures { IfOk result (λ p. p ≡ param_of text.now) }
+fn param(text: &[u8]) -> Param<'_>
+    ensures { result ≡ param_of text.now }
 {
     let (name, value) = cut(text, b'=');
-    let name = Text::from_slice(alloc, name)?;
-    let value = match value {
-        Some(value) => Some(Text::from_slice(alloc, value)?),
-        None => None,
-    };
-    Ok(Param { name, value })
+    Param {
+        name: Text::lent(name),
+        value: lent(value),
+    }
 }
 
-fn list_of_params(alloc: Global, text: &[u8], separator: u8) -> Result<Vec<Param>, AllocError>
+fn list_of_params(alloc: Global, text: &[u8], separator: u8) -> Result<Vec<Param<'_>>, AllocError>
     ensures { IfOk result (λ ps. ps.items ≡ map param_of (slice_split (λ b. b == separator) text.now)) }
 {
     let mut params = Vec::new(alloc);
     for piece in text.split(|b| *b == separator) {
-        params.push(param(alloc, piece)?)?;
+        params.push(param(piece))?;
     }
     Ok(params)
 }
 
 /// The parameters of a part whose pieces stand between separators.
-fn params(alloc: Global, text: Option<&[u8]>, separator: u8) -> Result<Params, AllocError>
+fn params(alloc: Global, text: Option<&[u8]>, separator: u8) -> Result<Params<'_>, AllocError>
     ensures { IfOk result (λ ps. ps ≡ fields_of separator (option_copied text.entry)) }
 {
     match text {
@@ -72,16 +70,32 @@ fn params(alloc: Global, text: Option<&[u8]>, separator: u8) -> Result<Params, A
     }
 }
 
-fn user(alloc: Global, text: &[u8]) -> Result<Text, AllocError>
+/// Whether the text has no `%`, and so is what it decodes to.
+fn is_plain(text: &[u8]) -> bool
+    ensures { result ≡ is_plain text.now }
+{
+    text.iter().all(|b| *b != b'%')
+}
+
+/// The user with its escapes undone: lent where there are none.
+#[tactic(auto, using(crate::proofs::PlainUsers::plain))]
+fn user(alloc: Global, text: &[u8]) -> Result<Text<'_>, AllocError>
     ensures { IfOk result (λ t. t ≡ percent_decode text.now) }
 {
+    if is_plain(text) {
+        return Ok(Text::lent(text));
+    }
     let mut user = Vec::new(alloc);
     percent_encoding::percent_decode(text).append_to(&mut user)?;
     Ok(Text::from_vec(user))
 }
 
 #[tactic(auto, unfolding(crate::specs::Reading::value_of))]
-fn value(alloc: Global, parts: &Parts, octets: Option<[u8; 4]>) -> Result<Uri, AllocError>
+fn value<'a>(
+    alloc: Global,
+    parts: &Parts<'a>,
+    octets: Option<[u8; 4]>,
+) -> Result<Uri<'a>, AllocError>
     requires { octets ≡ ip4_of parts.now.host }
     ensures { IfOk result (λ u. u ≡ value_of parts.now) }
 {
@@ -89,7 +103,7 @@ fn value(alloc: Global, parts: &Parts, octets: Option<[u8; 4]>) -> Result<Uri, A
         Some(text) => Some(user(alloc, text)?),
         None => None,
     };
-    let host = host(alloc, parts.host, octets)?;
+    let host = host(parts.host, octets);
     let port = match parts.port {
         Some(port) => number_upto(65535, port).map(|n| n as u16),
         None => None,
@@ -114,7 +128,7 @@ fn is_sip(text: &[u8]) -> bool
 }
 
 #[tactic(auto, unfolding(crate::specs::Reading::uri_of))]
-fn read(alloc: Global, bytes: &[u8]) -> Result<Uri, UriError>
+fn read(alloc: Global, bytes: &[u8]) -> Result<Uri<'_>, UriError>
     ensures { Gives result (uri_of bytes.now) }
 {
     if !is_sip(bytes) {
@@ -136,7 +150,7 @@ fn read(alloc: Global, bytes: &[u8]) -> Result<Uri, UriError>
 
 /// The URI that the bytes are (RFC 3261 section 25.1, SIP-URI). Of several faults the first in the order of `UriError`
 /// is given: the scheme, the form with `%` let through, the escapes of the whole URI, the port.
-pub fn read_uri(alloc: Global, bytes: &[u8]) -> Result<Uri, UriError>
+pub fn read_uri(alloc: Global, bytes: &[u8]) -> Result<Uri<'_>, UriError>
     // What is read is a URI with this value.
     ensures found { IfOk result (λ uri. ReadsUri bytes.now uri) }
     // A URI is read, unless memory runs out.

@@ -12,25 +12,25 @@ pub struct Addr {
 
 /// Where a URI leads: the four octets of an IPv4 address, or a host name as written.
 #[derive(Clone, Debug, Drop, PartialEq, Eq)]
-pub enum Host {
+pub enum Host<'a> {
     Ip4([u8; 4]),
-    Name(Text),
+    Name(Text<'a>),
 }
 
 /// A parameter, as written: `name` or `name=value`.
 #[derive(Clone, Debug, Drop, PartialEq, Eq)]
-pub struct Param {
-    pub name: Text,
-    pub value: Option<Text>,
+pub struct Param<'a> {
+    pub name: Text<'a>,
+    pub value: Option<Text<'a>>,
 }
 
 /// Parameters in order, which contracts see as a list.
 #[derive(Clone, Debug, Drop)]
-pub struct Params {
-    entries: Vec<Param>,
+pub struct Params<'a> {
+    entries: Vec<Param<'a>>,
 }
 
-impl Model for Params {
+impl<'a> Model for Params<'a> {
     ghost use Rattle.std.specs.Prelude.{List};
     ghost use Rattle.sip_uri.specs.declared.uri.Param.{Param};
 
@@ -39,25 +39,25 @@ impl Model for Params {
     ghost view = { λ p. p.entries.items };
 }
 
-impl Params {
+impl<'a> Params<'a> {
     ghost use Rattle.std.specs.Prelude.{◌≡◌};
 
     /// The list of these parameters. Takes no memory.
-    pub fn from_vec(entries: Vec<Param>) -> Params
-        ensures { result ≡ entries.items }
+    pub fn from_vec(entries: Vec<Param<'a>>) -> Params<'a>
+        ensures { result ≡ entries.entry.items }
     {
         Params { entries }
     }
 
     /// The parameters. Takes no memory.
-    pub fn into_vec(self) -> Vec<Param>
-        ensures { result.items ≡ self }
+    pub fn into_vec(self) -> Vec<Param<'a>>
+        ensures { result.items ≡ self.entry }
     {
         self.entries
     }
 
     /// The parameters, lent.
-    pub fn as_slice(&self) -> &[Param]
+    pub fn as_slice(&self) -> &[Param<'a>]
         ensures { result.now ≡ self.now }
     {
         &self.entries
@@ -66,19 +66,19 @@ impl Params {
 
 /// A URI of the scheme `sip` (RFC 3261 section 19.1.1). The user has its escapes undone, and has the password in it.
 #[derive(Clone, Debug, Drop)]
-pub struct Uri {
-    pub user: Option<Text>,
-    pub host: Host,
+pub struct Uri<'a> {
+    pub user: Option<Text<'a>>,
+    pub host: Host<'a>,
     pub port: Option<u16>,
-    pub params: Params,
-    pub headers: Params,
+    pub params: Params<'a>,
+    pub headers: Params<'a>,
 }
 
 /// A URI with a display name and the parameters of its header, as in From, To and Contact (RFC 3261 section 20.10).
 /// The display is the text between the quotation marks, as written.
 #[derive(Clone, Debug, Drop)]
-pub struct NameAddr {
-    pub display: Option<Text>,
-    pub uri: Uri,
-    pub params: Params,
+pub struct NameAddr<'a> {
+    pub display: Option<Text<'a>>,
+    pub uri: Uri<'a>,
+    pub params: Params<'a>,
 }

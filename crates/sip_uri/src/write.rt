@@ -89,7 +89,7 @@ pub fn put_params(
 }
 
 #[tactic(auto, unfolding(crate::specs::Writing::uri_text, crate::specs::Writing::user_part))]
-fn write(alloc: Global, uri: &Uri) -> Result<Text, AllocError>
+fn write(alloc: Global, uri: &Uri) -> Result<Text<'static>, AllocError>
     ensures { IfOk result (λ t. t ≡ uri_text uri.now) }
 {
     let mut out = Vec::from_slice(alloc, b"sip:")?;
@@ -108,7 +108,7 @@ fn write(alloc: Global, uri: &Uri) -> Result<Text, AllocError>
 }
 
 /// The text of a URI. Bytes of its user that may not stand in one are written as `%` and two upper-case digits.
-pub fn write_uri(alloc: Global, uri: &Uri) -> Result<Text, AllocError>
+pub fn write_uri(alloc: Global, uri: &Uri) -> Result<Text<'static>, AllocError>
     // The text itself.
     ensures text { IfOk result (λ t. t ≡ uri_text uri.now) }
     // What is written for a URI that was read from some text is read again as that URI.

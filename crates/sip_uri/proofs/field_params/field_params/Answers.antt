@@ -1,14 +1,13 @@
-use Rattle.std.proofs.Common.{◌∷◌, [], ◌++◌, ap, ◌∙◌, rules}
+use Rattle.std.proofs.Common.{rules}
 use Rattle.std.specs.Option.{option_copied}
-use Rattle.sip_uri.specs.declared.uri.Param.{Param}
 use Rattle.sip_uri.proofs.FieldLaws.{nothing_read, refused_here, read_here, left_shrinks}
 use Rattle.sip_uri.proofs.field_params.field_params.Goals as goal
 
 pub loop-left-init : goal.loop-left-init
 loop-left-init c = rw c.new-params.ensures.items (nothing_read c.args.text.now)
 
-pub returns-then-not-is_field_param : goal.returns-then-not-is_field_param
-returns-then-not-is_field_param c =
+pub returns-in_default-field_param : goal.returns-in_default-field_param
+returns-in_default-field_param c =
     refused_here c.loop-left.params.items c.loop-left.left c.in-Some.text c.cut_piece.result.0.now (option_copied c.cut_piece.result.1) _ c.in-Some.is c.cut_piece.ensures.pieces (search rules) c.loop-left.invariant
 
 pub loop-left-smaller : goal.loop-left-smaller
@@ -16,5 +15,5 @@ loop-left-smaller c = rw c.in-Some.is (left_shrinks c.cut_piece.result.1 c.in-So
 
 pub loop-left-preserved : goal.loop-left-preserved
 loop-left-preserved c =
-    read_here c.loop-left.params.items c.push.new.self.items c.loop-left.left c.in-Some.text c.cut_piece.result.0.now (option_copied c.cut_piece.result.1) _ c.in-Some.is c.cut_piece.ensures.pieces (search rules)
-    (c.in_ok-push.ensures.items ∙ ap (λ (p : Param). c.loop-left.params.items ++ p ∷ []) c.in_ok-field_param.ensures) c.loop-left.invariant
+    read_here c.loop-left.params.items c.push.new.self.items c.loop-left.left c.in-Some.text c.cut_piece.result.0.now (option_copied c.cut_piece.result.1) c.in-Some-field_param.param _ c.in-Some.is c.cut_piece.ensures.pieces (search rules)
+    (search rules) c.loop-left.invariant
