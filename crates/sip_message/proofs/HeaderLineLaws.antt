@@ -1,50 +1,11 @@
 -- The lines up to the empty line: what is read is there, and what is there is read.
-use Rattle.std.proofs.Common.{◌≡◌, ℕ, zero, suc, ◌+◌, ◌-◌, ◌<◌, ◌≤◌, Bool, true, false, not, ◌&&◌, cond, eqb, List, [], ◌∷◌, ◌++◌, length, Option, Some, None, refl, sym, ap, subst, ◌∙◌, append_assoc, arith}
+use Rattle.std.proofs.Common.{◌≡◌, ℕ, zero, suc, ◌<◌, Bool, true, false, not, ◌&&◌, cond, eqb, List, [], ◌∷◌, ◌++◌, length, Option, Some, None, refl, sym, ap, subst, ◌∙◌, append_assoc, arith}
 use Rattle.std.specs.Prelude.{option_and_then}
 use Rattle.std.specs.List.{list_all}
-use Rattle.std.proofs.lemmas.Bool.{ne_eqb, eq-eqb, eqb-true, eqb-false, and_parts, and_from}
-use Rattle.std.proofs.lemmas.List.{append-nil, nil_from_length}
+use Rattle.std.proofs.lemmas.Bool.{ne_eqb, eqb-true, eqb-false, and_parts, and_from}
+use Rattle.std.proofs.lemmas.List.{nil_from_length}
 use Rattle.sip_message.specs.Lines.{begins_line_end, before_line_end, after_line_end, is_text_byte, is_clean, line_of, is_line, lines_text, IsHead, with_lines, next_lines, lines_within}
 use Rattle.sip_message.proofs.LineLaws.{first_line_joined}
-
--- ---- the loop
-
-abbrev Read : Type 0
-Read = Option (List (List ℕ) × List ℕ)
-
-more_lines : (front : List (List ℕ)) (line : List ℕ) (o : Read) → with_lines front (with_lines (line ∷ []) o) ≡ with_lines (front ++ line ∷ []) o
-more_lines front line None = refl
-more_lines front line (Some x) = ap (λ (ls : List (List ℕ)). Some (ls, x.1)) (sym (append_assoc front (line ∷ []) x.0))
-
-turn : (limit i : ℕ) (text : List ℕ) → i < limit → lines_within (limit - i) text ≡ next_lines (line_of text) (lines_within (limit - (i + 1)))
-unfolding lines_within
-turn limit i text lt = let k : limit - i ≡ suc (limit - (i + 1)) = omega arith in rw k refl
-
-pub lines_go_on : (front : List (List ℕ)) (limit i : ℕ) (text line rest : List ℕ) (o : Read) → i < limit → line_of text ≡ Some (line, rest) → (length line ≡ 0 → ⊥)
-    → with_lines front (lines_within (limit - i) text) ≡ o → with_lines (front ++ line ∷ []) (lines_within (limit - (i + 1)) rest) ≡ o
-lines_go_on front limit i text line rest o lt first some so_far =
-    let one : with_lines front (lines_within (limit - i) text) ≡ with_lines (front ++ line ∷ []) (lines_within (limit - (i + 1)) rest) =
-    rw (turn limit i text lt, first, ne_eqb (length line) 0 some) (more_lines front line (lines_within (limit - (i + 1)) rest)) in
-    sym one ∙ so_far
-
-pub lines_stop : (front : List (List ℕ)) (limit i : ℕ) (text : List ℕ) (o : Read) → i < limit → line_of text ≡ None → with_lines front (lines_within (limit - i) text) ≡ o → o ≡ None
-lines_stop front limit i text o lt first so_far =
-    let one : with_lines front (lines_within (limit - i) text) ≡ None = rw (turn limit i text lt, first) refl in
-    sym so_far ∙ one
-
-pub lines_found : (front : List (List ℕ)) (limit i : ℕ) (text line rest : List ℕ) (o : Read) → i < limit → line_of text ≡ Some (line, rest) → length line ≡ 0
-    → with_lines front (lines_within (limit - i) text) ≡ o → o ≡ Some (front, rest)
-lines_found front limit i text line rest o lt first empty so_far =
-    let one : with_lines front (lines_within (limit - i) text) ≡ Some (front, rest) =
-    rw (turn limit i text lt, first, eq-eqb (length line) 0 empty) (ap (λ (ls : List (List ℕ)). Some (ls, rest)) (append-nil front)) in
-    sym so_far ∙ one
-
-pub lines_run_out : (front : List (List ℕ)) (limit i : ℕ) (text : List ℕ) (o : Read) → limit ≤ i → with_lines front (lines_within (limit - i) text) ≡ o → o ≡ None
-unfolding lines_within
-lines_run_out front limit i text o le so_far =
-    let k : limit - i ≡ 0 = omega arith in
-    let one : with_lines front (lines_within (limit - i) text) ≡ None = rw k refl in
-    sym so_far ∙ one
 
 -- ---- a line that is there is read
 
@@ -102,7 +63,8 @@ same_pair l r line rest e = let p : pair_of l r ≡ pair_of line rest = cc in (a
 abbrev option_then : List ℕ → Option (List ℕ) → Option (List ℕ × List ℕ)
 option_then text o = option_and_then (λ rest. cond (is_clean (before_line_end text)) (some_of (before_line_end text) rest) None) o
 
-line_parts : (text line rest : List ℕ) → line_of text ≡ Some (line, rest) → (text ≡ line ++ 13 ∷ 10 ∷ rest) × (is_clean line ≡ true)
+-- a line that is read is there, and clean
+pub line_parts : (text line rest : List ℕ) → line_of text ≡ Some (line, rest) → (text ≡ line ++ 13 ∷ 10 ∷ rest) × (is_clean line ≡ true)
 line_parts text line rest h = step (after_line_end text) refl h where
   clean : (r : List ℕ) (e : Bool) → after_line_end text ≡ Some r → is_clean (before_line_end text) ≡ e → cond e (some_of (before_line_end text) r) None ≡ Some (line, rest) → (text ≡ line ++ 13 ∷ 10 ∷ rest) × (is_clean line ≡ true)
   clean r true after tested k =

@@ -10,7 +10,8 @@ use Rattle.text.specs.Trim.{without_blanks, kept, without_end, trimmed}
 use Rattle.text.proofs.CutLaws.{differs}
 use Rattle.sip_uri.proofs.BlankLaws.{end_again}
 use Rattle.sip_message.specs.Lines.{is_text_byte, is_clean}
-use Rattle.sip_message.specs.Fields.{begins_blank, begun_value, glue, unfolded}
+use Rattle.sip_message.specs.Fields.{begins_blank, begun_value}
+use Rattle.sip_message.specs.Glue.{glue, unfolded}
 
 -- ---- equal texts
 

@@ -1,10 +1,11 @@
 -- Header fields, made of their lines (RFC 3261 sections 7.3.1 and 25.1).
-use Rattle.std.specs.Prelude.{ℕ, Bool, true, false, not, ◌&&◌, List, [], ◌∷◌, ◌++◌, map, Option, Some, None, unwrap_or, is_some, if◌then◌else◌}
+use Rattle.std.specs.Prelude.{ℕ, Bool, true, false, not, ◌&&◌, List, [], ◌∷◌, map, Option, Some, None, unwrap_or, is_some, if◌then◌else◌}
 use Rattle.std.specs.List.{list_all}
 use Rattle.text.specs.Class.{is_blank, is_token_byte, is_run_of}
 use Rattle.text.specs.Cut.{before, after}
 use Rattle.text.specs.Trim.{trimmed}
 use Rattle.sip_message.specs.Lines.{is_clean}
+use Rattle.sip_message.specs.Glue.{unfolded}
 use Rattle.sip_message.specs.LongNames.{long_name}
 use Rattle.sip_message.specs.declared.headers.Header.{Header}
 
@@ -45,17 +46,6 @@ unfoldable pub is_raw_field : RawField → Bool
 is_raw_field f = not (begins_blank f.first) && is_named_line f.first && is_clean f.first && list_all is_continuing f.more
 
 -- ---- the meaning
-
--- two pieces of a value, with one space between where neither is empty
-abbrev pub glue : List ℕ → List ℕ → List ℕ
-glue [] b = b
-glue (x ∷ a) [] = x ∷ a
-glue (x ∷ a) (y ∷ b) = (x ∷ a) ++ 32 ∷ y ∷ b
-
--- pieces of a value: each line end, and the blanks around it, read as one space (RFC 3261 section 7.3.1)
-abbrev pub unfolded : List (List ℕ) → List ℕ
-unfolded [] = []
-unfolded (p ∷ ps) = glue p (unfolded ps)
 
 abbrev pub value_of : List ℕ → List (List ℕ) → List ℕ
 value_of first more = unfolded (map trimmed (begun_value first ∷ more))

@@ -1,9 +1,8 @@
 -- The header fields of a datagram (RFC 3261 sections 7.3 and 25.1).
 use Rattle.std.specs.Prelude.{◌≡◌, ℕ, ◌<◌, IsTrue, List, ◌∷◌, ◌++◌, length, map, Option, Some, None, option_map, option_and_then, Result, Ok, Err}
 use Rattle.std.specs.Borrow.{Bor}
-use Rattle.std.specs.Global.{Vec}
 use Rattle.std.specs.List.{flat_map, list_all}
-use Rattle.sip_message.specs.Lines.{lines_text, lines_within, texts}
+use Rattle.sip_message.specs.Lines.{lines_text, lines_within}
 use Rattle.sip_message.specs.Fields.{RawField, field_lines, is_raw_field, field_of, headers_of}
 use Rattle.sip_message.specs.declared.headers.Header.{Header}
 use Rattle.sip_message.specs.declared.head.HeadError.{HeadError}
@@ -29,16 +28,6 @@ unfoldable pub head_of : ℕ → List ℕ → Option (List Header × List ℕ)
 head_of limit text = option_and_then (λ x. option_map (λ headers. (headers, x.1)) (headers_of x.0)) (lines_within limit text)
 
 -- a call gave what reading gives, unless memory ran out
-abbrev pub GivesLines : Result (Vec (Bor (List ℕ)) × Bor (List ℕ)) HeadError → Option (List (List ℕ) × List ℕ) → Type 0
-GivesLines (Ok x) read = read ≡ Some (texts x.0.items, x.1.now)
-GivesLines (Err OutOfMemory) read = Unit {0}
-GivesLines (Err Line) read = read ≡ None
-
-abbrev pub Gives : {X : Type 0} → Result X HeadError → Option X → Type 0
-Gives (Ok x) read = read ≡ Some x
-Gives (Err OutOfMemory) read = Unit {0}
-Gives (Err Line) read = read ≡ None
-
 abbrev pub GivesHead : Result (List Header × Bor (List ℕ)) HeadError → Option (List Header × List ℕ) → Type 0
 GivesHead (Ok x) read = read ≡ Some (x.0, x.1.now)
 GivesHead (Err OutOfMemory) read = Unit {0}

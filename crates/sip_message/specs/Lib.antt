@@ -1,5 +1,9 @@
 pub mod CSeq
 pub mod Faults
+pub mod Glue
+pub mod Unfold
+pub mod FieldValues
+pub mod Steps
 pub mod Fields
 pub mod Form
 pub mod HeaderNames

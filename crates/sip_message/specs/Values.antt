@@ -1,5 +1,5 @@
 -- What the header fields of a message say (RFC 3261 sections 8.1.1 and 20), and the first fault of those that say nothing.
-use Rattle.std.specs.Prelude.{ℕ, not, nat_le, List, [], ◌∷◌, length, take, filter, codes, Option, Some, None, option_map, Result, Ok, Err, if◌then◌else◌}
+use Rattle.std.specs.Prelude.{ℕ, not, nat_le, List, [], ◌∷◌, ◌++◌, length, take, filter, codes, Option, Some, None, option_map, Result, Ok, Err, if◌then◌else◌}
 use Rattle.std.specs.List.{flat_map}
 use Rattle.std.specs.Char.{is_ascii_digit}
 use Rattle.text.specs.Class.{is_run_of}
@@ -44,6 +44,11 @@ each_via (text ∷ texts) = with_via (via_of text) (each_via texts)
 -- the values of all Via header fields, of which one may have several with commas between them (section 7.3.1)
 abbrev pub via_texts : List Header → List (List ℕ)
 via_texts headers = flat_map (λ value. pieces 44 Nothing value) (values_named (codes "Via") headers)
+
+-- values in front of others, if those are there
+abbrev pub put_before : List Via → Option (List Via) → Option (List Via)
+put_before front None = None
+put_before front (Some vias) = Some (front ++ vias)
 
 abbrev pub some_vias : List (List ℕ) → Result (List Via) MessageError
 some_vias [] = Err (Missing Names.Via)

@@ -6,12 +6,13 @@ ghost use Rattle.sip_message.specs.Faults.{Gives};
 ghost use Rattle.sip_message.specs.Values.{body_by, body_of, long_enough};
 
 use crate::error::{HeaderName, MessageError};
+use crate::field_value::FieldValue;
 use crate::headers::Header;
 use crate::named::at_most_one;
 use std::alloc::Global;
 use text::{Text, is_run_of_digits, number_upto};
 
-fn cut_body(alloc: Global, length: Option<u32>, rest: &[u8]) -> Result<Text, MessageError>
+fn cut_body(length: Option<u32>, rest: &[u8]) -> Result<Text<'_>, MessageError>
     ensures { Gives result (long_enough length rest.now) }
 {
     let Some(length) = length else {
@@ -21,28 +22,33 @@ fn cut_body(alloc: Global, length: Option<u32>, rest: &[u8]) -> Result<Text, Mes
     if rest.len() < length {
         return Err(MessageError::Short);
     }
-    Ok(Text::from_slice(alloc, &rest[..length])?)
+    Ok(Text::lent(&rest[..length]))
 }
 
-fn body_by(alloc: Global, text: Option<&Text>, rest: &[u8]) -> Result<Text, MessageError>
-    ensures { Gives result (body_by rest.now (option_copied text.entry)) }
+fn body_by<'a>(
+    alloc: Global,
+    value: Option<&FieldValue<'_>>,
+    rest: &'a [u8],
+) -> Result<Text<'a>, MessageError>
+    ensures { Gives result (body_by rest.now (option_copied value.entry)) }
 {
-    let Some(text) = text else {
-        return Ok(Text::from_slice(alloc, rest)?);
+    let Some(value) = value else {
+        return Ok(Text::lent(rest));
     };
+    let text = value.text(alloc)?;
     if !is_run_of_digits(text.as_bytes()) {
         return Err(MessageError::Unreadable(HeaderName::ContentLength));
     }
-    cut_body(alloc, number_upto(u32::MAX, text.as_bytes()), rest)
+    cut_body(number_upto(u32::MAX, text.as_bytes()), rest)
 }
 
 /// The body: of what stands behind the header fields, as many bytes as Content-Length says, or all.
 #[tactic(auto, unfolding(crate::specs::Values::body_of), using(crate::proofs::FaultLaws::fails_itself))]
-pub(crate) fn read_body(
+pub(crate) fn read_body<'a>(
     alloc: Global,
-    headers: &[Header],
-    rest: &[u8],
-) -> Result<Text, MessageError>
+    headers: &[Header<'_>],
+    rest: &'a [u8],
+) -> Result<Text<'a>, MessageError>
     ensures { Gives result (body_of headers.now rest.now) }
 {
     let length = at_most_one(headers, b"Content-Length", HeaderName::ContentLength)?;

@@ -1,25 +1,39 @@
 //! The values of the Contact header fields (RFC 3261 section 20.10).
 
-ghost use Rattle.std.specs.Prelude.{◌≡◌, ◌==◌, ◌++◌, map, IfOk, OnOk};
+ghost use Rattle.std.specs.Prelude.{◌≡◌, ◌++◌, map, IfOk, OnOk};
 ghost use Rattle.text.specs.Pieces.{pieces};
 ghost use Rattle.text.specs.declared.splitting.Within.TheVariants.{Nothing};
-ghost use Rattle.sip_message.specs.Contacts.{is_star, contact_of, contact_texts, contacts_of, headers_in};
+ghost use Rattle.sip_message.specs.Contacts.{is_star, contact_of, contacts_of, headers_in};
 
+use crate::field_value::FieldValue;
 use crate::headers::Header;
 use crate::lookup::is_named;
 use crate::message::Message;
 use sip_uri::{NameAddr, UriError, read_name_addr};
 use std::alloc::{AllocError, Global};
-use text::{put_pieces, trimmed};
+use text::{cut_piece, trimmed};
 
 /// One value of a Contact header field.
 #[derive(Clone, Debug, Drop)]
-pub enum ContactValue {
+pub enum ContactValue<'a> {
     /// `*`, which stands for every binding.
     Star,
-    Address(NameAddr),
+    Address(NameAddr<'a>),
     /// A text that is neither, or whose URI is of another scheme.
     Unreadable,
+}
+
+impl<'a> ContactValue<'a> {
+    /// The same value, which borrows nothing.
+    pub fn keep(&self, alloc: Global) -> Result<ContactValue<'static>, AllocError>
+        ensures { IfOk result (λ c. c ≡ self.now) }
+    {
+        match self {
+            ContactValue::Star => Ok(ContactValue::Star),
+            ContactValue::Address(name) => Ok(ContactValue::Address(name.keep(alloc)?)),
+            ContactValue::Unreadable => Ok(ContactValue::Unreadable),
+        }
+    }
 }
 
 fn is_star(text: &[u8]) -> bool
@@ -29,7 +43,7 @@ fn is_star(text: &[u8]) -> bool
 }
 
 #[tactic(auto, unfolding(crate::specs::Contacts::contact_of))]
-fn read_contact(alloc: Global, text: &[u8]) -> Result<ContactValue, AllocError>
+fn read_contact(alloc: Global, text: &[u8]) -> Result<ContactValue<'_>, AllocError>
     ensures { IfOk result (λ c. c ≡ contact_of text.now) }
 {
     if is_star(text) {
@@ -42,31 +56,55 @@ fn read_contact(alloc: Global, text: &[u8]) -> Result<ContactValue, AllocError>
     }
 }
 
-/// The texts of all Contact values, in order.
-fn contact_texts<'a>(alloc: Global, headers: &'a [Header]) -> Result<Vec<&'a [u8]>, AllocError>
-    ensures { IfOk result (λ v. map (λ t. t.now) v.items ≡ contact_texts headers.now) }
+/// Puts the values of a text behind those that are there.
+fn put_lent<'a>(
+    alloc: Global,
+    contacts: &mut Vec<ContactValue<'a>>,
+    text: &'a [u8],
+) -> Result<(), AllocError>
+    ensures { OnOk result (contacts.new.items ≡ contacts.old.items ++ map contact_of (pieces 44 Nothing text.now)) }
 {
-    let mut texts = Vec::new(alloc);
-    for header in headers {
-        if !is_named(header, b"Contact") {
-            continue;
-        }
-        put_pieces(&mut texts, header.value.as_bytes(), b',')?;
+    let mut left = Some(text);
+    while let Some(text) = left {
+        let (piece, behind) = cut_piece(text, b',');
+        contacts.push(read_contact(alloc, piece)?)?;
+        left = behind;
     }
-    Ok(texts)
+    Ok(())
 }
 
-fn each_contact(alloc: Global, texts: &[&[u8]]) -> Result<Vec<ContactValue>, AllocError>
-    ensures { IfOk result (λ v. v.items ≡ map contact_of (map (λ t. t.now) texts.now)) }
+/// Puts these values, which borrow nothing then, behind those that are there.
+fn put_kept<'a>(
+    alloc: Global,
+    contacts: &mut Vec<ContactValue<'a>>,
+    more: &[ContactValue<'_>],
+) -> Result<(), AllocError>
+    ensures { OnOk result (contacts.new.items ≡ contacts.old.items ++ more.now) }
 {
-    let mut contacts = Vec::new(alloc);
-    for text in texts {
-        contacts.push(read_contact(alloc, text)?)?;
+    for contact in more {
+        contacts.push(contact.keep(alloc)?)?;
     }
-    Ok(contacts)
+    Ok(())
 }
 
-fn headers_in(message: &Message) -> &[Header]
+/// Puts the values of a header field behind those that are there.
+fn put_contacts<'a>(
+    alloc: Global,
+    contacts: &mut Vec<ContactValue<'a>>,
+    value: &FieldValue<'a>,
+) -> Result<(), AllocError>
+    ensures { OnOk result (contacts.new.items ≡ contacts.old.items ++ map contact_of (pieces 44 Nothing value.now)) }
+{
+    if let Some(bytes) = value.in_place() {
+        return put_lent(alloc, contacts, bytes);
+    }
+    let text = value.text(alloc)?;
+    let mut found = Vec::new(alloc);
+    put_lent(alloc, &mut found, text.as_bytes())?;
+    put_kept(alloc, contacts, &found)
+}
+
+fn headers_in<'m, 'a>(message: &'m Message<'a>) -> &'m [Header<'a>]
     ensures { result.now ≡ headers_in message.now }
 {
     match message {
@@ -76,15 +114,26 @@ fn headers_in(message: &Message) -> &[Header]
 }
 
 /// Each Contact value of these header fields, in order.
-pub fn contact_values(alloc: Global, headers: &[Header]) -> Result<Vec<ContactValue>, AllocError>
+pub fn contact_values<'a>(
+    alloc: Global,
+    headers: &[Header<'a>],
+) -> Result<Vec<ContactValue<'a>>, AllocError>
     ensures { IfOk result (λ v. v.items ≡ contacts_of headers.now) }
 {
-    let texts = contact_texts(alloc, headers)?;
-    each_contact(alloc, &texts)
+    let mut contacts = Vec::new(alloc);
+    for header in headers {
+        if is_named(header, b"Contact") {
+            put_contacts(alloc, &mut contacts, &header.value)?;
+        }
+    }
+    Ok(contacts)
 }
 
 /// Each Contact value of a message, in order.
-pub fn contacts(alloc: Global, message: &Message) -> Result<Vec<ContactValue>, AllocError>
+pub fn contacts<'a>(
+    alloc: Global,
+    message: &Message<'a>,
+) -> Result<Vec<ContactValue<'a>>, AllocError>
     ensures { IfOk result (λ v. v.items ≡ contacts_of (headers_in message.now)) }
 {
     contact_values(alloc, headers_in(message))

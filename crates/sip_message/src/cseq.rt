@@ -11,31 +11,44 @@ const GREATEST_NUMBER: u32 = 2_147_483_647;
 
 /// A sequence number and a method.
 #[derive(Clone, Debug, Drop, PartialEq, Eq)]
-pub struct CSeq {
+pub struct CSeq<'a> {
     pub number: u32,
-    pub method: Text,
+    pub method: Text<'a>,
 }
 
 /// The value, and its text as received, unfolded and trimmed.
 #[derive(Clone, Debug, Drop)]
-pub(crate) struct Sequence {
-    pub text: Text,
-    pub cseq: CSeq,
+pub(crate) struct Sequence<'a> {
+    pub text: Text<'a>,
+    pub cseq: CSeq<'a>,
 }
 
-/// The value, if the text is a number, blanks and a method.
+/// The value that the bytes are, if they are a number, blanks and a method.
 #[tactic(auto, unfolding(crate::specs::CSeq::cseq_of))]
-pub(crate) fn read_cseq(alloc: Global, text: &[u8]) -> Result<Option<CSeq>, AllocError>
-    ensures { IfOk result (λ cseq. cseq ≡ cseq_of text.now) }
+fn cseq_in(text: &[u8]) -> Option<CSeq<'_>>
+    ensures { result ≡ cseq_of text.now }
 {
     let (digits, behind) = cut_word(text);
     let method = without_blanks(behind);
     if !is_run_of_digits(digits) || !is_run_of_token(method) {
-        return Ok(None);
+        return None;
     }
-    let Some(number) = number_upto(GREATEST_NUMBER, digits) else {
-        return Ok(None);
-    };
-    let method = Text::from_slice(alloc, method)?;
-    Ok(Some(CSeq { number, method }))
+    let number = number_upto(GREATEST_NUMBER, digits)?;
+    Some(CSeq {
+        number,
+        method: Text::lent(method),
+    })
+}
+
+/// The value, if the text is a number, blanks and a method: lent where the text is.
+pub(crate) fn read_cseq<'a>(alloc: Global, text: &Text<'a>) -> Result<Option<CSeq<'a>>, AllocError>
+    ensures { IfOk result (λ cseq. cseq ≡ cseq_of text.now) }
+{
+    if let Some(bytes) = text.in_place() {
+        return Ok(cseq_in(bytes));
+    }
+    match cseq_in(text.as_bytes()) {
+        Some(cseq) => Ok(Some(cseq.keep(alloc)?)),
+        None => Ok(None),
+    }
 }

@@ -1,18 +1,23 @@
 //! The header fields of a datagram.
 
-ghost use Rattle.std.specs.Prelude.{◌≡◌, ◌<◌, ℕ, List, Some, IfOk, IfErr, IsTrue};
+ghost use Rattle.std.specs.Prelude.{◌≡◌, ◌+◌, ◌-◌, ◌<◌, ◌≤◌, ◌++◌, ◌∷◌, ℕ, List, Some, length, take, drop, true, IfOk, IfErr, IsTrue};
 ghost use Rattle.std.specs.List.{list_all};
-ghost use Rattle.sip_message.specs.Fields.{headers_of};
-ghost use Rattle.sip_message.specs.Heads.{ReadsHead, line_count, head_of, Gives, GivesHead, RefusesHead};
-ghost use Rattle.sip_message.specs.Lines.{texts};
+ghost use Rattle.sip_message.specs.Heads.{ReadsHead, line_count, head_of, GivesHead, RefusesHead};
+ghost use Rattle.sip_message.specs.Lines.{is_clean};
+ghost use Rattle.sip_message.specs.Steps.{with_line, IsOpen, GivesLast, GivesLine};
+ghost use Rattle.sip_message.specs.Unfold.{unfolded_text};
 ghost use Rattle.sip_message.specs.WritingHead.{is_written};
 ghost use Rattle.sip_message.specs.declared.headers.Header.{Header};
 
-use crate::field::{begins_blank, continued, header};
-use crate::headers::Headers;
-use crate::lines::lines_within;
+use crate::field::{begins_blank, header, name_and_value};
+use crate::field_value::FieldValue;
+use crate::headers::{Header, Headers};
+use crate::lines::next_line;
 use std::alloc::{AllocError, AllocFailed, Global};
 use thiserror::Error;
+
+/// Room for header fields that is asked for at once: most messages have fewer.
+const FIELDS_AT_FIRST: usize = 16;
 
 /// Why the header fields cannot be read.
 #[derive(Clone, Copy, Debug, PartialEq, Eq, Error)]
@@ -46,37 +51,100 @@ impl<T: Drop> From<AllocFailed<T>> for HeadError {
     }
 }
 
-fn headers_of(alloc: Global, lines: &[&[u8]]) -> Result<Headers, HeadError>
-    ensures { Gives result (headers_of (texts lines.now)) }
+/// Gives the last field this raw value.
+fn set_last<'a>(headers: &mut Vec<Header<'a>>, raw: &'a [u8]) -> Result<(), HeadError>
+    ensures { GivesLast result headers.old.items headers.new.items (unfolded_text raw.now) }
 {
-    if lines.first().is_some_and(|line| begins_blank(line)) {
+    let Some(last) = headers.pop() else {
         return Err(HeadError::Line);
-    }
-    let mut headers = Vec::with_capacity(alloc, lines.len())?;
-    for at in 0..lines.len() {
-        if begins_blank(lines[at]) {
-            continue;
-        }
-        headers.push(header(alloc, lines[at], continued(&lines[at + 1..]))?)?;
-    }
-    Ok(Headers::from_vec(headers))
+    };
+    headers.push(Header {
+        name: last.name,
+        value: FieldValue::folded(raw),
+    })?;
+    Ok(())
 }
 
-#[tactic(auto, unfolding(crate::specs::Heads::head_of))]
-fn read(alloc: Global, limit: u32, text: &[u8]) -> Result<(Headers, &[u8]), HeadError>
-    ensures { GivesHead result (head_of limit text.now) }
+/// What stands before the line end before this rest.
+fn upto<'a>(field: &'a [u8], after: &[u8]) -> &'a [u8]
+    requires { length after.now + 2 ≤ length field.now }
+    ensures { result.now ≡ take (length field.now - (length after.now + 2)) field.now }
 {
-    let (lines, body) = lines_within(alloc, limit, text)?;
-    Ok((headers_of(alloc, &lines)?, body))
+    &field[..field.len() - (after.len() + 2)]
+}
+
+/// The rest from behind the colon of its first line on.
+fn behind_colon<'a>(rest: &'a [u8], line: &[u8], begun: &[u8]) -> &'a [u8]
+    requires begun { length begun.now ≤ length line.now }
+    requires line { length line.now ≤ length rest.now }
+    ensures { result.now ≡ drop (length line.now - length begun.now) rest.now }
+{
+    &rest[line.len() - begun.len()..]
+}
+
+/// Puts the line behind the fields, and gives the text from the last field's value on.
+fn add_line<'a>(
+    headers: &mut Vec<Header<'a>>,
+    field: &'a [u8],
+    rest: &'a [u8],
+    line: &'a [u8],
+    after: &'a [u8],
+) -> Result<&'a [u8], HeadError>
+    requires parts { rest.now ≡ line.now ++ 13 ∷ 10 ∷ after.now }
+    requires clean { is_clean line.now ≡ true }
+    requires open { IsOpen headers.old.items field.now rest.now }
+    ensures added { GivesLine result headers.new.items (with_line headers.old.items line.now) }
+    ensures open { IfOk result (λ next. IsOpen headers.new.items next.now after.now) }
+{
+    if begins_blank(line) {
+        if headers.is_empty() {
+            return Err(HeadError::Line);
+        }
+        set_last(headers, upto(field, after))?;
+        return Ok(field);
+    }
+    let Some((name, begun)) = name_and_value(line) else {
+        return Err(HeadError::Line);
+    };
+    headers.push(header(name, begun))?;
+    Ok(behind_colon(rest, line, begun))
+}
+
+/// The header fields up to the empty line, and what stands behind it.
+fn read_fields<'a>(
+    alloc: Global,
+    limit: u32,
+    text: &'a [u8],
+) -> Result<(Headers<'a>, &'a [u8]), HeadError>
+    ensures exact { GivesHead result (head_of limit text.now) }
+{
+    let mut headers = Vec::with_capacity(alloc, FIELDS_AT_FIRST)?;
+    let mut rest = text;
+    let mut field = text;
+    for _ in 0..limit {
+        let Some((line, after)) = next_line(rest) else {
+            return Err(HeadError::Line);
+        };
+        if line.is_empty() {
+            return Ok((Headers::from_vec(headers), after));
+        }
+        field = match add_line(&mut headers, field, rest, line, after) {
+            Ok(next) => next,
+            Err(HeadError::OutOfMemory) => return Err(HeadError::OutOfMemory),
+            Err(HeadError::Line) => return Err(HeadError::Line),
+        };
+        rest = after;
+    }
+    Err(HeadError::Line)
 }
 
 /// The headers of a text up to its empty line, which has fewer header lines than the limit, continuing lines
 /// included, and what stands behind the empty line.
-pub(crate) fn read_head(
+pub(crate) fn read_head<'a>(
     alloc: Global,
     limit: u32,
-    text: &[u8],
-) -> Result<(Headers, &[u8]), HeadError>
+    text: &'a [u8],
+) -> Result<(Headers<'a>, &'a [u8]), HeadError>
     // What is read are the headers and the body of the text, which has fewer header lines than the limit.
     ensures found { IfOk result (λ x. (reads : ReadsHead text.now x.0 x.1.now) × (line_count reads < limit)) }
     // Such a text is read, unless memory runs out.
@@ -87,5 +155,5 @@ pub(crate) fn read_head(
     ensures written { IfOk result (λ x. IsTrue (list_all is_written x.0)) }
     ensures exact { GivesHead result (head_of limit text.now) }
 {
-    read(alloc, limit, text)
+    read_fields(alloc, limit, text)
 }

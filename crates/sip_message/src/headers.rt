@@ -1,38 +1,48 @@
 //! Header fields.
 
+use crate::field_value::FieldValue;
 use std::alloc::{AllocError, Global};
 use std::marker::Model;
 use text::Text;
 
-/// A header field: its name, long where it was compact, and its value, unfolded and without blanks at its ends
-/// (RFC 3261 section 7.3.1).
-#[derive(Clone, Debug, Drop, PartialEq, Eq)]
-pub struct Header {
-    pub name: Text,
-    pub value: Text,
+/// A header field: its name, long where it was compact, and its value (RFC 3261 section 7.3.1).
+#[derive(Clone, Debug, Drop)]
+pub struct Header<'a> {
+    pub name: Text<'a>,
+    pub value: FieldValue<'a>,
 }
 
-impl Header {
+impl<'a> Header<'a> {
     ghost use Rattle.std.specs.Prelude.{◌≡◌, IfOk};
     ghost use Rattle.sip_message.specs.Lookup.{named};
 
     /// A header field of this name and value, as they are.
-    pub fn of(alloc: Global, name: &[u8], value: &[u8]) -> Result<Header, AllocError>
+    pub fn of(alloc: Global, name: &[u8], value: &[u8]) -> Result<Header<'a>, AllocError>
         ensures { IfOk result (λ h. h ≡ named name.now value.now) }
     {
         let name = Text::from_slice(alloc, name)?;
-        let value = Text::from_slice(alloc, value)?;
+        let value = FieldValue::whole(Text::from_slice(alloc, value)?);
         Ok(Header { name, value })
+    }
+
+    /// The same field, which borrows nothing.
+    pub fn keep(&self, alloc: Global) -> Result<Header<'static>, AllocError>
+        ensures { IfOk result (λ h. h ≡ self.now) }
+    {
+        Ok(Header {
+            name: self.name.keep(alloc)?,
+            value: self.value.keep(alloc)?,
+        })
     }
 }
 
 /// Header fields in order, which contracts see as a list.
 #[derive(Clone, Debug, Drop)]
-pub struct Headers {
-    entries: Vec<Header>,
+pub struct Headers<'a> {
+    entries: Vec<Header<'a>>,
 }
 
-impl Model for Headers {
+impl<'a> Model for Headers<'a> {
     ghost use Rattle.std.specs.Prelude.{List};
     ghost use Rattle.sip_message.specs.declared.headers.Header.{Header};
 
@@ -41,35 +51,35 @@ impl Model for Headers {
     ghost view = { λ h. h.entries.items };
 }
 
-impl Headers {
-    ghost use Rattle.std.specs.Prelude.{◌≡◌, ◌++◌, ◌∷◌, [], OnOk, OnErr};
+impl<'a> Headers<'a> {
+    ghost use Rattle.std.specs.Prelude.{◌≡◌, ◌++◌, ◌∷◌, [], IfOk, OnOk, OnErr};
     ghost use Rattle.sip_message.specs.Lookup.{named};
 
     /// The list of these headers. Takes no memory.
-    pub fn from_vec(entries: Vec<Header>) -> Headers
-        ensures { result ≡ entries.items }
+    pub fn from_vec(entries: Vec<Header<'a>>) -> Headers<'a>
+        ensures { result ≡ entries.entry.items }
     {
         Headers { entries }
     }
 
     /// The headers. Takes no memory.
-    pub fn into_vec(self) -> Vec<Header>
-        ensures { result.items ≡ self }
+    pub fn into_vec(self) -> Vec<Header<'a>>
+        ensures { result.items ≡ self.entry }
     {
         self.entries
     }
 
     /// The headers, lent.
-    pub fn as_slice(&self) -> &[Header]
+    pub fn as_slice(&self) -> &[Header<'a>]
         ensures { result.now ≡ self.now }
     {
         &self.entries
     }
 
     /// Puts a header behind the others.
-    pub fn push(&mut self, header: Header) -> Result<(), AllocError>
+    pub fn push(&mut self, header: Header<'a>) -> Result<(), AllocError>
         ensures unchanged { OnErr result (self.new ≡ self.old) }
-        ensures put { OnOk result (self.new ≡ self.old ++ header ∷ []) }
+        ensures put { OnOk result (self.new ≡ self.old ++ header.entry ∷ []) }
     {
         Ok(self.entries.push(header)?)
     }
@@ -81,5 +91,16 @@ impl Headers {
     {
         let header = Header::of(alloc, name, value)?;
         self.push(header)
+    }
+
+    /// The same fields, which borrow nothing.
+    pub fn keep(&self, alloc: Global) -> Result<Headers<'static>, AllocError>
+        ensures { IfOk result (λ h. h ≡ self.now) }
+    {
+        let mut entries = Vec::new(alloc);
+        for header in self.as_slice() {
+            entries.push(header.keep(alloc)?)?;
+        }
+        Ok(Headers::from_vec(entries))
     }
 }

@@ -4,15 +4,10 @@ ghost use Rattle.std.specs.Prelude.{◌≡◌, ◌+◌, ◌≤◌, ◌<◌, [], 
 ghost use Rattle.std.specs.List.{list_all};
 ghost use Rattle.std.specs.Option.{option_copied};
 ghost use Rattle.sip_message.specs.Answerable.{upto_empty, ended_lines};
-ghost use Rattle.sip_message.specs.Lines.{texts, lines_within, begins_line_end, line_end, before_line_end, after_line_end, is_clean, is_text_byte, line_of};
-ghost use Rattle.sip_message.specs.Heads.{GivesLines};
+ghost use Rattle.sip_message.specs.Lines.{texts, begins_line_end, line_end, before_line_end, after_line_end, is_clean, is_text_byte, line_of};
 
-use crate::head::HeadError;
 use memchr::memchr3;
 use std::alloc::{AllocError, Global};
-
-/// Room for lines that is asked for at once: most messages have fewer.
-const LINES_AT_FIRST: usize = 16;
 
 fn begins_line_end(text: &[u8]) -> bool
     ensures { result ≡ begins_line_end text.now }
@@ -59,7 +54,7 @@ pub(crate) fn is_clean(text: &[u8]) -> bool
 }
 
 /// The first line, and what stands behind its end, where the line is clean: then its end is the first CR, LF or NUL.
-fn next_line(text: &[u8]) -> Option<(&[u8], &[u8])>
+pub(crate) fn next_line(text: &[u8]) -> Option<(&[u8], &[u8])>
     ensures { option_map (λ x. (x.0.now, x.1.now)) result ≡ line_of text.now }
 {
     let at = memchr3(b'\r', b'\n', 0, text)?;
@@ -67,29 +62,6 @@ fn next_line(text: &[u8]) -> Option<(&[u8], &[u8])>
         return None;
     }
     Some((&text[..at], &text[at + 2..]))
-}
-
-/// The lines up to the empty line, fewer than the limit, and what stands behind it.
-pub(crate) fn lines_within(
-    alloc: Global,
-    limit: u32,
-    text: &[u8],
-) -> Result<(Vec<&[u8]>, &[u8]), HeadError>
-    ensures { GivesLines result (lines_within limit text.now) }
-{
-    let mut lines = Vec::with_capacity(alloc, LINES_AT_FIRST)?;
-    let mut rest = text;
-    for _ in 0..limit {
-        let Some((line, after)) = next_line(rest) else {
-            return Err(HeadError::Line);
-        };
-        if line.is_empty() {
-            return Ok((lines, after));
-        }
-        lines.push(line)?;
-        rest = after;
-    }
-    Err(HeadError::Line)
 }
 
 /// The first line, if it ends in CR LF, and what stands behind it.

@@ -3,23 +3,21 @@
 ghost use Rattle.std.specs.Prelude.{◌≡◌};
 ghost use Rattle.sip_message.specs.Values.{parts_with};
 
-use crate::copies::copied_parts;
 use crate::cseq::{CSeq, Sequence};
 use crate::headers::Headers;
 use crate::party::Ends;
 use crate::via::Via;
 use sip_uri::{NameAddr, Uri};
-use std::alloc::AllocError;
 use std::marker::Model;
 use text::Text;
 
 /// Via values, the top one first.
 #[derive(Clone, Debug, Drop)]
-pub struct Vias {
-    vias: Vec<Via>,
+pub struct Vias<'a> {
+    vias: Vec<Via<'a>>,
 }
 
-impl Model for Vias {
+impl<'a> Model for Vias<'a> {
     ghost use Rattle.std.specs.Prelude.{List};
     ghost use Rattle.sip_message.specs.declared.via.Via.{Via};
 
@@ -28,25 +26,25 @@ impl Model for Vias {
     ghost view = { λ v. v.vias.items };
 }
 
-impl Vias {
+impl<'a> Vias<'a> {
     ghost use Rattle.std.specs.Prelude.{◌≡◌};
 
     /// The list of these values. Takes no memory.
-    pub fn from_vec(vias: Vec<Via>) -> Vias
-        ensures { result ≡ vias.items }
+    pub fn from_vec(vias: Vec<Via<'a>>) -> Vias<'a>
+        ensures { result ≡ vias.entry.items }
     {
         Vias { vias }
     }
 
     /// The values. Takes no memory.
-    pub fn into_vec(self) -> Vec<Via>
-        ensures { result.items ≡ self }
+    pub fn into_vec(self) -> Vec<Via<'a>>
+        ensures { result.items ≡ self.entry }
     {
         self.vias
     }
 
     /// The values, lent.
-    pub fn as_slice(&self) -> &[Via]
+    pub fn as_slice(&self) -> &[Via<'a>]
         ensures { result.now ≡ self.now }
     {
         &self.vias
@@ -56,30 +54,25 @@ impl Vias {
 /// What an answer repeats of its request: the values of these header fields, and beside them the texts of From, To
 /// and CSeq as received, unfolded and trimmed (RFC 3261 section 8.2.6.2).
 #[derive(Debug, Drop)]
-pub struct Parts {
-    pub vias: Vias,
-    pub from: NameAddr,
-    pub to: NameAddr,
-    pub call_id: Text,
-    pub cseq: CSeq,
-    pub from_text: Text,
-    pub to_text: Text,
-    pub cseq_text: Text,
-}
-
-impl Clone for Parts {
-    ghost use Rattle.std.specs.Prelude.{◌≡◌};
-
-    ghost is_clone = { λ v w. w ≡ v };
-
-    fn clone(&self) -> Result<Parts, AllocError> {
-        copied_parts(self)
-    }
+pub struct Parts<'a> {
+    pub vias: Vias<'a>,
+    pub from: NameAddr<'a>,
+    pub to: NameAddr<'a>,
+    pub call_id: Text<'a>,
+    pub cseq: CSeq<'a>,
+    pub from_text: Text<'a>,
+    pub to_text: Text<'a>,
+    pub cseq_text: Text<'a>,
 }
 
 /// The parts of these values. With no way out it keeps the proofs of those that read or copy them short.
-pub(crate) fn parts_with(vias: Vias, ends: Ends, call_id: Text, sequence: Sequence) -> Parts
-    ensures { result ≡ parts_with vias ends.from ends.to call_id sequence }
+pub(crate) fn parts_with<'a>(
+    vias: Vias<'a>,
+    ends: Ends<'a>,
+    call_id: Text<'a>,
+    sequence: Sequence<'a>,
+) -> Parts<'a>
+    ensures { result ≡ parts_with vias.entry ends.entry.from ends.entry.to call_id.entry sequence.entry }
 {
     let Ends { from, to } = ends;
     Parts {
@@ -96,30 +89,30 @@ pub(crate) fn parts_with(vias: Vias, ends: Ends, call_id: Text, sequence: Sequen
 
 /// A request (RFC 3261 section 7.1). `headers` are all header fields in order but Content-Length, which the body says.
 #[derive(Debug, Drop)]
-pub struct Request {
-    pub method: Text,
-    pub uri: Uri,
-    pub parts: Parts,
+pub struct Request<'a> {
+    pub method: Text<'a>,
+    pub uri: Uri<'a>,
+    pub parts: Parts<'a>,
     /// 0 to 255; 70 where there is no Max-Forwards.
     pub max_forwards: u8,
-    pub headers: Headers,
-    pub body: Text,
+    pub headers: Headers<'a>,
+    pub body: Text<'a>,
 }
 
 /// An answer (RFC 3261 section 7.2). `headers` are all header fields in order but Content-Length, which the body says.
 #[derive(Debug, Drop)]
-pub struct Response {
+pub struct Response<'a> {
     /// 100 to 699.
     pub status: u16,
-    pub reason: Text,
-    pub parts: Parts,
-    pub headers: Headers,
-    pub body: Text,
+    pub reason: Text<'a>,
+    pub parts: Parts<'a>,
+    pub headers: Headers<'a>,
+    pub body: Text<'a>,
 }
 
 /// A message.
 #[derive(Debug, Drop)]
-pub enum Message {
-    Request(Request),
-    Response(Response),
+pub enum Message<'a> {
+    Request(Request<'a>),
+    Response(Response<'a>),
 }

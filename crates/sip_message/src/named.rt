@@ -6,16 +6,16 @@ ghost use Rattle.sip_message.specs.Lookup.{values_named};
 ghost use Rattle.sip_message.specs.Named.{at_most_one, exactly_one};
 
 use crate::error::{HeaderName, MessageError};
+use crate::field_value::FieldValue;
 use crate::headers::Header;
 use crate::lookup::is_named;
-use text::Text;
 
 /// The value of a header field that stands once at most. Takes no memory.
-pub(crate) fn at_most_one<'a>(
-    headers: &'a [Header],
+pub(crate) fn at_most_one<'m, 'a>(
+    headers: &'m [Header<'a>],
     name: &[u8],
     which: HeaderName,
-) -> Result<Option<&'a Text>, MessageError>
+) -> Result<Option<&'m FieldValue<'a>>, MessageError>
     ensures found { IfOk result (λ v. at_most_one which (values_named name.now headers.now) ≡ Ok (option_copied v)) }
     ensures refused { IfErr result (λ e. at_most_one which (values_named name.now headers.now) ≡ Err e) }
 {
@@ -33,11 +33,11 @@ pub(crate) fn at_most_one<'a>(
 }
 
 /// The value of a header field that stands once. Takes no memory.
-pub(crate) fn exactly_one<'a>(
-    headers: &'a [Header],
+pub(crate) fn exactly_one<'m, 'a>(
+    headers: &'m [Header<'a>],
     name: &[u8],
     which: HeaderName,
-) -> Result<&'a Text, MessageError>
+) -> Result<&'m FieldValue<'a>, MessageError>
     ensures found { IfOk result (λ v. exactly_one which (values_named name.now headers.now) ≡ Ok v.now) }
     ensures refused { IfErr result (λ e. exactly_one which (values_named name.now headers.now) ≡ Err e) }
 {

@@ -9,7 +9,7 @@ use sip_uri::Param;
 use text::Text;
 
 /// Whether a From with these parameters has the tag that it needs: in a request it needs one.
-pub(crate) fn is_tagged_for(start: &Start, params: &[Param]) -> bool
+pub(crate) fn is_tagged_for(start: &Start<'_>, params: &[Param<'_>]) -> bool
     ensures { result ≡ is_tagged_for start.now params.now }
 {
     match start {
@@ -19,11 +19,11 @@ pub(crate) fn is_tagged_for(start: &Start, params: &[Param]) -> bool
 }
 
 /// Whether a CSeq may have this method: in a request only the request's.
-pub(crate) fn is_method_for(start: &Start, method: &Text) -> bool
+pub(crate) fn is_method_for(start: &Start<'_>, method: &Text<'_>) -> bool
     ensures { result ≡ is_method_for start.now method.now }
 {
     match start {
-        Start::Asking(line) => *method == line.method,
+        Start::Asking(line) => method.as_bytes() == line.method.as_bytes(),
         Start::Answering(_) => true,
     }
 }
@@ -34,7 +34,7 @@ fn is_success(status: u16) -> bool
     200 <= status && status <= 299
 }
 
-fn may_need_contact(start: &Start) -> bool
+fn may_need_contact(start: &Start<'_>) -> bool
     ensures { result ≡ may_need_contact start.now }
 {
     match start {
@@ -44,7 +44,7 @@ fn may_need_contact(start: &Start) -> bool
 }
 
 /// Whether the message is an INVITE or a 2xx to one, which say where their sender is reached.
-pub(crate) fn needs_contact(start: &Start, method: &Text) -> bool
+pub(crate) fn needs_contact(start: &Start<'_>, method: &Text<'_>) -> bool
     ensures { result ≡ needs_contact start.now method.now }
 {
     method.as_bytes() == b"INVITE".as_slice() && may_need_contact(start)

@@ -10,16 +10,16 @@ use text::{Text, is_run_of_token};
 
 /// The value of From or To, and its text as received, unfolded and trimmed.
 #[derive(Clone, Debug, Drop)]
-pub(crate) struct Party {
-    pub text: Text,
-    pub name: NameAddr,
+pub(crate) struct Party<'a> {
+    pub text: Text<'a>,
+    pub name: NameAddr<'a>,
 }
 
 /// From and To.
 #[derive(Drop)]
-pub(crate) struct Ends {
-    pub from: Party,
-    pub to: Party,
+pub(crate) struct Ends<'a> {
+    pub from: Party<'a>,
+    pub to: Party<'a>,
 }
 
 fn tag_fits(tag: Option<&Param>) -> bool
@@ -47,9 +47,9 @@ pub(crate) fn has_tag(params: &[Param]) -> bool
     param_named(params, b"tag").is_some()
 }
 
-/// The name and URI, if the text is one and its tag, if any, has a value that is a token.
+/// The name and URI that the bytes are, if they are one and its tag, if any, has a value that is a token.
 #[tactic(auto, unfolding(crate::specs::Party::party_of))]
-pub(crate) fn read_party(alloc: Global, text: &[u8]) -> Result<Option<NameAddr>, AllocError>
+fn party_in(alloc: Global, text: &[u8]) -> Result<Option<NameAddr<'_>>, AllocError>
     ensures { IfOk result (λ party. party ≡ party_of text.now) }
 {
     match read_name_addr(alloc, text) {
@@ -62,5 +62,21 @@ pub(crate) fn read_party(alloc: Global, text: &[u8]) -> Result<Option<NameAddr>,
         }
         Err(UriError::OutOfMemory) => Err(AllocError),
         Err(_) => Ok(None),
+    }
+}
+
+/// The name and URI, if the text is one and its tag, if any, has a value that is a token: lent where the text is.
+pub(crate) fn read_party<'a>(
+    alloc: Global,
+    text: &Text<'a>,
+) -> Result<Option<NameAddr<'a>>, AllocError>
+    ensures { IfOk result (λ party. party ≡ party_of text.now) }
+{
+    if let Some(bytes) = text.in_place() {
+        return party_in(alloc, bytes);
+    }
+    match party_in(alloc, text.as_bytes())? {
+        Some(name) => Ok(Some(name.keep(alloc)?)),
+        None => Ok(None),
     }
 }

@@ -29,18 +29,18 @@ const GREATEST_LINES: u32 = 128;
 
 /// Values and body of a message.
 #[derive(Drop)]
-pub(crate) struct Contents {
-    pub values: Values,
-    pub body: Text,
+pub(crate) struct Contents<'a> {
+    pub values: Values<'a>,
+    pub body: Text<'a>,
 }
 
 #[tactic(auto, unfolding(crate::specs::Reading::contents_of), using(crate::proofs::FaultLaws::failed_then))]
-fn read_contents(
+fn read_contents<'a>(
     alloc: Global,
-    start: &Start,
-    headers: &[Header],
-    rest: &[u8],
-) -> Result<Contents, MessageError>
+    start: &Start<'_>,
+    headers: &[Header<'a>],
+    rest: &'a [u8],
+) -> Result<Contents<'a>, MessageError>
     ensures { Gives result (contents_of start.now headers.now rest.now) }
 {
     let values = read_values(alloc, start, headers)?;
@@ -48,22 +48,22 @@ fn read_contents(
     Ok(Contents { values, body })
 }
 
-fn drop_length(headers: &mut Vec<Header>)
+fn drop_length(headers: &mut Vec<Header<'_>>)
     ensures { headers.new.items ≡ without_length headers.old.items }
 {
     headers.retain(|header| !is_named(header, b"Content-Length"));
 }
 
-fn without_length(headers: Headers) -> Headers
-    ensures { result ≡ without_length headers }
+fn without_length(headers: Headers<'_>) -> Headers<'_>
+    ensures { result ≡ without_length headers.entry }
 {
     let mut kept = headers.into_vec();
     drop_length(&mut kept);
     Headers::from_vec(kept)
 }
 
-fn message(start: Start, headers: Headers, contents: Contents) -> Message
-    ensures { result ≡ message_with start headers contents }
+fn message<'a>(start: Start<'a>, headers: Headers<'a>, contents: Contents<'a>) -> Message<'a>
+    ensures { result ≡ message_with start.entry headers.entry contents.entry }
 {
     let Contents { values, body } = contents;
     let headers = without_length(headers);
@@ -87,8 +87,12 @@ fn message(start: Start, headers: Headers, contents: Contents) -> Message
 }
 
 #[tactic(auto, using(crate::proofs::FaultLaws::failed_then))]
-fn behind_start(alloc: Global, start: Start, rest: Option<&[u8]>) -> Result<Message, MessageError>
-    ensures { Gives result (behind_start start (option_copied rest.entry)) }
+fn behind_start<'a>(
+    alloc: Global,
+    start: Start<'a>,
+    rest: Option<&'a [u8]>,
+) -> Result<Message<'a>, MessageError>
+    ensures { Gives result (behind_start start.entry (option_copied rest.entry)) }
 {
     let Some(rest) = rest else {
         return Err(MessageError::HeaderLine);
@@ -103,7 +107,7 @@ fn behind_start(alloc: Global, start: Start, rest: Option<&[u8]>) -> Result<Mess
 }
 
 #[tactic(auto, unfolding(crate::specs::Reading::message_of), using(crate::proofs::FaultLaws::failed_then))]
-fn read(alloc: Global, bytes: &[u8]) -> Result<Message, MessageError>
+fn read(alloc: Global, bytes: &[u8]) -> Result<Message<'_>, MessageError>
     ensures { Gives result (message_of bytes.now) }
 {
     if bytes.len() > GREATEST_DATAGRAM {
@@ -119,7 +123,7 @@ fn read(alloc: Global, bytes: &[u8]) -> Result<Message, MessageError>
 
 /// The message that a datagram is, of at most 16,384 bytes and at most 128 header lines, lines that continue others
 /// included.
-pub fn read_message(alloc: Global, bytes: &[u8]) -> Result<Message, MessageError>
+pub fn read_message(alloc: Global, bytes: &[u8]) -> Result<Message<'_>, MessageError>
     // What is read is the message that the bytes are, and they are within the limits.
     ensures found { IfOk result (λ m. (reads : ReadsMessage bytes.now m) × IsWithin bytes.now m reads) }
     // Bytes within the limits that are a message are read, unless memory runs out.

@@ -39,8 +39,12 @@ fn place_of(params: &[Param], name: &[u8]) -> Option<usize>
     params.iter().position(|param| is_param(param, name))
 }
 
-fn put_value(params: &mut Vec<Param>, name: &[u8], value: Text) -> Result<(), AllocError>
-    ensures { OnOk result (params.new.items ≡ with_value name.now value params.old.items) }
+fn put_value(
+    params: &mut Vec<Param<'static>>,
+    name: &[u8],
+    value: Text<'static>,
+) -> Result<(), AllocError>
+    ensures { OnOk result (params.new.items ≡ with_value name.now value.entry params.old.items) }
 {
     let Some(place) = place_of(params, name) else {
         return Ok(());
@@ -53,7 +57,7 @@ fn put_value(params: &mut Vec<Param>, name: &[u8], value: Text) -> Result<(), Al
     Ok(())
 }
 
-fn remove_all(params: &mut Vec<Param>, name: &[u8])
+fn remove_all(params: &mut Vec<Param<'_>>, name: &[u8])
     ensures { params.new.items ≡ without name.now params.old.items }
 {
     params.retain(|param| !is_param(param, name));
@@ -68,7 +72,7 @@ fn is_address(host: &Host, ip: &[u8; 4]) -> bool
     }
 }
 
-fn number_text(alloc: Global, number: u16) -> Result<Text, AllocError>
+fn number_text(alloc: Global, number: u16) -> Result<Text<'static>, AllocError>
     ensures { IfOk result (λ t. t ≡ decimal number) }
 {
     let mut out = Vec::new(alloc);
@@ -83,7 +87,7 @@ pub(crate) fn numbers_fit(ip: &[u8], port: u16)
 {}
 
 #[tactic(auto, unfolding(crate::specs::Reply::received))]
-fn received(alloc: Global, source: Addr) -> Result<Param, AllocError>
+fn received(alloc: Global, source: Addr) -> Result<Param<'static>, AllocError>
     ensures { IfOk result (λ p. p ≡ received source) }
 {
     let name = Text::from_slice(alloc, b"received")?;
@@ -97,7 +101,7 @@ fn received(alloc: Global, source: Addr) -> Result<Param, AllocError>
 
 fn fill_port(
     alloc: Global,
-    params: &mut Vec<Param>,
+    params: &mut Vec<Param<'static>>,
     asked: bool,
     port: u16,
 ) -> Result<(), AllocError>
@@ -113,7 +117,7 @@ fn fill_port(
 
 fn add_received(
     alloc: Global,
-    params: &mut Vec<Param>,
+    params: &mut Vec<Param<'static>>,
     needed: bool,
     source: Addr,
 ) -> Result<(), AllocError>
@@ -129,14 +133,14 @@ fn add_received(
 
 fn marked_params(
     alloc: Global,
-    params: &Params,
+    params: &Params<'_>,
     asked: bool,
     needed: bool,
     source: Addr,
-) -> Result<Params, AllocError>
+) -> Result<Params<'static>, AllocError>
     ensures { IfOk result (λ ps. ps ≡ marked_params asked needed source params.now) }
 {
-    let mut params = params.clone()?.into_vec();
+    let mut params = params.keep(alloc)?.into_vec();
     fill_port(alloc, &mut params, asked, source.port)?;
     remove_all(&mut params, b"received");
     add_received(alloc, &mut params, needed, source)?;
@@ -146,15 +150,15 @@ fn marked_params(
 /// The Via with the source of its request: an empty `rport` gets the port, and `received` the address, where the host
 /// of sent-by is another or `rport` was empty.
 #[tactic(auto, unfolding(crate::specs::Reply::marked))]
-pub(crate) fn marked(alloc: Global, via: &Via, source: Addr) -> Result<Via, AllocError>
+pub(crate) fn marked(alloc: Global, via: &Via<'_>, source: Addr) -> Result<Via<'static>, AllocError>
     ensures { IfOk result (λ v. v ≡ marked source via.now) }
 {
     let asked = asks_port(via.params.as_slice());
     let needed = asked || !is_address(&via.host, &source.ip);
     let params = marked_params(alloc, &via.params, asked, needed, source)?;
     Ok(Via {
-        sent_by: via.sent_by.clone()?,
-        host: via.host.clone()?,
+        sent_by: via.sent_by.keep(alloc)?,
+        host: via.host.keep(alloc)?,
         port: via.port,
         params,
     })

@@ -9,21 +9,22 @@ ghost use Rattle.sip_message.specs.Repeatable.{CanBeRepeated, IsReadAgain};
 ghost use Rattle.sip_message.specs.Replies.{Replies};
 ghost use Rattle.sip_message.specs.Reply.{marked_top, puts_tag, tagged_params, tagged_to, tagged_text, replied, via_text, reply_headers, reply_of, tag_param, via_headers, answer_port, answer_address};
 
-use crate::copies::{copied_display, copied_party, copied_sequence, copied_text, copied_uri};
+use crate::field_value::FieldValue;
 use crate::headers::{Header, Headers};
+use crate::keeping::{kept_party, kept_sequence};
 use crate::message::{Parts, Response, Vias, parts_with};
 use crate::party::{Ends, Party, has_tag};
 use crate::reasons::reason_of;
 use crate::received::{asks_port, marked, numbers_fit};
 use crate::via::Via;
-use sip_uri::{Addr, NameAddr, Param, Params, put_params};
+use sip_uri::{Addr, NameAddr, Param, Params, keep_text, put_params};
 use std::alloc::{AllocError, Global};
 use text::Text;
 
 /// The port of a sent-by that names none, and of a SIP URI (RFC 3261 section 19.1.2).
 const DEFAULT_PORT: u16 = 5060;
 
-fn via_header(alloc: Global, via: &Via) -> Result<Header, AllocError>
+fn via_header(alloc: Global, via: &Via<'_>) -> Result<Header<'static>, AllocError>
     ensures { IfOk result (λ h. h ≡ named (codes "Via") (via_text via.now)) }
 {
     let name = Text::from_slice(alloc, b"Via")?;
@@ -32,24 +33,24 @@ fn via_header(alloc: Global, via: &Via) -> Result<Header, AllocError>
     put_params(&mut out, via.params.as_slice(), b';', b';')?;
     Ok(Header {
         name,
-        value: Text::from_vec(out),
+        value: FieldValue::whole(Text::from_vec(out)),
     })
 }
 
 /// A Via header field for each of these, in order (RFC 3261 section 20.42).
-pub fn via_headers(alloc: Global, vias: &[Via]) -> Result<Headers, AllocError>
+pub fn via_headers(alloc: Global, vias: &[Via<'_>]) -> Result<Headers<'static>, AllocError>
     ensures { IfOk result (λ hs. hs ≡ via_headers vias.now) }
 {
-    let mut headers = Headers::from_vec(Vec::new(alloc));
+    let mut headers = Vec::new(alloc);
     for via in vias {
         headers.push(via_header(alloc, via)?)?;
     }
-    Ok(headers)
+    Ok(Headers::from_vec(headers))
 }
 
 /// The header fields of an answer, but for those that one answer needs and another doesn't.
 #[tactic(auto, unfolding(crate::specs::Reply::reply_headers))]
-fn reply_headers(alloc: Global, parts: &Parts) -> Result<Headers, AllocError>
+fn reply_headers(alloc: Global, parts: &Parts<'_>) -> Result<Headers<'static>, AllocError>
     ensures { IfOk result (λ hs. hs ≡ reply_headers parts.now) }
 {
     let mut headers = via_headers(alloc, parts.vias.as_slice())?;
@@ -61,7 +62,7 @@ fn reply_headers(alloc: Global, parts: &Parts) -> Result<Headers, AllocError>
 }
 
 #[tactic(auto, using(crate::proofs::ReplyLaws::top_marked))]
-fn mark_top(alloc: Global, vias: &mut Vec<Via>, source: Addr) -> Result<(), AllocError>
+fn mark_top(alloc: Global, vias: &mut Vec<Via<'static>>, source: Addr) -> Result<(), AllocError>
     ensures { OnOk result (vias.new.items ≡ marked_top source vias.old.items) }
 {
     if vias.is_empty() {
@@ -72,10 +73,10 @@ fn mark_top(alloc: Global, vias: &mut Vec<Via>, source: Addr) -> Result<(), Allo
     Ok(())
 }
 
-fn marked_top(alloc: Global, vias: &Vias, source: Addr) -> Result<Vias, AllocError>
+fn marked_top(alloc: Global, vias: &Vias<'_>, source: Addr) -> Result<Vias<'static>, AllocError>
     ensures { IfOk result (λ vs. vs ≡ marked_top source vias.now) }
 {
-    let mut vias = vias.clone()?.into_vec();
+    let mut vias = vias.keep(alloc)?.into_vec();
     mark_top(alloc, &mut vias, source)?;
     Ok(Vias::from_vec(vias))
 }
@@ -87,7 +88,7 @@ fn puts_tag(status: u16, to: &NameAddr) -> bool
 }
 
 /// The parameter `tag` with this value (RFC 3261 section 19.3).
-pub fn tag_param(alloc: Global, tag: &[u8]) -> Result<Param, AllocError>
+pub fn tag_param(alloc: Global, tag: &[u8]) -> Result<Param<'static>, AllocError>
     ensures { IfOk result (λ p. p ≡ tag_param tag.now) }
 {
     let name = Text::from_slice(alloc, b"tag")?;
@@ -100,27 +101,32 @@ pub fn tag_param(alloc: Global, tag: &[u8]) -> Result<Param, AllocError>
 
 fn tagged_params(
     alloc: Global,
-    params: &Params,
+    params: &Params<'_>,
     puts: bool,
     tag: &[u8],
-) -> Result<Params, AllocError>
+) -> Result<Params<'static>, AllocError>
     ensures { IfOk result (λ ps. ps ≡ tagged_params puts params.now tag.now) }
 {
     if !puts {
-        return params.clone();
+        return params.keep(alloc);
     }
-    let mut params = params.clone()?.into_vec();
+    let mut params = params.keep(alloc)?.into_vec();
     let param = tag_param(alloc, tag)?;
     params.push(param)?;
     Ok(Params::from_vec(params))
 }
 
-fn tagged_to(alloc: Global, status: u16, to: &NameAddr, tag: &[u8]) -> Result<NameAddr, AllocError>
+fn tagged_to(
+    alloc: Global,
+    status: u16,
+    to: &NameAddr<'_>,
+    tag: &[u8],
+) -> Result<NameAddr<'static>, AllocError>
     ensures { IfOk result (λ t. t ≡ tagged_to status to.now tag.now) }
 {
     let params = tagged_params(alloc, &to.params, puts_tag(status, to), tag)?;
-    let display = copied_display(&to.display)?;
-    let uri = copied_uri(&to.uri)?;
+    let display = keep_text(alloc, &to.display)?;
+    let uri = to.uri.keep(alloc)?;
     Ok(NameAddr {
         display,
         uri,
@@ -128,35 +134,51 @@ fn tagged_to(alloc: Global, status: u16, to: &NameAddr, tag: &[u8]) -> Result<Na
     })
 }
 
-fn tagged_text(status: u16, to: &NameAddr, text: &Text, tag: &[u8]) -> Result<Text, AllocError>
+fn tagged_text(
+    alloc: Global,
+    status: u16,
+    to: &NameAddr<'_>,
+    text: &Text<'_>,
+    tag: &[u8],
+) -> Result<Text<'static>, AllocError>
     ensures { IfOk result (λ t. t ≡ tagged_text status to.now text.now tag.now) }
 {
     if !puts_tag(status, to) {
-        return text.clone();
+        return text.keep(alloc);
     }
-    let mut bytes = text.clone()?.into_vec();
+    let mut bytes = Vec::from_slice(alloc, text.as_bytes())?;
     bytes.extend_from_slice(b";tag=")?;
     bytes.extend_from_slice(tag)?;
     Ok(Text::from_vec(bytes))
 }
 
-fn replied_to(alloc: Global, parts: &Parts, status: u16, tag: &[u8]) -> Result<Party, AllocError>
+fn replied_to(
+    alloc: Global,
+    parts: &Parts<'_>,
+    status: u16,
+    tag: &[u8],
+) -> Result<Party<'static>, AllocError>
     ensures name { IfOk result (λ to. to.name ≡ tagged_to status parts.now.to tag.now) }
     ensures text { IfOk result (λ to. to.text ≡ tagged_text status parts.now.to parts.now.to_text tag.now) }
 {
     Ok(Party {
-        text: tagged_text(status, &parts.to, &parts.to_text, tag)?,
+        text: tagged_text(alloc, status, &parts.to, &parts.to_text, tag)?,
         name: tagged_to(alloc, status, &parts.to, tag)?,
     })
 }
 
-fn replied_ends(alloc: Global, parts: &Parts, status: u16, tag: &[u8]) -> Result<Ends, AllocError>
+fn replied_ends(
+    alloc: Global,
+    parts: &Parts<'_>,
+    status: u16,
+    tag: &[u8],
+) -> Result<Ends<'static>, AllocError>
     ensures from { IfOk result (λ ends. (ends.from.name ≡ parts.now.from) × (ends.from.text ≡ parts.now.from_text)) }
     ensures name { IfOk result (λ ends. ends.to.name ≡ tagged_to status parts.now.to tag.now) }
     ensures text { IfOk result (λ ends. ends.to.text ≡ tagged_text status parts.now.to parts.now.to_text tag.now) }
 {
     Ok(Ends {
-        from: copied_party(&parts.from, &parts.from_text)?,
+        from: kept_party(alloc, &parts.from, &parts.from_text)?,
         to: replied_to(alloc, parts, status, tag)?,
     })
 }
@@ -164,28 +186,28 @@ fn replied_ends(alloc: Global, parts: &Parts, status: u16, tag: &[u8]) -> Result
 #[tactic(auto, unfolding(crate::specs::Reply::replied))]
 fn replied(
     alloc: Global,
-    parts: &Parts,
+    parts: &Parts<'_>,
     source: Addr,
     status: u16,
     tag: &[u8],
-) -> Result<Parts, AllocError>
+) -> Result<Parts<'static>, AllocError>
     ensures { IfOk result (λ p. p ≡ replied parts.now source status tag.now) }
 {
     let vias = marked_top(alloc, &parts.vias, source)?;
     let ends = replied_ends(alloc, parts, status, tag)?;
-    let call_id = copied_text(&parts.call_id)?;
-    let cseq = copied_sequence(parts)?;
+    let call_id = parts.call_id.keep(alloc)?;
+    let cseq = kept_sequence(alloc, parts)?;
     Ok(parts_with(vias, ends, call_id, cseq))
 }
 
 #[tactic(auto, unfolding(crate::specs::Reply::reply_of))]
 fn reply(
     alloc: Global,
-    parts: &Parts,
+    parts: &Parts<'_>,
     source: Addr,
     status: u16,
     tag: &[u8],
-) -> Result<Response, AllocError>
+) -> Result<Response<'static>, AllocError>
     ensures { IfOk result (λ r. r ≡ reply_of parts.now source status tag.now) }
 {
     let parts = replied(alloc, parts, source, status, tag)?;
@@ -204,11 +226,11 @@ fn reply(
 /// top Via with the source, and To with the tag where it has none and the status is not 100.
 pub fn reply_to(
     alloc: Global,
-    parts: &Parts,
+    parts: &Parts<'_>,
     source: Addr,
     status: u16,
     tag: &[u8],
-) -> Result<Response, AllocError>
+) -> Result<Response<'static>, AllocError>
     requires { IsTrue (is_run_of is_token_byte tag.now) }
     ensures answer { IfOk result (λ r. r ≡ reply_of parts.now source status tag.now) }
     // It is an answer to the request, by branch, Call-ID, tags, number and method.

@@ -12,24 +12,24 @@ use text::{Text, cut, is_run_of_digits, is_run_of_token, number_upto};
 
 /// The start line of a request.
 #[derive(Drop)]
-pub(crate) struct RequestLine {
-    pub method: Text,
-    pub uri: Uri,
+pub(crate) struct RequestLine<'a> {
+    pub method: Text<'a>,
+    pub uri: Uri<'a>,
 }
 
 /// The start line of an answer.
 #[derive(Drop)]
-pub(crate) struct StatusLine {
+pub(crate) struct StatusLine<'a> {
     /// 100 to 699.
     pub status: u16,
-    pub reason: Text,
+    pub reason: Text<'a>,
 }
 
 /// A start line.
 #[derive(Drop)]
-pub(crate) enum Start {
-    Asking(RequestLine),
-    Answering(StatusLine),
+pub(crate) enum Start<'a> {
+    Asking(RequestLine<'a>),
+    Answering(StatusLine<'a>),
 }
 
 fn has_no_space(text: &[u8]) -> bool
@@ -74,12 +74,7 @@ fn read_status(digits: &[u8]) -> Option<u16>
     Some(status as u16)
 }
 
-fn status_at(
-    alloc: Global,
-    version: &[u8],
-    digits: &[u8],
-    reason: &[u8],
-) -> Result<Start, MessageError>
+fn status_at<'a>(version: &[u8], digits: &[u8], reason: &'a [u8]) -> Result<Start<'a>, MessageError>
     ensures { Gives result (status_at version.now digits.now reason.now) }
 {
     let Some(status) = read_status(digits) else {
@@ -88,16 +83,16 @@ fn status_at(
     if !is_version(version) {
         return Err(MessageError::Version);
     }
-    let reason = Text::from_slice(alloc, reason)?;
+    let reason = Text::lent(reason);
     Ok(Start::Answering(StatusLine { status, reason }))
 }
 
-fn request_at(
+fn request_at<'a>(
     alloc: Global,
-    method: &[u8],
-    uri: &[u8],
+    method: &'a [u8],
+    uri: &'a [u8],
     version: &[u8],
-) -> Result<Start, MessageError>
+) -> Result<Start<'a>, MessageError>
     ensures { Gives result (request_at method.now uri.now version.now) }
 {
     if !is_run_of_token(method) || !is_part(version) {
@@ -111,14 +106,14 @@ fn request_at(
     if !is_version(version) {
         return Err(MessageError::Version);
     }
-    let method = Text::from_slice(alloc, method)?;
+    let method = Text::lent(method);
     Ok(Start::Asking(RequestLine { method, uri }))
 }
 
 /// What a start line says: three parts with a single space between each two, of which an answer's reason may have
 /// spaces.
 #[tactic(auto, unfolding(crate::specs::Start::start_of))]
-pub(crate) fn read_start(alloc: Global, line: &[u8]) -> Result<Start, MessageError>
+pub(crate) fn read_start(alloc: Global, line: &[u8]) -> Result<Start<'_>, MessageError>
     ensures { Gives result (start_of line.now) }
 {
     let (first, Some(behind)) = cut(line, b' ') else {
@@ -128,7 +123,7 @@ pub(crate) fn read_start(alloc: Global, line: &[u8]) -> Result<Start, MessageErr
         return Err(MessageError::StartLine);
     };
     if begins_sip(first) {
-        status_at(alloc, first, second, third)
+        status_at(first, second, third)
     } else {
         request_at(alloc, first, second, third)
     }

@@ -8,6 +8,7 @@ ghost use Rattle.sip_message.specs.Lines.{texts};
 ghost use Rattle.sip_message.specs.Values.{via_texts};
 
 use crate::cseq::{Sequence, read_cseq};
+use crate::field_value::FieldValue;
 use crate::form::is_call_id;
 use crate::headers::Header;
 use crate::lines::{ended_lines, first_line};
@@ -16,6 +17,7 @@ use crate::message::{Parts, Vias, parts_with};
 use crate::party::{Ends, Party, read_party};
 use crate::readable::readable_headers;
 use crate::start::{begins_sip, is_part};
+use crate::via::Via;
 use crate::vias::read_each;
 use std::alloc::{AllocError, Global};
 use text::{Text, cut};
@@ -43,19 +45,21 @@ fn is_asking_line(line: &[u8]) -> bool
     asks_answer(method) && are_two_parts(behind)
 }
 
-fn party_at(alloc: Global, text: &Text) -> Result<Option<Party>, AllocError>
-    ensures { IfOk result (λ party. party ≡ party_at text.now) }
+fn party_at<'a>(alloc: Global, value: &FieldValue<'a>) -> Result<Option<Party<'a>>, AllocError>
+    ensures { IfOk result (λ party. party ≡ party_at value.now) }
 {
-    match read_party(alloc, text.as_bytes())? {
-        Some(name) => Ok(Some(Party {
-            text: text.clone()?,
-            name,
-        })),
+    let text = value.text(alloc)?;
+    match read_party(alloc, &text)? {
+        Some(name) => Ok(Some(Party { text, name })),
         None => Ok(None),
     }
 }
 
-fn first_party(alloc: Global, headers: &[Header], name: &[u8]) -> Result<Option<Party>, AllocError>
+fn first_party<'a>(
+    alloc: Global,
+    headers: &[Header<'a>],
+    name: &[u8],
+) -> Result<Option<Party<'a>>, AllocError>
     ensures { IfOk result (λ party. party ≡ first_party name.now headers.now) }
 {
     match first_value(headers, name) {
@@ -64,31 +68,36 @@ fn first_party(alloc: Global, headers: &[Header], name: &[u8]) -> Result<Option<
     }
 }
 
-fn first_call_id(headers: &[Header]) -> Result<Option<Text>, AllocError>
+fn first_call_id<'a>(alloc: Global, headers: &[Header<'a>]) -> Result<Option<Text<'a>>, AllocError>
     ensures { IfOk result (λ id. id ≡ first_call_id headers.now) }
 {
-    let Some(text) = first_value(headers, b"Call-ID") else {
+    let Some(value) = first_value(headers, b"Call-ID") else {
         return Ok(None);
     };
+    let text = value.text(alloc)?;
     if !is_call_id(text.as_bytes()) {
         return Ok(None);
     }
-    Ok(Some(text.clone()?))
+    Ok(Some(text))
 }
 
-fn sequence_at(alloc: Global, text: &Text) -> Result<Option<Sequence>, AllocError>
-    ensures { IfOk result (λ cseq. cseq ≡ sequence_at text.now) }
+fn sequence_at<'a>(
+    alloc: Global,
+    value: &FieldValue<'a>,
+) -> Result<Option<Sequence<'a>>, AllocError>
+    ensures { IfOk result (λ cseq. cseq ≡ sequence_at value.now) }
 {
-    match read_cseq(alloc, text.as_bytes())? {
-        Some(cseq) => Ok(Some(Sequence {
-            text: text.clone()?,
-            cseq,
-        })),
+    let text = value.text(alloc)?;
+    match read_cseq(alloc, &text)? {
+        Some(cseq) => Ok(Some(Sequence { text, cseq })),
         None => Ok(None),
     }
 }
 
-fn first_sequence(alloc: Global, headers: &[Header]) -> Result<Option<Sequence>, AllocError>
+fn first_sequence<'a>(
+    alloc: Global,
+    headers: &[Header<'a>],
+) -> Result<Option<Sequence<'a>>, AllocError>
     ensures { IfOk result (λ cseq. cseq ≡ first_sequence headers.now) }
 {
     match first_value(headers, b"CSeq") {
@@ -97,7 +106,7 @@ fn first_sequence(alloc: Global, headers: &[Header]) -> Result<Option<Sequence>,
     }
 }
 
-fn first_ends(alloc: Global, headers: &[Header]) -> Result<Option<Ends>, AllocError>
+fn first_ends<'a>(alloc: Global, headers: &[Header<'a>]) -> Result<Option<Ends<'a>>, AllocError>
     ensures { IfOk result (λ ends. ends ≡ first_ends headers.now) }
 {
     let Some(from) = first_party(alloc, headers, b"From")? else {
@@ -109,17 +118,31 @@ fn first_ends(alloc: Global, headers: &[Header]) -> Result<Option<Ends>, AllocEr
     }
 }
 
-#[tactic(auto, unfolding(crate::specs::Answerable::parts_among))]
-fn parts_among(alloc: Global, headers: &[Header]) -> Result<Option<Parts>, AllocError>
-    ensures { IfOk result (λ parts. parts ≡ parts_among headers.now) }
+/// The Via values, the top one first, if there is one and each can be read.
+#[tactic(auto, using(crate::proofs::ViaLaws::none_among, crate::proofs::ViaLaws::all_among))]
+fn vias_there<'a>(alloc: Global, headers: &[Header<'a>]) -> Result<Option<Vec<Via<'a>>>, AllocError>
+    ensures { IfOk result (λ o. option_map (λ v. v.items) o ≡ vias_there (via_texts headers.now)) }
 {
     let Some(vias) = read_each(alloc, headers)? else {
+        return Ok(None);
+    };
+    if vias.is_empty() {
+        return Ok(None);
+    }
+    Ok(Some(vias))
+}
+
+#[tactic(auto, unfolding(crate::specs::Answerable::parts_among))]
+fn parts_among<'a>(alloc: Global, headers: &[Header<'a>]) -> Result<Option<Parts<'a>>, AllocError>
+    ensures { IfOk result (λ parts. parts ≡ parts_among headers.now) }
+{
+    let Some(vias) = vias_there(alloc, headers)? else {
         return Ok(None);
     };
     let Some(ends) = first_ends(alloc, headers)? else {
         return Ok(None);
     };
-    let Some(call_id) = first_call_id(headers)? else {
+    let Some(call_id) = first_call_id(alloc, headers)? else {
         return Ok(None);
     };
     match first_sequence(alloc, headers)? {
@@ -128,7 +151,7 @@ fn parts_among(alloc: Global, headers: &[Header]) -> Result<Option<Parts>, Alloc
     }
 }
 
-fn parts_behind(alloc: Global, rest: &[u8]) -> Result<Option<Parts>, AllocError>
+fn parts_behind(alloc: Global, rest: &[u8]) -> Result<Option<Parts<'_>>, AllocError>
     ensures { IfOk result (λ parts. parts ≡ parts_among (readable_headers (ended_lines rest.now))) }
 {
     let lines = ended_lines(alloc, rest)?;
@@ -141,7 +164,7 @@ fn parts_behind(alloc: Global, rest: &[u8]) -> Result<Option<Parts>, AllocError>
 /// alone: of header lines that end and are of their form, the first of each name; From needs no tag, and CSeq not the
 /// request's method. There is nothing where the first line begins with `SIP/`, without case.
 #[tactic(auto, unfolding(crate::specs::Answerable::answerable_of))]
-pub fn answerable(alloc: Global, bytes: &[u8]) -> Result<Option<Parts>, AllocError>
+pub fn answerable(alloc: Global, bytes: &[u8]) -> Result<Option<Parts<'_>>, AllocError>
     ensures parts { IfOk result (λ parts. parts ≡ answerable_of bytes.now) }
     ensures repeatable { IfOk result (λ parts. IfRepeatable parts) }
 {

@@ -19,96 +19,103 @@ use text::Text;
 
 /// The values of a message's header fields, but for its body's length.
 #[derive(Drop)]
-pub(crate) struct Values {
-    pub parts: Parts,
+pub(crate) struct Values<'a> {
+    pub parts: Parts<'a>,
     pub max_forwards: u8,
 }
 
 #[tactic(auto, using(crate::proofs::FaultLaws::fails_itself))]
-fn read_from(alloc: Global, start: &Start, headers: &[Header]) -> Result<Party, MessageError>
+fn read_from<'a>(
+    alloc: Global,
+    start: &Start<'_>,
+    headers: &[Header<'a>],
+) -> Result<Party<'a>, MessageError>
     ensures { Gives result (from_for start.now headers.now) }
 {
-    let text = exactly_one(headers, b"From", HeaderName::From)?;
-    let Some(name) = read_party(alloc, text.as_bytes())? else {
+    let text = exactly_one(headers, b"From", HeaderName::From)?.text(alloc)?;
+    let Some(name) = read_party(alloc, &text)? else {
         return Err(MessageError::Unreadable(HeaderName::From));
     };
     if !is_tagged_for(start, name.params.as_slice()) {
         return Err(MessageError::Unreadable(HeaderName::From));
     }
-    let text = text.clone()?;
     Ok(Party { text, name })
 }
 
 #[tactic(auto, using(crate::proofs::FaultLaws::fails_itself))]
-fn read_to(alloc: Global, headers: &[Header]) -> Result<Party, MessageError>
+fn read_to<'a>(alloc: Global, headers: &[Header<'a>]) -> Result<Party<'a>, MessageError>
     ensures { Gives result (to_of headers.now) }
 {
-    let text = exactly_one(headers, b"To", HeaderName::To)?;
-    let Some(name) = read_party(alloc, text.as_bytes())? else {
+    let text = exactly_one(headers, b"To", HeaderName::To)?.text(alloc)?;
+    let Some(name) = read_party(alloc, &text)? else {
         return Err(MessageError::Unreadable(HeaderName::To));
     };
-    let text = text.clone()?;
     Ok(Party { text, name })
 }
 
 #[tactic(auto, using(crate::proofs::FaultLaws::fails_itself))]
-fn read_call_id(headers: &[Header]) -> Result<Text, MessageError>
+fn read_call_id<'a>(alloc: Global, headers: &[Header<'a>]) -> Result<Text<'a>, MessageError>
     ensures { Gives result (call_id_of headers.now) }
 {
-    let text = exactly_one(headers, b"Call-ID", HeaderName::CallId)?;
+    let text = exactly_one(headers, b"Call-ID", HeaderName::CallId)?.text(alloc)?;
     if !is_call_id(text.as_bytes()) {
         return Err(MessageError::Unreadable(HeaderName::CallId));
     }
-    Ok(text.clone()?)
+    Ok(text)
 }
 
 #[tactic(auto, using(crate::proofs::FaultLaws::fails_itself))]
-fn read_cseq_for(alloc: Global, start: &Start, headers: &[Header]) -> Result<Sequence, MessageError>
+fn read_cseq_for<'a>(
+    alloc: Global,
+    start: &Start<'_>,
+    headers: &[Header<'a>],
+) -> Result<Sequence<'a>, MessageError>
     ensures { Gives result (cseq_for start.now headers.now) }
 {
-    let text = exactly_one(headers, b"CSeq", HeaderName::CSeq)?;
-    let Some(cseq) = read_cseq(alloc, text.as_bytes())? else {
+    let text = exactly_one(headers, b"CSeq", HeaderName::CSeq)?.text(alloc)?;
+    let Some(cseq) = read_cseq(alloc, &text)? else {
         return Err(MessageError::Unreadable(HeaderName::CSeq));
     };
     if !is_method_for(start, &cseq.method) {
         return Err(MessageError::Unreadable(HeaderName::CSeq));
     }
-    let text = text.clone()?;
     Ok(Sequence { text, cseq })
 }
 
 #[tactic(auto, using(crate::proofs::FaultLaws::fails_itself))]
-fn read_hops(headers: &[Header]) -> Result<u8, MessageError>
+fn read_hops(alloc: Global, headers: &[Header<'_>]) -> Result<u8, MessageError>
     ensures { Gives result (hops_of headers.now) }
 {
-    match at_most_one(headers, b"Max-Forwards", HeaderName::MaxForwards)? {
-        None => Ok(70),
-        Some(text) => match read_max_forwards(text.as_bytes()) {
-            Some(hops) => Ok(hops),
-            None => Err(MessageError::Unreadable(HeaderName::MaxForwards)),
-        },
+    let Some(value) = at_most_one(headers, b"Max-Forwards", HeaderName::MaxForwards)? else {
+        return Ok(70);
+    };
+    let text = value.text(alloc)?;
+    match read_max_forwards(text.as_bytes()) {
+        Some(hops) => Ok(hops),
+        None => Err(MessageError::Unreadable(HeaderName::MaxForwards)),
     }
 }
 
 #[tactic(auto, using(crate::proofs::FaultLaws::fails_itself))]
-fn read_type(alloc: Global, headers: &[Header]) -> Result<Option<Text>, MessageError>
+fn read_type<'a>(alloc: Global, headers: &[Header<'a>]) -> Result<Option<Text<'a>>, MessageError>
     ensures { Gives result (type_of headers.now) }
 {
-    let Some(text) = at_most_one(headers, b"Content-Type", HeaderName::ContentType)? else {
+    let Some(value) = at_most_one(headers, b"Content-Type", HeaderName::ContentType)? else {
         return Ok(None);
     };
+    let text = value.text(alloc)?;
     if !is_media_type(alloc, text.as_bytes())? {
         return Err(MessageError::Unreadable(HeaderName::ContentType));
     }
-    Ok(Some(text.clone()?))
+    Ok(Some(text))
 }
 
 #[tactic(auto, using(crate::proofs::FaultLaws::fails_itself))]
 fn check_contact(
     alloc: Global,
-    start: &Start,
-    method: &Text,
-    headers: &[Header],
+    start: &Start<'_>,
+    method: &Text<'_>,
+    headers: &[Header<'_>],
 ) -> Result<(), MessageError>
     ensures { Gives result (contact_for start.now method.now headers.now) }
 {
@@ -123,7 +130,11 @@ fn check_contact(
 }
 
 #[tactic(auto, using(crate::proofs::FaultLaws::failed_then))]
-fn read_ends(alloc: Global, start: &Start, headers: &[Header]) -> Result<Ends, MessageError>
+fn read_ends<'a>(
+    alloc: Global,
+    start: &Start<'_>,
+    headers: &[Header<'a>],
+) -> Result<Ends<'a>, MessageError>
     ensures { Gives result (ends_for start.now headers.now) }
 {
     let from = read_from(alloc, start, headers)?;
@@ -133,12 +144,16 @@ fn read_ends(alloc: Global, start: &Start, headers: &[Header]) -> Result<Ends, M
 
 /// What an answer repeats of the request.
 #[tactic(auto, unfolding(crate::specs::Values::parts_of), using(crate::proofs::FaultLaws::failed_then))]
-fn read_parts(alloc: Global, start: &Start, headers: &[Header]) -> Result<Parts, MessageError>
+fn read_parts<'a>(
+    alloc: Global,
+    start: &Start<'_>,
+    headers: &[Header<'a>],
+) -> Result<Parts<'a>, MessageError>
     ensures { Gives result (parts_of start.now headers.now) }
 {
     let vias = read_vias(alloc, headers)?;
     let ends = read_ends(alloc, start, headers)?;
-    let call_id = read_call_id(headers)?;
+    let call_id = read_call_id(alloc, headers)?;
     let cseq = read_cseq_for(alloc, start, headers)?;
     Ok(parts_with(vias, ends, call_id, cseq))
 }
@@ -147,25 +162,25 @@ fn read_parts(alloc: Global, start: &Start, headers: &[Header]) -> Result<Parts,
 #[tactic(auto, using(crate::proofs::FaultLaws::failed_then))]
 fn read_hops_behind(
     alloc: Global,
-    start: &Start,
-    method: &Text,
-    headers: &[Header],
+    start: &Start<'_>,
+    method: &Text<'_>,
+    headers: &[Header<'_>],
 ) -> Result<u8, MessageError>
     ensures { Gives result (hops_behind start.now method.now headers.now) }
 {
     check_contact(alloc, start, method, headers)?;
-    let max_forwards = read_hops(headers)?;
+    let max_forwards = read_hops(alloc, headers)?;
     let _content_type = read_type(alloc, headers)?;
     Ok(max_forwards)
 }
 
 /// The values of a message's header fields. The faults come in the order of `HeaderName`.
 #[tactic(auto, unfolding(crate::specs::Values::values_of), using(crate::proofs::FaultLaws::failed_then))]
-pub(crate) fn read_values(
+pub(crate) fn read_values<'a>(
     alloc: Global,
-    start: &Start,
-    headers: &[Header],
-) -> Result<Values, MessageError>
+    start: &Start<'_>,
+    headers: &[Header<'a>],
+) -> Result<Values<'a>, MessageError>
     ensures { Gives result (values_of start.now headers.now) }
 {
     let parts = read_parts(alloc, start, headers)?;

@@ -1,6 +1,7 @@
 //! One value of a Via header field (RFC 3261 section 20.42).
 
-ghost use Rattle.std.specs.Prelude.{◌≡◌, IfOk, option_map};
+ghost use Rattle.std.specs.Prelude.{◌≡◌, ◌++◌, ◌∷◌, true, nat_eq, IfOk, option_map};
+ghost use Rattle.std.specs.Cmp.Lexicographic.{pointwise};
 ghost use Rattle.std.specs.Option.{option_copied};
 ghost use Rattle.text.specs.Trim.{trimmed};
 ghost use Rattle.sip_message.specs.RawVia.{raw_via_of, is_raw_via, is_port};
@@ -13,11 +14,11 @@ use text::{Text, cut, cut_word, is_run_of_digits, number_upto, trimmed, without_
 
 /// Where an answer goes (RFC 3261 section 18.2.2). `sent_by` is host and port as received, without blanks.
 #[derive(Clone, Debug, Drop)]
-pub struct Via {
-    pub sent_by: Text,
-    pub host: Host,
+pub struct Via<'a> {
+    pub sent_by: Text<'a>,
+    pub host: Host<'a>,
     pub port: Option<u16>,
-    pub params: Params,
+    pub params: Params<'a>,
 }
 
 /// `SIP/2.0/UDP host:port;params` in its parts.
@@ -32,6 +33,7 @@ struct ViaText<'a> {
 }
 
 impl<'a> Model for ViaText<'a> {
+    ghost use Rattle.std.specs.Cmp.Lexicographic.{pointwise};
     ghost use Rattle.std.specs.Option.{option_copied};
     ghost use Rattle.sip_message.specs.RawVia.{RawVia};
 
@@ -56,23 +58,25 @@ fn port_text(text: Option<&[u8]>) -> Option<&[u8]>
     }
 }
 
+/// The parts, and where host and port stand.
 #[tactic(auto, unfolding(crate::specs::RawVia::raw_via_of))]
-fn via_text(text: &[u8]) -> ViaText<'_>
-    ensures { result ≡ raw_via_of text.now }
+fn via_text(text: &[u8]) -> (ViaText<'_>, &[u8])
+    ensures { result.0 ≡ raw_via_of text.now }
 {
     let (front, params) = cut(text, b';');
     let (name, behind) = cut(front, b'/');
     let (version, behind) = cut(behind.unwrap_or(&[]), b'/');
     let (transport, sent_by) = cut_word(without_blanks(behind.unwrap_or(&[])));
     let (host, port) = cut(sent_by, b':');
-    ViaText {
+    let parts = ViaText {
         name: trimmed(name),
         version: trimmed(version),
         transport,
         host: trimmed(host),
         port: port_text(port),
         params,
-    }
+    };
+    (parts, trimmed(sent_by))
 }
 
 fn is_port(text: &[u8]) -> bool
@@ -92,15 +96,42 @@ fn is_well_formed(via: &ViaText<'_>) -> bool
         && via.port.is_none_or(|port| is_port(port))
 }
 
-fn sent_by(alloc: Global, host: &[u8], port: Option<&[u8]>) -> Result<Text, AllocError>
+fn are_same(a: &[u8], b: &[u8]) -> bool
+    ensures { result ≡ pointwise nat_eq a.now b.now }
+{
+    a == b
+}
+
+/// Whether the bytes are this host, a colon and this port.
+fn is_joined(bytes: &[u8], host: &[u8], port: &[u8]) -> bool
+    ensures { result ≡ true → bytes.now ≡ host.now ++ 58 ∷ port.now }
+{
+    let (front, after) = cut(bytes, b':');
+    let Some(behind) = after else {
+        return false;
+    };
+    are_same(front, host) && are_same(behind, port)
+}
+
+/// Host and port without blanks: lent where they stand so in these bytes.
+fn sent_by<'a>(
+    alloc: Global,
+    bytes: &'a [u8],
+    host: &'a [u8],
+    port: Option<&[u8]>,
+) -> Result<Text<'a>, AllocError>
     ensures { IfOk result (λ t. t ≡ sent_by_of host.now (option_copied port.entry)) }
 {
-    let mut bytes = Vec::from_slice(alloc, host)?;
-    if let Some(port) = port {
-        bytes.push(b':')?;
-        bytes.extend_from_slice(port)?;
+    let Some(port) = port else {
+        return Ok(Text::lent(host));
+    };
+    if is_joined(bytes, host, port) {
+        return Ok(Text::lent(bytes));
     }
-    Ok(Text::from_vec(bytes))
+    let mut joined = Vec::from_slice(alloc, host)?;
+    joined.push(b':')?;
+    joined.extend_from_slice(port)?;
+    Ok(Text::from_vec(joined))
 }
 
 fn port_of(text: Option<&[u8]>) -> Option<u16>
@@ -114,20 +145,20 @@ fn port_of(text: Option<&[u8]>) -> Option<u16>
 
 /// The value of one Via, if the text is one that names UDP.
 #[tactic(auto, unfolding(crate::specs::Via::via_of))]
-pub(crate) fn read_via(alloc: Global, text: &[u8]) -> Result<Option<Via>, AllocError>
+pub(crate) fn read_via(alloc: Global, text: &[u8]) -> Result<Option<Via<'_>>, AllocError>
     ensures { IfOk result (λ via. via ≡ via_of text.now) }
 {
-    let parts = via_text(text);
+    let (parts, place) = via_text(text);
     if !is_well_formed(&parts) {
         return Ok(None);
     }
-    let Some(host) = read_host(alloc, parts.host)? else {
+    let Some(host) = read_host(parts.host) else {
         return Ok(None);
     };
     let Some(params) = read_field_params(alloc, parts.params)? else {
         return Ok(None);
     };
-    let sent_by = sent_by(alloc, parts.host, parts.port)?;
+    let sent_by = sent_by(alloc, place, parts.host, parts.port)?;
     let port = port_of(parts.port);
     Ok(Some(Via {
         sent_by,

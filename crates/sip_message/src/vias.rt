@@ -1,70 +1,97 @@
 //! The Via header fields of a message.
 
-ghost use Rattle.std.specs.Prelude.{◌≡◌, ◌++◌, Some, None, map, codes, option_map, IfOk};
-ghost use Rattle.std.specs.List.{flat_map};
+ghost use Rattle.std.specs.Prelude.{◌≡◌, ◌++◌, Some, None, option_map, IfOk, OnOk, if◌then◌else◌};
 ghost use Rattle.text.specs.Pieces.{pieces};
 ghost use Rattle.text.specs.declared.splitting.Within.TheVariants.{Nothing};
-ghost use Rattle.sip_message.specs.Answerable.{vias_there};
 ghost use Rattle.sip_message.specs.Faults.{Gives};
-ghost use Rattle.sip_message.specs.Lookup.{values_named};
-ghost use Rattle.sip_message.specs.Values.{each_via, via_texts, some_vias};
+ghost use Rattle.sip_message.specs.Values.{each_via, via_texts, some_vias, put_before};
 
 use crate::error::{HeaderName, MessageError};
+use crate::field_value::FieldValue;
 use crate::headers::Header;
 use crate::lookup::is_named;
 use crate::message::Vias;
 use crate::via::{Via, read_via};
 use std::alloc::{AllocError, Global};
-use text::put_pieces;
+use text::cut_piece;
 
-/// The texts of all Via values, in order.
-fn via_texts<'a>(alloc: Global, headers: &'a [Header]) -> Result<Vec<&'a [u8]>, AllocError>
-    ensures { IfOk result (λ v. map (λ t. t.now) v.items ≡ via_texts headers.now) }
+/// Puts the values of a text behind those that are there, and tells whether each could be read.
+fn put_lent<'a>(alloc: Global, vias: &mut Vec<Via<'a>>, text: &'a [u8]) -> Result<bool, AllocError>
+    ensures { IfOk result (λ all. put_before vias.old.items (each_via (pieces 44 Nothing text.now)) ≡ (if all then Some vias.new.items else None)) }
 {
-    let mut texts = Vec::new(alloc);
+    let mut left = Some(text);
+    while let Some(text) = left {
+        let (piece, behind) = cut_piece(text, b',');
+        let Some(via) = read_via(alloc, piece)? else {
+            return Ok(false);
+        };
+        vias.push(via)?;
+        left = behind;
+    }
+    Ok(true)
+}
+
+/// Puts these values, which borrow nothing, behind those that are there.
+fn put_kept<'a>(alloc: Global, vias: &mut Vec<Via<'a>>, more: &[Via<'_>]) -> Result<(), AllocError>
+    ensures { OnOk result (vias.new.items ≡ vias.old.items ++ more.now) }
+{
+    for via in more {
+        vias.push(via.keep(alloc)?)?;
+    }
+    Ok(())
+}
+
+/// Puts the values of a header field behind those that are there, and tells whether each could be read.
+fn put_vias<'a>(
+    alloc: Global,
+    vias: &mut Vec<Via<'a>>,
+    value: &FieldValue<'a>,
+) -> Result<bool, AllocError>
+    ensures { IfOk result (λ all. put_before vias.old.items (each_via (pieces 44 Nothing value.now)) ≡ (if all then Some vias.new.items else None)) }
+{
+    if let Some(bytes) = value.in_place() {
+        return put_lent(alloc, vias, bytes);
+    }
+    let text = value.text(alloc)?;
+    let mut found = Vec::new(alloc);
+    let all = put_lent(alloc, &mut found, text.as_bytes())?;
+    if !all {
+        return Ok(false);
+    }
+    put_kept(alloc, vias, &found)?;
+    Ok(true)
+}
+
+/// The Via values, the top one first, if each can be read.
+pub(crate) fn read_each<'a>(
+    alloc: Global,
+    headers: &[Header<'a>],
+) -> Result<Option<Vec<Via<'a>>>, AllocError>
+    ensures { IfOk result (λ o. option_map (λ v. v.items) o ≡ each_via (via_texts headers.now)) }
+{
+    let mut vias = Vec::new(alloc);
     for header in headers {
         if !is_named(header, b"Via") {
             continue;
         }
-        put_pieces(&mut texts, header.value.as_bytes(), b',')?;
-    }
-    Ok(texts)
-}
-
-fn each_via(alloc: Global, texts: &[&[u8]]) -> Result<Option<Vec<Via>>, AllocError>
-    ensures { IfOk result (λ o. option_map (λ v. v.items) o ≡ each_via (map (λ t. t.now) texts.now)) }
-{
-    let mut vias = Vec::new(alloc);
-    for text in texts {
-        let Some(via) = read_via(alloc, text)? else {
+        let all = put_vias(alloc, &mut vias, &header.value)?;
+        if !all {
             return Ok(None);
-        };
-        vias.push(via)?;
+        }
     }
     Ok(Some(vias))
 }
 
-/// The Via values, the top one first, if there is one and each can be read.
-pub(crate) fn read_each(alloc: Global, headers: &[Header]) -> Result<Option<Vec<Via>>, AllocError>
-    ensures { IfOk result (λ o. option_map (λ v. v.items) o ≡ vias_there (via_texts headers.now)) }
-{
-    let texts = via_texts(alloc, headers)?;
-    if texts.is_empty() {
-        return Ok(None);
-    }
-    each_via(alloc, &texts)
-}
-
 /// The Via values, the top one first: one at least.
-pub(crate) fn read_vias(alloc: Global, headers: &[Header]) -> Result<Vias, MessageError>
+#[tactic(auto, using(crate::proofs::ViaLaws::none_there, crate::proofs::ViaLaws::some_unreadable, crate::proofs::ViaLaws::some_there))]
+pub(crate) fn read_vias<'a>(alloc: Global, headers: &[Header<'a>]) -> Result<Vias<'a>, MessageError>
     ensures { Gives result (some_vias (via_texts headers.now)) }
 {
-    let texts = via_texts(alloc, headers)?;
-    if texts.is_empty() {
+    let Some(vias) = read_each(alloc, headers)? else {
+        return Err(MessageError::Unreadable(HeaderName::Via));
+    };
+    if vias.is_empty() {
         return Err(MessageError::Missing(HeaderName::Via));
     }
-    match each_via(alloc, &texts)? {
-        Some(vias) => Ok(Vias::from_vec(vias)),
-        None => Err(MessageError::Unreadable(HeaderName::Via)),
-    }
+    Ok(Vias::from_vec(vias))
 }

@@ -66,7 +66,7 @@ fn put_response(out: &mut Vec<u8>, response: &Response) -> Result<(), AllocError
 }
 
 /// The bytes of a request: its start line, its header fields in order, Content-Length, and its body.
-pub fn write_request(alloc: Global, request: &Request) -> Result<Text, AllocError>
+pub fn write_request(alloc: Global, request: &Request) -> Result<Text<'static>, AllocError>
     ensures text { IfOk result (λ t. t ≡ message_text (Kinds.Request request.now)) }
     // What is written for a request of the written form is that request, also past the limits of reading.
     ensures again { IsWrittenMessage (Kinds.Request request.now) → IfOk result (λ t. ReadsMessage t (Kinds.Request request.now)) }
@@ -77,7 +77,7 @@ pub fn write_request(alloc: Global, request: &Request) -> Result<Text, AllocErro
 }
 
 /// The bytes of an answer, in the same order.
-pub fn write_response(alloc: Global, response: &Response) -> Result<Text, AllocError>
+pub fn write_response(alloc: Global, response: &Response) -> Result<Text<'static>, AllocError>
     ensures text { IfOk result (λ t. t ≡ message_text (Kinds.Response response.now)) }
     // What is written for an answer of the written form is that answer, also past the limits of reading.
     ensures again { IsWrittenMessage (Kinds.Response response.now) → IfOk result (λ t. ReadsMessage t (Kinds.Response response.now)) }
@@ -88,7 +88,7 @@ pub fn write_response(alloc: Global, response: &Response) -> Result<Text, AllocE
 }
 
 /// The bytes of a message: of its request, or of its answer.
-pub fn write_message(alloc: Global, message: &Message) -> Result<Text, AllocError>
+pub fn write_message(alloc: Global, message: &Message) -> Result<Text<'static>, AllocError>
     ensures text { IfOk result (λ t. t ≡ message_text message.now) }
     // What is written for a message of the written form is that message, also past the limits of reading.
     ensures again { IsWrittenMessage message.now → IfOk result (λ t. ReadsMessage t message.now) }

@@ -12,7 +12,7 @@ fn put_header(out: &mut Vec<u8>, header: &Header) -> Result<(), AllocError>
 {
     out.extend_from_slice(header.name.as_bytes())?;
     out.extend_from_slice(b": ")?;
-    out.extend_from_slice(header.value.as_bytes())?;
+    header.value.put(out)?;
     out.extend_from_slice(b"\r\n")
 }
 

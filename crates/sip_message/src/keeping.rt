@@ -1,0 +1,141 @@
+//! Values that borrow nothing, with what a contract sees of them: the one way to keep what a datagram said.
+
+ghost use Rattle.std.specs.Prelude.{◌≡◌, IfOk};
+
+use crate::cseq::{CSeq, Sequence};
+use crate::message::{Message, Parts, Request, Response, Vias, parts_with};
+use crate::party::{Ends, Party};
+use crate::via::Via;
+use sip_uri::NameAddr;
+use std::alloc::{AllocError, Global};
+use text::Text;
+
+impl<'a> CSeq<'a> {
+    /// The same value, which borrows nothing.
+    pub fn keep(&self, alloc: Global) -> Result<CSeq<'static>, AllocError>
+        ensures { IfOk result (λ c. c ≡ self.now) }
+    {
+        Ok(CSeq {
+            number: self.number,
+            method: self.method.keep(alloc)?,
+        })
+    }
+}
+
+impl<'a> Via<'a> {
+    /// The same value, which borrows nothing.
+    pub fn keep(&self, alloc: Global) -> Result<Via<'static>, AllocError>
+        ensures { IfOk result (λ v. v ≡ self.now) }
+    {
+        Ok(Via {
+            sent_by: self.sent_by.keep(alloc)?,
+            host: self.host.keep(alloc)?,
+            port: self.port,
+            params: self.params.keep(alloc)?,
+        })
+    }
+}
+
+impl<'a> Vias<'a> {
+    /// The same values, which borrow nothing.
+    pub fn keep(&self, alloc: Global) -> Result<Vias<'static>, AllocError>
+        ensures { IfOk result (λ v. v ≡ self.now) }
+    {
+        let mut vias = Vec::new(alloc);
+        for via in self.as_slice() {
+            vias.push(via.keep(alloc)?)?;
+        }
+        Ok(Vias::from_vec(vias))
+    }
+}
+
+pub(crate) fn kept_party(
+    alloc: Global,
+    name: &NameAddr<'_>,
+    text: &Text<'_>,
+) -> Result<Party<'static>, AllocError>
+    ensures { IfOk result (λ party. (party.name ≡ name.now) × (party.text ≡ text.now)) }
+{
+    Ok(Party {
+        text: text.keep(alloc)?,
+        name: name.keep(alloc)?,
+    })
+}
+
+fn kept_ends(alloc: Global, parts: &Parts<'_>) -> Result<Ends<'static>, AllocError>
+    ensures from { IfOk result (λ ends. (ends.from.name ≡ parts.now.from) × (ends.from.text ≡ parts.now.from_text)) }
+    ensures to { IfOk result (λ ends. (ends.to.name ≡ parts.now.to) × (ends.to.text ≡ parts.now.to_text)) }
+{
+    Ok(Ends {
+        from: kept_party(alloc, &parts.from, &parts.from_text)?,
+        to: kept_party(alloc, &parts.to, &parts.to_text)?,
+    })
+}
+
+pub(crate) fn kept_sequence(
+    alloc: Global,
+    parts: &Parts<'_>,
+) -> Result<Sequence<'static>, AllocError>
+    ensures { IfOk result (λ sequence. (sequence.cseq ≡ parts.now.cseq) × (sequence.text ≡ parts.now.cseq_text)) }
+{
+    Ok(Sequence {
+        text: parts.cseq_text.keep(alloc)?,
+        cseq: parts.cseq.keep(alloc)?,
+    })
+}
+
+impl<'a> Parts<'a> {
+    /// The same parts, which borrow nothing.
+    pub fn keep(&self, alloc: Global) -> Result<Parts<'static>, AllocError>
+        ensures { IfOk result (λ p. p ≡ self.now) }
+    {
+        let vias = self.vias.keep(alloc)?;
+        let ends = kept_ends(alloc, self)?;
+        let call_id = self.call_id.keep(alloc)?;
+        let sequence = kept_sequence(alloc, self)?;
+        Ok(parts_with(vias, ends, call_id, sequence))
+    }
+}
+
+impl<'a> Request<'a> {
+    /// The same request, which borrows nothing.
+    pub fn keep(&self, alloc: Global) -> Result<Request<'static>, AllocError>
+        ensures { IfOk result (λ r. r ≡ self.now) }
+    {
+        Ok(Request {
+            method: self.method.keep(alloc)?,
+            uri: self.uri.keep(alloc)?,
+            parts: self.parts.keep(alloc)?,
+            max_forwards: self.max_forwards,
+            headers: self.headers.keep(alloc)?,
+            body: self.body.keep(alloc)?,
+        })
+    }
+}
+
+impl<'a> Response<'a> {
+    /// The same response, which borrows nothing.
+    pub fn keep(&self, alloc: Global) -> Result<Response<'static>, AllocError>
+        ensures { IfOk result (λ r. r ≡ self.now) }
+    {
+        Ok(Response {
+            status: self.status,
+            reason: self.reason.keep(alloc)?,
+            parts: self.parts.keep(alloc)?,
+            headers: self.headers.keep(alloc)?,
+            body: self.body.keep(alloc)?,
+        })
+    }
+}
+
+impl<'a> Message<'a> {
+    /// The same message, which borrows nothing.
+    pub fn keep(&self, alloc: Global) -> Result<Message<'static>, AllocError>
+        ensures { IfOk result (λ m. m ≡ self.now) }
+    {
+        match self {
+            Message::Request(request) => Ok(Message::Request(request.keep(alloc)?)),
+            Message::Response(response) => Ok(Message::Response(response.keep(alloc)?)),
+        }
+    }
+}
