@@ -1,5 +1,6 @@
 pub mod LineCuts
 pub mod LineLaws
+mod CleanLines
 pub mod FrontLaws
 pub mod OrderLaws
 pub mod OriginLaws

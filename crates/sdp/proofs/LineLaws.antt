@@ -7,7 +7,7 @@ use Rattle.std.proofs.lemmas.List.Splits.{join_with_byte-slice_split}
 use Rattle.text.specs.Cut.{before, after, led_by}
 use Rattle.text.proofs.CutLaws.{Lacks, Lacks-from_class, Lacks-append, before_at, after_at, after_none}
 use Rattle.sdp.specs.Classes.{is_text_byte}
-use Rattle.sdp.specs.Lines.{Ends, IsLines, without_cr, lines_from, lines_of, has_mark, is_formed}
+use Rattle.sdp.specs.Lines.{Ends, IsLines, without_cr, lines_from, lines_of, has_mark, is_clean, is_formed}
 use Rattle.sdp.proofs.LineCuts.{line_ended, line_not_ended, cr_at_end}
 
 -- ---- the lines of a text spell it
@@ -56,20 +56,24 @@ no_cr : (line : List ℕ) → Lacks 13 line → without_cr line ≡ line
 no_cr [] h = refl
 no_cr (b ∷ bs) h = rw h.0 (ap (λ (t : List ℕ). b ∷ t) (no_cr bs h.1))
 
-first_is : (line rest text : List ℕ) → IsWhole line → Ends line rest text → lines_of text ≡ line ∷ lines_of rest
-first_is line rest text whole (inl h) =
+first_is : (line rest text : List ℕ) → Lacks 10 line → Lacks 13 line → Ends line rest text → lines_of text ≡ line ∷ lines_of rest
+first_is line rest text lf cr (inl h) =
     let o : Option (List ℕ) = Some rest in
-    let back : Some rest ≡ after 10 text = sym (ap (after 10) h ∙ after_at 10 line o whole.0) in
-    let front : without_cr (before 10 text) ≡ line = ap without_cr (ap (before 10) h ∙ before_at 10 line o whole.0) ∙ no_cr line whole.1 in
+    let back : Some rest ≡ after 10 text = sym (ap (after 10) h ∙ after_at 10 line o lf) in
+    let front : without_cr (before 10 text) ≡ line = ap without_cr (ap (before 10) h ∙ before_at 10 line o lf) ∙ no_cr line cr in
     line_ended text rest back ∙ ap (λ (l : List ℕ). l ∷ lines_of rest) front
-first_is line rest text whole (inr h) =
+first_is line rest text lf cr (inr h) =
     let o : Option (List ℕ) = Some rest in
     let apart : eqb 13 10 ≡ false = refl in
-    let lacks : Lacks 10 (line ++ 13 ∷ []) = Lacks-append 10 line (13 ∷ []) whole.0 (apart, tt) in
+    let lacks : Lacks 10 (line ++ 13 ∷ []) = Lacks-append 10 line (13 ∷ []) lf (apart, tt) in
     let same : text ≡ (line ++ 13 ∷ []) ++ led_by 10 o = h ∙ sym (append_assoc line (13 ∷ []) (10 ∷ rest)) in
     let back : Some rest ≡ after 10 text = sym (ap (after 10) same ∙ after_at 10 (line ++ 13 ∷ []) o lacks) in
     let front : without_cr (before 10 text) ≡ line = ap without_cr (ap (before 10) same ∙ before_at 10 (line ++ 13 ∷ []) o lacks) ∙ cr_at_end line in
     line_ended text rest back ∙ ap (λ (l : List ℕ). l ∷ lines_of rest) front
+
+-- a line without CR and LF, and its end
+pub clean_first : (line rest text : List ℕ) → is_clean line ≡ true → Ends line rest text → lines_of text ≡ line ∷ lines_of rest
+clean_first line rest text clean ends = first_is line rest text (Lacks-from_class is_text_byte 10 refl line clean) (Lacks-from_class is_text_byte 13 refl line clean) ends
 
 last_is : (line text : List ℕ) → IsWhole line → text ≡ line → lines_of text ≡ line ∷ []
 last_is line text whole h = ap lines_of h ∙ line_not_ended line (sym (after_none 10 line whole.0)) ∙ rw whole.2 refl
@@ -81,4 +85,4 @@ lines_are (line ∷ lines) text formed h = step (and_parts (is_formed line) (lis
   step : (is_formed line ≡ true) × (list_all is_formed lines ≡ true) → ((rest : List ℕ) → list_all is_formed lines ≡ true → IsLines lines rest → lines_of rest ≡ lines)
       → ((lines ≡ []) × (text ≡ line)) ⊎ ((rest : List ℕ) × Ends line rest text × IsLines lines rest) → lines_of text ≡ line ∷ lines
   step parts more (inl k) = last_is line text (formed_whole line parts.0) k.1 ∙ ap (λ (ls : List (List ℕ)). line ∷ ls) (sym k.0)
-  step parts more (inr k) = first_is line k.0 text (formed_whole line parts.0) k.1 ∙ ap (λ (ls : List (List ℕ)). line ∷ ls) (more k.0 parts.1 k.2)
+  step parts more (inr k) = (let whole = formed_whole line parts.0 in first_is line k.0 text whole.0 whole.1 k.1) ∙ ap (λ (ls : List (List ℕ)). line ∷ ls) (more k.0 parts.1 k.2)

@@ -1,5 +1,5 @@
 -- The lines of a text (RFC 4566 section 5).
-use Rattle.std.specs.Prelude.{◌≡◌, ℕ, Bool, false, ◌&&◌, ◌==◌, List, [], ◌∷◌, ◌++◌, drop, length, map, ◌⊎◌, if◌then◌else◌}
+use Rattle.std.specs.Prelude.{◌≡◌, ℕ, Bool, false, ◌&&◌, ◌==◌, List, [], ◌∷◌, ◌++◌, drop, length, map, Option, Some, None, ◌⊎◌, if◌then◌else◌}
 use Rattle.std.specs.Borrow.{Bor}
 use Rattle.std.specs.List.{list_all, slice_split}
 use Rattle.sdp.specs.declared.line.Line.{Line}
@@ -32,7 +32,21 @@ lines_from (piece ∷ next ∷ pieces) = without_cr piece ∷ lines_from (next �
 unfoldable pub lines_of : List ℕ → List (List ℕ)
 lines_of text = lines_from (slice_split (λ b. b == 10) text)
 
+-- what stands behind the LF that a text begins with
+abbrev pub behind_lf : List ℕ → Option (List ℕ)
+behind_lf [] = None
+behind_lf (b ∷ bs) = if b == 10 then Some bs else None
+
+-- what stands behind the line end that a text begins with
+abbrev pub behind_line_end : List ℕ → Option (List ℕ)
+behind_line_end [] = None
+behind_line_end (b ∷ bs) = if b == 10 then Some bs else (if b == 13 then behind_lf bs else None)
+
 -- ---- one line
+
+-- no NUL, CR or LF
+abbrev pub is_clean : List ℕ → Bool
+is_clean line = list_all is_text_byte line
 
 -- the byte behind the type is `=`
 abbrev pub has_mark : List ℕ → Bool
@@ -42,7 +56,7 @@ has_mark (letter ∷ b ∷ value) = b == 61
 
 -- a line `type=value` without NUL, CR or LF
 abbrev pub is_formed : List ℕ → Bool
-is_formed line = has_mark line && list_all is_text_byte line
+is_formed line = has_mark line && is_clean line
 
 -- its value
 abbrev pub value_on : List ℕ → List ℕ

@@ -4,13 +4,13 @@ use text::Text;
 
 /// The address of a `c=` line (RFC 4566 section 5.7), of the network type `IN`.
 #[derive(Clone, Debug, Drop, PartialEq, Eq)]
-pub enum Address {
+pub enum Address<'a> {
     /// Address type `IP4`: the four octets of a unicast address, which is below 224.0.0.0.
     Ip4([u8; 4]),
     /// Address type `IP4`: an address from 224.0.0.0 to 239.255.255.255 with `/ttl`, and perhaps `/count`, as written.
-    Multicast(Text),
+    Multicast(Text<'a>),
     /// Address type `IP6`: the text behind it, as written.
-    Ip6(Text),
+    Ip6(Text<'a>),
     /// Address type `IP4`: a host name, as written.
-    Name(Text),
+    Name(Text<'a>),
 }

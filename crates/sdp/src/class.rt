@@ -3,24 +3,13 @@
 ghost use Rattle.std.specs.Prelude.{◌≡◌, ◌==◌};
 ghost use Rattle.std.specs.List.{list_all, slice_split};
 ghost use Rattle.text.specs.Class.{is_run_of};
-ghost use Rattle.sdp.specs.Classes.{is_text_byte, is_token_char, is_token, is_visible, is_word, begins, is_number, is_integer, is_protocol};
-ghost use Rattle.sdp.specs.Lines.{has_mark, is_formed};
+ghost use Rattle.sdp.specs.Classes.{is_token_char, is_token, is_visible, is_word, begins, is_number, is_integer, is_protocol};
+ghost use Rattle.sdp.specs.Lines.{has_mark};
 
 use text::is_run_of_digits;
 
-fn is_text_byte(b: u8) -> bool
-    ensures { result ≡ is_text_byte b }
-{
-    b != b'\r' && b != b'\n' && b != 0
-}
-
-fn all_text(text: &[u8]) -> bool
-    ensures { result ≡ list_all is_text_byte text.now }
-{
-    text.iter().all(|b| is_text_byte(*b))
-}
-
-fn has_mark(line: &[u8]) -> bool
+/// Whether the byte behind the type is `=`.
+pub(crate) fn has_mark(line: &[u8]) -> bool
     ensures { result ≡ has_mark line.now }
 {
     match line {
@@ -29,17 +18,21 @@ fn has_mark(line: &[u8]) -> bool
     }
 }
 
-/// Whether a line is `type=value`, and has no NUL, CR or LF.
-pub(crate) fn is_formed(line: &[u8]) -> bool
-    ensures { result ≡ is_formed line.now }
-{
-    has_mark(line) && all_text(line)
-}
+/// Each byte of a token stands at its own place, and `@` at every other place.
+static TOKEN_CHARS: [u8; 256] = *b"\
+    @@@@@@@@@@@@@@@@@@@@@@@@@@@@@@@@\
+    @!@#$%&'@@*+@-.@0123456789@@@@@@\
+    @ABCDEFGHIJKLMNOPQRSTUVWXYZ@@@^_\
+    `abcdefghijklmnopqrstuvwxyz{|}~@\
+    @@@@@@@@@@@@@@@@@@@@@@@@@@@@@@@@\
+    @@@@@@@@@@@@@@@@@@@@@@@@@@@@@@@@\
+    @@@@@@@@@@@@@@@@@@@@@@@@@@@@@@@@\
+    @@@@@@@@@@@@@@@@@@@@@@@@@@@@@@@@";
 
 fn is_token_char(b: u8) -> bool
     ensures { result ≡ is_token_char b }
 {
-    b.is_ascii_alphanumeric() || b"!#$%&'*+-.^_`{|}~".contains(&b)
+    TOKEN_CHARS[usize::from(b)] != b'@'
 }
 
 fn all_token(text: &[u8]) -> bool

@@ -1,24 +1,22 @@
 //! The address on a `c=` line (RFC 4566 section 5.7).
 
-ghost use Rattle.std.specs.Prelude.{◌≡◌, is_some, IfOk};
+ghost use Rattle.std.specs.Prelude.{◌≡◌};
 ghost use Rattle.std.specs.List.{list_all};
 ghost use Rattle.std.specs.Option.{option_copied};
 ghost use Rattle.sdp.specs.Addresses.{octet_of, ip4_of, is_unicast, is_group_address, is_scope, is_multicast, is_name_byte, is_dotted_byte, is_name, unicast_of, inet_of, behind, address_of};
 
 use crate::address::Address;
 use crate::class::{begins, is_integer, is_word};
-use std::alloc::{AllocError, Global};
-use text::{Text, cut, is_run_of_digits, number_upto};
+use text::{Text, cut, number_upto};
 
 #[tactic(auto, unfolding(crate::specs::Addresses::octet_of))]
 fn octet(text: &[u8]) -> Option<u8>
     ensures { result ≡ octet_of text.now }
 {
-    if is_run_of_digits(text) && (text.len() == 1 || !begins(text, b"0")) {
-        number_upto(255, text).map(|n| n as u8)
-    } else {
-        None
+    if text.is_empty() || text.len() > 1 && begins(text, b"0") {
+        return None;
     }
+    number_upto(255, text).map(|n| n as u8)
 }
 
 /// Four octets with dots between them, none with a leading zero.
@@ -27,13 +25,15 @@ fn ip4(text: &[u8]) -> Option<[u8; 4]>
     ensures { result ≡ ip4_of text.now }
 {
     let (a, rest) = cut(text, b'.');
+    let a = octet(a)?;
     let (b, rest) = cut(rest?, b'.');
+    let b = octet(b)?;
     let (c, rest) = cut(rest?, b'.');
-    let d = rest?;
-    Some([octet(a)?, octet(b)?, octet(c)?, octet(d)?])
+    let c = octet(c)?;
+    Some([a, b, c, octet(rest?)?])
 }
 
-fn unicast(text: &[u8]) -> Option<Address>
+fn unicast(text: &[u8]) -> Option<Address<'_>>
     ensures { result ≡ unicast_of (ip4_of text.now) }
 {
     let octets = ip4(text)?;
@@ -72,7 +72,7 @@ fn is_multicast(text: &[u8]) -> bool
     ensures { result ≡ is_multicast text.now }
 {
     let (address, scope) = cut(text, b'/');
-    is_group_address(ip4(address)) && is_scope(scope)
+    is_scope(scope) && is_group_address(ip4(address))
 }
 
 fn is_name_byte(b: u8) -> bool
@@ -103,28 +103,21 @@ fn all_dotted(text: &[u8]) -> bool
 fn is_name(text: &[u8]) -> bool
     ensures { result ≡ is_name text.now }
 {
-    text.len() >= 4 && all_name(text) && !all_dotted(text)
+    text.len() >= 4 && !all_dotted(text) && all_name(text)
 }
 
 /// The address of type `IP4` that the text is.
 #[tactic(auto, unfolding(crate::specs::Addresses::inet_of))]
-fn inet(alloc: Global, text: &[u8]) -> Result<Option<Address>, AllocError>
-    ensures { IfOk result (λ o. o ≡ inet_of text.now) }
+fn inet(text: &[u8]) -> Option<Address<'_>>
+    ensures { result ≡ inet_of text.now }
 {
     if is_name(text) {
-        return Ok(Some(Address::Name(Text::from_slice(alloc, text)?)));
+        return Some(Address::Name(Text::lent(text)));
     }
     if is_multicast(text) {
-        return Ok(Some(Address::Multicast(Text::from_slice(alloc, text)?)));
+        return Some(Address::Multicast(Text::lent(text)));
     }
-    Ok(unicast(text))
-}
-
-#[tactic(auto, unfolding(crate::specs::Addresses::inet_of))]
-fn is_inet(text: &[u8]) -> bool
-    ensures { result ≡ is_some (inet_of text.now) }
-{
-    is_name(text) || is_multicast(text) || unicast(text).is_some()
+    unicast(text)
 }
 
 fn behind<'a>(text: &'a [u8], front: &[u8]) -> Option<&'a [u8]>
@@ -135,28 +128,14 @@ fn behind<'a>(text: &'a [u8], front: &[u8]) -> Option<&'a [u8]>
 
 /// The address that the value of a `c=` line has.
 #[tactic(auto, unfolding(crate::specs::Addresses::address_of))]
-pub(crate) fn address(alloc: Global, value: &[u8]) -> Result<Option<Address>, AllocError>
-    ensures { IfOk result (λ o. o ≡ address_of value.now) }
+pub(crate) fn address(value: &[u8]) -> Option<Address<'_>>
+    ensures { result ≡ address_of value.now }
 {
     if let Some(text) = behind(value, b"IN IP4 ") {
-        return inet(alloc, text);
+        return inet(text);
     }
     match behind(value, b"IN IP6 ") {
-        Some(text) if is_word(text) => Ok(Some(Address::Ip6(Text::from_slice(alloc, text)?))),
-        _ => Ok(None),
-    }
-}
-
-/// Whether the value of a `c=` line has an address.
-#[tactic(auto, unfolding(crate::specs::Addresses::address_of))]
-pub(crate) fn is_address(value: &[u8]) -> bool
-    ensures { result ≡ is_some (address_of value.now) }
-{
-    if let Some(text) = behind(value, b"IN IP4 ") {
-        return is_inet(text);
-    }
-    match behind(value, b"IN IP6 ") {
-        Some(text) => is_word(text),
-        None => false,
+        Some(text) if is_word(text) => Some(Address::Ip6(Text::lent(text))),
+        _ => None,
     }
 }

@@ -7,43 +7,43 @@ use text::{Text, Texts};
 
 /// The fields of an `o=` line (RFC 4566 section 5.2), as written. The id and the version are decimal digits.
 #[derive(Clone, Debug, Drop, PartialEq, Eq)]
-pub struct Origin {
-    pub username: Text,
-    pub id: Text,
-    pub version: Text,
-    pub network_type: Text,
-    pub address_type: Text,
-    pub address: Text,
+pub struct Origin<'a> {
+    pub username: Text<'a>,
+    pub id: Text<'a>,
+    pub version: Text<'a>,
+    pub network_type: Text<'a>,
+    pub address_type: Text<'a>,
+    pub address: Text<'a>,
 }
 
 /// A medium: an `m=` line and what stands under it (RFC 4566 sections 5 and 5.14).
 #[derive(Clone, Debug, Drop)]
-pub struct Media {
+pub struct Media<'a> {
     /// What is sent, as `audio`.
-    pub kind: Text,
+    pub kind: Text<'a>,
     /// 0 where the medium is not used.
     pub port: u16,
     /// How many ports, where a number is written behind the port: 1 or more.
     pub count: Option<u16>,
     /// The transport protocol, as `RTP/AVP`.
-    pub protocol: Text,
+    pub protocol: Text<'a>,
     /// One or more, in order of preference.
-    pub formats: Texts,
+    pub formats: Texts<'a>,
     /// The value of the `i=` line.
-    pub info: Option<Text>,
+    pub info: Option<Text<'a>>,
     /// The address of the `c=` line.
-    pub connection: Option<Address>,
+    pub connection: Option<Address<'a>>,
     /// The lines behind those: `b`, `k` and `a`.
-    pub after: Lines,
+    pub after: Lines<'a>,
 }
 
 /// Media in order, which contracts see as a list.
 #[derive(Clone, Debug, Drop)]
-pub struct MediaList {
-    media: Vec<Media>,
+pub struct MediaList<'a> {
+    media: Vec<Media<'a>>,
 }
 
-impl Model for MediaList {
+impl<'a> Model for MediaList<'a> {
     ghost use Rattle.std.specs.Prelude.{List};
     ghost use Rattle.sdp.specs.declared.description.Media.{Media};
 
@@ -52,25 +52,25 @@ impl Model for MediaList {
     ghost view = { λ m. m.media.items };
 }
 
-impl MediaList {
+impl<'a> MediaList<'a> {
     ghost use Rattle.std.specs.Prelude.{◌≡◌};
 
     /// The list of these media. Takes no memory.
-    pub fn from_vec(media: Vec<Media>) -> MediaList
-        ensures { result ≡ media.items }
+    pub fn from_vec(media: Vec<Media<'a>>) -> MediaList<'a>
+        ensures { result ≡ media.entry.items }
     {
         MediaList { media }
     }
 
     /// The media. Takes no memory.
-    pub fn into_vec(self) -> Vec<Media>
-        ensures { result.items ≡ self }
+    pub fn into_vec(self) -> Vec<Media<'a>>
+        ensures { result.items ≡ self.entry }
     {
         self.media
     }
 
     /// The media, lent.
-    pub fn as_slice(&self) -> &[Media]
+    pub fn as_slice(&self) -> &[Media<'a>]
         ensures { result.now ≡ self.now }
     {
         &self.media
@@ -79,13 +79,13 @@ impl MediaList {
 
 /// A description of a session (RFC 4566 section 5), of version 0.
 #[derive(Clone, Debug, Drop)]
-pub struct Description {
-    pub origin: Origin,
+pub struct Description<'a> {
+    pub origin: Origin<'a>,
     /// The lines between `o=` and the session's `c=`: `s`, `i`, `u`, `e` and `p`.
-    pub before: Lines,
+    pub before: Lines<'a>,
     /// The address of the session's `c=` line.
-    pub connection: Option<Address>,
+    pub connection: Option<Address<'a>>,
     /// The session's lines behind those: `b`, `t`, `r`, `z`, `k` and `a`.
-    pub after: Lines,
-    pub media: MediaList,
+    pub after: Lines<'a>,
+    pub media: MediaList<'a>,
 }

@@ -3,12 +3,12 @@
 ghost use Rattle.std.specs.Prelude.{◌≡◌, ◌==◌, nat_le, length};
 ghost use Rattle.std.specs.List.{list_all};
 ghost use Rattle.sdp.specs.Faults.{Gives};
-ghost use Rattle.sdp.specs.Lines.{texts, is_formed};
+ghost use Rattle.sdp.specs.Lines.{texts, has_mark, is_clean, is_formed};
 ghost use Rattle.sdp.specs.Limits.{greatest_formats};
 ghost use Rattle.sdp.specs.Reading.{is_version, has_origin, is_good_connection, is_good_medium, is_placed, has_places, has_few_media, has_few_formats, judged};
 
-use crate::class::{begins, is_formed};
-use crate::connection::is_address;
+use crate::class::{begins, has_mark};
+use crate::connection::address;
 use crate::description::{Description, Media};
 use crate::error::DescriptionError;
 use crate::medium_line::MediumParts;
@@ -21,16 +21,25 @@ const GREATEST_MEDIA: usize = 4;
 /// Formats in a medium.
 const GREATEST_FORMATS: usize = 32;
 
-/// Whether each line is `type=value`.
-pub(crate) fn are_formed(lines: &[&[u8]]) -> bool
-    ensures { result ≡ list_all is_formed (texts lines.now) }
+/// Whether in each line the byte behind the type is `=`.
+fn have_marks(lines: &[&[u8]]) -> bool
+    ensures { result ≡ list_all has_mark (texts lines.now) }
 {
     for line in lines {
-        if !is_formed(line) {
+        if !has_mark(line) {
             return false;
         }
     }
     true
+}
+
+/// Whether each line is `type=value`, where it is known whether all are clean of CR, LF and NUL.
+#[tactic(auto, using(crate::proofs::CleanLines::formed_by_parts))]
+pub(crate) fn are_formed(lines: &[&[u8]], clean: bool) -> bool
+    requires { clean ≡ list_all is_clean (texts lines.now) }
+    ensures { result ≡ list_all is_formed (texts lines.now) }
+{
+    clean && have_marks(lines)
 }
 
 /// Whether the first line is `v=0`.
@@ -56,7 +65,7 @@ pub(crate) fn has_origin(lines: &[&[u8]]) -> bool
 fn is_good_connection(line: &[u8]) -> bool
     ensures { result ≡ is_good_connection line.now }
 {
-    !begins(line, b"c") || is_address(value_on(line))
+    !begins(line, b"c") || address(value_on(line)).is_some()
 }
 
 /// Whether each line `c=` has an address.
@@ -89,32 +98,32 @@ pub(crate) fn are_media(lines: &[&[u8]]) -> bool
     true
 }
 
-fn is_placed(description: &Description, medium: &Media) -> bool
+fn is_placed(description: &Description<'_>, medium: &Media<'_>) -> bool
     ensures { result ≡ is_placed description.now medium.now }
 {
     medium.port == 0 || medium.connection.is_some() || description.connection.is_some()
 }
 
-fn has_places(description: &Description) -> bool
+fn has_places(description: &Description<'_>) -> bool
     ensures { result ≡ has_places description.now }
 {
     let media = description.media.as_slice();
     media.iter().all(|medium| is_placed(description, medium))
 }
 
-fn has_few_media(description: &Description) -> bool
+fn has_few_media(description: &Description<'_>) -> bool
     ensures { result ≡ has_few_media description.now }
 {
     description.media.as_slice().len() <= GREATEST_MEDIA
 }
 
-fn are_few_formats(medium: &Media) -> bool
+fn are_few_formats(medium: &Media<'_>) -> bool
     ensures { result ≡ nat_le (length medium.now.formats) greatest_formats }
 {
     medium.formats.as_slice().len() <= GREATEST_FORMATS
 }
 
-fn has_few_formats(description: &Description) -> bool
+fn has_few_formats(description: &Description<'_>) -> bool
     ensures { result ≡ has_few_formats description.now }
 {
     let media = description.media.as_slice();
@@ -123,8 +132,8 @@ fn has_few_formats(description: &Description) -> bool
 
 /// The description, if its media have places and are within the limits.
 #[tactic(auto, unfolding(crate::specs::Reading::judged))]
-pub(crate) fn judged(description: Description) -> Result<Description, DescriptionError>
-    ensures { Gives result (judged description) }
+pub(crate) fn judged(description: Description<'_>) -> Result<Description<'_>, DescriptionError>
+    ensures { Gives result (judged description.entry) }
 {
     if !has_places(&description) {
         return Err(DescriptionError::NoConnection);

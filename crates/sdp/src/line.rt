@@ -6,18 +6,18 @@ use text::Text;
 /// A line `type=value`: the type is one letter, whose case counts, and the value is any bytes but NUL, CR and LF (RFC
 /// 4566 section 5).
 #[derive(Clone, Debug, Drop, PartialEq, Eq)]
-pub struct Line {
+pub struct Line<'a> {
     pub letter: u8,
-    pub value: Text,
+    pub value: Text<'a>,
 }
 
 /// Lines in order, which contracts see as a list.
 #[derive(Clone, Debug, Drop)]
-pub struct Lines {
-    lines: Vec<Line>,
+pub struct Lines<'a> {
+    lines: Vec<Line<'a>>,
 }
 
-impl Model for Lines {
+impl<'a> Model for Lines<'a> {
     ghost use Rattle.std.specs.Prelude.{List};
     ghost use Rattle.sdp.specs.declared.line.Line.{Line};
 
@@ -26,25 +26,25 @@ impl Model for Lines {
     ghost view = { λ l. l.lines.items };
 }
 
-impl Lines {
+impl<'a> Lines<'a> {
     ghost use Rattle.std.specs.Prelude.{◌≡◌};
 
     /// The list of these lines. Takes no memory.
-    pub fn from_vec(lines: Vec<Line>) -> Lines
-        ensures { result ≡ lines.items }
+    pub fn from_vec(lines: Vec<Line<'a>>) -> Lines<'a>
+        ensures { result ≡ lines.entry.items }
     {
         Lines { lines }
     }
 
     /// The lines. Takes no memory.
-    pub fn into_vec(self) -> Vec<Line>
-        ensures { result.items ≡ self }
+    pub fn into_vec(self) -> Vec<Line<'a>>
+        ensures { result.items ≡ self.entry }
     {
         self.lines
     }
 
     /// The lines, lent.
-    pub fn as_slice(&self) -> &[Line]
+    pub fn as_slice(&self) -> &[Line<'a>]
         ensures { result.now ≡ self.now }
     {
         &self.lines

@@ -103,12 +103,12 @@ impl<'a> MediumParts<'a> {
 }
 
 /// The formats of a text, which stand with single spaces between them.
-pub(crate) fn formats_of(alloc: Global, text: &[u8]) -> Result<Texts, AllocError>
+pub(crate) fn formats_of(alloc: Global, text: &[u8]) -> Result<Texts<'_>, AllocError>
     ensures { IfOk result (λ formats. formats ≡ formats_of text.now) }
 {
     let mut formats = Vec::new(alloc);
     for format in text.split(|b| *b == b' ') {
-        formats.push(Text::from_slice(alloc, format)?)?;
+        formats.push(Text::lent(format))?;
     }
     Ok(Texts::from_vec(formats))
 }

@@ -6,7 +6,6 @@ ghost use Rattle.sdp.specs.Origins.{behind_space};
 
 use crate::class::{is_number, is_token, is_word};
 use crate::description::Origin;
-use std::alloc::{AllocError, Global};
 use std::marker::Model;
 use text::{Text, cut};
 
@@ -48,7 +47,7 @@ impl<'a> Model for OriginParts<'a> {
 }
 
 impl<'a> OriginParts<'a> {
-    ghost use Rattle.std.specs.Prelude.{◌≡◌, IfOk};
+    ghost use Rattle.std.specs.Prelude.{◌≡◌};
     ghost use Rattle.sdp.specs.Origins.{origin_of, is_origin};
 
     /// The fields of a text: each ends where the next space stands.
@@ -84,22 +83,17 @@ impl<'a> OriginParts<'a> {
             && is_word(self.address)
     }
 
-    pub(crate) fn copied(&self, alloc: Global) -> Result<Origin, AllocError>
-        ensures { IfOk result (λ o. o ≡ self.now) }
+    /// The origin that the fields are. Takes no memory.
+    pub(crate) fn origin(&self) -> Origin<'a>
+        ensures { result ≡ self.now }
     {
-        let username = Text::from_slice(alloc, self.username)?;
-        let id = Text::from_slice(alloc, self.id)?;
-        let version = Text::from_slice(alloc, self.version)?;
-        let network_type = Text::from_slice(alloc, self.network_type)?;
-        let address_type = Text::from_slice(alloc, self.address_type)?;
-        let address = Text::from_slice(alloc, self.address)?;
-        Ok(Origin {
-            username,
-            id,
-            version,
-            network_type,
-            address_type,
-            address,
-        })
+        Origin {
+            username: Text::lent(self.username),
+            id: Text::lent(self.id),
+            version: Text::lent(self.version),
+            network_type: Text::lent(self.network_type),
+            address_type: Text::lent(self.address_type),
+            address: Text::lent(self.address),
+        }
     }
 }

@@ -9,12 +9,12 @@ use std::marker::Model;
 
 /// An address and a port.
 #[derive(Debug, Drop)]
-pub struct Place<'a> {
-    pub address: &'a Address,
+pub struct Place<'m, 'a> {
+    pub address: &'m Address<'a>,
     pub port: u16,
 }
 
-impl<'a> Model for Place<'a> {
+impl<'m, 'a> Model for Place<'m, 'a> {
     ghost use Rattle.sdp.specs.Place.{Place};
 
     ghost Value = { Place };
@@ -24,13 +24,14 @@ impl<'a> Model for Place<'a> {
 
 /// Where the medium of this description is wanted: at its own address, else at the session's, with its port (RFC 4566
 /// sections 5.7 and 5.14). `None` where neither has an address.
-pub fn place_of<'a>(description: &'a Description, medium: &'a Media) -> Option<Place<'a>>
+pub fn place_of<'m, 'a>(
+    description: &'m Description<'a>,
+    medium: &'m Media<'a>,
+) -> Option<Place<'m, 'a>>
     ensures { result ≡ place_of description.now medium.now }
 {
-    let address = match &medium.connection {
-        Some(own) => own,
-        None => description.connection.as_ref()?,
-    };
+    let own = medium.connection.as_ref();
+    let address = own.or(description.connection.as_ref())?;
     Some(Place {
         address,
         port: medium.port,

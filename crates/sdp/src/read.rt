@@ -16,7 +16,7 @@ use crate::value::value_of;
 use std::alloc::Global;
 
 #[tactic(auto, unfolding(crate::specs::Reading::said_by))]
-fn read_lines(alloc: Global, lines: &[&[u8]]) -> Result<Description, DescriptionError>
+fn read_lines<'a>(alloc: Global, lines: &[&'a [u8]]) -> Result<Description<'a>, DescriptionError>
     ensures { Gives result (said_by (texts lines.now)) }
 {
     if !is_version(lines) {
@@ -35,14 +35,14 @@ fn read_lines(alloc: Global, lines: &[&[u8]]) -> Result<Description, Description
 }
 
 #[tactic(auto, unfolding(crate::specs::Reading::description_of))]
-fn read(alloc: Global, bytes: &[u8]) -> Result<Description, DescriptionError>
+fn read(alloc: Global, bytes: &[u8]) -> Result<Description<'_>, DescriptionError>
     ensures { Gives result (description_of bytes.now) }
 {
-    let lines = lines_of(alloc, bytes)?;
+    let (lines, clean) = lines_of(alloc, bytes)?;
     if !is_ordered(&lines) {
         return Err(DescriptionError::Order);
     }
-    if !are_formed(&lines) {
+    if !are_formed(&lines, clean) {
         return Err(DescriptionError::LineForm);
     }
     read_lines(alloc, &lines)
@@ -50,7 +50,7 @@ fn read(alloc: Global, bytes: &[u8]) -> Result<Description, DescriptionError>
 
 /// The description that the bytes are (RFC 4566). Of several faults the first in the order of `DescriptionError` is
 /// given.
-pub fn read_description(alloc: Global, bytes: &[u8]) -> Result<Description, DescriptionError>
+pub fn read_description(alloc: Global, bytes: &[u8]) -> Result<Description<'_>, DescriptionError>
     // What is read is the description that the bytes are.
     ensures found { IfOk result (λ d. ReadsDescription bytes.now d) }
     // A description is read, unless memory runs out.

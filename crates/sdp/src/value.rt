@@ -36,69 +36,66 @@ fn letter_on(line: &[u8]) -> u8
     }
 }
 
-fn line_of(alloc: Global, line: &[u8]) -> Result<Line, AllocError>
-    ensures { IfOk result (λ l. l ≡ line_of line.now) }
+fn line_of(line: &[u8]) -> Line<'_>
+    ensures { result ≡ line_of line.now }
 {
-    let letter = letter_on(line);
-    let value = Text::from_slice(alloc, value_on(line))?;
-    Ok(Line { letter, value })
+    Line {
+        letter: letter_on(line),
+        value: Text::lent(value_on(line)),
+    }
 }
 
-fn lines_of(alloc: Global, lines: &[&[u8]]) -> Result<Lines, AllocError>
+fn lines_of<'a>(alloc: Global, lines: &[&'a [u8]]) -> Result<Lines<'a>, AllocError>
     ensures { IfOk result (λ ls. ls ≡ map line_of (texts lines.now)) }
 {
     let mut made = Vec::with_capacity(alloc, lines.len())?;
     for line in lines {
-        made.push(line_of(alloc, line)?)?;
+        made.push(line_of(line))?;
     }
     Ok(Lines::from_vec(made))
 }
 
-fn connection(alloc: Global, line: Option<&[u8]>) -> Result<Option<Address>, AllocError>
-    ensures { IfOk result (λ c. c ≡ connection_of (option_copied line.entry)) }
+fn connection(line: Option<&[u8]>) -> Option<Address<'_>>
+    ensures { result ≡ connection_of (option_copied line.entry) }
 {
     match line {
-        Some(line) => address(alloc, value_on(line)),
-        None => Ok(None),
+        Some(line) => address(value_on(line)),
+        None => None,
     }
 }
 
-fn info(alloc: Global, line: Option<&[u8]>) -> Result<Option<Text>, AllocError>
-    ensures { IfOk result (λ i. i ≡ option_map value_on (option_copied line.entry)) }
+fn info(line: Option<&[u8]>) -> Option<Text<'_>>
+    ensures { result ≡ option_map value_on (option_copied line.entry) }
 {
     match line {
-        Some(line) => Ok(Some(Text::from_slice(alloc, value_on(line))?)),
-        None => Ok(None),
+        Some(line) => Some(Text::lent(value_on(line))),
+        None => None,
     }
 }
 
 /// The medium of a line `m=` and the lines under it.
 #[tactic(auto, unfolding(crate::specs::Reading::media_of))]
-fn media_of(alloc: Global, first: &[u8], under: &[&[u8]]) -> Result<Media, AllocError>
+fn media_of<'a>(alloc: Global, first: &'a [u8], under: &[&'a [u8]]) -> Result<Media<'a>, AllocError>
     ensures { IfOk result (λ m. m ≡ media_of (record { medium = first.now; under = texts under.now })) }
 {
     let parts = MediumParts::of(value_on(first));
     let (info_line, rest) = take_one(under, b"i");
     let (connection_line, after) = take_one(rest, b"c");
-    let kind = Text::from_slice(alloc, parts.kind)?;
-    let protocol = Text::from_slice(alloc, parts.protocol)?;
     let formats = formats_of(alloc, parts.formats)?;
-    let info = info(alloc, info_line)?;
-    let connection = connection(alloc, connection_line)?;
     let after = lines_of(alloc, after)?;
     Ok(Media {
-        kind,
+        kind: Text::lent(parts.kind),
         port: parts.port(),
         count: parts.count(),
-        protocol,
+        protocol: Text::lent(parts.protocol),
         formats,
-        info,
-        connection,
+        info: info(info_line),
+        connection: connection(connection_line),
         after,
     })
 }
 
-fn all_media(alloc: Global, lines: &[&[u8]]) -> Result<MediaList, AllocError>
+fn all_media<'a>(alloc: Global, lines: &[&'a [u8]]) -> Result<MediaList<'a>, AllocError>
     ensures { IfOk result (λ ms. ms ≡ map media_of (groups (texts lines.now))) }
 {
     let mut media = Vec::new(alloc);
@@ -134,20 +131,18 @@ fn behind_two<'a, 'b>(lines: &'a [&'b [u8]]) -> &'a [&'b [u8]]
 
 /// The description of lines.
 #[tactic(auto, unfolding(crate::specs::Reading::value_of))]
-pub(crate) fn value_of(alloc: Global, lines: &[&[u8]]) -> Result<Description, AllocError>
+pub(crate) fn value_of<'a>(alloc: Global, lines: &[&'a [u8]]) -> Result<Description<'a>, AllocError>
     ensures { IfOk result (λ d. d ≡ value_of (texts lines.now)) }
 {
     let rest = behind_two(upto_medium(lines));
     let (connection_line, after) = take_one(less_all(rest, b"siuep"), b"c");
-    let origin = OriginParts::of(value_on(second(lines))).copied(alloc)?;
     let before = lines_of(alloc, front_of(rest, b"siuep"))?;
-    let connection = connection(alloc, connection_line)?;
     let after = lines_of(alloc, after)?;
     let media = all_media(alloc, lines)?;
     Ok(Description {
-        origin,
+        origin: OriginParts::of(value_on(second(lines))).origin(),
         before,
-        connection,
+        connection: connection(connection_line),
         after,
         media,
     })

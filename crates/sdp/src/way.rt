@@ -56,7 +56,7 @@ fn way_named(text: &[u8]) -> Option<Way>
     }
 }
 
-fn way_on(line: &Line) -> Option<Way>
+fn way_on(line: &Line<'_>) -> Option<Way>
     ensures { result ≡ way_on line.now }
 {
     if line.letter == b'a' {
@@ -66,7 +66,7 @@ fn way_on(line: &Line) -> Option<Way>
     }
 }
 
-fn first_way(lines: &[Line]) -> Option<Way>
+fn first_way(lines: &[Line<'_>]) -> Option<Way>
     ensures { result ≡ first_way lines.now }
 {
     for line in lines {
@@ -80,7 +80,7 @@ fn first_way(lines: &[Line]) -> Option<Way>
 /// Which way the medium of this description goes: as the first direction attribute among its own lines says, else as
 /// the first among the session's, else both ways (RFC 4566 section 6, RFC 3264 section 5.1).
 #[tactic(auto, unfolding(crate::specs::WayOf::way_of))]
-pub fn way_of(description: &Description, medium: &Media) -> Way
+pub fn way_of(description: &Description<'_>, medium: &Media<'_>) -> Way
     ensures { result ≡ way_of description.now medium.now }
 {
     match first_way(medium.after.as_slice()) {

@@ -12,7 +12,7 @@ use crate::line::Line;
 use std::alloc::{AllocError, Global};
 use text::{Text, put_number};
 
-fn put_line(out: &mut Vec<u8>, line: &Line) -> Result<(), AllocError>
+fn put_line(out: &mut Vec<u8>, line: &Line<'_>) -> Result<(), AllocError>
     ensures { OnOk result (out.new.items ≡ out.old.items ++ ended (line_text line.now ∷ [])) }
 {
     out.push(line.letter)?;
@@ -21,7 +21,7 @@ fn put_line(out: &mut Vec<u8>, line: &Line) -> Result<(), AllocError>
     out.extend_from_slice(b"\r\n")
 }
 
-fn put_lines(out: &mut Vec<u8>, lines: &[Line]) -> Result<(), AllocError>
+fn put_lines(out: &mut Vec<u8>, lines: &[Line<'_>]) -> Result<(), AllocError>
     ensures { OnOk result (out.new.items ≡ out.old.items ++ ended (map line_text lines.now)) }
 {
     for line in lines {
@@ -30,7 +30,7 @@ fn put_lines(out: &mut Vec<u8>, lines: &[Line]) -> Result<(), AllocError>
     Ok(())
 }
 
-fn put_spaced(out: &mut Vec<u8>, text: &Text) -> Result<(), AllocError>
+fn put_spaced(out: &mut Vec<u8>, text: &Text<'_>) -> Result<(), AllocError>
     ensures { OnOk result (out.new.items ≡ out.old.items ++ (text.now ++ 32 ∷ [])) }
 {
     out.extend_from_slice(text.as_bytes())?;
@@ -38,21 +38,21 @@ fn put_spaced(out: &mut Vec<u8>, text: &Text) -> Result<(), AllocError>
     Ok(())
 }
 
-fn put_types(out: &mut Vec<u8>, origin: &Origin) -> Result<(), AllocError>
+fn put_types(out: &mut Vec<u8>, origin: &Origin<'_>) -> Result<(), AllocError>
     ensures { OnOk result (out.new.items ≡ out.old.items ++ (origin.now.network_type ++ 32 ∷ (origin.now.address_type ++ 32 ∷ []))) }
 {
     put_spaced(out, &origin.network_type)?;
     put_spaced(out, &origin.address_type)
 }
 
-fn put_numbers(out: &mut Vec<u8>, origin: &Origin) -> Result<(), AllocError>
+fn put_numbers(out: &mut Vec<u8>, origin: &Origin<'_>) -> Result<(), AllocError>
     ensures { OnOk result (out.new.items ≡ out.old.items ++ (origin.now.id ++ 32 ∷ (origin.now.version ++ 32 ∷ []))) }
 {
     put_spaced(out, &origin.id)?;
     put_spaced(out, &origin.version)
 }
 
-fn put_origin(out: &mut Vec<u8>, origin: &Origin) -> Result<(), AllocError>
+fn put_origin(out: &mut Vec<u8>, origin: &Origin<'_>) -> Result<(), AllocError>
     ensures { OnOk result (out.new.items ≡ out.old.items ++ ended (origin_line origin.now ∷ [])) }
 {
     out.extend_from_slice(b"o=")?;
@@ -82,14 +82,14 @@ fn put_ip4(out: &mut Vec<u8>, octets: &[u8; 4]) -> Result<(), AllocError>
     Ok(())
 }
 
-fn put_behind(out: &mut Vec<u8>, front: &[u8], text: &Text) -> Result<(), AllocError>
+fn put_behind(out: &mut Vec<u8>, front: &[u8], text: &Text<'_>) -> Result<(), AllocError>
     ensures { OnOk result (out.new.items ≡ out.old.items ++ (front.now ++ text.now)) }
 {
     out.extend_from_slice(front)?;
     out.extend_from_slice(text.as_bytes())
 }
 
-fn put_address(out: &mut Vec<u8>, address: &Address) -> Result<(), AllocError>
+fn put_address(out: &mut Vec<u8>, address: &Address<'_>) -> Result<(), AllocError>
     ensures { OnOk result (out.new.items ≡ out.old.items ++ address_text address.now) }
 {
     match address {
@@ -103,7 +103,7 @@ fn put_address(out: &mut Vec<u8>, address: &Address) -> Result<(), AllocError>
     }
 }
 
-fn put_connection(out: &mut Vec<u8>, connection: &Option<Address>) -> Result<(), AllocError>
+fn put_connection(out: &mut Vec<u8>, connection: &Option<Address<'_>>) -> Result<(), AllocError>
     ensures { OnOk result (out.new.items ≡ out.old.items ++ ended (connection_lines connection.now)) }
 {
     if let Some(address) = connection {
@@ -114,7 +114,7 @@ fn put_connection(out: &mut Vec<u8>, connection: &Option<Address>) -> Result<(),
     Ok(())
 }
 
-fn put_info(out: &mut Vec<u8>, info: &Option<Text>) -> Result<(), AllocError>
+fn put_info(out: &mut Vec<u8>, info: &Option<Text<'_>>) -> Result<(), AllocError>
     ensures { OnOk result (out.new.items ≡ out.old.items ++ ended (info_lines info.now)) }
 {
     if let Some(info) = info {
@@ -124,14 +124,14 @@ fn put_info(out: &mut Vec<u8>, info: &Option<Text>) -> Result<(), AllocError>
     Ok(())
 }
 
-fn put_format(out: &mut Vec<u8>, format: &Text) -> Result<(), AllocError>
+fn put_format(out: &mut Vec<u8>, format: &Text<'_>) -> Result<(), AllocError>
     ensures { OnOk result (out.new.items ≡ out.old.items ++ 32 ∷ format.now) }
 {
     out.push(b' ')?;
     out.extend_from_slice(format.as_bytes())
 }
 
-fn put_formats(out: &mut Vec<u8>, formats: &[Text]) -> Result<(), AllocError>
+fn put_formats(out: &mut Vec<u8>, formats: &[Text<'_>]) -> Result<(), AllocError>
     ensures { OnOk result (out.new.items ≡ out.old.items ++ formats_text formats.now) }
 {
     for format in formats {
@@ -140,7 +140,7 @@ fn put_formats(out: &mut Vec<u8>, formats: &[Text]) -> Result<(), AllocError>
     Ok(())
 }
 
-fn put_port(out: &mut Vec<u8>, medium: &Media) -> Result<(), AllocError>
+fn put_port(out: &mut Vec<u8>, medium: &Media<'_>) -> Result<(), AllocError>
     ensures { OnOk result (out.new.items ≡ out.old.items ++ (decimal medium.now.port ++ count_text medium.now.count)) }
 {
     put_number(out, u64::from(medium.port))?;
@@ -151,7 +151,7 @@ fn put_port(out: &mut Vec<u8>, medium: &Media) -> Result<(), AllocError>
     Ok(())
 }
 
-fn put_medium(out: &mut Vec<u8>, medium: &Media) -> Result<(), AllocError>
+fn put_medium(out: &mut Vec<u8>, medium: &Media<'_>) -> Result<(), AllocError>
     ensures { OnOk result (out.new.items ≡ out.old.items ++ ended (medium_line medium.now ∷ [])) }
 {
     put_behind(out, b"m=", &medium.kind)?;
@@ -162,7 +162,7 @@ fn put_medium(out: &mut Vec<u8>, medium: &Media) -> Result<(), AllocError>
     out.extend_from_slice(b"\r\n")
 }
 
-fn put_media(out: &mut Vec<u8>, medium: &Media) -> Result<(), AllocError>
+fn put_media(out: &mut Vec<u8>, medium: &Media<'_>) -> Result<(), AllocError>
     ensures { OnOk result (out.new.items ≡ out.old.items ++ ended (media_lines medium.now)) }
 {
     put_medium(out, medium)?;
@@ -171,7 +171,7 @@ fn put_media(out: &mut Vec<u8>, medium: &Media) -> Result<(), AllocError>
     put_lines(out, medium.after.as_slice())
 }
 
-fn put_all_media(out: &mut Vec<u8>, media: &[Media]) -> Result<(), AllocError>
+fn put_all_media(out: &mut Vec<u8>, media: &[Media<'_>]) -> Result<(), AllocError>
     ensures { OnOk result (out.new.items ≡ out.old.items ++ ended (flat_map media_lines media.now)) }
 {
     for medium in media {
@@ -180,7 +180,7 @@ fn put_all_media(out: &mut Vec<u8>, media: &[Media]) -> Result<(), AllocError>
     Ok(())
 }
 
-fn put_session(out: &mut Vec<u8>, description: &Description) -> Result<(), AllocError>
+fn put_session(out: &mut Vec<u8>, description: &Description<'_>) -> Result<(), AllocError>
     ensures { OnOk result (out.new.items ≡ out.old.items ++ ended (map line_text description.now.before ++ (connection_lines description.now.connection ++ map line_text description.now.after))) }
 {
     put_lines(out, description.before.as_slice())?;
@@ -189,7 +189,7 @@ fn put_session(out: &mut Vec<u8>, description: &Description) -> Result<(), Alloc
 }
 
 #[tactic(auto, unfolding(crate::specs::Writing::description_text, crate::specs::Writing::description_lines))]
-fn put_description(out: &mut Vec<u8>, description: &Description) -> Result<(), AllocError>
+fn put_description(out: &mut Vec<u8>, description: &Description<'_>) -> Result<(), AllocError>
     ensures { OnOk result (out.new.items ≡ out.old.items ++ description_text description.now) }
 {
     out.extend_from_slice(b"v=0\r\n")?;
@@ -198,7 +198,7 @@ fn put_description(out: &mut Vec<u8>, description: &Description) -> Result<(), A
     put_all_media(out, description.media.as_slice())
 }
 
-fn write(alloc: Global, description: &Description) -> Result<Text, AllocError>
+fn write(alloc: Global, description: &Description<'_>) -> Result<Text<'static>, AllocError>
     ensures { IfOk result (λ t. t ≡ description_text description.now) }
 {
     let mut out = Vec::new(alloc);
@@ -207,7 +207,10 @@ fn write(alloc: Global, description: &Description) -> Result<Text, AllocError>
 }
 
 /// The bytes of a description, each line ended by CR LF.
-pub fn write_description(alloc: Global, description: &Description) -> Result<Text, AllocError>
+pub fn write_description(
+    alloc: Global,
+    description: &Description<'_>,
+) -> Result<Text<'static>, AllocError>
     // The text itself.
     ensures text { IfOk result (λ t. t ≡ description_text description.now) }
     // What is written for a description that was read from some text is read again as that description.

@@ -1,6 +1,6 @@
 use Rattle.std.proofs.Common.{◌≡◌, ◌++◌, length}
 use Rattle.sdp.specs.Lines.{texts, lines_of}
-use Rattle.sdp.proofs.split.lines_of.Given as goal
+use Rattle.sdp.proofs.split.ended_lines.Given as goal
 
 -- the lines so far and those of what is left are all
 abbrev pub invariant-loop-line : goal.invariant-loop-line
