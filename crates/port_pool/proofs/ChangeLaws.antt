@@ -1,5 +1,6 @@
 -- Lemmas on changes: they lead from the one table to the other.
 use Rattle.std.proofs.Common.{◌≡◌, ◌==◌, ◌&&◌, ◌||◌, ◌+◌, ◌<◌, ◌∙◌, ◌++◌, ℕ, Bool, true, false, cond, List, [], ◌∷◌, All, Option, Some, None, nat_eq, refl, sym, ap, subst, append-nil, arith}
+use Prim.Native.Nat.{suc}
 use Rattle.std.specs.List.{flat_map, list_any, AllPairs}
 use Rattle.std.specs.Cmp.Lexicographic.{pointwise, bytes_decides}
 use Rattle.std.specs.Cmp.{unsigned_tied}
@@ -11,7 +12,7 @@ use Rattle.std.proofs.lemmas.List.Elements.{All-cons, All-nil, filter-append}
 use Rattle.std.proofs.lemmas.List.Kept.{AllPairs-cons}
 use Rattle.std.proofs.lemmas.List.Sums.{fold-append}
 use Rattle.port_pool.specs.declared.hop.Hop.{Hop}
-use Rattle.port_pool.specs.declared.change.Change.{Change}
+use Rattle.port_pool.specs.declared.changes.Change.{Change}
 use Rattle.port_pool.specs.declared.relay_line.RelayLine.{RelayLine}
 use Rattle.port_pool.specs.RelayTable.{Rows, changed, changed_by}
 use Rattle.port_pool.specs.Changes.{same_hop, same_row, port_of, change_to, changes_between, changes_at}
@@ -68,7 +69,7 @@ between_own port a = ap (λ b. cond b [] (change_to port a ∷ [])) (same_row_ow
 flipped : (a b : ℕ) → (a == b) ≡ (b == a)
 flipped a b = grind (arith, nat_tests)
 
-get-change_to : (t : Rows) (p : ℕ) (o : Option Hop) (q : ℕ) → get (changed t (change_to p o)) q ≡ cond (p == q) o (get t q)
+pub get-change_to : (t : Rows) (p : ℕ) (o : Option Hop) (q : ℕ) → get (changed t (change_to p o)) q ≡ cond (p == q) o (get t q)
 get-change_to t p None q = get-remove nat_cmp_total t p q ∙ ap (λ b. cond b None (get t q)) (unsigned_tied q p ∙ flipped q p)
 get-change_to t p (Some h) q = get-insert nat_cmp_total t p h q ∙ ap (λ b. cond b (Some h) (get t q)) (unsigned_tied q p ∙ flipped q p)
 
@@ -154,6 +155,17 @@ changes_each rows lines q n (p ∷ ps) h =
           ∙ append-nil (here p) ∙ ap here at
       | false ↦ λ is. ap (λ xs. xs ++ changes_at q (flat_map here ps)) (gone p q (same_row (get rows p) (hop_of lines p)) (hop_of lines p) is) ∙ rest
     ]) refl
+
+-- what holds of these ports holds of the ports that change
+pub changes_within : (P : ℕ → Type 0) (rows : Rows) (lines : List RelayLine) (ps : List ℕ) → All P ps → All (λ c. P (port_of c)) (flat_map (changes_of_port rows lines) ps)
+changes_within P rows lines [] all = All-nil (λ c. P (port_of c))
+changes_within P rows lines (p ∷ ps) all =
+    let rest = changes_within P rows lines ps (λ k d within. all (suc k) d (omega arith)) in
+    let here : P p = all 0 p (omega arith) in
+    elim (same_row (get rows p) (hop_of lines p)) as (λ b. All (λ c. P (port_of c)) (cond b [] (change_to p (hop_of lines p) ∷ []) ++ flat_map (changes_of_port rows lines) ps)) [
+      | true ↦ rest
+      | false ↦ All-cons (λ c. P (port_of c)) (change_to p (hop_of lines p)) (flat_map (changes_of_port rows lines) ps) (subst P (sym (port_of-change_to p (hop_of lines p))) here) rest
+    ]
 
 -- ---- changes rise
 

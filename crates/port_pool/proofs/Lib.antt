@@ -1,5 +1,5 @@
-pub mod RowLaws
-pub mod SeatLaws
+pub mod SlotLaws
+pub mod HoldingLaws
 pub mod PortLaws
 pub mod ChangeLaws
 pub mod PoolLaws

@@ -5,8 +5,8 @@ use Rattle.std.specs.Option.{option_eq}
 use Rattle.std.specs.Cmp.Lexicographic.{pointwise}
 use Rattle.std.specs.FinMap.{get}
 use Rattle.port_pool.specs.declared.hop.Hop.{Hop}
-use Rattle.port_pool.specs.declared.change.Change.{Change}
-use Rattle.port_pool.specs.declared.change.Change.TheVariants.{Put, Remove}
+use Rattle.port_pool.specs.declared.changes.Change.{Change}
+use Rattle.port_pool.specs.declared.changes.Change.TheVariants.{Put, Remove}
 use Rattle.port_pool.specs.RelayTable.{Rows, changed_by}
 
 -- the same place, from the same port

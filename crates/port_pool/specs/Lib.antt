@@ -1,5 +1,5 @@
 pub mod Limits
 pub mod RelayTable
 pub mod Changes
-pub mod Pairs
+pub mod Holdings
 pub mod Pool

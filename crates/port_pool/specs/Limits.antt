@@ -9,6 +9,14 @@ least_port = 1024
 abbrev pub last_port : ℕ
 last_port = 65535
 
+-- the number of ports, of which 0 is the first
+abbrev pub ports : ℕ
+ports = 65536
+
 -- the pairs that a pool has at most
 abbrev pub most_pairs : ℕ
 most_pairs = 2048
+
+-- for how long a pair rests after it was freed, in milliseconds
+abbrev pub rest_time : ℕ
+rest_time = 32000

@@ -1,11 +1,11 @@
 -- The relay table: a finite map from a port of the server to a place and a sending port.
-use Rattle.std.specs.Prelude.{ℕ, List, refl, fold}
+use Rattle.std.specs.Prelude.{ℕ, ◌+◌, List, [], ◌∷◌, Option, Some, None, refl, fold}
 use Rattle.std.specs.Coded.{Coded, code_by, coded×, coded_ℕ, coded_list}
 use Rattle.std.specs.Ordering.{nat_cmp}
 use Rattle.std.specs.FinMap.{FinMap, code, insert, remove}
 use Rattle.port_pool.specs.declared.hop.Hop.{Hop}
-use Rattle.port_pool.specs.declared.change.Change.{Change}
-use Rattle.port_pool.specs.declared.change.Change.TheVariants.{Put, Remove}
+use Rattle.port_pool.specs.declared.changes.Change.{Change}
+use Rattle.port_pool.specs.declared.changes.Change.TheVariants.{Put, Remove}
 
 -- where a datagram that comes in at a port goes on
 abbrev pub Rows : Type 0
@@ -18,6 +18,12 @@ coded_hop =
 
 abbrev pub coded_rows : Coded Rows
 coded_rows = code coded_ℕ coded_hop
+
+-- the rows of these slots, of which the first is that of port k
+abbrev pub rows_from : ℕ → List (Option Hop) → List (ℕ × Hop)
+rows_from k [] = []
+rows_from k (None ∷ slots) = rows_from (k + 1) slots
+rows_from k (Some hop ∷ slots) = (k, hop) ∷ rows_from (k + 1) slots
 
 -- the table after one change
 abbrev pub changed : Rows → Change → Rows

@@ -1,20 +1,19 @@
 //! Pairs of ports that relay media, the calls that hold them, and the relay table: where the datagrams of each port go.
 //!
-//! A call is known by its number alone. No port ever serves two calls, and no row outlives the call's hold of its port.
+//! A call is known by its number alone. No port ever serves two calls, no row outlives the call's hold of its port, and a
+//! pair that was freed rests before it serves again.
 #![tactic(auto)]
 
-mod change;
-mod changing;
+mod changes;
 mod error;
+mod holdings;
 mod hop;
 mod pair;
 mod pool;
 mod relay_line;
 mod relay_table;
-mod seat;
-mod seats;
 
-pub use change::Change;
+pub use changes::Change;
 pub use error::PoolError;
 pub use hop::Hop;
 pub use pair::Pair;

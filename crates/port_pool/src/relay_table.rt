@@ -1,80 +1,75 @@
-//! The relay table.
+//! The relay table: one slot for each port, so that a change takes no memory.
 
-ghost use Rattle.std.specs.Prelude.{◌≡◌, OnOk, OnErr, IfOk};
+ghost use Rattle.std.specs.Prelude.{◌≡◌, IfOk};
 ghost use Rattle.std.specs.FinMap as map;
 ghost use Rattle.port_pool.specs.RelayTable.{changed, changed_by};
 
-use crate::change::Change;
+use crate::changes::Change;
 use crate::hop::Hop;
 use std::alloc::{AllocError, Global};
-use std::collections::BTreeMap;
 use std::marker::Model;
 
-/// Where the datagrams of each port of the server go: a finite map from a port to a place and a sending port.
+/// The number of ports.
+const PORTS: usize = 65_536;
+
+/// Where the datagrams of each port of the server go: a finite map from a port to a place and a sending port. It is made
+/// once, with room for a row at every port.
 #[derive(Drop)]
 pub struct RelayTable {
-    rows: BTreeMap<u16, Hop>,
+    slots: Vec<Option<Hop>>,
 }
 
 impl Model for RelayTable {
+    ghost use Rattle.std.specs.Prelude.{◌≡◌, length};
     ghost use Rattle.std.specs.FinMap as map;
-    ghost use Rattle.port_pool.specs.RelayTable.{Rows, coded_rows};
+    ghost use Rattle.port_pool.specs.Limits.{ports};
+    ghost use Rattle.port_pool.specs.RelayTable.{Rows, coded_rows, rows_from};
 
     ghost Value = { Rows };
 
     ghost coded = { coded_rows };
 
-    ghost view = { λ t. map.from_entries t.rows.entries };
+    ghost view = { λ t. map.from_entries (rows_from 0 t.slots.items) };
+
+    ghost invariant = { λ t. length t.slots.items ≡ ports };
 }
 
 impl RelayTable {
-    /// A table without rows. This takes no memory.
-    pub(crate) fn new(alloc: Global) -> Self
-        ensures { result ≡ map.empty }
+    /// A table without rows.
+    #[tactic(auto, using(crate::proofs::SlotLaws::slots_as_rows))]
+    pub fn new(alloc: Global) -> Result<RelayTable, AllocError>
+        ensures { IfOk result (λ t. t ≡ map.empty) }
     {
-        RelayTable {
-            rows: BTreeMap::new(alloc),
-        }
+        Ok(RelayTable {
+            slots: vec![in alloc; None; PORTS]?,
+        })
     }
 
     /// Where the datagrams of a port go, if it has a row. Takes no memory.
+    #[tactic(auto, using(crate::proofs::SlotLaws::slots_as_rows))]
     pub fn hop(&self, port: u16) -> Option<Hop>
         ensures { result ≡ map.get self.now port }
     {
-        self.rows.get(&port).copied()
+        self.slots[usize::from(port)]
     }
 
-    fn change(&mut self, change: &Change) -> Result<(), AllocError>
-        ensures ok { OnOk result (self.new ≡ changed self.old change.now) }
-        ensures err { OnErr result (self.new ≡ self.old) }
+    /// Puts a row in place of the one that its port has, if any, or takes it out. Takes no memory.
+    #[tactic(auto, using(crate::proofs::SlotLaws::slots_as_rows))]
+    pub fn change(&mut self, change: &Change)
+        ensures { self.new ≡ changed self.old change.now }
     {
         match change {
-            Change::Put(port, hop) => {
-                self.rows.insert(*port, *hop)?;
-            }
-            Change::Remove(port) => {
-                self.rows.remove(port);
-            }
+            Change::Put(port, hop) => self.slots[usize::from(*port)] = Some(*hop),
+            Change::Remove(port) => self.slots[usize::from(*port)] = None,
         }
-        Ok(())
     }
 
-    /// The table after these changes.
-    pub(crate) fn after(&self, changes: &[Change]) -> Result<RelayTable, AllocError>
-        ensures { IfOk result (λ t. t ≡ changed_by self.now changes.now) }
+    /// Makes these changes in turn. Takes no memory.
+    pub(crate) fn change_all(&mut self, changes: &[Change])
+        ensures { self.new ≡ changed_by self.old changes.now }
     {
-        let mut table = self.copy()?;
         for change in changes {
-            table.change(change)?;
+            self.change(change);
         }
-        Ok(table)
-    }
-
-    fn copy(&self) -> Result<RelayTable, AllocError>
-        ensures { IfOk result (λ t. t ≡ self.now) }
-    {
-        Ok(RelayTable {
-            rows: self.rows.clone()?,
-        })
     }
 }

@@ -1,7 +1,0 @@
-use Rattle.std.proofs.Common.{◌≡◌, map}
-use Rattle.std.specs.List.{range_with_len}
-use Rattle.port_pool.specs.Pairs.{unheld}
-use Rattle.port_pool.proofs.seats.unheld_pairs.Given as goal
-
-abbrev pub invariant-loop-k : goal.invariant-loop-k
-invariant-loop-k l = l.seats.items ≡ map (unheld l.first) (range_with_len 0 l.k)

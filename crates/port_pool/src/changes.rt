@@ -1,0 +1,83 @@
+//! Changes of the relay table, and those that lead from a call's rows to other ones.
+
+ghost use Rattle.std.specs.Prelude.{◌≡◌, ◌==◌, ◌++◌, All, IfOk, OnOk, find};
+ghost use Rattle.std.specs.List.{flat_map};
+ghost use Rattle.std.specs.Option.{option_copied};
+ghost use Rattle.port_pool.specs.Changes.{change_to};
+ghost use Rattle.port_pool.specs.Holdings.{HasOdd};
+ghost use Rattle.port_pool.specs.Pool.{hop_of, changes_of_port, ports_of};
+
+use crate::holdings::{Holding, holds};
+use crate::hop::Hop;
+use crate::relay_line::RelayLine;
+use crate::relay_table::RelayTable;
+use std::alloc::{AllocError, Global};
+
+/// A change of one row of the relay table.
+#[derive(Clone, Copy, Debug, PartialEq, Eq)]
+pub enum Change {
+    /// This port has this row from now on.
+    Put(u16, Hop),
+    /// This port has no row from now on.
+    Remove(u16),
+}
+
+/// What gives a port this row.
+fn change_to(port: u16, hop: Option<Hop>) -> Change
+    ensures { result ≡ change_to port hop }
+{
+    match hop {
+        Some(hop) => Change::Put(port, hop),
+        None => Change::Remove(port),
+    }
+}
+
+/// What leads to the rows of these lines at each port of a call, by rising port.
+pub(crate) fn changes_of(
+    alloc: Global,
+    holdings: &[Holding],
+    table: &RelayTable,
+    call: u64,
+    lines: &[RelayLine],
+) -> Result<Vec<Change>, AllocError>
+    requires { All HasOdd holdings.now }
+    ensures { IfOk result (λ changes. changes.items ≡ flat_map (changes_of_port table.now lines.now) (ports_of call holdings.now)) }
+{
+    let mut changes = Vec::new(alloc);
+    for holding in holdings {
+        if !holds(call, holding) {
+            continue;
+        }
+        push_change(&mut changes, table, lines, holding.even)?;
+        push_change(&mut changes, table, lines, holding.even + 1)?;
+    }
+    Ok(changes)
+}
+
+fn push_change(
+    changes: &mut Vec<Change>,
+    table: &RelayTable,
+    lines: &[RelayLine],
+    port: u16,
+) -> Result<(), AllocError>
+    ensures { OnOk result (changes.new.items ≡ changes.old.items ++ changes_of_port table.now lines.now port) }
+{
+    let old = table.hop(port);
+    let new = hop_of(lines, port);
+    if old != new {
+        changes.push(change_to(port, new))?;
+    }
+    Ok(())
+}
+
+fn hop_of(lines: &[RelayLine], port: u16) -> Option<Hop>
+    ensures { result ≡ hop_of lines.now port }
+{
+    line_of(lines, port)?.hop
+}
+
+fn line_of(lines: &[RelayLine], port: u16) -> Option<&RelayLine>
+    ensures { option_copied result ≡ find (λ l. l.port == port) lines.now }
+{
+    lines.iter().find(|line| line.port == port)
+}

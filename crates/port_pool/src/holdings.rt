@@ -1,0 +1,186 @@
+//! All pairs of a pool, by rising port, and the calls that hold them.
+
+ghost use Rattle.std.specs.Prelude.{◌≡◌, ◌+◌, ◌*◌, ◌≤◌, IfOk, find, take};
+ghost use Rattle.std.specs.Option.{option_copied};
+ghost use Rattle.port_pool.specs.Limits.{last_port};
+ghost use Rattle.port_pool.specs.Holdings.{unheld_pairs, free_pairs, is_call, is_resting, is_free, holds, pair_of, is_among, has_even, holder_of, holding_after_taking, holding_after_release, holding_after_drop, taken, released, dropped};
+
+use crate::pair::Pair;
+use std::alloc::{AllocError, Global};
+
+/// For how long a pair rests after it was freed, in milliseconds.
+const REST: u64 = 32_000;
+
+/// A pair, by its even port, the call that holds it, if any, and the moment at which it was last freed, if it ever was, in
+/// milliseconds.
+#[derive(Clone, Copy, Debug, PartialEq, Eq)]
+pub(crate) struct Holding {
+    pub even: u16,
+    pub holder: Option<u64>,
+    pub freed: Option<u64>,
+}
+
+/// Whether the pair was freed so lately that late datagrams may still come to it.
+fn is_resting(now: u64, holding: &Holding) -> bool
+    ensures { result ≡ is_resting now holding.now }
+{
+    match holding.freed {
+        Some(freed) => now < REST || now - REST < freed,
+        None => false,
+    }
+}
+
+/// Whether the pair may be given to a call.
+fn is_free(now: u64, holding: &Holding) -> bool
+    ensures { result ≡ is_free now holding.now }
+{
+    holding.holder.is_none() && !is_resting(now, holding)
+}
+
+pub(crate) fn holds(call: u64, holding: &Holding) -> bool
+    ensures { result ≡ holds call holding.now }
+{
+    holding.holder == Some(call)
+}
+
+fn pair_of(holding: &Holding) -> Pair
+    ensures { result ≡ pair_of holding.now }
+{
+    Pair { even: holding.even }
+}
+
+fn is_among(pairs: &[Pair], even: u16) -> bool
+    ensures { result ≡ is_among pairs.now even }
+{
+    pairs.iter().any(|pair| pair.even == even)
+}
+
+/// Pairs from a port on, none of which is held.
+pub(crate) fn unheld_pairs(
+    alloc: Global,
+    first: u16,
+    pairs: u16,
+) -> Result<Vec<Holding>, AllocError>
+    requires { first + 2 * pairs ≤ last_port + 1 }
+    ensures { IfOk result (λ holdings. holdings.items ≡ unheld_pairs first pairs) }
+{
+    let mut holdings = Vec::with_capacity(alloc, usize::from(pairs))?;
+    for k in 0..pairs {
+        let even = first + 2 * k;
+        holdings.push(Holding {
+            even,
+            holder: None,
+            freed: None,
+        })?;
+    }
+    Ok(holdings)
+}
+
+/// The lowest pairs that may be given to a call: `n`, or all where fewer are free.
+pub(crate) fn lowest_free(
+    alloc: Global,
+    holdings: &[Holding],
+    n: usize,
+    now: u64,
+) -> Result<Vec<Pair>, AllocError>
+    ensures { IfOk result (λ pairs. pairs.items ≡ take n (free_pairs now holdings.now)) }
+{
+    holdings
+        .iter()
+        .filter(|holding| is_free(now, holding))
+        .map(|holding| pair_of(holding))
+        .take(n)
+        .collect(alloc)
+}
+
+/// The call that holds the pair with this even port.
+pub(crate) fn holder_of(holdings: &[Holding], even: u16) -> Option<u64>
+    ensures { result ≡ holder_of holdings.now even }
+{
+    holding_of(holdings, even)?.holder
+}
+
+/// Whether a call holds the pair with this even port.
+pub(crate) fn is_held_by(holdings: &[Holding], call: u64, even: u16) -> bool
+    ensures { result ≡ is_call call (holder_of holdings.now even) }
+{
+    holder_of(holdings, even) == Some(call)
+}
+
+fn holding_of(holdings: &[Holding], even: u16) -> Option<&Holding>
+    ensures { option_copied result ≡ find (has_even even) holdings.now }
+{
+    holdings.iter().find(|holding| holding.even == even)
+}
+
+/// The holding after these pairs were given to a call.
+fn holding_after_taking(holding: Holding, call: u64, pairs: &[Pair]) -> Holding
+    ensures { result ≡ holding_after_taking call pairs.now holding }
+{
+    if is_among(pairs, holding.even) {
+        Holding {
+            even: holding.even,
+            holder: Some(call),
+            freed: holding.freed,
+        }
+    } else {
+        holding
+    }
+}
+
+/// The holding after this pair was freed.
+fn holding_after_release(holding: Holding, pair: Pair, now: u64) -> Holding
+    ensures { result ≡ holding_after_release pair now holding }
+{
+    if holding.even == pair.even {
+        Holding {
+            even: holding.even,
+            holder: None,
+            freed: Some(now),
+        }
+    } else {
+        holding
+    }
+}
+
+/// The holding after all pairs of a call were freed.
+fn holding_after_drop(holding: Holding, call: u64, now: u64) -> Holding
+    ensures { result ≡ holding_after_drop call now holding }
+{
+    if holds(call, &holding) {
+        Holding {
+            even: holding.even,
+            holder: None,
+            freed: Some(now),
+        }
+    } else {
+        holding
+    }
+}
+
+/// Gives pairs to a call.
+pub(crate) fn take(holdings: &mut Vec<Holding>, call: u64, pairs: &[Pair])
+    ensures { holdings.new.items ≡ taken call pairs.now holdings.old.items }
+{
+    for holding in holdings.iter_mut() {
+        *holding = holding_after_taking(*holding, call, pairs);
+    }
+}
+
+/// Frees a pair.
+pub(crate) fn release(holdings: &mut Vec<Holding>, pair: Pair, now: u64)
+    ensures { holdings.new.items ≡ released pair now holdings.old.items }
+{
+    for holding in holdings.iter_mut() {
+        *holding = holding_after_release(*holding, pair, now);
+    }
+}
+
+/// Frees all pairs of a call.
+pub(crate) fn drop_all(holdings: &mut Vec<Holding>, call: u64, now: u64)
+    ensures { holdings.new.items ≡ dropped call now holdings.old.items }
+{
+    for holding in holdings.iter_mut() {
+        *holding = holding_after_drop(*holding, call, now);
+    }
+}
