@@ -7,4 +7,5 @@ pub mod ReaddressLaws
 pub mod HoldLaws
 pub mod RowLaws
 pub mod PairLaws
+pub mod SessionLaws
 pub mod RelayLaws

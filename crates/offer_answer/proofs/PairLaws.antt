@@ -8,11 +8,11 @@ use Rattle.offer_answer.specs.Direct.{destination}
 use Rattle.offer_answer.specs.Rows.{Named, pair_named, media_named, are_distinct, is_even, media_pairs, pairs_named, rows_of, table_of, HasRows}
 use Rattle.offer_answer.proofs.RowLaws.{either_false, not_true, distinct_lead}
 
-both_ports : List ℕ → List ℕ
+unfoldable pub both_ports : List ℕ → List ℕ
 both_ports [] = []
 both_ports (p ∷ ps) = p ∷ (p + 1) ∷ both_ports ps
 
-ports_of_pairs : (OX SY : Description) (oxs sxs oys sys : List Media) → map (λ (n : Named). n.port) (media_named OX oxs sxs oys SY sys) ≡ both_ports (media_pairs oxs sxs oys sys)
+pub ports_of_pairs : (OX SY : Description) (oxs sxs oys sys : List Media) → map (λ (n : Named). n.port) (media_named OX oxs sxs oys SY sys) ≡ both_ports (media_pairs oxs sxs oys sys)
 unfolding both_ports
 ports_of_pairs OX SY [] sxs oys sys = refl
 ports_of_pairs OX SY (ox ∷ oxs) [] oys sys = refl
@@ -31,7 +31,7 @@ differ a b h = step (eqb a b) refl where
   step true e = absurd (h (eqb-true a b e))
   step false e = refl
 
-equal : (a b : ℕ) → eqb a b ≡ false → a ≡ b → ⊥
+pub equal : (a b : ℕ) → eqb a b ≡ false → a ≡ b → ⊥
 equal a b e h = let wrong : true ≡ false = sym (eq-eqb a b h) ∙ e in absurd cc
 
 -- neither port of an even pair stands among those of other even pairs
@@ -53,7 +53,7 @@ apart p (q ∷ qs) even evens others =
     odd : (a b : ℕ) → a % 2 ≡ 0 → b % 2 ≡ 0 → a + 1 ≡ b → ⊥
     odd a b e f h = omega arith
 
-distinct_pairs : (ps : List ℕ) → list_all is_even ps ≡ true → are_distinct ps ≡ true → are_distinct (both_ports ps) ≡ true
+pub distinct_pairs : (ps : List ℕ) → list_all is_even ps ≡ true → are_distinct ps ≡ true → are_distinct (both_ports ps) ≡ true
 unfolding both_ports
 distinct_pairs [] evens distinct = refl
 distinct_pairs (p ∷ ps) evens distinct =

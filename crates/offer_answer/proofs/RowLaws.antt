@@ -11,7 +11,7 @@ use Rattle.offer_answer.specs.Rows.{Named, Row, row_to, rows_of, table_of, ports
 abbrev rows_at : List Named → List Row
 rows_at ns = filter_map (λ n. row_to n.port n.to n.from) ns
 
-abbrev names : ℕ → List Named → Bool
+abbrev pub names : ℕ → List Named → Bool
 names port ns = list_any (λ q. eqb q port) (map (λ n. n.port) ns)
 
 pub either_false : (a b : Bool) → (a || b) ≡ false → (a ≡ false) × (b ≡ false)
@@ -42,7 +42,7 @@ behind n ns port e = step n.to where
   step None = refl
   step (Some a) = rw e refl
 
-other : (port : ℕ) (ns : List Named) (k : ℕ) (d : Named) → names port ns ≡ false → k < length ns → eqb port (get_or ns k d).port ≡ false
+pub other : (port : ℕ) (ns : List Named) (k : ℕ) (d : Named) → names port ns ≡ false → k < length ns → eqb port (get_or ns k d).port ≡ false
 other port [] k d e below = absurd (omega arith)
 other port (n ∷ ns) zero d e below = same port n.port (either_false (eqb n.port port) (names port ns) e).0 where
   same : (p q : ℕ) → eqb q p ≡ false → eqb p q ≡ false

@@ -13,6 +13,7 @@ use Rattle.offer_answer.specs.declared.fault.OfferFault.{OfferFault}
 use Rattle.offer_answer.specs.declared.fault.OfferFault.TheVariants.{FewerMedia, Protocol, PortCount, HostName, Ip6Address, MulticastAddress, OwnPlace}
 use Rattle.offer_answer.specs.declared.fault.AnswerFault.{AnswerFault}
 use Rattle.offer_answer.specs.declared.fault.AnswerFault.TheVariants.{NumberOfMedia, OtherMedia, UnwantedPort, BadPlace}
+use Rattle.offer_answer.specs.Direct.{is_hold}
 use Rattle.offer_answer.specs.Joined.{is_server}
 
 -- the fault of the first row whose condition holds
@@ -55,10 +56,11 @@ is_ip4 (Some (Name text)) = false
 abbrev pub is_relay_port : OwnRange → ℕ → Bool
 is_relay_port range port = nat_le range.first port && nat_le port range.last
 
--- the server's own address, where the port or the one above, which is for reports, is a relay port
+-- the server's own address, where the port or the one above, which is for reports, is a relay port; 0.0.0.0 is nobody's own
+-- (RFC 3264 section 8.4)
 abbrev pub is_own_place : OwnRange → Option Place → Bool
 is_own_place range None = false
-is_own_place range (Some p) = is_server range.ip p.address && (is_relay_port range p.port || is_relay_port range (p.port + 1))
+is_own_place range (Some p) = not (is_hold p.address) && is_server range.ip p.address && (is_relay_port range p.port || is_relay_port range (p.port + 1))
 
 -- ---- offers
 

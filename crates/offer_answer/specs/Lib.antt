@@ -2,6 +2,7 @@ pub mod Formats
 pub mod Direct
 pub mod Joined
 pub mod Rows
+pub mod Session
 pub mod Alike
 pub mod Checks
 pub mod Readdressed

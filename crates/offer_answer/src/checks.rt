@@ -7,11 +7,12 @@ ghost use Rattle.offer_answer.specs.declared.fault.OfferFault.TheVariants.{HostN
 ghost use Rattle.offer_answer.specs.Joined.{is_server};
 ghost use Rattle.offer_answer.specs.Checks.{first_fault, is_name, is_ip6, is_multicast, is_ip4, is_relay_port, is_own_place, is_carried, used_fault, medium_fault, first_medium_fault, least_media, offer_fault, is_good_place, is_same_media, accepted_fault, answered_fault, first_answered_fault, answer_fault};
 
+use crate::direct::is_hold;
 use crate::fault::{AnswerFault, OfferFault};
 use crate::range::OwnRange;
 use sdp::{Address, Description, Media, place_of};
 
-fn is_server(address: &Address, ip: [u8; 4]) -> bool
+fn is_server(address: &Address<'_>, ip: [u8; 4]) -> bool
     ensures { result ≡ is_server ip address.now }
 {
     match address {
@@ -26,19 +27,24 @@ fn is_relay_port(range: OwnRange, port: u32) -> bool
     u32::from(range.first) <= port && port <= u32::from(range.last)
 }
 
-/// Whether the medium is wanted at the server's own address, and the port or the one above is a relay port.
-fn is_own_place(range: OwnRange, description: &Description, medium: &Media) -> bool
+/// Whether the medium is wanted at the server's own address, and the port or the one above is a relay port. 0.0.0.0 is
+/// nobody's own.
+fn is_own_place(range: OwnRange, description: &Description<'_>, medium: &Media<'_>) -> bool
     ensures { result ≡ is_own_place range (place_of description.now medium.now) }
 {
     let Some(place) = place_of(description, medium) else {
         return false;
     };
     let port = u32::from(place.port);
-    is_server(place.address, range.ip)
+    !is_hold(place.address)
+        && is_server(place.address, range.ip)
         && (is_relay_port(range, port) || is_relay_port(range, port + 1))
 }
 
-fn address_of_medium<'a>(description: &'a Description, medium: &'a Media) -> Option<&'a Address>
+fn address_of_medium<'m, 'a>(
+    description: &'m Description<'a>,
+    medium: &'m Media<'a>,
+) -> Option<&'m Address<'a>>
     ensures { option_copied result ≡ address_of_medium description.now medium.now }
 {
     place_of(description, medium).map(|place| place.address)
@@ -54,7 +60,11 @@ fn is_carried(protocol: &[u8]) -> bool
 }
 
 /// The fault of the place of an offered medium.
-fn place_fault(range: OwnRange, description: &Description, medium: &Media) -> Option<OfferFault>
+fn place_fault(
+    range: OwnRange,
+    description: &Description<'_>,
+    medium: &Media<'_>,
+) -> Option<OfferFault>
     ensures { result ≡ first_fault (
         (is_name (address_of_medium description.now medium.now), HostName)
         ∷ (is_ip6 (address_of_medium description.now medium.now), Ip6Address)
@@ -72,7 +82,11 @@ fn place_fault(range: OwnRange, description: &Description, medium: &Media) -> Op
 }
 
 #[tactic(auto, unfolding(crate::specs::Checks::used_fault))]
-fn used_fault(range: OwnRange, description: &Description, medium: &Media) -> Option<OfferFault>
+fn used_fault(
+    range: OwnRange,
+    description: &Description<'_>,
+    medium: &Media<'_>,
+) -> Option<OfferFault>
     ensures { result ≡ used_fault range description.now medium.now }
 {
     if !is_carried(medium.protocol.as_bytes()) {
@@ -84,7 +98,11 @@ fn used_fault(range: OwnRange, description: &Description, medium: &Media) -> Opt
     place_fault(range, description, medium)
 }
 
-fn medium_fault(range: OwnRange, description: &Description, medium: &Media) -> Option<OfferFault>
+fn medium_fault(
+    range: OwnRange,
+    description: &Description<'_>,
+    medium: &Media<'_>,
+) -> Option<OfferFault>
     ensures { result ≡ medium_fault range description.now medium.now }
 {
     if medium.port == 0 {
@@ -93,7 +111,7 @@ fn medium_fault(range: OwnRange, description: &Description, medium: &Media) -> O
     used_fault(range, description, medium)
 }
 
-fn first_medium_fault(range: OwnRange, description: &Description) -> Option<OfferFault>
+fn first_medium_fault(range: OwnRange, description: &Description<'_>) -> Option<OfferFault>
     ensures { result ≡ first_medium_fault range description.now description.now.media }
 {
     for medium in description.media.as_slice() {
@@ -104,7 +122,7 @@ fn first_medium_fault(range: OwnRange, description: &Description) -> Option<Offe
     None
 }
 
-fn least_media(previous: Option<&Description>) -> usize
+fn least_media(previous: Option<&Description<'_>>) -> usize
     ensures { result ≡ least_media (option_copied previous.entry) }
 {
     match previous {
@@ -117,8 +135,8 @@ fn least_media(previous: Option<&Description>) -> usize
 /// answer. The first fault is the refusal: first whether media are missing, then medium by medium, where the port is
 /// not 0, in the order of `OfferFault`. Takes no memory.
 pub fn check_offer(
-    new: &Description,
-    previous: Option<&Description>,
+    new: &Description<'_>,
+    previous: Option<&Description<'_>>,
     range: OwnRange,
 ) -> Result<(), OfferFault>
     ensures ok { OnOk result (offer_fault range new.now (option_copied previous.entry) ≡ None) }
@@ -134,7 +152,7 @@ pub fn check_offer(
     }
 }
 
-fn is_ip4(address: Option<&Address>) -> bool
+fn is_ip4(address: Option<&Address<'_>>) -> bool
     ensures { result ≡ is_ip4 (option_copied address.entry) }
 {
     match address {
@@ -143,7 +161,11 @@ fn is_ip4(address: Option<&Address>) -> bool
     }
 }
 
-fn is_good_place(range: OwnRange, description: &Description, medium: &Media) -> bool
+fn is_good_place<'m, 'a>(
+    range: OwnRange,
+    description: &'m Description<'a>,
+    medium: &'m Media<'a>,
+) -> bool
     ensures { result ≡ is_good_place range description.now medium.now }
 {
     medium.count.is_none()
@@ -151,7 +173,7 @@ fn is_good_place(range: OwnRange, description: &Description, medium: &Media) -> 
         && !is_own_place(range, description, medium)
 }
 
-fn is_same_media(offered: &Media, answered: &Media) -> bool
+fn is_same_media(offered: &Media<'_>, answered: &Media<'_>) -> bool
     ensures { result ≡ is_same_media offered.now answered.now }
 {
     answered.kind == offered.kind && answered.protocol == offered.protocol
@@ -160,9 +182,9 @@ fn is_same_media(offered: &Media, answered: &Media) -> bool
 #[tactic(auto, unfolding(crate::specs::Checks::accepted_fault))]
 fn accepted_fault(
     range: OwnRange,
-    offered: &Media,
-    answer: &Description,
-    answered: &Media,
+    offered: &Media<'_>,
+    answer: &Description<'_>,
+    answered: &Media<'_>,
 ) -> Option<AnswerFault>
     ensures { result ≡ accepted_fault range offered.now answer.now answered.now }
 {
@@ -180,9 +202,9 @@ fn accepted_fault(
 
 fn answered_fault(
     range: OwnRange,
-    offered: &Media,
-    answer: &Description,
-    answered: &Media,
+    offered: &Media<'_>,
+    answer: &Description<'_>,
+    answered: &Media<'_>,
 ) -> Option<AnswerFault>
     ensures { result ≡ answered_fault range offered.now answer.now answered.now }
 {
@@ -194,8 +216,8 @@ fn answered_fault(
 
 fn first_answered_fault(
     range: OwnRange,
-    offered: &[Media],
-    answer: &Description,
+    offered: &[Media<'_>],
+    answer: &Description<'_>,
 ) -> Option<AnswerFault>
     requires { length answer.now.media ≡ length offered.now }
     ensures { result ≡ first_answered_fault range offered.now answer.now answer.now.media }
@@ -211,8 +233,8 @@ fn first_answered_fault(
 /// Checks the answer to an offer. The first fault is the refusal: first whether there are as many media, then medium by
 /// medium, where the answer's port is not 0, in the order of `AnswerFault`. Takes no memory.
 pub fn check_answer(
-    offer: &Description,
-    answer: &Description,
+    offer: &Description<'_>,
+    answer: &Description<'_>,
     range: OwnRange,
 ) -> Result<(), AnswerFault>
     ensures ok { OnOk result (answer_fault range offer.now answer.now ≡ None) }

@@ -3,10 +3,9 @@
 ghost use Rattle.std.specs.Prelude.{◌≡◌, length, IfOk};
 ghost use Rattle.offer_answer.specs.Direct.{is_hold, sent_to, destination, side, is_answered, matching, stream_of, direct};
 
-use crate::copies::{copied_text, copied_texts};
 use crate::formats::formats_match;
 use crate::stream::{Side, Stream};
-use sdp::{Address, Description, Media, Way, place_of, way_of};
+use sdp::{Address, Description, Media, Way, keep_formats, place_of, way_of};
 use sip_uri::Addr;
 use std::alloc::{AllocError, Global};
 use text::{Text, Texts};
@@ -15,7 +14,7 @@ use text::{Text, Texts};
 pub(crate) const HOLD: [u8; 4] = [0, 0, 0, 0];
 
 /// Whether this is 0.0.0.0.
-pub(crate) fn is_hold(address: &Address) -> bool
+pub(crate) fn is_hold(address: &Address<'_>) -> bool
     ensures { result ≡ is_hold address.now }
 {
     match address {
@@ -24,7 +23,7 @@ pub(crate) fn is_hold(address: &Address) -> bool
     }
 }
 
-fn sent_to(address: &Address, port: u16) -> Option<Addr>
+fn sent_to(address: &Address<'_>, port: u16) -> Option<Addr>
     ensures { result ≡ sent_to address.now port }
 {
     if is_hold(address) {
@@ -37,15 +36,15 @@ fn sent_to(address: &Address, port: u16) -> Option<Addr>
 }
 
 /// Where media for this medium are sent, if anywhere: to no address but an IPv4 address that is not 0.0.0.0 (RFC 3264 sections 5.1 and 8.4).
-pub fn destination(description: &Description, medium: &Media) -> Option<Addr>
+pub fn destination(description: &Description<'_>, medium: &Media<'_>) -> Option<Addr>
     ensures { result ≡ destination description.now medium.now }
 {
     let place = place_of(description, medium)?;
     sent_to(place.address, place.port)
 }
 
-fn side(from: Way, to: Way, formats: Texts, destination: Option<Addr>) -> Side
-    ensures { result ≡ side from to formats destination }
+fn side(from: Way, to: Way, formats: Texts<'static>, destination: Option<Addr>) -> Side
+    ensures { result ≡ side from to formats.entry destination }
 {
     Side {
         on: from.sends() && to.receives() && destination.is_some(),
@@ -55,7 +54,7 @@ fn side(from: Way, to: Way, formats: Texts, destination: Option<Addr>) -> Side
 }
 
 #[tactic(auto, unfolding(crate::specs::Direct::is_answered))]
-fn is_answered(offer: &Media, answer: &Media, format: &Text) -> bool
+fn is_answered(offer: &Media<'_>, answer: &Media<'_>, format: &Text<'_>) -> bool
     ensures { result ≡ is_answered offer.now answer.now format.now }
 {
     answer
@@ -66,7 +65,11 @@ fn is_answered(offer: &Media, answer: &Media, format: &Text) -> bool
 }
 
 /// The formats of the offer that match one of the answer.
-fn matching(alloc: Global, offer: &Media, answer: &Media) -> Result<Texts, AllocError>
+fn matching(
+    alloc: Global,
+    offer: &Media<'_>,
+    answer: &Media<'_>,
+) -> Result<Texts<'static>, AllocError>
     ensures { IfOk result (λ t. t ≡ matching offer.now answer.now) }
 {
     let mut found = Vec::new(alloc);
@@ -74,7 +77,7 @@ fn matching(alloc: Global, offer: &Media, answer: &Media) -> Result<Texts, Alloc
         if !is_answered(offer, answer, format) {
             continue;
         }
-        found.push(copied_text(format)?)?;
+        found.push(format.keep(alloc)?)?;
     }
     Ok(Texts::from_vec(found))
 }
@@ -82,10 +85,10 @@ fn matching(alloc: Global, offer: &Media, answer: &Media) -> Result<Texts, Alloc
 #[tactic(auto, unfolding(crate::specs::Direct::stream_of))]
 fn stream_of(
     alloc: Global,
-    offer: &Description,
-    offered: &Media,
-    answer: &Description,
-    answered: &Media,
+    offer: &Description<'_>,
+    offered: &Media<'_>,
+    answer: &Description<'_>,
+    answered: &Media<'_>,
 ) -> Result<Stream, AllocError>
     ensures { IfOk result (λ s. s ≡ stream_of offer.now offered.now answer.now answered.now) }
 {
@@ -93,11 +96,11 @@ fn stream_of(
         return Ok(Stream::Rejected);
     }
     let (out, back) = (way_of(offer, offered), way_of(answer, answered));
-    let listed = copied_texts(&answered.formats)?;
+    let listed = keep_formats(alloc, &answered.formats)?;
     let shared = matching(alloc, offered, answered)?;
     Ok(Stream::Used {
-        kind: copied_text(&offered.kind)?,
-        protocol: copied_text(&offered.protocol)?,
+        kind: offered.kind.keep(alloc)?,
+        protocol: offered.protocol.keep(alloc)?,
         to_answerer: side(out, back, listed, destination(answer, answered)),
         to_offerer: side(back, out, shared, destination(offer, offered)),
     })
@@ -107,8 +110,8 @@ fn stream_of(
 /// The answer has as many media as the offer.
 pub fn meaning(
     alloc: Global,
-    offer: &Description,
-    answer: &Description,
+    offer: &Description<'_>,
+    answer: &Description<'_>,
 ) -> Result<Vec<Stream>, AllocError>
     requires { length offer.now.media ≡ length answer.now.media }
     ensures { IfOk result (λ streams. streams.items ≡ direct offer.now answer.now) }

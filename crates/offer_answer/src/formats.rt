@@ -7,7 +7,7 @@ ghost use Rattle.offer_answer.specs.Formats.{is_attribute, text_for, rtpmap_in, 
 use sdp::{Line, Media};
 use text::{Text, cut};
 
-fn is_attribute(line: &Line, name: &[u8]) -> bool
+fn is_attribute(line: &Line<'_>, name: &[u8]) -> bool
     ensures { result ≡ is_attribute name.now line.now }
 {
     line.letter == b'a' && cut(line.value.as_bytes(), b':').0 == name
@@ -20,7 +20,7 @@ fn text_for<'a>(format: &[u8], value: Option<&'a [u8]>) -> Option<&'a [u8]>
     if number == format { text } else { None }
 }
 
-fn rtpmap_in<'a>(line: &'a Line, format: &[u8]) -> Option<&'a [u8]>
+fn rtpmap_in<'a>(line: &'a Line<'_>, format: &[u8]) -> Option<&'a [u8]>
     ensures { option_copied result ≡ rtpmap_in format.now line.now }
 {
     if is_attribute(line, b"rtpmap") {
@@ -30,7 +30,7 @@ fn rtpmap_in<'a>(line: &'a Line, format: &[u8]) -> Option<&'a [u8]>
     }
 }
 
-fn first_rtpmap<'a>(lines: &'a [Line], format: &[u8]) -> Option<&'a [u8]>
+fn first_rtpmap<'a>(lines: &'a [Line<'_>], format: &[u8]) -> Option<&'a [u8]>
     ensures { option_copied result ≡ first_rtpmap format.now lines.now }
 {
     for line in lines {
@@ -53,7 +53,7 @@ fn maps_match(a: Option<&[u8]>, b: Option<&[u8]>, same_token: bool) -> bool
 /// Whether format `f` of medium `m` and format `g` of medium `n` match: both have an `rtpmap` whose texts behind the
 /// format agree without case, or one has none and the formats are equal (RFC 3264 section 6.1, RFC 4566 section 6).
 #[tactic(auto, unfolding(crate::specs::Formats::formats_match))]
-pub(crate) fn formats_match(m: &Media, f: &Text, n: &Media, g: &Text) -> bool
+pub(crate) fn formats_match(m: &Media<'_>, f: &Text<'_>, n: &Media<'_>, g: &Text<'_>) -> bool
     ensures { result ≡ formats_match m.now f.now n.now g.now }
 {
     let a = first_rtpmap(m.after.as_slice(), f.as_bytes());

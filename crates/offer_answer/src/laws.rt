@@ -1,8 +1,11 @@
 //! Laws of the definitions, for all descriptions, and a plain call worked by them.
 
-ghost use Rattle.std.specs.Prelude.{◌≡◌, ◌≢◌, ℕ, List, [], ◌∷◌, codes, true, false, Option, Some, None, IsTrue};
+ghost use Rattle.std.specs.Prelude.{◌≡◌, ◌≢◌, ℕ, All, List, [], ◌∷◌, codes, true, false, Option, Some, None, IsTrue};
 ghost use Rattle.std.specs.List.{list_all};
+ghost use Rattle.std.specs.FinMap as map;
 ghost use Rattle.sip_uri.specs.declared.uri.Addr.{Addr};
+ghost use Rattle.port_pool.specs.RelayTable.{Rows};
+ghost use Rattle.port_pool.specs.Pool.{Contents, AreOwn, StandOnce};
 ghost use Rattle.sdp.specs.declared.address.Address.TheVariants.{Ip4};
 ghost use Rattle.sdp.specs.declared.description.Description.{Description};
 ghost use Rattle.sdp.specs.declared.description.Media.{Media};
@@ -14,6 +17,7 @@ ghost use Rattle.offer_answer.specs.Direct.{hold_address, direct};
 ghost use Rattle.offer_answer.specs.Joined.{is_at_server, joined};
 ghost use Rattle.offer_answer.specs.Relayed.{SentBy};
 ghost use Rattle.offer_answer.specs.Rows.{HasRows, are_distinct, is_even, pairs_named, rows_of, table_of};
+ghost use Rattle.offer_answer.specs.Session.{HoldsPairs, leads_by, session_lines};
 ghost use Rattle.offer_answer.specs.Worked.{server, ann, bob, attribute, offer_at, answer_at, with_video, offer_taken, offer_sent, answer_taken, answer_sent, address, row, four_rows, audio_stream};
 
 /// Being alike is an equivalence.
@@ -50,13 +54,26 @@ pub fn relayed_is_direct()
         ≡ direct offer answer }
 {}
 
-/// A medium at the address 0.0.0.0 is refused neither in an offer nor in an answer on account of its place, by a server
-/// whose address is another (RFC 3264 section 8.4).
+/// The lines of a session are of the ports of a call that holds the session's pairs, no port stands in two of them, and a
+/// table with these lines has the rows of the session.
+pub fn rows_of_session_stand()
+    ensures own { (pool : Contents) (call : ℕ) (OX SX OY SY : Description) →
+        IsTrue (list_all is_even (pairs_named OX SX OY SY)) → HoldsPairs pool call OX SX OY SY →
+        AreOwn pool call (session_lines OX SX OY SY) }
+    ensures once { (OX SX OY SY : Description) →
+        IsTrue (list_all is_even (pairs_named OX SX OY SY)) → IsTrue (are_distinct (pairs_named OX SX OY SY)) →
+        StandOnce (session_lines OX SX OY SY) }
+    ensures rows { (rows : Rows) (OX SX OY SY : Description) →
+        All (λ l. map.get rows l.port ≡ l.hop) (session_lines OX SX OY SY) → HasRows (leads_by rows) OX SX OY SY }
+{}
+
+/// A medium at the address 0.0.0.0 is refused neither in an offer nor in an answer on account of its place, whatever the
+/// server's own places are (RFC 3264 section 8.4).
 pub fn hold_passes()
-    ensures offer { (range : OwnRange) (d : Description) (m : Media) → range.ip ≢ hold_address →
+    ensures offer { (range : OwnRange) (d : Description) (m : Media) →
         address_of_medium d m ≡ Some (Ip4 hold_address) → IsTrue (is_carried m.protocol) → m.count ≡ None →
         medium_fault range d m ≡ None }
-    ensures answer { (range : OwnRange) (o : Media) (d : Description) (m : Media) → range.ip ≢ hold_address →
+    ensures answer { (range : OwnRange) (o : Media) (d : Description) (m : Media) →
         address_of_medium d m ≡ Some (Ip4 hold_address) → IsTrue (is_same_media o m) → m.count ≡ None → o.port ≢ 0 →
         answered_fault range o d m ≡ None }
 {}

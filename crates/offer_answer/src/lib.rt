@@ -1,16 +1,16 @@
 //! What an offer and an answer of descriptions mean (RFC 3264), directly and through a relay; which the server refuses;
 //! and what it sends in place of those that it took. That the two meanings are one is a law for all descriptions. Nothing
-//! here knows of calls, messages or ports in use.
+//! here knows of calls or messages.
 #![tactic(auto)]
 
 mod checks;
-mod copies;
 mod direct;
 mod fault;
 mod formats;
 mod laws;
 mod range;
 mod readdressing;
+mod session;
 mod stream;
 
 pub use checks::{check_answer, check_offer};
@@ -18,8 +18,9 @@ pub use direct::{destination, meaning};
 pub use fault::{AnswerFault, OfferFault};
 pub use laws::{
     alike_is_equivalence, fewer_rows, held_call, hold_passes, joined_is_direct, plain_call,
-    relayed_is_direct, rows_lead,
+    relayed_is_direct, rows_lead, rows_of_session_stand,
 };
 pub use range::OwnRange;
 pub use readdressing::{ServerOrigin, readdress};
+pub use session::{plan_session, session_lines, session_pairs};
 pub use stream::{Side, Stream};

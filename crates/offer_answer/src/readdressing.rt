@@ -7,10 +7,9 @@ ghost use Rattle.offer_answer.specs.Alike.{tells_place, is_kept, kept, Alike};
 ghost use Rattle.offer_answer.specs.Direct.{hold_address};
 ghost use Rattle.offer_answer.specs.Readdressed.{origin_of, readdressed_address, told_port, readdressed_medium, readdressed_media, told_ports, readdressed, has_ports};
 
-use crate::copies::{copied_info, copied_line, copied_lines, copied_text, copied_texts};
 use crate::direct::{HOLD, is_hold};
-use sdp::{Address, Description, Line, Lines, Media, MediaList, Origin};
-use sip_uri::put_ip4;
+use sdp::{Address, Description, Line, Lines, Media, MediaList, Origin, keep_formats};
+use sip_uri::{keep_text, put_ip4};
 use std::alloc::{AllocError, Global};
 use text::{Text, cut, put_number};
 
@@ -23,7 +22,7 @@ pub struct ServerOrigin {
     pub ip: [u8; 4],
 }
 
-fn number_text(alloc: Global, number: u64) -> Result<Text, AllocError>
+fn number_text(alloc: Global, number: u64) -> Result<Text<'static>, AllocError>
     ensures { IfOk result (λ t. t ≡ decimal number) }
 {
     let mut out = Vec::new(alloc);
@@ -31,7 +30,7 @@ fn number_text(alloc: Global, number: u64) -> Result<Text, AllocError>
     Ok(Text::from_vec(out))
 }
 
-fn address_text(alloc: Global, ip: [u8; 4]) -> Result<Text, AllocError>
+fn address_text(alloc: Global, ip: [u8; 4]) -> Result<Text<'static>, AllocError>
     ensures { IfOk result (λ t. t ≡ ip4_text ip) }
 {
     let mut out = Vec::new(alloc);
@@ -40,7 +39,7 @@ fn address_text(alloc: Global, ip: [u8; 4]) -> Result<Text, AllocError>
 }
 
 #[tactic(auto, unfolding(crate::specs::Readdressed::origin_of))]
-fn origin_of(alloc: Global, origin: ServerOrigin) -> Result<Origin, AllocError>
+fn origin_of(alloc: Global, origin: ServerOrigin) -> Result<Origin<'static>, AllocError>
     ensures { IfOk result (λ o. o ≡ origin_of origin) }
 {
     let id = number_text(alloc, origin.id)?;
@@ -56,7 +55,7 @@ fn origin_of(alloc: Global, origin: ServerOrigin) -> Result<Origin, AllocError>
     })
 }
 
-fn readdressed_address(address: &Address, ip: [u8; 4]) -> Address
+fn readdressed_address(address: &Address<'_>, ip: [u8; 4]) -> Address<'static>
     ensures { result ≡ readdressed_address ip address.now }
 {
     if is_hold(address) {
@@ -66,7 +65,7 @@ fn readdressed_address(address: &Address, ip: [u8; 4]) -> Address
     }
 }
 
-fn readdressed_connection(connection: &Option<Address>, ip: [u8; 4]) -> Option<Address>
+fn readdressed_connection(connection: &Option<Address<'_>>, ip: [u8; 4]) -> Option<Address<'static>>
     ensures { result ≡ option_map (readdressed_address ip) connection.now }
 {
     match connection {
@@ -84,14 +83,14 @@ fn tells_place(name: &[u8]) -> bool
         || name.starts_with(b"ice-")
 }
 
-fn is_kept(line: &Line) -> bool
+fn is_kept(line: &Line<'_>) -> bool
     ensures { result ≡ is_kept line.now }
 {
     !(line.letter == b'a' && tells_place(cut(line.value.as_bytes(), b':').0))
 }
 
 /// The lines but for the attributes that tell places of their own.
-fn kept(alloc: Global, lines: &Lines) -> Result<Lines, AllocError>
+fn kept(alloc: Global, lines: &Lines<'_>) -> Result<Lines<'static>, AllocError>
     ensures { IfOk result (λ ls. ls ≡ kept lines.now) }
 {
     let mut left = Vec::new(alloc);
@@ -99,12 +98,12 @@ fn kept(alloc: Global, lines: &Lines) -> Result<Lines, AllocError>
         if !is_kept(line) {
             continue;
         }
-        left.push(copied_line(line)?)?;
+        left.push(line.keep(alloc)?)?;
     }
     Ok(Lines::from_vec(left))
 }
 
-fn told_port(port: u16, medium: &Media) -> u16
+fn told_port(port: u16, medium: &Media<'_>) -> u16
     ensures { result ≡ told_port port medium.now }
 {
     if medium.port == 0 { 0 } else { port }
@@ -113,16 +112,16 @@ fn told_port(port: u16, medium: &Media) -> u16
 #[tactic(auto, unfolding(crate::specs::Readdressed::readdressed_medium))]
 fn readdressed_medium(
     alloc: Global,
-    medium: &Media,
+    medium: &Media<'_>,
     port: u16,
     ip: [u8; 4],
-) -> Result<Media, AllocError>
+) -> Result<Media<'static>, AllocError>
     ensures { IfOk result (λ m. m ≡ readdressed_medium ip port medium.now) }
 {
-    let kind = copied_text(&medium.kind)?;
-    let protocol = copied_text(&medium.protocol)?;
-    let formats = copied_texts(&medium.formats)?;
-    let info = copied_info(&medium.info)?;
+    let kind = medium.kind.keep(alloc)?;
+    let protocol = medium.protocol.keep(alloc)?;
+    let formats = keep_formats(alloc, &medium.formats)?;
+    let info = keep_text(alloc, &medium.info)?;
     let after = kept(alloc, &medium.after)?;
     Ok(Media {
         kind,
@@ -138,10 +137,10 @@ fn readdressed_medium(
 
 fn readdressed_media(
     alloc: Global,
-    media: &[Media],
+    media: &[Media<'_>],
     ports: &[u16],
     ip: [u8; 4],
-) -> Result<MediaList, AllocError>
+) -> Result<MediaList<'static>, AllocError>
     requires { length ports.now ≡ length media.now }
     ensures { IfOk result (λ ms. ms ≡ readdressed_media ip ports.now media.now) }
 {
@@ -155,14 +154,14 @@ fn readdressed_media(
 #[tactic(auto, unfolding(crate::specs::Readdressed::readdressed))]
 fn readdressed(
     alloc: Global,
-    description: &Description,
+    description: &Description<'_>,
     ports: &[u16],
     origin: ServerOrigin,
-) -> Result<Description, AllocError>
+) -> Result<Description<'static>, AllocError>
     requires { length ports.now ≡ length description.now.media }
     ensures { IfOk result (λ d. d ≡ readdressed origin ports.now description.now) }
 {
-    let before = copied_lines(&description.before)?;
+    let before = description.before.keep(alloc)?;
     let after = kept(alloc, &description.after)?;
     let media = readdressed_media(alloc, description.media.as_slice(), ports, origin.ip)?;
     Ok(Description {
@@ -181,10 +180,10 @@ fn readdressed(
 #[tactic(auto, using(crate::proofs::ReaddressLaws::readdressed_alike, crate::proofs::ReaddressLaws::readdressed_at_server, crate::proofs::ReaddressLaws::readdressed_ports, crate::proofs::ReaddressLaws::readdressed_origin))]
 pub fn readdress(
     alloc: Global,
-    description: &Description,
+    description: &Description<'_>,
     ports: &[u16],
     origin: ServerOrigin,
-) -> Result<Description, AllocError>
+) -> Result<Description<'static>, AllocError>
     requires one_each { length ports.now ≡ length description.now.media }
     requires not_zero { IsTrue (has_ports ports.now description.now.media) }
     requires server { origin.ip ≢ hold_address }

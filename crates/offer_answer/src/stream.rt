@@ -9,7 +9,7 @@ pub struct Side {
     /// Whether media are sent that way.
     pub on: bool,
     /// The formats in which they may be sent, in order of preference.
-    pub formats: Texts,
+    pub formats: Texts<'static>,
     /// Where they are sent to, if anywhere.
     pub to: Option<Addr>,
 }
@@ -21,8 +21,8 @@ pub enum Stream {
     Rejected,
     /// The medium is used.
     Used {
-        kind: Text,
-        protocol: Text,
+        kind: Text<'static>,
+        protocol: Text<'static>,
         to_answerer: Side,
         to_offerer: Side,
     },
