@@ -36,6 +36,14 @@ remove_others P Q (x ∷ cs) zero c ap' e a f =
     all_weaker (λ d. Apart x d × P d) Q (λ d g. f d (let R : Call → Type 0 = λ v. Apart d v in subst R xc (apart_turn x d g.0)) g.1) cs (all_both (Apart x) P cs ap'.0 a.1)
 remove_others P Q (x ∷ cs) (suc k) c ap' e a f = (f x (all_at (Apart x) cs k c ap'.0 e) a.0, remove_others P Q cs k c ap'.1 e a.1 f)
 
+-- the calls other than the k-th have none of its tags
+pub others_tagless : (cs : List Call) (k : ℕ) (c : Call) (tag : List ℕ) → AllApart cs → slice_get cs k ≡ Some c → IsTagOf c tag → AllOf (λ d. ¬ IsTagOf d tag) (remove cs k)
+others_tagless cs k c tag apart e of = remove_others (λ d. Unit {0}) (λ d. ¬ IsTagOf d tag) cs k c apart e (none cs) (λ d off u g. off tag g of)
+  where
+    none : (cs : List Call) → AllOf (λ d. Unit {0}) cs
+    none [] = tt
+    none (d ∷ ds) = (tt, none ds)
+
 pub apart_set : (cs : List Call) (k : ℕ) (c c' : Call) → slice_get cs k ≡ Some c → ((x : List ℕ) → IsTagOf c' x → IsTagOf c x) → AllApart cs → AllApart (slice_set cs k c')
 apart_set [] k c c' e f a = tt
 apart_set (x ∷ cs) zero c c' e f a =

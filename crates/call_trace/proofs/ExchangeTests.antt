@@ -12,7 +12,7 @@ use Rattle.call_trace.specs.declared.exchange.Places.{Places}
 use Rattle.call_trace.specs.Messages.{is_offer, is_answer, Replies}
 use Rattle.call_trace.specs.Dialogs.{dialog_of}
 use Rattle.call_trace.specs.Exchanges.{TakesFinal, Exchange, IsServed, IsMade, IsExchange, IsLast}
-use Rattle.call_trace.specs.Places.{exchange, StandsAt, HoldsAt}
+use Rattle.call_trace.specs.Places.{exchange, IsAtPlaces, HoldsAt}
 use Rattle.call_trace.specs.Computed.{takes_final, sends_bytes, sent_before, final_before, is_served, is_made, is_exchange, on, on_both, some_below, places, some_places, exchange_at, answered_at, answered_behind, later_exchange, last_at}
 use Rattle.call_trace.proofs.PlaceTests.{decides_before, decides_range}
 use Rattle.call_trace.proofs.AtLaws.{at_place, place_at, at_within}
@@ -24,7 +24,7 @@ abbrev pub four : ℕ → ℕ → Datagram → Datagram → Exchange
 four i j p q = record { asked_at = i; answered_at = j; asked = p; answered = q }
 
 -- what stands at the same places is the same
-pub same_exchange : (t : List Datagram) (at : Places) (e f : Exchange) → StandsAt t at e → StandsAt t at f → e ≡ f
+pub same_exchange : (t : List Datagram) (at : Places) (e f : Exchange) → IsAtPlaces t at e → IsAtPlaces t at f → e ≡ f
 same_exchange t at e f a b =
     let i : e.asked_at ≡ f.asked_at = a.asked_at ∙ sym b.asked_at in
     let j : e.answered_at ≡ f.answered_at = a.answered_at ∙ sym b.answered_at in
@@ -115,7 +115,7 @@ decides_fits methods t d at p q =
     (Decides-and _ _ (Decides-or _ _ (decides_names p d) (decides_names q d))
     (Decides-or _ _ (decides_served t at p q) (decides_made t at p q)))))))
 
-pub exchange_fits : (methods : List (List ℕ)) (t : List Datagram) (d : Dialog) (at : Places) (e : Exchange) → StandsAt t at e → Fits methods t d e → IsExchange methods t d e
+pub exchange_fits : (methods : List (List ℕ)) (t : List Datagram) (d : Dialog) (at : Places) (e : Exchange) → IsAtPlaces t at e → Fits methods t d e → IsExchange methods t d e
 exchange_fits methods t d at e s f = record {
   at_asked = s.at_asked;
   at_answered = s.at_answered;
@@ -139,7 +139,7 @@ decides_exchange methods t d at =
     (decides_both t at (λ p q. is_exchange methods t d at p q) (λ e. Fits methods t d e) (λ p q. decides_fits methods t d at p q))
 
 -- an exchange stands at its places
-pub own_places : (methods : List (List ℕ)) (t : List Datagram) (d : Dialog) (e : Exchange) → IsExchange methods t d e → StandsAt t (places e.asked_at e.answered_at) e
+pub own_places : (methods : List (List ℕ)) (t : List Datagram) (d : Dialog) (e : Exchange) → IsExchange methods t d e → IsAtPlaces t (places e.asked_at e.answered_at) e
 own_places methods t d e x = record { asked_at = refl; answered_at = refl; at_asked = x.at_asked; at_answered = x.at_answered }
 
 -- ---- the last

@@ -4,7 +4,7 @@ use Rattle.call_trace.specs.declared.datagram.Message.{Message}
 use Rattle.call_trace.specs.declared.datagram.Datagram.{Datagram}
 use Rattle.call_trace.specs.declared.datagram.Dialog.{Dialog}
 use Rattle.call_trace.specs.Exchanges.{NoneTakenBefore, NoneSentBefore, Exchange, IsServed, IsMade, IsExchange}
-use Rattle.call_trace.specs.Calls.{IsFirst, CallOf, IsSentIn, Ended}
+use Rattle.call_trace.specs.Calls.{IsFirst, CallOf, CallFrom, IsSentIn, Ended}
 use Rattle.call_trace.proofs.AtLaws.{at_within, at_left, at_back}
 
 none_taken_left : (t s : List Datagram) (j : ℕ) (m : Message) → j < length t → NoneTakenBefore t j m → NoneTakenBefore (t ++ s) j m
@@ -59,6 +59,21 @@ first_left methods t s d e x = record { exchange = exchange_left methods t s d e
 pub call_left : (methods : List (List ℕ)) (t s : List Datagram) (dx dy : Dialog) → CallOf methods t dx dy → CallOf methods (t ++ s) dx dy
 call_left methods t s dx dy c =
     (c.0, c.1, record { first_x = first_left methods t s dx c.0 c.2.first_x; first_y = first_left methods t s dy c.1 c.2.first_y; together = c.2.together })
+
+pub called_left : (methods : List (List ℕ)) (t s : List Datagram) (dx dy : Dialog) → CallFrom methods t dx dy → CallFrom methods (t ++ s) dx dy
+called_left methods t s dx dy c =
+    (c.0, c.1, record { first_x = first_left methods t s dx c.0 c.2.first_x; first_y = first_left methods t s dy c.1 c.2.first_y; passed_on = c.2.passed_on })
+
+-- two dialogs are a call where one of the two called the other
+pub call_of_called : (methods : List (List ℕ)) (t : List Datagram) (dx dy : Dialog) → CallFrom methods t dx dy → CallOf methods t dx dy
+call_of_called methods t dx dy c = (c.0, c.1, record { first_x = c.2.first_x; first_y = c.2.first_y; together = inl c.2.passed_on })
+
+pub called_of_call : (methods : List (List ℕ)) (t : List Datagram) (dx dy : Dialog) → CallOf methods t dx dy → CallFrom methods t dx dy ⊎ CallFrom methods t dy dx
+called_of_call methods t dx dy c =
+    elim c.2.together [
+      | inl on ↦ inl (c.0, c.1, record { first_x = c.2.first_x; first_y = c.2.first_y; passed_on = on })
+      | inr on ↦ inr (c.1, c.0, record { first_x = c.2.first_y; first_y = c.2.first_x; passed_on = on })
+    ]
 
 pub call_turned : (methods : List (List ℕ)) (t : List Datagram) (dx dy : Dialog) → CallOf methods t dx dy → CallOf methods t dy dx
 call_turned methods t dx dy c =

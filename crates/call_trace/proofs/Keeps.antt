@@ -11,16 +11,16 @@ use Rattle.call_trace.specs.declared.call.Call.{Call}
 use Rattle.call_trace.specs.Messages.{ack, is_final, is_listed, asks}
 use Rattle.call_trace.specs.Exchanges.{At, TakesFinal, Exchange, IsExchange}
 use Rattle.call_trace.specs.Passing.{IsPassedOn}
-use Rattle.call_trace.specs.Calls.{IsFirst, AreBegun, CallOf, Ended}
+use Rattle.call_trace.specs.Calls.{IsFirst, AreCalled, CallFrom, Ended}
 use Rattle.call_trace.specs.Stands.{leg, IsOffered, Offered, SettledIn, CallStands, AllApart, HasTags, IsCallOf, AsksAt, Known, StandsAfter}
-use Rattle.call_trace.specs.Events.{passed, NoneAsked, IsIdle, IsIdleTaken, plain, refusal_acknowledged, again, due, calm, swallowed}
+use Rattle.call_trace.specs.Events.{passed, NoneAsked, IsIdle, IsIdleTaken, plain, branch_acknowledged, again, due, calm, swallowed}
 use Rattle.call_trace.specs.Listed.{AllOf, AnyOf}
 use Rattle.call_trace.proofs.AtLaws.{at_within, at_left, at_back, at_split}
-use Rattle.call_trace.proofs.Growing.{exchange_back, call_left, ended_left}
-use Rattle.call_trace.proofs.Members.{all_at, all_weaker}
+use Rattle.call_trace.proofs.Growing.{exchange_back, called_left, ended_left}
+use Rattle.call_trace.proofs.Members.{all_at}
 use Rattle.call_trace.proofs.Words.{not_both, plain_asks, other_asks, offer_asks, reply_is_listed, calm_final}
 use Rattle.call_trace.proofs.OneEvent.{Events, events_more, same_old, one_taken_more, FineAsks, Copies, copies_more, one_birth_more, taken_first, root_differs}
-use Rattle.call_trace.proofs.NewExchanges.{NoNew, last_left, idle_makes_none}
+use Rattle.call_trace.proofs.NewExchanges.{NoNew, last_left}
 
 -- ---- a call that the event leaves alone
 
@@ -72,7 +72,7 @@ stand_left methods t s c foreign h = record {
   offer = λ p e. offered_left methods t s (leg c p.by_caller) (leg c (not p.by_caller)) p (foreign.answered p e) (h.offer p e);
   first = h.first;
   later = h.later;
-  begun = λ e. call_left methods t s c.caller c.callee (h.begun e);
+  begun = λ e. called_left methods t s c.caller c.callee (h.begun e);
 }
 
 -- ---- which pairs are calls
@@ -92,39 +92,27 @@ first_back : (methods : List (List ℕ)) (t s : List Datagram) (d : Dialog) (e :
 first_back methods t s d e old f = record { exchange = exchange_back methods t s d e old f.exchange; invite = f.invite; no_tag = f.no_tag; named = f.named }
 
 -- a call of the longer trace is an old one, or the 2xx that was sent in it is new
-pub call_split : (methods : List (List ℕ)) (n : ℕ) (t : List Datagram) (taken : Option Message) (sent : List Message) (dx dy : Dialog) → Events n t → CallOf methods (t ++ passed n taken sent) dx dy
-    → CallOf methods t dx dy
-    ⊎ ((x : Exchange) × (y : Exchange) × (length t ≤ x.answered_at) × IsPassedOn x y
-    × ((IsFirst methods (t ++ passed n taken sent) dx x × IsFirst methods (t ++ passed n taken sent) dy y) ⊎ (IsFirst methods (t ++ passed n taken sent) dy x × IsFirst methods (t ++ passed n taken sent) dx y)))
+pub call_split : (methods : List (List ℕ)) (n : ℕ) (t : List Datagram) (taken : Option Message) (sent : List Message) (dx dy : Dialog) → Events n t → CallFrom methods (t ++ passed n taken sent) dx dy
+    → CallFrom methods t dx dy
+    ⊎ ((x : Exchange) × (y : Exchange) × (length t ≤ x.answered_at) × IsPassedOn x y × IsFirst methods (t ++ passed n taken sent) dx x × IsFirst methods (t ++ passed n taken sent) dy y)
 call_split methods n t taken sent dx dy ev c =
     let x : Exchange = c.0 in let y : Exchange = c.1 in
-    let b : AreBegun methods (t ++ passed n taken sent) dx dy x y = c.2 in
+    let b : AreCalled methods (t ++ passed n taken sent) dx dy x y = c.2 in
     let s : List Datagram = passed n taken sent in
-    elim b.together [
-      | inl on ↦ elim (at_split t s x.answered_at x.answered b.first_x.exchange.at_answered) [
-        | inl q ↦ (let old : x.answered_at < length t = at_within t x.answered_at x.answered q in
-            let old' : y.answered_at < length t = both_old methods n t taken sent dx dy x y ev old b.first_x.exchange b.first_y.exchange on in
-            inl (x, y, record { first_x = first_back methods t s dx x old b.first_x; first_y = first_back methods t s dy y old' b.first_y; together = inl on }))
-        | inr q ↦ (let place : x.answered_at ≡ length t + q.0 = q.1 in inr (x, y, omega arith, on, inl (b.first_x, b.first_y)))
-      ]
-      | inr on ↦ elim (at_split t s y.answered_at y.answered b.first_y.exchange.at_answered) [
-        | inl q ↦ (let old : y.answered_at < length t = at_within t y.answered_at y.answered q in
-            let old' : x.answered_at < length t = both_old methods n t taken sent dy dx y x ev old b.first_y.exchange b.first_x.exchange on in
-            inl (x, y, record { first_x = first_back methods t s dx x old' b.first_x; first_y = first_back methods t s dy y old b.first_y; together = inr on }))
-        | inr q ↦ (let place : y.answered_at ≡ length t + q.0 = q.1 in inr (y, x, omega arith, on, inr (b.first_y, b.first_x)))
-      ]
+    elim (at_split t s x.answered_at x.answered b.first_x.exchange.at_answered) [
+      | inl q ↦ (let old : x.answered_at < length t = at_within t x.answered_at x.answered q in
+          let old' : y.answered_at < length t = both_old methods n t taken sent dx dy x y ev old b.first_x.exchange b.first_y.exchange b.passed_on in
+          inl (x, y, record { first_x = first_back methods t s dx x old b.first_x; first_y = first_back methods t s dy y old' b.first_y; passed_on = b.passed_on }))
+      | inr q ↦ (let place : x.answered_at ≡ length t + q.0 = q.1 in inr (x, y, omega arith, b.passed_on, b.first_x, b.first_y))
     ]
 
 pub call_back : (methods : List (List ℕ)) (n : ℕ) (t : List Datagram) (taken : Option Message) (sent : List Message) (dx dy : Dialog) → Events n t → NoServed methods t (passed n taken sent)
-    → CallOf methods (t ++ passed n taken sent) dx dy → CallOf methods t dx dy
+    → CallFrom methods (t ++ passed n taken sent) dx dy → CallFrom methods t dx dy
 call_back methods n t taken sent dx dy ev none c =
     elim (call_split methods n t taken sent dx dy ev c) [
       | inl h ↦ h
       | inr h ↦ (let x : Exchange = h.0 in let behind : length t ≤ x.answered_at = h.2 in
-          elim h.4 [
-            | inl f ↦ (let old : x.answered_at < length t = none dx x f.0.exchange h.3.answer.sent in absurd (omega arith))
-            | inr f ↦ (let old : x.answered_at < length t = none dy x f.0.exchange h.3.answer.sent in absurd (omega arith))
-          ])
+          let old : x.answered_at < length t = none dx x h.4.exchange h.3.answer.sent in absurd (omega arith))
     ]
 
 -- each pair that was listed being listed then, or ended
@@ -164,7 +152,7 @@ pub idle_asks : (methods : List (List ℕ)) (t : List Datagram) (taken : Option 
 idle_asks methods t taken m acks idle a =
     elim idle [
       | plain h ↦ absurd (plain_asks methods m h a)
-      | refusal_acknowledged k q h at out inv same ↦ absurd (other_asks methods ack m acks h a)
+      | branch_acknowledged k q h at out inv same ↦ absurd (other_asks methods ack m acks h a)
       | again k q at out same h ↦ (
         k,
         q,
@@ -204,19 +192,3 @@ idle_answers_none methods n t taken sent x y p copies idle h k r at f =
 
 pub no_new_serves_none : (methods : List (List ℕ)) (t s : List Datagram) → ((d : Dialog) → NoNew methods t s d) → NoServed methods t s
 no_new_serves_none methods t s h d e x out = h d e x
-
-pub idle_foreign : (methods : List (List ℕ)) (n : ℕ) (t : List Datagram) (taken : Option Message) (sent : List Message) (c : Call) → Copies methods t → Copies methods (t ++ passed n taken sent) → IsIdleTaken methods t taken → AllOf (IsIdle methods t taken) sent
-    → CallStands methods t c → Foreign methods t (passed n taken sent) c
-idle_foreign methods n t taken sent c copies more calmly idle h = record {
-  legs = λ b. idle_makes_none methods n t taken sent (leg c b) more calmly idle;
-  answered = λ p e. idle_answers_none methods n t taken sent (leg c p.by_caller) (leg c (not p.by_caller)) p copies calmly (h.offer p e);
-}
-
-pub nothing_stands : (methods : List (List ℕ)) (old : List Call) (n : ℕ) (t : List Datagram) (taken : Option Message) (sent : List Message) → IsIdleTaken methods t taken → AllOf (IsIdle methods t taken) sent
-    → StandsAfter methods old n t → StandsAfter methods old (suc n) (t ++ passed n taken sent)
-nothing_stands methods old n t taken sent calmly idle h =
-    let fine : FineAsks methods t taken sent = fine_idle methods t taken sent h.offering.acks idle in
-    let more : Copies methods (t ++ passed n taken sent) = copies_more methods n t taken sent fine h.copies in
-    assembled methods old old n t taken sent h fine h.tags h.apart
-    (all_weaker (CallStands methods t) (CallStands methods (t ++ passed n taken sent)) (λ c g. stand_left methods t (passed n taken sent) c (idle_foreign methods n t taken sent c h.copies more calmly idle g) g) old h.stand)
-    (known_more methods n t taken sent old old h.events (no_new_serves_none methods t (passed n taken sent) (λ d. idle_makes_none methods n t taken sent d more calmly idle)) (λ dx dy l. inl l) h.known)

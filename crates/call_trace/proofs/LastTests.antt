@@ -9,7 +9,7 @@ use Rattle.call_trace.specs.declared.exchange.Places.{Places}
 use Rattle.call_trace.specs.Exchanges.{Exchange, IsExchange, IsLast}
 use Rattle.call_trace.specs.Passing.{IsPassedOn, PassedTogether}
 use Rattle.call_trace.specs.Promise.{AreLast}
-use Rattle.call_trace.specs.Places.{StandsAt, HoldsAt, HoldTogether}
+use Rattle.call_trace.specs.Places.{IsAtPlaces, HoldsAt, HoldTogether}
 use Rattle.call_trace.specs.Computed.{places, same_places, rival_at, has_rival_for, has_rival_at, has_rival, last_together}
 use Rattle.call_trace.proofs.AtLaws.{at_within}
 use Rattle.call_trace.proofs.ExchangeTests.{same_exchange, SomePlaces, decides_places, own_places, decides_last}
@@ -53,7 +53,7 @@ unfolding has_rival
 decides_has_rival methods t dx dy x y = decides_places (λ e. has_rival_at methods t dx dy x y e) (λ e. HasRival methods t dx dy x y e) (decides_rival_at methods t dx dy x y) (length t)
 
 -- no two others: where there is no rival, every two that were passed together are the two
-alone_from : (methods : List (List ℕ)) (t : List Datagram) (dx dy : Dialog) (x y : Places) (u v : Exchange) → StandsAt t x u → StandsAt t y v
+alone_from : (methods : List (List ℕ)) (t : List Datagram) (dx dy : Dialog) (x y : Places) (u v : Exchange) → IsAtPlaces t x u → IsAtPlaces t y v
     → ¬ SomePlaces (length t) (λ e. HasRival methods t dx dy x y e)
     → (e f : Exchange) → IsLast methods t dx e → IsLast methods t dy f → PassedTogether e f → (e ≡ u) × (f ≡ v)
 alone_from methods t dx dy x y u v at_u at_v none e f last_e last_f together =
@@ -61,8 +61,8 @@ alone_from methods t dx dy x y u v at_u at_v none e f last_e last_f together =
     let fx : IsExchange methods t dy f = last_f.exchange in
     let pe : Places = places e.asked_at e.answered_at in
     let pf : Places = places f.asked_at f.answered_at in
-    let own_e : StandsAt t pe e = own_places methods t dx e ex in
-    let own_f : StandsAt t pf f = own_places methods t dy f fx in
+    let own_e : IsAtPlaces t pe e = own_places methods t dx e ex in
+    let own_f : IsAtPlaces t pf f = own_places methods t dy f fx in
     let same : SamePlaces pe x × SamePlaces pf y = both_hold (same_places pe x) (same_places pf y) (decides_same pe x) (decides_same pf y)
     (λ other. none (
       pe,
@@ -78,7 +78,7 @@ alone_from methods t dx dy x y u v at_u at_v none e f last_e last_f together =
     )
 
 -- and the other way round
-none_from : (methods : List (List ℕ)) (t : List Datagram) (dx dy : Dialog) (x y : Places) (u v : Exchange) → StandsAt t x u → StandsAt t y v → AreLast methods t dx dy u v
+none_from : (methods : List (List ℕ)) (t : List Datagram) (dx dy : Dialog) (x y : Places) (u v : Exchange) → IsAtPlaces t x u → IsAtPlaces t y v → AreLast methods t dx dy u v
     → ¬ SomePlaces (length t) (λ e. HasRival methods t dx dy x y e)
 none_from methods t dx dy x y u v at_u at_v are h =
     let e = h.3.0 in let f = h.3.1.3.0 in let both = h.3.1.3.1.0 in

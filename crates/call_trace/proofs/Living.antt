@@ -1,5 +1,5 @@
 -- Which dialogs are live after one more event.
-use Rattle.std.proofs.Common.{◌≡◌, ◌≢◌, ℕ, List, ◌++◌, Option, Some, ◌⊎◌, inl, inr, sym, ◌∙◌, ap, subst}
+use Rattle.std.proofs.Common.{◌≡◌, ◌≢◌, ℕ, Bool, List, ◌++◌, Option, Some, ◌⊎◌, inl, inr, sym, ◌∙◌, ap, subst}
 use Rattle.std.specs.Prelude.{slice_get, IsTrue}
 use Rattle.call_trace.specs.declared.datagram.Direction.{Direction}
 use Rattle.call_trace.specs.declared.datagram.Direction.TheVariants.{Sent}
@@ -12,14 +12,14 @@ use Rattle.call_trace.specs.Messages.{invite, ack, bye, is_request, is_ok, is_su
 use Rattle.call_trace.specs.Dialogs.{dialog_of}
 use Rattle.call_trace.specs.Exchanges.{At}
 use Rattle.call_trace.specs.Calls.{IsOwnBranch, Begun, Ended}
-use Rattle.call_trace.specs.Stands.{IsTagOf, AreOffering}
-use Rattle.call_trace.specs.Lives.{IsLegOf, SparesCall, NoBye, LegsStand, LivesAfter}
-use Rattle.call_trace.specs.Events.{sent_at, passed, dialog_sent, IsIdle, plain, refusal_acknowledged, again, IsParting, idle, bye_sent, bye_answered, acknowledged}
+use Rattle.call_trace.specs.Stands.{leg, IsTagOf, AreOffering}
+use Rattle.call_trace.specs.Lives.{IsEnding, IsLegOf, SparesCall, NoBye, LegsStand, LivesAfter}
+use Rattle.call_trace.specs.Events.{sent_at, passed, dialog_sent, IsIdle, plain, branch_acknowledged, again, IsParting, idle, bye_sent, bye_answered, acknowledged}
 use Rattle.call_trace.specs.Listed.{AllOf, AnyOf}
 use Rattle.call_trace.proofs.AtLaws.{at_left, at_split}
 use Rattle.call_trace.proofs.Growing.{ended_left}
 use Rattle.call_trace.proofs.Members.{all_at}
-use Rattle.call_trace.proofs.Words.{and_left, and_right, request_of, request_asks, request_is_no_success, ok_is_success, invite_is_listed, invite_asks, other_asks, plain_ack, plain_bye, plain_ok, plain_accepts, invite_is_not_bye, ack_is_not_bye}
+use Rattle.call_trace.proofs.Words.{and_left, and_right, request_of, request_asks, request_is_no_success, ok_is_success, invite_asks, other_asks, plain_ack, plain_bye, plain_ok, plain_accepts, invite_is_not_bye, ack_is_not_bye}
 use Rattle.call_trace.proofs.OneEvent.{sent_part, used_by_request, FineAsks}
 use Rattle.call_trace.proofs.Parting.{all_from_at, ends_now}
 
@@ -70,10 +70,10 @@ idle_begins : (methods : List (List ℕ)) (t s : List Datagram) (taken : Option 
 idle_begins methods t s taken m off h b =
     elim h [
       | plain g ↦ elim b [
-        | inl a ↦ absurd (plain_accepts methods m g (and_left (is_success m.kind) (is_method invite m.method) a) (invite_is_listed methods m.method off.invites (and_right (is_success m.kind) (is_method invite m.method) a)))
+        | inl a ↦ absurd (plain_accepts methods m g (and_left (is_success m.kind) (is_method invite m.method) a) (and_right (is_success m.kind) (is_method invite m.method) a))
         | inr a ↦ absurd (plain_ack methods m g a.0)
       ]
-      | refusal_acknowledged k q g at out inv same ↦ elim b [
+      | branch_acknowledged k q g at out inv same ↦ elim b [
         | inl a ↦ absurd (request_is_no_success m.kind (request_of ack m g) (and_left (is_success m.kind) (is_method invite m.method) a))
         | inr a ↦ absurd (a.1 k q (at_left t s k q at) out inv same)
       ]
@@ -106,7 +106,7 @@ fine_bye methods t taken sent new m i c off h at none b =
       | parting g ↦ elim g [
         | idle f ↦ elim f [
           | plain e ↦ absurd (plain_bye methods m e b)
-          | refusal_acknowledged k q e at' out inv same ↦ absurd (ack_is_not_bye m.method (and_right (is_request m.kind) (is_method ack m.method) e) (and_right (is_request m.kind) (is_method bye m.method) b))
+          | branch_acknowledged k q e at' out inv same ↦ absurd (ack_is_not_bye m.method (and_right (is_request m.kind) (is_method ack m.method) e) (and_right (is_request m.kind) (is_method bye m.method) b))
           | again k q at' out same e ↦ (let p = none.sent k q at' out (let P : Message → Type 0 = λ v. IsTrue (is_request_of bye v) in subst P (sym same) b) in record {
             caller = λ g' e'. p.caller g' (dialog_again q m out same ∙ e');
             callee = λ g' e'. p.callee g' (dialog_again q m out same ∙ e');
@@ -121,19 +121,19 @@ fine_bye methods t taken sent new m i c off h at none b =
       | begins g f e ↦ absurd (g b)
     ]
 
-fine_ok : (methods : List (List ℕ)) (t : List Datagram) (taken : Option Message) (sent : List Message) (new : List Call) (m : Message) (i : ℕ) (c : Call) → IsFine methods t taken sent new m → slice_get new i ≡ Some c → NoBye t c → c.stage ≢ Ending
+fine_ok : (methods : List (List ℕ)) (t : List Datagram) (taken : Option Message) (sent : List Message) (new : List Call) (m : Message) (i : ℕ) (c : Call) → IsFine methods t taken sent new m → slice_get new i ≡ Some c → NoBye t c → ¬ IsEnding c.stage
     → IsTrue (is_ok m.kind) → IsTrue (is_method bye m.method) → ¬ IsTagOf c m.to_tag
 fine_ok methods t taken sent new m i c h at none stays k b tag =
     elim h [
       | parting g ↦ elim g [
         | idle f ↦ elim f [
           | plain e ↦ plain_ok methods m e k b
-          | refusal_acknowledged j q e at' out inv same ↦ request_is_no_success m.kind (request_of ack m e) (ok_is_success m.kind k)
+          | branch_acknowledged j q e at' out inv same ↦ request_is_no_success m.kind (request_of ack m e) (ok_is_success m.kind k)
           | again j q at' out same e ↦ none.answered stays j q at' out (let P : Message → Type 0 = λ v. IsTrue (is_ok v.kind) in subst P (sym same) k) (let P : Message → Type 0 = λ v. IsTrue (is_method bye v.method) in subst P (sym same) b)
               (let P : Message → Type 0 = λ v. IsTagOf c v.to_tag in subst P (sym same) tag)
         ]
         | bye_sent f e ↦ request_is_no_success m.kind (request_of bye m f) (ok_is_success m.kind k)
-        | bye_answered f g' e ↦ all_at (λ d. d.stage ≢ Ending → ¬ IsTagOf d m.to_tag) new i c e at stays tag
+        | bye_answered f g' e ↦ all_at (λ d. ¬ IsEnding d.stage → ¬ IsTagOf d m.to_tag) new i c e at stays tag
         | acknowledged f e ↦ request_is_no_success m.kind (request_of ack m f) (ok_is_success m.kind k)
       ]
       | asking g ↦ request_is_no_success m.kind (request_asks methods m g) (ok_is_success m.kind k)
@@ -168,7 +168,7 @@ fine_begins methods n t taken sent new m off h b =
 pub record BegunLegs (t : List Datagram) (c : Call) : Type 0 where
   pub caller : c.stage ≢ Asked → Begun t c.caller
   pub callee : c.stage ≢ Asked → Begun t c.callee
-  pub ending : c.stage ≡ Ending → Ended t c.caller ⊎ Ended t c.callee
+  pub ending : (b : Bool) → c.stage ≡ Ending b → Ended t (leg c b)
 
 -- no BYE is in the call before the event, and its legs have begun after it
 abbrev pub Grown : List Datagram → List Datagram → Call → Type 0
@@ -180,7 +180,7 @@ grown methods n t taken sent c off fine h = (
   record {
     caller = λ e. begun_left methods n t taken sent c.caller off fine (h.caller e);
     callee = λ e. begun_left methods n t taken sent c.callee off fine (h.callee e);
-    ending = λ e. elim (h.ending e) [ inl x ↦ inl (ended_left t (passed n taken sent) c.caller x) | inr x ↦ inr (ended_left t (passed n taken sent) c.callee x) ];
+    ending = λ b e. ended_left t (passed n taken sent) (leg c b) (h.ending b e);
   },
 )
 

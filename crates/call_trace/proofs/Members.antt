@@ -1,5 +1,5 @@
 -- Lists of calls of which each one, or some one, has a property.
-use Rattle.std.proofs.Common.{◌≡◌, ℕ, zero, suc, List, [], ◌∷◌, ◌++◌, Some, ◌⊎◌, inl, inr, refl, subst}
+use Rattle.std.proofs.Common.{◌≡◌, ℕ, zero, suc, List, [], ◌∷◌, ◌++◌, Some, ◌⊎◌, inl, inr, refl, sym, subst}
 use Rattle.std.specs.Prelude.{slice_get, slice_set, remove}
 use Rattle.call_trace.specs.Listed.{AllOf, AnyOf}
 
@@ -57,6 +57,11 @@ pub any_at : {X : Type 0} (P : X → Type 0) (t : List X) → AnyOf P t → (i :
 any_at P [] a = absurd a
 any_at P (x ∷ t) a =
     elim a [ inl h ↦ (0, x, refl, h) | inr h ↦ (let r = any_at P t h in (suc r.0, r.1, r.2, r.3)) ]
+
+pub at_any : {X : Type 0} (P : X → Type 0) (t : List X) (i : ℕ) (x : X) → slice_get t i ≡ Some x → P x → AnyOf P t
+at_any P [] i x e h = absurd (cc)
+at_any P (y ∷ t) zero x e h = let q : y ≡ x = cc in inl (subst P (sym q) h)
+at_any P (y ∷ t) (suc i) x e h = inr (at_any P t i x e h)
 
 pub all_both : {X : Type 0} (P Q : X → Type 0) (t : List X) → AllOf P t → AllOf Q t → AllOf (λ x. P x × Q x) t
 all_both P Q [] a b = tt

@@ -8,17 +8,15 @@ use Rattle.call_trace.specs.declared.datagram.Kind.TheVariants.{Request, Respons
 use Rattle.call_trace.specs.declared.datagram.Message.{Message}
 use Rattle.call_trace.specs.declared.datagram.Datagram.{Datagram}
 use Rattle.call_trace.specs.declared.datagram.Dialog.{Dialog}
-use Rattle.call_trace.specs.Messages.{ack, is_request, is_success, is_listed}
+use Rattle.call_trace.specs.Messages.{ack, is_request, is_success, is_answer, is_listed}
 use Rattle.call_trace.specs.Dialogs.{is_ours_in_from, our_tag}
 use Rattle.call_trace.specs.Exchanges.{At, TakesFinal, Exchange, IsMade, IsExchange, IsLast}
 use Rattle.call_trace.specs.Stands.{AsksAt}
-use Rattle.call_trace.specs.Events.{taken_at, sent_at, passed, IsIdle, IsIdleTaken, plain, refusal_acknowledged, again, due, calm, swallowed}
-use Rattle.call_trace.specs.Listed.{AllOf}
+use Rattle.call_trace.specs.Events.{taken_at, sent_at, passed, IsIdle, IsIdleTaken, plain, branch_acknowledged, again, due, calm, swallowed}
 use Rattle.call_trace.proofs.AtLaws.{at_within, at_left, at_split}
 use Rattle.call_trace.proofs.Growing.{exchange_left, exchange_back}
-use Rattle.call_trace.proofs.Members.{all_at}
-use Rattle.call_trace.proofs.Words.{request_is_no_success, success_is_final, request_of, offer_asks, answer_succeeds, reply_is_listed, plain_accepts, calm_final}
-use Rattle.call_trace.proofs.OneEvent.{Part, came, went, part_of, Copies, asks_left}
+use Rattle.call_trace.proofs.Words.{request_is_no_success, success_is_final, request_of, offer_asks, answer_succeeds, reply_is_listed, plain_answers, calm_final}
+use Rattle.call_trace.proofs.OneEvent.{Part, part_of, Copies, asks_left}
 
 -- ---- the tag of an exchange
 
@@ -105,11 +103,12 @@ answer_listed methods t d e x = reply_is_listed methods e.answered.message e.ask
 pub idle_no_answer : (methods : List (List ℕ)) (t s : List Datagram) (d : Dialog) (e : Exchange) (n : ℕ) (taken : Option Message) (m : Message) → IsExchange methods (t ++ s) d e → length t ≤ e.answered_at
     → e.answered ≡ sent_at n m → IsIdle methods t taken m → ⊥
 idle_no_answer methods t s d e n taken m x behind is idle =
-    let success : IsTrue (is_success m.kind) = (let P : Datagram → Type 0 = λ v. IsTrue (is_success v.message.kind) in subst P is (answer_succeeds e.answered.message x.answer)) in
+    let answers : IsTrue (is_answer m) = (let P : Datagram → Type 0 = λ v. IsTrue (is_answer v.message) in subst P is x.answer) in
+    let success : IsTrue (is_success m.kind) = answer_succeeds m answers in
     let listed : IsTrue (is_listed methods m.method) = (let P : Datagram → Type 0 = λ v. IsTrue (is_listed methods v.message.method) in subst P is (answer_listed methods (t ++ s) d e x)) in
     elim idle [
-      | plain h ↦ plain_accepts methods m h success listed
-      | refusal_acknowledged k q h at out inv same ↦ request_is_no_success m.kind (request_of ack m h) success
+      | plain h ↦ plain_answers methods m h answers listed
+      | branch_acknowledged k q h at out inv same ↦ request_is_no_success m.kind (request_of ack m h) success
       | again k q at out same h ↦ elim x.crossed [
         | inl c ↦ (let w : k < length t = at_within t k q at in
             let lt : k < e.answered_at = omega arith in
@@ -146,18 +145,4 @@ idle_taken_no_answer methods t s d e n taken m copies x behind tk is idle =
           let w : k < length t = at_within t k r at in
           let lt : k < e.answered_at = omega arith in
           c.first k r lt (at_left t s k r at) (let P : Message → Type 0 = λ v. TakesFinal r v in subst P (sym copy) final))
-    ]
-
--- an event that moves no call makes no exchange
-pub idle_makes_none : (methods : List (List ℕ)) (n : ℕ) (t : List Datagram) (taken : Option Message) (sent : List Message) (d : Dialog) → Copies methods (t ++ passed n taken sent) → IsIdleTaken methods t taken → AllOf (IsIdle methods t taken) sent
-    → NoNew methods t (passed n taken sent) d
-idle_makes_none methods n t taken sent d copies calmly idle e x =
-    elim (exchange_new methods n t taken sent d e x) [
-      | inl h ↦ h.0
-      | inr h ↦ (let place : e.answered_at ≡ length t + h.0 = h.1 in
-          let behind : length t ≤ e.answered_at = omega arith in
-          elim h.3 [
-            | came m tk z is ↦ absurd (idle_taken_no_answer methods t (passed n taken sent) d e n taken m copies x behind tk is calmly)
-            | went i m at z is ↦ absurd (idle_no_answer methods t (passed n taken sent) d e n taken m x behind is (all_at (IsIdle methods t taken) sent i m idle at))
-          ])
     ]

@@ -1,5 +1,5 @@
 -- A call ends, or an answer is of no call: and the refusal of a later offer.
-use Rattle.std.proofs.Common.{◌≡◌, ℕ, suc, ◌+◌, ◌<◌, ◌≤◌, List, [], ◌∷◌, ◌++◌, length, Bool, not, Option, Some, inl, inr, refl, sym, ◌∙◌, ap, subst, arith}
+use Rattle.std.proofs.Common.{◌≡◌, ℕ, suc, ◌+◌, ◌<◌, ◌≤◌, List, [], ◌∷◌, ◌++◌, length, Bool, true, false, not, Option, Some, ◌⊎◌, inl, inr, refl, sym, ◌∙◌, ap, subst, arith}
 use Rattle.std.specs.Prelude.{slice_get, slice_set, remove, IsTrue}
 use Rattle.call_trace.specs.declared.datagram.Direction.TheVariants.{Taken}
 use Rattle.call_trace.specs.declared.datagram.Message.{Message}
@@ -15,7 +15,8 @@ use Rattle.call_trace.specs.Exchanges.{At, TakesFinal, Exchange, IsExchange}
 use Rattle.call_trace.specs.Calls.{Ended}
 use Rattle.call_trace.specs.Stands.{leg, CallStands, IsTagOf, AllApart, HasTags, IsCallOf, StandsAfter}
 use Rattle.call_trace.specs.Events.{taken_at, sent_at, passed, IsIdle, IsIdleTaken, EndsNow, before, left, served, IsParting, idle, bye_sent, bye_answered, acknowledged, IsPartingTaken, unmoved, answered}
-use Rattle.call_trace.specs.Moves.{without_offer, ending}
+use Rattle.call_trace.specs.Moves.{without_offer, ending, Leaves}
+use Rattle.call_trace.specs.Lives.{LegsStand}
 use Rattle.call_trace.specs.Listed.{AllOf}
 use Rattle.call_trace.proofs.AtLaws.{at_right}
 use Rattle.call_trace.proofs.Growing.{ended_left}
@@ -165,12 +166,12 @@ parted_stands methods old rest n t taken sent st tags apart stand tk h keep =
     (all_at (CallStands methods t) rest i c stand at)))
     (known_more methods n t taken sent old rest st.events (parting_serves_none methods n t taken sent rest st.offering.byes h) keep st.known)
 
-pub stray_stands : (methods : List (List ℕ)) (old : List Call) (n : ℕ) (t : List Datagram) (taken : Option Message) (sent : List Message) → IsPartingTaken methods t taken old → AllOf (IsParting methods t taken sent old) sent → StandsAfter methods old n t
+pub quiet_stands : (methods : List (List ℕ)) (old : List Call) (n : ℕ) (t : List Datagram) (taken : Option Message) (sent : List Message) → IsPartingTaken methods t taken old → AllOf (IsParting methods t taken sent old) sent → StandsAfter methods old n t
     → StandsAfter methods old (suc n) (t ++ passed n taken sent)
-stray_stands methods old n t taken sent tk h st = parted_stands methods old old n t taken sent st st.tags st.apart st.stand tk h (λ dx dy l. inl l)
+quiet_stands methods old n t taken sent tk h st = parted_stands methods old old n t taken sent st st.tags st.apart st.stand tk h (λ dx dy l. inl l)
 
-pub ending_stands : (methods : List (List ℕ)) (t : List Datagram) (c : Call) (z : Settled) → c.stage ≡ Answered z → CallStands methods t c → CallStands methods t (ending c)
-ending_stands methods t c z stage h = record {
+pub ending_stands : (methods : List (List ℕ)) (t : List Datagram) (c : Call) (z : Settled) (b : Bool) → c.stage ≡ Answered z → CallStands methods t c → CallStands methods t (ending c b)
+ending_stands methods t c z b stage h = record {
   session = λ r e. absurd (cc);
   offer = λ p e. absurd (cc);
   first = λ e. absurd (cc);
@@ -178,37 +179,34 @@ ending_stands methods t c z stage h = record {
   begun = λ e. h.begun (λ f. (let g : Answered z ≡ Asked = sym stage ∙ f in cc));
 }
 
-pub part_stands : (methods : List (List ℕ)) (old : List Call) (n : ℕ) (t : List Datagram) (taken : Option Message) (sent : List Message) (k : ℕ) (c : Call) (z : Settled) → slice_get old k ≡ Some c → c.stage ≡ Answered z
-    → IsIdleTaken methods t taken → AllOf (IsParting methods t taken sent (slice_set old k (ending c))) sent → StandsAfter methods old n t
-    → StandsAfter methods (slice_set old k (ending c)) (suc n) (t ++ passed n taken sent)
-part_stands methods old n t taken sent k c z at stage tk h st =
+pub part_stands : (methods : List (List ℕ)) (old : List Call) (n : ℕ) (t : List Datagram) (taken : Option Message) (sent : List Message) (k : ℕ) (c : Call) (z : Settled) (b : Bool) → slice_get old k ≡ Some c → c.stage ≡ Answered z
+    → IsIdleTaken methods t taken → AllOf (IsParting methods t taken sent (slice_set old k (ending c b))) sent → StandsAfter methods old n t
+    → StandsAfter methods (slice_set old k (ending c b)) (suc n) (t ++ passed n taken sent)
+part_stands methods old n t taken sent k c z b at stage tk h st =
     let tags : HasTags c = all_at HasTags old k c st.tags at in
-    parted_stands methods old (slice_set old k (ending c)) n t taken sent st
-    (all_set HasTags old k (ending c) st.tags (record { caller = tags.caller; callee = tags.callee; differ = tags.differ }))
-    (apart_set old k c (ending c) at (λ v q. q) st.apart)
-    (all_set (CallStands methods t) old k (ending c) st.stand (ending_stands methods t c z stage (all_at (CallStands methods t) old k c st.stand at)))
+    parted_stands methods old (slice_set old k (ending c b)) n t taken sent st
+    (all_set HasTags old k (ending c b) st.tags (record { caller = tags.caller; callee = tags.callee; differ = tags.differ }))
+    (apart_set old k c (ending c b) at (λ v q. q) st.apart)
+    (all_set (CallStands methods t) old k (ending c b) st.stand (ending_stands methods t c z b stage (all_at (CallStands methods t) old k c st.stand at)))
     (unmoved tk) h
-    (λ dx dy l. inl (any_set (IsCallOf dx dy) old k c (ending c) at (λ r. record { answered = λ e. absurd (cc); dialogs = r.dialogs }) l))
+    (λ dx dy l. inl (any_set (IsCallOf dx dy) old k c (ending c b) at (λ r. record { answered = λ e. absurd (cc); caller = r.caller; callee = r.callee }) l))
 
-pub decline_stands : (methods : List (List ℕ)) (old : List Call) (n : ℕ) (t : List Datagram) (taken : Option Message) (sent : List Message) (k : ℕ) (c : Call) → slice_get old k ≡ Some c → c.stage ≡ Asked
+-- a leg that leaves by this event has ended after it
+pub leaves_now : (n : ℕ) (t : List Datagram) (taken : Option Message) (sent : List Message) (c : Call) (b : Bool) → LegsStand t c → Leaves t taken sent c b → Ended (t ++ passed n taken sent) (leg c b)
+leaves_now n t taken sent c b h l = elim l [ inl e ↦ ends_now n t taken sent (leg c b) e | inr e ↦ ended_left t (passed n taken sent) (leg c b) (h.ending b e) ]
+
+pub go_stands : (methods : List (List ℕ)) (old : List Call) (n : ℕ) (t : List Datagram) (taken : Option Message) (sent : List Message) (k : ℕ) (c : Call) → slice_get old k ≡ Some c
+    → (c.stage ≡ Asked) ⊎ (Leaves t taken sent c true × Leaves t taken sent c false) → LegsStand t c
     → IsPartingTaken methods t taken (remove old k) → AllOf (IsParting methods t taken sent (remove old k)) sent → StandsAfter methods old n t → StandsAfter methods (remove old k) (suc n) (t ++ passed n taken sent)
-decline_stands methods old n t taken sent k c at stage tk h st =
-    parted_stands methods old (remove old k) n t taken sent st (all_remove HasTags old k st.tags) (apart_remove old k st.apart) (all_remove (CallStands methods t) old k st.stand) tk h
-    (λ dx dy l. elim (any_remove (IsCallOf dx dy) old k c at l) [ inl g ↦ inl g | inr g ↦ absurd (g.answered stage) ])
-
--- a call whose two dialogs have ended is no call of others
-both_ended : (t : List Datagram) (c : Call) (dx dy : Dialog) → Ended t c.caller → Ended t c.callee → IsCallOf dx dy c → Ended t dx × Ended t dy
-both_ended t c dx dy e f g =
-    let P : Dialog → Type 0 = λ v. Ended t v in
-    elim g.dialogs [ inl q ↦ (subst P q.0 e, subst P q.1 f) | inr q ↦ (subst P q.0 f, subst P q.1 e) ]
-
-pub end_stands : (methods : List (List ℕ)) (old : List Call) (n : ℕ) (t : List Datagram) (taken : Option Message) (sent : List Message) (k : ℕ) (c : Call) → slice_get old k ≡ Some c → EndsNow t taken sent c.caller → EndsNow t taken sent c.callee
-    → IsPartingTaken methods t taken (remove old k) → AllOf (IsParting methods t taken sent (remove old k)) sent → StandsAfter methods old n t → StandsAfter methods (remove old k) (suc n) (t ++ passed n taken sent)
-end_stands methods old n t taken sent k c at e f tk h st =
+go_stands methods old n t taken sent k c at over legs tk h st =
+    let P : Dialog → Type 0 = λ v. Ended (t ++ passed n taken sent) v in
     parted_stands methods old (remove old k) n t taken sent st (all_remove HasTags old k st.tags) (apart_remove old k st.apart) (all_remove (CallStands methods t) old k st.stand) tk h
     (λ dx dy l. elim (any_remove (IsCallOf dx dy) old k c at l) [
       | inl g ↦ inl g
-      | inr g ↦ inr (both_ended (t ++ passed n taken sent) c dx dy (ends_now n t taken sent c.caller e) (ends_now n t taken sent c.callee f) g)
+      | inr g ↦ elim over [
+        | inl stage ↦ absurd (g.answered stage)
+        | inr both ↦ inr (subst P g.caller (leaves_now n t taken sent c true legs both.0), subst P g.callee (leaves_now n t taken sent c false legs both.1))
+      ]
     ])
 
 -- ---- the refusal of a later offer

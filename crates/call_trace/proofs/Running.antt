@@ -7,26 +7,24 @@ use Rattle.call_trace.specs.declared.call.Call.{Call}
 use Rattle.call_trace.specs.Stands.{leg, AreOffering, StandsAfter}
 use Rattle.call_trace.specs.Lives.{LivesAfter, Stands}
 use Rattle.call_trace.specs.Events.{passed}
-use Rattle.call_trace.specs.Moves.{Move, nothing, ask, reoffer, settle_first, settle_later, release, stray, part, decline, end, new_call, reoffered, without_offer, settled_first, settled_later, ending}
+use Rattle.call_trace.specs.Moves.{Move, quiet, ask, reoffer, settle_first, settle_later, release, part, go, new_call, reoffered, without_offer, settled_first, settled_later, ending}
 use Rattle.call_trace.specs.Runs.{Event, trace_from, Moves}
 use Rattle.call_trace.proofs.Sessions.{moved}
-use Rattle.call_trace.proofs.LivingMoves.{nothing_lives, ask_lives, reoffer_lives, settle_first_lives, settle_later_lives, release_lives, stray_lives, part_lives, decline_lives, end_lives}
+use Rattle.call_trace.proofs.LivingMoves.{ask_lives, reoffer_lives, settle_first_lives, settle_later_lives, release_lives, quiet_lives, part_lives, go_lives}
 use Rattle.call_trace.proofs.Standing.{none_stand}
 
 pub lives_moved : (methods : List (List ℕ)) (n : ℕ) (t : List Datagram) (old new : List Call) (taken : Option Message) (sent : List Message) → Move methods t old taken sent new → StandsAfter methods old n t → LivesAfter old t
     → LivesAfter new (t ++ passed n taken sent)
 lives_moved methods n t old new taken sent mv h l =
     elim mv [
-      | nothing tk se e ↦ to old e (nothing_lives methods old n t taken sent h.offering se l)
-      | ask x y m g w asks fresh tk se e ↦ all (old ++ new_call x y m w ∷ []) (Some m) (g ∷ w ∷ []) e tk se (ask_lives methods old n t x y m g w h.offering asks fresh l)
-      | reoffer k c z b m g w at stage none asks tag tk se e ↦ all (slice_set old k (reoffered c b m w)) (Some m) (g ∷ w ∷ []) e tk se (reoffer_lives methods old n t k c b (leg c b) (leg c (not b)) m g w h.offering at asks l)
+      | ask x y m g w asks fresh tk se e ↦ all (old ++ new_call x y m w ∷ []) (Some m) (g ++ w ∷ []) e tk se (ask_lives methods old n t x y m g w h.offering asks fresh l)
+      | reoffer k c z b m g w at stage none asks tag tk se e ↦ all (slice_set old k (reoffered c b m w)) (Some m) (g ++ w ∷ []) e tk se (reoffer_lives methods old n t k c b (leg c b) (leg c (not b)) m g w h.offering at asks l)
       | settle_first k c p s m a u at stage pe ans tk se e ↦ all (slice_set old k (settled_first c m.to_tag s)) (Some m) (a ∷ u ∷ []) e tk se (settle_first_lives methods old n t k c p s m a u at stage pe ans h l)
-      | settle_later k c z p s m a u at stage pe ans tk se e ↦ all (slice_set old k (settled_later c p.by_caller s)) (Some m) (a ∷ u ∷ []) e tk se (settle_later_lives methods old n t k c z p s m a u at stage pe ans h l)
+      | settle_later k c z p s m a u at stage pe ans acks tk se e ↦ all (slice_set old k (settled_later c p.by_caller s)) (Some m) (a ++ u ∷ []) e tk se (settle_later_lives methods old n t k c z p s m a u at stage pe ans h l)
       | release k c z p m at stage pe final refused re tk se e ↦ to (slice_set old k (without_offer c)) e (release_lives methods old n t taken sent k c h.offering at se l)
-      | stray tk se e ↦ to old e (stray_lives methods old n t taken sent h.offering se l)
-      | part k c z at stage ends tk se e ↦ to (slice_set old k (ending c)) e (part_lives methods old n t taken sent k c z h.offering at stage ends se l)
-      | decline k c at stage tk se e ↦ to (remove old k) e (decline_lives methods old n t taken sent k c h.offering at stage se l)
-      | end k c at x y tk se e ↦ to (remove old k) e (end_lives methods old n t taken sent k c h.offering at x y se l)
+      | quiet tk se e ↦ to old e (quiet_lives methods old n t taken sent h.offering se l)
+      | part k c z b at stage ends tk se e ↦ to (slice_set old k (ending c b)) e (part_lives methods old n t taken sent k c z b h.offering at stage ends se l)
+      | go k c at over tk se e ↦ to (remove old k) e (go_lives methods old n t taken sent k c h.offering at over se l)
     ]
   where
     to : (new' : List Call) → new ≡ new' → LivesAfter new' (t ++ passed n taken sent) → LivesAfter new (t ++ passed n taken sent)
@@ -40,7 +38,7 @@ lives_moved methods n t old new taken sent mv h l =
 
 pub stands_moved : (methods : List (List ℕ)) (n : ℕ) (t : List Datagram) (old new : List Call) (taken : Option Message) (sent : List Message) → Move methods t old taken sent new → Stands methods old n t
     → Stands methods new (suc n) (t ++ passed n taken sent)
-stands_moved methods n t old new taken sent mv h = record { sessions = moved methods n t old new taken sent mv h.sessions; lives = lives_moved methods n t old new taken sent mv h.sessions h.lives }
+stands_moved methods n t old new taken sent mv h = record { sessions = moved methods n t old new taken sent mv h.sessions h.lives; lives = lives_moved methods n t old new taken sent mv h.sessions h.lives }
 
 pub stands_run : (methods : List (List ℕ)) (n : ℕ) (t : List Datagram) (old new : List Call) (es : List Event) → Moves methods n t old es new → Stands methods old n t → Stands methods new (n + length es) (t ++ trace_from n es)
 stands_run methods n t old new [] mv h =

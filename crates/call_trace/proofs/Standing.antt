@@ -9,18 +9,19 @@ use Rattle.call_trace.specs.declared.call.Settled.{Settled}
 use Rattle.call_trace.specs.declared.call.Stage.{Stage}
 use Rattle.call_trace.specs.declared.call.Stage.TheVariants.{Asked, Answered, Ending}
 use Rattle.call_trace.specs.declared.call.Call.{Call}
-use Rattle.call_trace.specs.Messages.{bye, is_request, is_method}
+use Rattle.call_trace.specs.Messages.{offering, bye, is_request, is_method}
 use Rattle.call_trace.specs.Exchanges.{At, Exchange, IsLast}
 use Rattle.call_trace.specs.Passing.{IsPassedOn, PassedTogether}
-use Rattle.call_trace.specs.Calls.{CallOf, Ended, Live}
-use Rattle.call_trace.specs.Promise.{IsRelayed, Meets, Relays, AllRelayed}
+use Rattle.call_trace.specs.Calls.{CallOf, CallFrom, Ended, Live}
+use Rattle.call_trace.specs.Promise.{IsRelayed, Meets, EachMeets, Relays, AllRelayed}
+use Rattle.call_trace.specs.Serving.{LastSaid}
 use Rattle.call_trace.specs.Stands.{leg, IsSettled, CallStands, IsTagOf, HasTags, IsCallOf, AreOffering, StandsAfter}
-use Rattle.call_trace.specs.Lives.{IsLegOf, NoBye, LegsStand, Stands, IsOneCall, LivesExactly}
-use Rattle.call_trace.specs.Runs.{AreRelayed, AllMeet}
+use Rattle.call_trace.specs.Lives.{IsEnding, IsLegOf, NoBye, LegsStand, Stands, IsOneCall, IsAnsweredCall, LivesExactly}
+use Rattle.call_trace.specs.Promised.{AreRelayed, AllMeet}
 use Rattle.call_trace.specs.Listed.{AnyOf}
 use Rattle.call_trace.proofs.AtLaws.{at_same}
-use Rattle.call_trace.proofs.Growing.{call_turned}
-use Rattle.call_trace.proofs.Members.{all_at, all_weaker, all_both, any_at}
+use Rattle.call_trace.proofs.Growing.{call_turned, call_of_called, called_of_call}
+use Rattle.call_trace.proofs.Members.{all_at, all_weaker, any_at, at_any}
 use Rattle.call_trace.proofs.Apart.{apart_same}
 use Rattle.call_trace.proofs.Words.{and_right, offer_asks, request_of}
 use Rattle.call_trace.proofs.NewExchanges.{tag_request_taken}
@@ -70,15 +71,14 @@ lone_pair methods calls n t dx dy x y h lx ly on e f le lf together =
           let c : e.answered.direction ≡ x.answered.direction = ap (λ v. v.direction) ex.1 in absurd (cc))
     ]
 
--- an answered call is relayed, also while an offer is open
-pub call_meets : (methods : List (List ℕ)) (server : List ℕ) (table : ℕ → Option Addr) (calls : List Call) (n : ℕ) (t : List Datagram) (k : ℕ) (c : Call) (z : Settled) → StandsAfter methods calls n t → AreRelayed server table calls → slice_get calls k ≡ Some c
-    → c.stage ≡ Answered z → Relays methods server table t (leg c z.by_caller) (leg c (not z.by_caller))
-call_meets methods server table calls n t k c z h relayed at stage =
+-- what was said last in an answered call, also while an offer is open
+pub call_last : (methods : List (List ℕ)) (calls : List Call) (n : ℕ) (t : List Datagram) (k : ℕ) (c : Call) (z : Settled) → StandsAfter methods calls n t → slice_get calls k ≡ Some c
+    → c.stage ≡ Answered z → LastSaid methods t (leg c z.by_caller) (leg c (not z.by_caller)) z.session
+call_last methods calls n t k c z h at stage =
     let s = (all_at (CallStands methods t) calls k c h.stand at).session z stage in
     let is : IsSettled methods t (leg c z.by_caller) (leg c (not z.by_caller)) z.session s.0 s.1 = s.2 in (
       s.0,
       s.1,
-      z.session,
       record {
         last_x = is.last_x;
         last_y = is.last_y;
@@ -86,38 +86,19 @@ call_meets methods server table calls n t k c z h relayed at stage =
         alone = lone_pair methods calls n t (leg c z.by_caller) (leg c (not z.by_caller)) s.0 s.1 h is.last_x is.last_y is.passed_on;
       },
       is.said,
-      all_at (λ d. (r : Settled) → d.stage ≡ Answered r → IsRelayed server table r.session) calls k c relayed at z stage,
     )
 
-either_way : (methods : List (List ℕ)) (server : List ℕ) (table : ℕ → Option Addr) (t : List Datagram) (c : Call) (b : Bool) (dx dy : Dialog) → ((c.caller ≡ dx) × (c.callee ≡ dy)) ⊎ ((c.callee ≡ dx) × (c.caller ≡ dy))
-    → Relays methods server table t (leg c b) (leg c (not b)) → Relays methods server table t dx dy ⊎ Relays methods server table t dy dx
-either_way methods server table t c true dx dy d m =
-    elim d [ inl h ↦ inl (relays_same c.caller dx c.callee dy h.0 h.1 m) | inr h ↦ inr (relays_same c.caller dy c.callee dx h.1 h.0 m) ]
-  where
-    relays_same : (x x' y y' : Dialog) → x ≡ x' → y ≡ y' → Relays methods server table t x y → Relays methods server table t x' y'
-    relays_same x x' y y' e f g = let P : Dialog → Type 0 = λ v. Relays methods server table t v y in let Q : Dialog → Type 0 = λ v. Relays methods server table t x' v in subst Q f (subst P e g)
-either_way methods server table t c false dx dy d m =
-    elim d [ inl h ↦ inr (relays_same c.callee dy c.caller dx h.1 h.0 m) | inr h ↦ inl (relays_same c.callee dx c.caller dy h.0 h.1 m) ]
-  where
-    relays_same : (x x' y y' : Dialog) → x ≡ x' → y ≡ y' → Relays methods server table t x y → Relays methods server table t x' y'
-    relays_same x x' y y' e f g = let P : Dialog → Type 0 = λ v. Relays methods server table t v y in let Q : Dialog → Type 0 = λ v. Relays methods server table t x' v in subst Q f (subst P e g)
+-- an answered call is relayed
+pub call_meets : (methods : List (List ℕ)) (server : List ℕ) (table : ℕ → Option Addr) (calls : List Call) (n : ℕ) (t : List Datagram) (k : ℕ) (c : Call) (z : Settled) → StandsAfter methods calls n t → AreRelayed server table calls → slice_get calls k ≡ Some c
+    → c.stage ≡ Answered z → Relays methods server table t (leg c z.by_caller) (leg c (not z.by_caller))
+call_meets methods server table calls n t k c z h relayed at stage =
+    let l : LastSaid methods t (leg c z.by_caller) (leg c (not z.by_caller)) z.session = call_last methods calls n t k c z h at stage in
+    (l.0, l.1, z.session, l.2, l.3, all_at (λ d. (r : Settled) → d.stage ≡ Answered r → IsRelayed server table r.session) calls k c relayed at z stage)
 
-stage_of : (s : Stage) → (s ≡ Asked) ⊎ (((z : Settled) × (s ≡ Answered z)) ⊎ (s ≡ Ending))
-stage_of Asked = inl refl
-stage_of (Answered z) = inr (inl (z, refl))
-stage_of Ending = inr (inr refl)
-
--- of an ending call, one of its dialogs has ended
-ending_ended : (t : List Datagram) (c : Call) (dx dy : Dialog) → LegsStand t c → c.stage ≡ Ending → ((c.caller ≡ dx) × (c.callee ≡ dy)) ⊎ ((c.callee ≡ dx) × (c.caller ≡ dy)) → ¬ Ended t dx → ¬ Ended t dy → ⊥
-ending_ended t c dx dy h stage d nx ny =
-    let P : Dialog → Type 0 = λ v. Ended t v in
-    elim (h.ending stage) [
-      | inl e ↦ elim d [ inl q ↦ nx (subst P q.0 e) | inr q ↦ ny (subst P q.1 e) ]
-      | inr e ↦ elim d [ inl q ↦ ny (subst P q.1 e) | inr q ↦ nx (subst P q.0 e) ]
-    ]
-
-pub all_relayed : (methods : List (List ℕ)) (server : List ℕ) (table : ℕ → Option Addr) (calls : List Call) (n : ℕ) (t : List Datagram) → Stands methods calls n t → AreRelayed server table calls → AllRelayed methods server table t
-all_relayed methods server table calls n t h relayed dx dy call live_x live_y closed_x closed_y =
+-- of two dialogs that are a call and live, one called the other, and they are the legs of a listed call
+pub listed_call : (methods : List (List ℕ)) (calls : List Call) (n : ℕ) (t : List Datagram) (dx dy : Dialog) → Stands methods calls n t → CallFrom methods t dx dy → Live t dx → Live t dy
+    → (k : ℕ) × (c : Call) × (slice_get calls k ≡ Some c) × IsAnsweredCall dx dy c
+listed_call methods calls n t dx dy h call live_x live_y =
     elim (h.sessions.known dx dy call) [
       | inr e ↦ absurd (live_x.1 e.0)
       | inl l ↦ (let f = any_at (IsCallOf dx dy) calls l in
@@ -126,10 +107,55 @@ all_relayed methods server table calls n t h relayed dx dy call live_x live_y cl
           elim (stage_of c.stage) [
             | inl s ↦ absurd (is.answered s)
             | inr s ↦ elim s [
-              | inl z ↦ either_way methods server table t c z.0.by_caller dx dy is.dialogs (call_meets methods server table calls n t f.0 c z.0 h.sessions relayed f.2 z.1)
-              | inr s ↦ absurd (ending_ended t c dx dy (all_at (LegsStand t) calls f.0 c h.lives.legs f.2) s is.dialogs live_x.1 live_y.1)
+              | inl z ↦ (f.0, c, f.2, record { answered = z; caller = is.caller; callee = is.callee })
+              | inr s ↦ (let P : Dialog → Type 0 = λ v. Ended t v in
+                  let e : Ended t (leg c s.0) = (all_at (LegsStand t) calls f.0 c h.lives.legs f.2).ending s.0 s.1 in
+                  absurd (leg_lives c s.0 is.caller is.callee e))
             ]
           ])
+    ]
+  where
+    stage_of : (s : Stage) → (s ≡ Asked) ⊎ (((z : Settled) × (s ≡ Answered z)) ⊎ ((b : Bool) × (s ≡ Ending b)))
+    stage_of Asked = inl refl
+    stage_of (Answered z) = inr (inl (z, refl))
+    stage_of (Ending b) = inr (inr (b, refl))
+
+    leg_lives : (c : Call) (b : Bool) → c.caller ≡ dx → c.callee ≡ dy → Ended t (leg c b) → ⊥
+    leg_lives c true e f g = live_x.1 (subst (λ v. Ended t v) e g)
+    leg_lives c false e f g = live_y.1 (subst (λ v. Ended t v) f g)
+
+relays_same : (methods : List (List ℕ)) (server : List ℕ) (table : ℕ → Option Addr) (t : List Datagram) (x x' y y' : Dialog) → x ≡ x' → y ≡ y' → Relays methods server table t x y → Relays methods server table t x' y'
+relays_same methods server table t x x' y y' e f g = let P : Dialog → Type 0 = λ v. Relays methods server table t v y in let Q : Dialog → Type 0 = λ v. Relays methods server table t x' v in subst Q f (subst P e g)
+
+either_way : (methods : List (List ℕ)) (server : List ℕ) (table : ℕ → Option Addr) (t : List Datagram) (c : Call) (b : Bool) (dx dy : Dialog) → c.caller ≡ dx → c.callee ≡ dy
+    → Relays methods server table t (leg c b) (leg c (not b)) → Relays methods server table t dx dy ⊎ Relays methods server table t dy dx
+either_way methods server table t c true dx dy e f m = inl (relays_same methods server table t c.caller dx c.callee dy e f m)
+either_way methods server table t c false dx dy e f m = inr (relays_same methods server table t c.callee dy c.caller dx f e m)
+
+called_relayed : (methods : List (List ℕ)) (server : List ℕ) (table : ℕ → Option Addr) (calls : List Call) (n : ℕ) (t : List Datagram) (dx dy : Dialog) → Stands methods calls n t → AreRelayed server table calls
+    → CallFrom methods t dx dy → Live t dx → Live t dy → Relays methods server table t dx dy ⊎ Relays methods server table t dy dx
+called_relayed methods server table calls n t dx dy h relayed call live_x live_y =
+    let l = listed_call methods calls n t dx dy h call live_x live_y in
+    let c : Call = l.1 in
+    let is : IsAnsweredCall dx dy c = l.3 in
+    either_way methods server table t c is.answered.0.by_caller dx dy is.caller is.callee (call_meets methods server table calls n t l.0 c is.answered.0 h.sessions relayed l.2 is.answered.1)
+
+pub each_relayed : (methods : List (List ℕ)) (server : List ℕ) (table : ℕ → Option Addr) (calls : List Call) (n : ℕ) (t : List Datagram) → Stands methods calls n t → AreRelayed server table calls
+    → (dx dy : Dialog) → CallOf methods t dx dy → Live t dx → Live t dy → Relays methods server table t dx dy ⊎ Relays methods server table t dy dx
+each_relayed methods server table calls n t h relayed dx dy call live_x live_y =
+    elim (called_of_call methods t dx dy call) [
+      | inl q ↦ called_relayed methods server table calls n t dx dy h relayed q live_x live_y
+      | inr q ↦ elim (called_relayed methods server table calls n t dy dx h relayed q live_y live_x) [ inl r ↦ inr r | inr r ↦ inl r ]
+    ]
+
+pub all_relayed : (methods : List (List ℕ)) (server : List ℕ) (table : ℕ → Option Addr) (calls : List Call) (n : ℕ) (t : List Datagram) → Stands methods calls n t → AreRelayed server table calls → AllRelayed methods server table t
+all_relayed methods server table calls n t h relayed dx dy call live_x live_y closed_x closed_y = each_relayed methods server table calls n t h relayed dx dy call live_x live_y
+
+pub each_meets : JoinedIsDirect → (methods : List (List ℕ)) (server : List ℕ) (table : ℕ → Option Addr) (calls : List Call) (n : ℕ) (t : List Datagram) → Stands methods calls n t → AreRelayed server table calls → EachMeets methods server table t
+each_meets law methods server table calls n t h relayed dx dy call live_x live_y =
+    elim (each_relayed methods server table calls n t h relayed dx dy call live_x live_y) [
+      | inl r ↦ inl (relayed_meets law methods server table t dx dy r)
+      | inr r ↦ inr (relayed_meets law methods server table t dy dx r)
     ]
 
 pub all_meet : JoinedIsDirect → (methods : List (List ℕ)) (server : List ℕ) (table : ℕ → Option Addr) (calls : List Call) (n : ℕ) (t : List Datagram) → Stands methods calls n t → AreRelayed server table calls → AllMeet methods server table t calls
@@ -140,7 +166,7 @@ all_meet law methods server table calls n t h relayed =
 -- ---- the live dialogs
 
 -- a dialog with a tag of a call that is not ending, in which no BYE was sent, has not ended
-not_ended : (t : List Datagram) (c : Call) (d : Dialog) → NoBye t c → c.stage ≢ Ending → (d ≡ c.caller) ⊎ (d ≡ c.callee) → d.ours ≢ [] → Ended t d → ⊥
+pub not_ended : (t : List Datagram) (c : Call) (d : Dialog) → NoBye t c → ¬ IsEnding c.stage → (d ≡ c.caller) ⊎ (d ≡ c.callee) → d.ours ≢ [] → Ended t d → ⊥
 not_ended t c d h stays is some e =
     elim e [
       | inl x ↦ (let q = h.sent x.0 x.1 x.2.sent.at x.2.sent.sent x.2.ends in
@@ -159,7 +185,7 @@ not_ended t c d h stays is some e =
 legs_live : (t : List Datagram) (c : Call) (z : Settled) → HasTags c → LegsStand t c → c.stage ≡ Answered z → Live t c.caller × Live t c.callee
 legs_live t c z tags h stage =
     let answered : c.stage ≢ Asked = (λ e. (let g : Answered z ≡ Asked = sym stage ∙ e in cc)) in
-    let stays : c.stage ≢ Ending = (λ e. (let g : Answered z ≡ Ending = sym stage ∙ e in cc)) in (
+    let stays : ¬ IsEnding c.stage = (λ e. subst IsEnding stage e) in (
       (h.caller answered, λ e. not_ended t c c.caller h.quiet stays (inl refl) tags.caller e),
       (h.callee answered, λ e. not_ended t c c.callee h.quiet stays (inr refl) tags.callee e),
     )
@@ -171,7 +197,7 @@ one_call methods calls n t d h alive l =
     let c : Call = f.1 in
     let of : IsLegOf d c = f.3 in
     let tags : HasTags c = all_at HasTags calls f.0 c h.tags f.2 in
-    let begun : CallOf methods t c.caller c.callee = (all_at (CallStands methods t) calls f.0 c h.stand f.2).begun of.answered in
+    let begun : CallOf methods t c.caller c.callee = call_of_called methods t c.caller c.callee ((all_at (CallStands methods t) calls f.0 c h.stand f.2).begun of.answered) in
     let P : Dialog → Type 0 = λ v. CallOf methods t v c.callee in
     let Q : Dialog → Type 0 = λ v. CallOf methods t v c.caller in
     elim of.leg [
@@ -179,33 +205,48 @@ one_call methods calls n t d h alive l =
       | inr q ↦ (c.caller, subst Q q (call_turned methods t c.caller c.callee begun), λ g call. other_of f.0 c false f.2 tags g q call)
     ]
   where
-    tag_here : (c : Call) (e : (c.caller ≡ d) ⊎ (c.callee ≡ d)) → IsTagOf c d.ours
-    tag_here c e = elim e [ inl q ↦ inl (ap (λ v. v.ours) (sym q)) | inr q ↦ inr (ap (λ v. v.ours) (sym q)) ]
+    leg_here : (c : Call) (b : Bool) → leg c b ≡ d → IsTagOf c d.ours
+    leg_here c true e = inl (ap (λ v. v.ours) (sym e))
+    leg_here c false e = inr (ap (λ v. v.ours) (sym e))
 
-    leg_here : (c : Call) (b : Bool) → leg c b ≡ d → (c.caller ≡ d) ⊎ (c.callee ≡ d)
-    leg_here c true e = inl e
-    leg_here c false e = inr e
+    as_caller : (c : Call) (b : Bool) (g : Dialog) → HasTags c → leg c b ≡ d → c.caller ≡ d → c.callee ≡ g → g ≡ leg c (not b)
+    as_caller c true g tags e x y = sym y
+    as_caller c false g tags e x y = absurd (tags.differ (ap (λ v. v.ours) (x ∙ sym e)))
 
-    pick : (c : Call) (b : Bool) (g : Dialog) → HasTags c → leg c b ≡ d → ((c.caller ≡ d) × (c.callee ≡ g)) ⊎ ((c.callee ≡ d) × (c.caller ≡ g)) → g ≡ leg c (not b)
-    pick c true g tags e k = elim k [ inl r ↦ sym r.1 | inr r ↦ absurd (tags.differ (ap (λ v. v.ours) (e ∙ sym r.0))) ]
-    pick c false g tags e k = elim k [ inl r ↦ absurd (tags.differ (ap (λ v. v.ours) (r.0 ∙ sym e))) | inr r ↦ sym r.1 ]
+    as_callee : (c : Call) (b : Bool) (g : Dialog) → HasTags c → leg c b ≡ d → c.callee ≡ d → c.caller ≡ g → g ≡ leg c (not b)
+    as_callee c true g tags e x y = absurd (tags.differ (ap (λ v. v.ours) (e ∙ sym x)))
+    as_callee c false g tags e x y = sym y
 
     other_of : (i : ℕ) (c : Call) (b : Bool) → slice_get calls i ≡ Some c → HasTags c → (g : Dialog) → leg c b ≡ d → CallOf methods t d g → g ≡ leg c (not b)
     other_of i c b at tags g e call =
-        elim (h.known d g call) [
-          | inr r ↦ absurd (alive r.0)
-          | inl l ↦ (let f = any_at (IsCallOf d g) calls l in
-              let is : IsCallOf d g f.1 = f.3 in
-              let there : (f.1.caller ≡ d) ⊎ (f.1.callee ≡ d) = elim is.dialogs [ inl q ↦ inl q.0 | inr q ↦ inr q.0 ] in
-              let same : f.1 ≡ c = apart_same calls f.0 i f.1 c d.ours h.apart f.2 at (tag_here f.1 there) (tag_here c (leg_here c b e)) in
-              let P : Call → Type 0 = λ v. ((v.caller ≡ d) × (v.callee ≡ g)) ⊎ ((v.callee ≡ d) × (v.caller ≡ g)) in
-              pick c b g tags e (subst P same is.dialogs))
+        elim (called_of_call methods t d g call) [
+          | inl q ↦ elim (h.known d g q) [
+            | inr r ↦ absurd (alive r.0)
+            | inl l ↦ (let f = any_at (IsCallOf d g) calls l in
+                let same : f.1 ≡ c = apart_same calls f.0 i f.1 c d.ours h.apart f.2 at (inl (ap (λ v. v.ours) (sym f.3.caller))) (leg_here c b e) in
+                let R : Call → Type 0 = λ v. IsCallOf d g v in
+                let is : IsCallOf d g c = subst R same f.3 in
+                as_caller c b g tags e is.caller is.callee)
+          ]
+          | inr q ↦ elim (h.known g d q) [
+            | inr r ↦ absurd (alive r.1)
+            | inl l ↦ (let f = any_at (IsCallOf g d) calls l in
+                let same : f.1 ≡ c = apart_same calls f.0 i f.1 c d.ours h.apart f.2 at (inr (ap (λ v. v.ours) (sym f.3.callee))) (leg_here c b e) in
+                let R : Call → Type 0 = λ v. IsCallOf g d v in
+                let is : IsCallOf g d c = subst R same f.3 in
+                as_callee c b g tags e is.callee is.caller)
+          ]
         ]
 
 pub lives_exactly : (methods : List (List ℕ)) (calls : List Call) (n : ℕ) (t : List Datagram) → Stands methods calls n t → LivesExactly methods calls t
 lives_exactly methods calls n t h = record {
-  answered = all_weaker (λ c. HasTags c × LegsStand t c) (λ c. (z : Settled) → c.stage ≡ Answered z → Live t c.caller × Live t c.callee) (λ c g z e. legs_live t c z g.0 g.1 e) calls (all_both HasTags (LegsStand t) calls h.sessions.tags h.lives.legs);
-  ending = all_weaker (LegsStand t) (λ c. c.stage ≡ Ending → ¬ (Live t c.caller × Live t c.callee)) (λ c g e l. ending_ended t c c.caller c.callee g e (inl (refl, refl)) l.0.1 l.1.1) calls h.lives.legs;
+  answered = all_from_at (λ c. (z : Settled) → c.stage ≡ Answered z → CallFrom methods t c.caller c.callee × Live t c.caller × Live t c.callee) calls
+      (λ k c at z e.
+      (let legs = legs_live t c z (all_at HasTags calls k c h.sessions.tags at) (all_at (LegsStand t) calls k c h.lives.legs at) e in
+      ((all_at (CallStands methods t) calls k c h.sessions.stand at).begun (λ f. (let g : Answered z ≡ Asked = sym e ∙ f in cc)), legs.0, legs.1)));
+  listed = λ dx dy call live_x live_y. (let l = listed_call methods calls n t dx dy h call live_x live_y in at_any (IsAnsweredCall dx dy) calls l.0 l.1 l.2 l.3);
+  once = h.sessions.apart;
+  ending = all_weaker (LegsStand t) (λ c. (b : Bool) → c.stage ≡ Ending b → Ended t (leg c b)) (λ c g b e. g.ending b e) calls h.lives.legs;
   legs = λ d l. legs_of d l;
   one_call = λ d l. one_call methods calls n t d h.sessions l.1 (legs_of d l);
 }
@@ -218,6 +259,9 @@ lives_exactly methods calls n t h = record {
 at_none : (i : ℕ) (p : Datagram) → At [] i p → ⊥
 unfolding At
 at_none i p e = absurd (cc)
+
+pub offering_fits : AreOffering offering
+offering_fits = record { invites = refl; acks = refl; byes = refl; cancels = refl }
 
 pub none_stand : (methods : List (List ℕ)) → AreOffering methods → Stands methods [] 0 []
 none_stand methods off = record {

@@ -93,18 +93,22 @@ plain_ack methods m h e = not_both (is_request_of ack m) (and_left (not (is_requ
 pub plain_bye : (methods : List (List ℕ)) (m : Message) → IsTrue (is_plain methods m) → IsTrue (is_request_of bye m) → ⊥
 plain_bye methods m h e = not_both (is_request_of bye m) (and_left (not (is_request_of bye m)) _ (and_right (not (is_request_of ack m)) _ (and_right (not (asks methods m)) _ h))) e
 
-plain_rest : (methods : List (List ℕ)) (m : Message) → IsTrue (is_plain methods m) → IsTrue (not (is_success m.kind && (is_listed methods m.method || is_method bye m.method)))
+plain_rest : (methods : List (List ℕ)) (m : Message) → IsTrue (is_plain methods m) → IsTrue (not (is_success m.kind && (is_method invite m.method || (is_method bye m.method || (is_listed methods m.method && is_some m.description)))))
 plain_rest methods m h = and_right (not (is_request_of bye m)) _ (and_right (not (is_request_of ack m)) _ (and_right (not (asks methods m)) _ h))
 
-pub plain_accepts : (methods : List (List ℕ)) (m : Message) → IsTrue (is_plain methods m) → IsTrue (is_success m.kind) → IsTrue (is_listed methods m.method) → ⊥
-plain_accepts methods m h e f =
-    not_both (is_success m.kind && (is_listed methods m.method || is_method bye m.method)) (plain_rest methods m h)
-    (and_both (is_success m.kind) (is_listed methods m.method || is_method bye m.method) e (or_left (is_listed methods m.method) (is_method bye m.method) f))
+plain_success : (methods : List (List ℕ)) (m : Message) → IsTrue (is_plain methods m) → IsTrue (is_success m.kind) → IsTrue (is_method invite m.method || (is_method bye m.method || (is_listed methods m.method && is_some m.description))) → ⊥
+plain_success methods m h e f = not_both (is_success m.kind && _) (plain_rest methods m h) (and_both (is_success m.kind) _ e f)
+
+pub plain_accepts : (methods : List (List ℕ)) (m : Message) → IsTrue (is_plain methods m) → IsTrue (is_success m.kind) → IsTrue (is_method invite m.method) → ⊥
+plain_accepts methods m h e f = plain_success methods m h e (or_left (is_method invite m.method) _ f)
+
+pub plain_answers : (methods : List (List ℕ)) (m : Message) → IsTrue (is_plain methods m) → IsTrue (is_answer m) → IsTrue (is_listed methods m.method) → ⊥
+plain_answers methods m h e f =
+    plain_success methods m h (answer_succeeds m e)
+    (or_right (is_method invite m.method) _ (or_right (is_method bye m.method) _ (and_both (is_listed methods m.method) (is_some m.description) f (and_right (is_success m.kind) (is_some m.description) e))))
 
 pub plain_ok : (methods : List (List ℕ)) (m : Message) → IsTrue (is_plain methods m) → IsTrue (is_ok m.kind) → IsTrue (is_method bye m.method) → ⊥
-plain_ok methods m h e f =
-    not_both (is_success m.kind && (is_listed methods m.method || is_method bye m.method)) (plain_rest methods m h)
-    (and_both (is_success m.kind) (is_listed methods m.method || is_method bye m.method) (ok_is_success m.kind e) (or_right (is_listed methods m.method) (is_method bye m.method) f))
+plain_ok methods m h e f = plain_success methods m h (ok_is_success m.kind e) (or_right (is_method invite m.method) _ (or_left (is_method bye m.method) _ f))
 
 pub calm_final : (methods : List (List ℕ)) (m : Message) → IsTrue (is_calm methods m) → IsTrue (is_final m.kind) → IsTrue (is_listed methods m.method) → ⊥
 calm_final methods m h e f = not_both (is_final m.kind && is_listed methods m.method) h (and_both (is_final m.kind) (is_listed methods m.method) e f)

@@ -1,26 +1,24 @@
 -- The calls that are written out are moves.
-use Rattle.std.proofs.Common.{◌≡◌, ℕ, Bool, true, not, ◌&&◌, nat_eq, List, [], ◌∷◌, ◌++◌, codes, Some, inl, inr, refl, arith}
+use Rattle.std.proofs.Common.{◌≡◌, ℕ, Bool, true, false, not, ◌&&◌, nat_eq, List, [], ◌∷◌, ◌++◌, codes, Some, inl, inr, refl}
 use Rattle.std.specs.Prelude.{slice_get, IsTrue}
 use Rattle.std.specs.List.{list_any}
 use Rattle.std.specs.Cmp.Lexicographic.{pointwise, bytes_decides}
-use Rattle.call_trace.specs.declared.datagram.Direction.TheVariants.{Taken, Sent}
 use Rattle.call_trace.specs.declared.datagram.Kind.TheVariants.{Request, Response}
 use Rattle.call_trace.specs.declared.datagram.Message.{Message}
 use Rattle.call_trace.specs.declared.datagram.Datagram.{Datagram}
 use Rattle.call_trace.specs.declared.datagram.Dialog.{Dialog}
 use Rattle.call_trace.specs.declared.call.Session.{Session}
 use Rattle.call_trace.specs.declared.call.Call.{Call}
-use Rattle.call_trace.specs.Messages.{invite, Replies}
+use Rattle.call_trace.specs.Messages.{offering, Replies}
 use Rattle.call_trace.specs.Computed.{is_taken}
 use Rattle.call_trace.specs.Exchanges.{At}
-use Rattle.call_trace.specs.Calls.{Ended}
-use Rattle.call_trace.specs.Events.{passed, IsUnused, IsNewTag, AreNewBytes, plain, calm, served, left, before, unmoved, idle, bye_sent, bye_answered}
+use Rattle.call_trace.specs.Events.{passed, IsUnused, IsNewTag, AreNewBytes, plain, calm, served, left, unmoved, idle, bye_sent, bye_answered}
 use Rattle.call_trace.specs.Events as events
-use Rattle.call_trace.specs.Moves.{Move, Asks, IsNewCall, Answers, new_call, settled_first, tagged, ending, nothing, ask, settle_first, decline, stray, part, end}
+use Rattle.call_trace.specs.Moves.{Move, PassesOffer, IsNewCall, PassesAnswer, new_call, settled_first, tagged, ending, ask, settle_first, quiet, part, go}
 use Rattle.call_trace.specs.Runs.{Moves}
 use Rattle.call_trace.specs.Worked.{asked, trying, asked_on, accepted, acknowledged_on, accepted_on, acknowledged, ended, ended_well, ended_on, leaves, told, plain_call, left_before_ack, cancelled, cancelled_well, terminated, cancelled_on, cancelled_call}
-use Rattle.call_trace.proofs.AtLaws.{at_place, place_at}
-use Rattle.call_trace.proofs.NewNames.{some_true, differ, unused}
+use Rattle.call_trace.proofs.AtLaws.{place_at}
+use Rattle.call_trace.proofs.Unused.{some_true, differ, unused}
 use Rattle.call_trace.proofs.MessageTests.{decides_sent}
 use Rattle.call_trace.proofs.Words.{and_both, not_both}
 
@@ -45,7 +43,7 @@ none_ended tag = record { from = λ i p at out b. absurd (none_at i p at); to = 
 
 module _ (s : Session) where
   abbrev methods : List (List ℕ)
-  methods = invite ∷ []
+  methods = offering
 
   abbrev caller : Dialog
   caller = record { call_id = codes "c1"; ours = codes "2.2"; theirs = codes "fa" }
@@ -59,15 +57,15 @@ module _ (s : Session) where
   abbrev pub answered : Call
   answered = settled_first begun (codes "tb") s
 
-  abbrev first : List Datagram
+  abbrev pub first : List Datagram
   first = passed 0 (Some (asked s)) (trying ∷ asked_on s ∷ [])
 
   abbrev pub second : List Datagram
   second = first ++ passed 1 (Some (accepted s)) (acknowledged_on ∷ accepted_on s ∷ [])
 
-  asks : Asks methods [] caller callee (asked s) trying (asked_on s)
+  asks : PassesOffer methods [] caller callee (asked s) (trying ∷ []) (asked_on s)
   asks = record {
-    provisional = refl;
+    plain = (refl, tt);
     offer_came = refl;
     offer_went = refl;
     method = refl;
@@ -90,7 +88,7 @@ module _ (s : Session) where
     callee_new = none_ended (codes "2.4");
   }
 
-  answers : Answers first caller (tagged callee (codes "tb")) (record { by_caller = true; came = asked s; went = asked_on s }) s (accepted s) acknowledged_on (accepted_on s)
+  answers : PassesAnswer first caller (tagged callee (codes "tb")) (record { by_caller = true; came = asked s; went = asked_on s }) s (accepted s) (acknowledged_on ∷ []) (accepted_on s)
   answers = record {
     answer_came = refl;
     replies_came = record { response_kind = refl; request_kind = refl; branch = refl; call_id = refl; from_tag = refl; number = refl; method = refl; to_tag = inl refl };
@@ -98,10 +96,7 @@ module _ (s : Session) where
     replies_went = record { response_kind = refl; request_kind = refl; branch = refl; call_id = refl; from_tag = refl; number = refl; method = refl; to_tag = inl refl };
     to_tag = refl;
     new_bytes = new_bytes first (codes "200 of ours") refl;
-    other_bytes = differ (codes "ACK of ours") (codes "200 of ours") refl;
-    ack = refl;
-    in_dialog = refl;
-    unused = unused first (codes "4.6") refl;
+    acknowledged = (record { other_bytes = differ (codes "ACK of ours") (codes "200 of ours") refl; ack = refl; in_dialog = refl; unused = unused first (codes "4.6") refl }, tt);
     offer_taken = refl;
     answer_sent = refl;
     offer_sent = refl;
@@ -109,7 +104,7 @@ module _ (s : Session) where
   }
 
   pub asked_for : Move methods [] [] (Some (asked s)) (trying ∷ asked_on s ∷ []) (begun ∷ [])
-  asked_for = ask caller callee (asked s) trying (asked_on s) asks is_new refl refl refl
+  asked_for = ask caller callee (asked s) (trying ∷ []) (asked_on s) asks is_new refl refl refl
 
   pub answered_then : Move methods first (begun ∷ []) (Some (accepted s)) (acknowledged_on ∷ accepted_on s ∷ []) (answered ∷ [])
   answered_then =
@@ -117,18 +112,18 @@ module _ (s : Session) where
 
   -- ---- the caller ends it
 
-  abbrev third : List Datagram
+  abbrev pub third : List Datagram
   third = second ++ passed 2 (Some acknowledged) []
 
-  acknowledged_then : Move methods second (answered ∷ []) (Some acknowledged) [] (answered ∷ [])
-  acknowledged_then = nothing (calm acknowledged refl refl) tt refl
+  pub acknowledged_then : Move methods second (answered ∷ []) (Some acknowledged) [] (answered ∷ [])
+  acknowledged_then = quiet (unmoved (calm acknowledged refl refl)) tt refl
 
   served_well : Replies ended_well ended
   served_well = record { response_kind = refl; request_kind = refl; branch = refl; call_id = refl; from_tag = refl; number = refl; method = refl; to_tag = inr refl }
 
   ended_then : Move methods third (answered ∷ []) (Some ended) (ended_well ∷ ended_on ∷ []) []
   ended_then =
-      end 0 answered refl (served 0 ended ended_well refl refl refl refl refl served_well) (left 1 ended_on refl refl refl)
+      go 0 answered refl (inr (inl (served 0 ended ended_well refl refl refl refl refl served_well), inl (left 1 ended_on refl refl refl)))
       (unmoved (calm ended refl refl)) (bye_answered refl refl tt, (bye_sent refl tt, tt)) refl
 
   pub plain_is_moves : Moves methods 0 [] [] (plain_call s) []
@@ -148,37 +143,18 @@ module _ (s : Session) where
   abbrev parted : List Datagram
   parted = second ++ passed 2 (Some bye_came) (bye_served ∷ [])
 
-  left_then : Move methods second (answered ∷ []) (Some bye_came) (bye_served ∷ []) (ending answered ∷ [])
+  left_then : Move methods second (answered ∷ []) (Some bye_came) (bye_served ∷ []) (ending answered false ∷ [])
   left_then =
-      part 0 answered (record { by_caller = true; session = s }) refl refl (inr (served 0 bye_came bye_served refl refl refl refl refl left_well))
-      (calm bye_came refl refl) (bye_answered refl refl (λ stays. absurd (stays refl), tt), tt) refl
+      part 0 answered (record { by_caller = true; session = s }) false refl refl (served 0 bye_came bye_served refl refl refl refl refl left_well)
+      (calm bye_came refl refl) (bye_answered refl refl (λ stays. absurd (stays tt), tt), tt) refl
 
-  callee_has_left : Ended parted (tagged callee (codes "tb"))
-  callee_has_left = inr (
-    6,
-    7,
-    record { event = 2; direction = Taken; message = bye_came },
-    record { event = 2; direction = Sent; message = bye_served },
-    record {
-      at_asked = at_place parted 6 (record { event = 2; direction = Taken; message = bye_came }) refl;
-      at_answered = at_place parted 7 (record { event = 2; direction = Sent; message = bye_served }) refl;
-      later = omega arith;
-      taken = refl;
-      ends = refl;
-      named = refl;
-      sent = refl;
-      ok = refl;
-      replies = left_well;
-    },
-  )
-
-  told_then : Move methods parted (ending answered ∷ []) (Some acknowledged) (told ∷ []) []
+  told_then : Move methods parted (ending answered false ∷ []) (Some acknowledged) (told ∷ []) []
   told_then =
-      end 0 (ending answered) refl (left 0 told refl refl refl) (before callee_has_left)
+      go 0 (ending answered false) refl (inr (inl (left 0 told refl refl refl), inr refl))
       (unmoved (calm acknowledged refl refl)) (bye_sent refl tt, tt) refl
 
   pub left_is_moves : Moves methods 0 [] [] (left_before_ack s) []
-  left_is_moves = (begun ∷ [], asked_for, (answered ∷ [], answered_then, (ending answered ∷ [], left_then, ([], told_then, refl))))
+  left_is_moves = (begun ∷ [], asked_for, (answered ∷ [], answered_then, (ending answered false ∷ [], left_then, ([], told_then, refl))))
 
   -- ---- it is cancelled
 
@@ -186,11 +162,11 @@ module _ (s : Session) where
   gone = first ++ passed 1 (Some cancelled) (cancelled_well ∷ terminated ∷ cancelled_on ∷ [])
 
   cancelled_then : Move methods first (begun ∷ []) (Some cancelled) (cancelled_well ∷ terminated ∷ cancelled_on ∷ []) []
-  cancelled_then = decline 0 begun refl refl (unmoved (calm cancelled refl refl)) (idle (plain refl), (idle (plain refl), (idle (plain refl), tt))) refl
+  cancelled_then = go 0 begun refl (inl refl) (unmoved (calm cancelled refl refl)) (idle (plain refl), (idle (plain refl), (idle (plain refl), tt))) refl
 
   crossed_then : Move methods gone [] (Some (accepted s)) (acknowledged_on ∷ ended_on ∷ []) []
   crossed_then =
-      stray (events.answered (accepted s) refl refl tt) (events.acknowledged refl (left 1 ended_on refl refl refl), (bye_sent refl tt, tt)) refl
+      quiet (events.answered (accepted s) refl refl tt) (events.acknowledged refl (left 1 ended_on refl refl refl), (bye_sent refl tt, tt)) refl
 
   pub cancelled_is_moves : Moves methods 0 [] [] (cancelled_call s) []
   cancelled_is_moves = (begun ∷ [], asked_for, ([], cancelled_then, ([], crossed_then, refl)))

@@ -5,22 +5,22 @@ use Rattle.call_trace.specs.declared.datagram.Dialog.{Dialog}
 use Rattle.call_trace.specs.declared.call.Session.{Session}
 use Rattle.call_trace.specs.declared.call.Offer.{Offer}
 use Rattle.call_trace.specs.declared.call.Call.{Call}
-use Rattle.call_trace.specs.Messages.{invite, Replies}
+use Rattle.call_trace.specs.Messages.{offering, Replies}
 use Rattle.call_trace.specs.Exchanges.{TakesFinal}
-use Rattle.call_trace.specs.Events.{passed, sent_at, taken_at, calm, due, swallowed, plain, refusal_acknowledged, again, served, left, unmoved, bye_sent, bye_answered, acknowledged}
+use Rattle.call_trace.specs.Events.{passed, sent_at, taken_at, calm, due, swallowed, plain, branch_acknowledged, again, served, left, unmoved, idle, bye_sent, bye_answered, acknowledged}
 use Rattle.call_trace.specs.Lives.{SparesCall}
-use Rattle.call_trace.specs.Moves.{Move, Asks, Answers, reoffered, settled_later, reoffer, settle_later, release, stray, nothing, end}
+use Rattle.call_trace.specs.Moves.{Move, PassesOffer, PassesAnswer, reoffered, settled_later, reoffer, settle_later, release, quiet, go}
 use Rattle.call_trace.specs.Runs.{Moves}
 use Rattle.call_trace.specs.Stands.{AsksAt}
 use Rattle.call_trace.specs.Worked.{asked_on, accepted}
 use Rattle.call_trace.specs.WorkedOffers.{offered, trying_offer, offered_on, refused, refusal_ack, refused_on, again_offered, trying_again, again_on, agreed, agreed_ack, agreed_on, second_answer, second_ack, second_bye, callee_ends, callee_served, caller_told, offers_again}
 use Rattle.call_trace.proofs.AtLaws.{at_place}
-use Rattle.call_trace.proofs.NewNames.{differ, unused}
+use Rattle.call_trace.proofs.Unused.{differ, unused}
 use Rattle.call_trace.proofs.WorkedMoves.{new_bytes, begun, answered, second, asked_for, answered_then}
 
 module _ (s r : Session) where
   abbrev methods : List (List ℕ)
-  methods = invite ∷ []
+  methods = offering
 
   abbrev before_offer : Call
   before_offer = answered s
@@ -28,15 +28,15 @@ module _ (s r : Session) where
   abbrev offer : Offer
   offer = record { by_caller = false; came = offered r; went = offered_on r }
 
-  abbrev offering : Call
-  offering = reoffered before_offer false (offered r) (offered_on r)
+  abbrev asking_call : Call
+  asking_call = reoffered before_offer false (offered r) (offered_on r)
 
   abbrev after_offer : List Datagram
   after_offer = second s ++ passed 2 (Some (offered r)) (trying_offer ∷ offered_on r ∷ [])
 
-  asks : Asks methods (second s) before_offer.callee before_offer.caller (offered r) trying_offer (offered_on r)
+  asks : PassesOffer methods (second s) before_offer.callee before_offer.caller (offered r) (trying_offer ∷ []) (offered_on r)
   asks = record {
-    provisional = refl;
+    plain = (refl, tt);
     offer_came = refl;
     offer_went = refl;
     method = refl;
@@ -48,8 +48,8 @@ module _ (s r : Session) where
     unused = unused (second s) (codes "7.9") refl;
   }
 
-  offered_then : Move methods (second s) (before_offer ∷ []) (Some (offered r)) (trying_offer ∷ offered_on r ∷ []) (offering ∷ [])
-  offered_then = reoffer 0 before_offer (record { by_caller = true; session = s }) false (offered r) trying_offer (offered_on r) refl refl refl asks refl refl refl refl
+  offered_then : Move methods (second s) (before_offer ∷ []) (Some (offered r)) (trying_offer ∷ offered_on r ∷ []) (asking_call ∷ [])
+  offered_then = reoffer 0 before_offer (record { by_caller = true; session = s }) false (offered r) (trying_offer ∷ []) (offered_on r) refl refl refl asks refl refl refl refl
 
   -- ---- refused
 
@@ -59,10 +59,10 @@ module _ (s r : Session) where
   refuses : Replies refused (offered_on r)
   refuses = record { response_kind = refl; request_kind = refl; branch = refl; call_id = refl; from_tag = refl; number = refl; method = refl; to_tag = inr refl }
 
-  refused_then : Move methods after_offer (offering ∷ []) (Some refused) (refusal_ack ∷ refused_on ∷ []) (before_offer ∷ [])
+  refused_then : Move methods after_offer (asking_call ∷ []) (Some refused) (refusal_ack ∷ refused_on ∷ []) (before_offer ∷ [])
   refused_then =
-      release 0 offering (record { by_caller = true; session = s }) offer refused refl refl refl refl refl refuses refl
-      (refusal_acknowledged 8 (sent_at 2 (offered_on r)) refl (at_place after_offer 8 (sent_at 2 (offered_on r)) refl) refl refl refl, (plain refl, tt)) refl
+      release 0 asking_call (record { by_caller = true; session = s }) offer refused refl refl refl refl refl refuses refl
+      (branch_acknowledged 8 (sent_at 2 (offered_on r)) refl (at_place after_offer 8 (sent_at 2 (offered_on r)) refl) refl refl refl, (plain refl, tt)) refl
 
   -- ---- offered again, and answered
 
@@ -75,9 +75,9 @@ module _ (s r : Session) where
   abbrev after_again : List Datagram
   after_again = after_refusal ++ passed 4 (Some (again_offered r)) (trying_again ∷ again_on r ∷ [])
 
-  asks_again : Asks methods after_refusal before_offer.callee before_offer.caller (again_offered r) trying_again (again_on r)
+  asks_again : PassesOffer methods after_refusal before_offer.callee before_offer.caller (again_offered r) (trying_again ∷ []) (again_on r)
   asks_again = record {
-    provisional = refl;
+    plain = (refl, tt);
     offer_came = refl;
     offer_went = refl;
     method = refl;
@@ -90,12 +90,12 @@ module _ (s r : Session) where
   }
 
   again_then : Move methods after_refusal (before_offer ∷ []) (Some (again_offered r)) (trying_again ∷ again_on r ∷ []) (offering_again ∷ [])
-  again_then = reoffer 0 before_offer (record { by_caller = true; session = s }) false (again_offered r) trying_again (again_on r) refl refl refl asks_again refl refl refl refl
+  again_then = reoffer 0 before_offer (record { by_caller = true; session = s }) false (again_offered r) (trying_again ∷ []) (again_on r) refl refl refl asks_again refl refl refl refl
 
   abbrev settled : Call
   settled = settled_later offering_again false r
 
-  answers : Answers after_again before_offer.callee before_offer.caller offer_again r (agreed r) agreed_ack (agreed_on r)
+  answers : PassesAnswer after_again before_offer.callee before_offer.caller offer_again r (agreed r) (agreed_ack ∷ []) (agreed_on r)
   answers = record {
     answer_came = refl;
     replies_came = record { response_kind = refl; request_kind = refl; branch = refl; call_id = refl; from_tag = refl; number = refl; method = refl; to_tag = inr refl };
@@ -103,10 +103,7 @@ module _ (s r : Session) where
     replies_went = record { response_kind = refl; request_kind = refl; branch = refl; call_id = refl; from_tag = refl; number = refl; method = refl; to_tag = inr refl };
     to_tag = refl;
     new_bytes = new_bytes after_again (codes "200 to the callee") refl;
-    other_bytes = differ (codes "ACK to the caller") (codes "200 to the callee") refl;
-    ack = refl;
-    in_dialog = refl;
-    unused = unused after_again (codes "9.11") refl;
+    acknowledged = (record { other_bytes = differ (codes "ACK to the caller") (codes "200 to the callee") refl; ack = refl; in_dialog = refl; unused = unused after_again (codes "9.11") refl }, tt);
     offer_taken = refl;
     answer_sent = refl;
     offer_sent = refl;
@@ -117,7 +114,7 @@ module _ (s r : Session) where
   after_answer = after_again ++ passed 5 (Some (agreed r)) (agreed_ack ∷ agreed_on r ∷ [])
 
   agreed_then : Move methods after_again (offering_again ∷ []) (Some (agreed r)) (agreed_ack ∷ agreed_on r ∷ []) (settled ∷ [])
-  agreed_then = settle_later 0 offering_again (record { by_caller = true; session = s }) offer_again r (agreed r) agreed_ack (agreed_on r) refl refl refl answers refl refl refl
+  agreed_then = settle_later 0 offering_again (record { by_caller = true; session = s }) offer_again r (agreed r) (agreed_ack ∷ []) (agreed_on r) refl refl refl answers (inl (refl, agreed_ack, refl)) refl refl refl
 
   -- ---- a second telephone
 
@@ -143,7 +140,7 @@ module _ (s r : Session) where
 
   second_then : Move methods after_answer (settled ∷ []) (Some second_answer) (second_ack ∷ second_bye ∷ []) (settled ∷ [])
   second_then =
-      stray (unmoved (swallowed second_answer 2 3 (sent_at 0 (asked_on s)) (taken_at 1 (accepted s)) refl first_asked refl (at_place after_answer 3 (taken_at 1 (accepted s)) refl) first_answered))
+      quiet (unmoved (swallowed second_answer 2 3 (sent_at 0 (asked_on s)) (taken_at 1 (accepted s)) refl first_asked refl (at_place after_answer 3 (taken_at 1 (accepted s)) refl) first_answered))
       (acknowledged refl (left 1 second_bye refl refl refl), (bye_sent refl (spares, tt), tt)) refl
 
   -- ---- the 2xx goes again, and the callee ends the call
@@ -152,14 +149,14 @@ module _ (s r : Session) where
   after_repeat = after_second ++ passed 7 None (agreed_on r ∷ [])
 
   repeat_then : Move methods after_second (settled ∷ []) None (agreed_on r ∷ []) (settled ∷ [])
-  repeat_then = nothing (due refl) (again 17 (sent_at 5 (agreed_on r)) (at_place after_second 17 (sent_at 5 (agreed_on r)) refl) refl refl (inl refl), tt) refl
+  repeat_then = quiet (unmoved (due refl)) (idle (again 17 (sent_at 5 (agreed_on r)) (at_place after_second 17 (sent_at 5 (agreed_on r)) refl) refl refl (inl refl)), tt) refl
 
   served_well : Replies callee_served callee_ends
   served_well = record { response_kind = refl; request_kind = refl; branch = refl; call_id = refl; from_tag = refl; number = refl; method = refl; to_tag = inr refl }
 
   ended_then : Move methods after_repeat (settled ∷ []) (Some callee_ends) (callee_served ∷ caller_told ∷ []) []
   ended_then =
-      end 0 settled refl (left 1 caller_told refl refl refl) (served 0 callee_ends callee_served refl refl refl refl refl served_well)
+      go 0 settled refl (inr (inl (left 1 caller_told refl refl refl), inl (served 0 callee_ends callee_served refl refl refl refl refl served_well)))
       (unmoved (calm callee_ends refl refl)) (bye_answered refl refl tt, (bye_sent refl tt, tt)) refl
 
   pub offers_are_moves : Moves methods 0 [] [] (offers_again s r) []
@@ -170,7 +167,7 @@ module _ (s r : Session) where
       answered s ∷ [],
       answered_then s,
       (
-        offering ∷ [],
+        asking_call ∷ [],
         offered_then,
         (
           before_offer ∷ [],

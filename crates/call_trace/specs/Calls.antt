@@ -6,7 +6,7 @@ use Rattle.call_trace.specs.declared.datagram.Dialog.{Dialog}
 use Rattle.call_trace.specs.Messages.{invite, ack, bye, is_ok, is_method, is_request_of, asks, accepts, Replies}
 use Rattle.call_trace.specs.Dialogs.{dialog_of}
 use Rattle.call_trace.specs.Exchanges.{At, TakesFinal, Exchange, IsExchange}
-use Rattle.call_trace.specs.Passing.{PassedTogether}
+use Rattle.call_trace.specs.Passing.{IsPassedOn, PassedTogether}
 
 -- an exchange that began the dialog: its INVITE has no To tag, and its 2xx names the dialog (RFC 3261 section 12.1)
 pub record IsFirst (methods : List (List ℕ)) (t : List Datagram) (d : Dialog) (e : Exchange) : Type 0 where
@@ -24,6 +24,15 @@ pub record AreBegun (methods : List (List ℕ)) (t : List Datagram) (dx dy : Dia
 -- the two dialogs are a call
 abbrev pub CallOf : List (List ℕ) → List Datagram → Dialog → Dialog → Type 0
 CallOf methods t dx dy = (x : Exchange) × (y : Exchange) × AreBegun methods t dx dy x y
+
+-- and so that the INVITE was taken in the first and sent on in the second: its end called the end of the second
+pub record AreCalled (methods : List (List ℕ)) (t : List Datagram) (dx dy : Dialog) (x y : Exchange) : Type 0 where
+  pub first_x : IsFirst methods t dx x
+  pub first_y : IsFirst methods t dy y
+  pub passed_on : IsPassedOn x y
+
+abbrev pub CallFrom : List (List ℕ) → List Datagram → Dialog → Dialog → Type 0
+CallFrom methods t dx dy = (x : Exchange) × (y : Exchange) × AreCalled methods t dx dy x y
 
 -- ---- live
 

@@ -9,7 +9,7 @@ use Rattle.call_trace.specs.declared.datagram.Datagram.{Datagram}
 use Rattle.call_trace.specs.declared.datagram.Dialog.{Dialog}
 use Rattle.call_trace.specs.declared.exchange.Places.{Places}
 use Rattle.call_trace.specs.Messages.{invite, ack, bye, is_request, is_final, is_ok, is_request_of, is_method, is_offer, is_answer, asks, accepts}
-use Rattle.call_trace.specs.Dialogs.{our_tag, their_tag}
+use Rattle.call_trace.specs.Dialogs.{is_ours_in_from, our_tag, their_tag}
 
 abbrev pub is_absent : List ℕ → Bool
 is_absent [] = true
@@ -26,6 +26,10 @@ replies r m =
 
 unfoldable pub names : Datagram → Dialog → Bool
 names p d = pointwise nat_eq p.message.call_id d.call_id && (pointwise nat_eq (our_tag p) d.ours && pointwise nat_eq (their_tag p) d.theirs)
+
+-- a request of ours has this branch, or a response that was taken
+abbrev pub uses : List ℕ → Datagram → Bool
+uses branch p = is_ours_in_from p.direction p.message.kind && pointwise nat_eq p.message.branch branch
 
 -- ---- exchanges
 

@@ -1,17 +1,16 @@
 -- The datagrams of one event, and what they may be without a move of any call.
-use Rattle.std.specs.Prelude.{◌≡◌, ◌≢◌, ℕ, List, ◌∷◌, map, Bool, not, ◌&&◌, ◌||◌, Option, Some, None, slice_get, ◌⊎◌, IsTrue}
+use Rattle.std.specs.Prelude.{◌≡◌, ◌≢◌, ℕ, List, ◌∷◌, map, Bool, not, ◌&&◌, ◌||◌, Option, Some, None, is_some, slice_get, ◌⊎◌, IsTrue}
 use Rattle.call_trace.specs.declared.datagram.Direction.TheVariants.{Taken, Sent}
 use Rattle.call_trace.specs.declared.datagram.Message.{Message}
 use Rattle.call_trace.specs.declared.datagram.Datagram.{Datagram}
 use Rattle.call_trace.specs.declared.datagram.Dialog.{Dialog}
-use Rattle.call_trace.specs.declared.call.Stage.TheVariants.{Ending}
 use Rattle.call_trace.specs.declared.call.Call.{Call}
 use Rattle.call_trace.specs.Messages.{invite, ack, bye, is_final, is_ok, is_success, is_listed, is_method, is_request_of, asks, Replies}
 use Rattle.call_trace.specs.Dialogs.{is_ours_in_from, dialog_of}
 use Rattle.call_trace.specs.Exchanges.{At, TakesFinal}
 use Rattle.call_trace.specs.Calls.{Ended}
 use Rattle.call_trace.specs.Stands.{IsTagOf, AsksAt}
-use Rattle.call_trace.specs.Lives.{SparesCall}
+use Rattle.call_trace.specs.Lives.{IsEnding, SparesCall}
 use Rattle.call_trace.specs.Listed.{AllOf}
 
 abbrev pub taken_at : ℕ → Message → Datagram
@@ -31,10 +30,11 @@ dialog_sent m = dialog_of (sent_at 0 m)
 
 -- ---- what changes nothing
 
--- neither a request that may carry an offer, nor an ACK or a BYE; no 2xx to such a request, and none to a BYE
+-- neither a request that may carry an offer, nor an ACK or a BYE; no answer to such a request, and no 2xx to an INVITE or to a BYE
 abbrev pub is_plain : List (List ℕ) → Message → Bool
 is_plain methods m =
-    not (asks methods m) && (not (is_request_of ack m) && (not (is_request_of bye m) && not (is_success m.kind && (is_listed methods m.method || is_method bye m.method))))
+    not (asks methods m) && (not (is_request_of ack m) && (not (is_request_of bye m)
+    && not (is_success m.kind && (is_method invite m.method || (is_method bye m.method || (is_listed methods m.method && is_some m.description))))))
 
 -- no final response to a request that may carry an offer
 abbrev pub is_calm : List (List ℕ) → Message → Bool
@@ -47,14 +47,14 @@ NoneAsked methods taken = (m : Message) → taken ≡ Some m → IsTrue (not (as
 -- A message that is sent and moves no call.
 pub data IsIdle (methods : List (List ℕ)) (t : List Datagram) (taken : Option Message) (m : Message) : Type 0 where
   plain : IsTrue (is_plain methods m) → IsIdle methods t taken m
-  -- the ACK to a refusal has its INVITE's branch (RFC 3261 section 17.1.1.3)
-  refusal_acknowledged : (k : ℕ) (q : Datagram) → IsTrue (is_request_of ack m) → At t k q → q.direction ≡ Sent → IsTrue (is_request_of invite q.message) → q.message.branch ≡ m.branch → IsIdle methods t taken m
+  -- an ACK with the branch of an INVITE of ours, as one to a refusal has (RFC 3261 section 17.1.1.3)
+  branch_acknowledged : (k : ℕ) (q : Datagram) → IsTrue (is_request_of ack m) → At t k q → q.direction ≡ Sent → IsTrue (is_request_of invite q.message) → q.message.branch ≡ m.branch → IsIdle methods t taken m
   -- what was sent before, in the same bytes; a request that may carry an offer not in an event that took one
   again : (k : ℕ) (q : Datagram) → At t k q → q.direction ≡ Sent → q.message ≡ m → IsTrue (not (asks methods m)) ⊎ NoneAsked methods taken → IsIdle methods t taken m
 
 -- What was taken, if anything, and moves no call.
 pub data IsIdleTaken (methods : List (List ℕ)) (t : List Datagram) (taken : Option Message) : Type 0 where
-  -- a timer fired
+  -- nothing was taken: a timer fired, or what came counts as not come
   due : taken ≡ None → IsIdleTaken methods t taken
   calm : (m : Message) → taken ≡ Some m → IsTrue (is_calm methods m) → IsIdleTaken methods t taken
   -- a final response with the branch of a request that was finally answered before: a repeat, one that is late, one of a second telephone
@@ -88,7 +88,7 @@ pub data IsParting (methods : List (List ℕ)) (t : List Datagram) (taken : Opti
   idle : IsIdle methods t taken m → IsParting methods t taken sent left m
   bye_sent : IsTrue (is_request_of bye m) → AllOf (SparesCall (sent_at 0 m)) left → IsParting methods t taken sent left m
   -- a 200 to a BYE in no call that goes on: one that is ending has been left by this end
-  bye_answered : IsTrue (is_ok m.kind) → IsTrue (is_method bye m.method) → AllOf (λ c. c.stage ≢ Ending → ¬ IsTagOf c m.to_tag) left → IsParting methods t taken sent left m
+  bye_answered : IsTrue (is_ok m.kind) → IsTrue (is_method bye m.method) → AllOf (λ c. ¬ IsEnding c.stage → ¬ IsTagOf c m.to_tag) left → IsParting methods t taken sent left m
   -- the 2xx of a dialog that ends at once is acknowledged (RFC 3261 section 13.2.2.4)
   acknowledged : IsTrue (is_request_of ack m) → EndsNow t taken sent (dialog_sent m) → IsParting methods t taken sent left m
 

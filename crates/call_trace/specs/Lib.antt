@@ -4,6 +4,7 @@ pub mod Exchanges
 pub mod Passing
 pub mod Calls
 pub mod Promise
+pub mod Serving
 pub mod Places
 pub mod Computed
 pub mod Listed
@@ -12,8 +13,8 @@ pub mod Lives
 pub mod Events
 pub mod Moves
 pub mod Runs
+pub mod Promised
 pub mod Worked
 pub mod WorkedOffers
-pub mod Playing
-pub mod Sending
-pub mod Player
+pub mod WorkedUpdates
+pub mod WorkedEnds

@@ -1,5 +1,5 @@
 -- What a message is to a trace, and which response replies to which request.
-use Rattle.std.specs.Prelude.{◌≡◌, ℕ, Bool, true, false, not, ◌&&◌, ◌==◌, nat_eq, nat_le, nat_lt, List, [], codes, is_some, ◌⊎◌, IsTrue}
+use Rattle.std.specs.Prelude.{◌≡◌, ℕ, Bool, true, false, not, ◌&&◌, ◌==◌, nat_eq, nat_le, nat_lt, List, [], ◌∷◌, codes, is_some, ◌⊎◌, IsTrue}
 use Rattle.std.specs.List.{list_any}
 use Rattle.std.specs.Cmp.Lexicographic.{pointwise}
 use Rattle.call_trace.specs.declared.datagram.Kind.{Kind}
@@ -43,6 +43,14 @@ bye = codes "BYE"
 
 abbrev pub cancel : List ℕ
 cancel = codes "CANCEL"
+
+-- RFC 3311
+abbrev pub update : List ℕ
+update = codes "UPDATE"
+
+-- the methods that may carry an offer (RFC 3261 section 13.2.1, RFC 3311 section 5.1)
+abbrev pub offering : List (List ℕ)
+offering = invite ∷ update ∷ []
 
 -- the method is one of these
 abbrev pub is_listed : List (List ℕ) → List ℕ → Bool

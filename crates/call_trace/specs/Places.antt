@@ -9,7 +9,7 @@ abbrev pub exchange : Places → Datagram → Datagram → Exchange
 exchange at asked answered = record { asked_at = at.asked; answered_at = at.answered; asked = asked; answered = answered }
 
 -- the request and the response of the exchange stand at these places of the trace
-pub record StandsAt (t : List Datagram) (at : Places) (e : Exchange) : Type 0 where
+pub record IsAtPlaces (t : List Datagram) (at : Places) (e : Exchange) : Type 0 where
   pub asked_at : e.asked_at ≡ at.asked
   pub answered_at : e.answered_at ≡ at.answered
   pub at_asked : At t e.asked_at e.asked
@@ -17,7 +17,7 @@ pub record StandsAt (t : List Datagram) (at : Places) (e : Exchange) : Type 0 wh
 
 -- what stands at these places has the property
 abbrev pub HoldsAt : List Datagram → Places → (Exchange → Type 0) → Type 0
-HoldsAt t at P = (e : Exchange) × StandsAt t at e × P e
+HoldsAt t at P = (e : Exchange) × IsAtPlaces t at e × P e
 
 -- what stands at the first and what stands at the second places have the property together
 abbrev pub HoldTogether : List Datagram → Places → Places → (Exchange → Exchange → Type 0) → Type 0

@@ -43,7 +43,12 @@ MediaPromise methods server table t =
     (dx dy : Dialog) → CallOf methods t dx dy → Live t dx → Live t dy → ¬ Open methods t dx → ¬ Open methods t dy
     → Meets methods server table t dx dy ⊎ Meets methods server table t dy dx
 
--- ---- what gives the promise
+-- and for every call whose two dialogs are live, also while an offer is open
+abbrev pub EachMeets : List (List ℕ) → List ℕ → (ℕ → Option Addr) → List Datagram → Type 0
+EachMeets methods server table t =
+    (dx dy : Dialog) → CallOf methods t dx dy → Live t dx → Live t dy → Meets methods server table t dx dy ⊎ Meets methods server table t dy dx
+
+-- ---- what gives it
 
 -- each end was told what is alike to what the other said, with places at the server; and the table has the session's rows
 pub record IsRelayed (server : List ℕ) (table : ℕ → Option Addr) (s : Session) : Type 0 where

@@ -8,10 +8,10 @@ use Rattle.call_trace.specs.declared.call.Settled.{Settled}
 use Rattle.call_trace.specs.declared.call.Stage.TheVariants.{Asked, Answered}
 use Rattle.call_trace.specs.declared.call.Offer.{Offer}
 use Rattle.call_trace.specs.declared.call.Call.{Call}
-use Rattle.call_trace.specs.Messages.{invite, ack, bye, is_listed, is_method, asks, is_offer}
+use Rattle.call_trace.specs.Messages.{invite, ack, bye, cancel, is_listed, is_method, asks, is_offer}
 use Rattle.call_trace.specs.Exchanges.{At, TakesFinal, Exchange, IsLast}
 use Rattle.call_trace.specs.Passing.{IsPassedOn}
-use Rattle.call_trace.specs.Calls.{CallOf, Ended}
+use Rattle.call_trace.specs.Calls.{CallFrom, Ended}
 use Rattle.call_trace.specs.Promise.{AreSaid}
 use Rattle.call_trace.specs.Listed.{AllOf, AnyOf}
 
@@ -71,7 +71,7 @@ pub record CallStands (methods : List (List ℕ)) (t : List Datagram) (c : Call)
   pub offer : (p : Offer) → c.offer ≡ Some p → Offered methods t (leg c p.by_caller) (leg c (not p.by_caller)) p
   pub first : c.stage ≡ Asked → (p : Offer) → c.offer ≡ Some p → IsFirstOffer c p
   pub later : (z : Settled) → c.stage ≡ Answered z → (p : Offer) → c.offer ≡ Some p → p.came.to_tag ≡ (leg c p.by_caller).ours
-  pub begun : c.stage ≢ Asked → CallOf methods t c.caller c.callee
+  pub begun : c.stage ≢ Asked → CallFrom methods t c.caller c.callee
 
 -- ---- the calls
 
@@ -92,16 +92,18 @@ pub record HasTags (c : Call) : Type 0 where
   pub callee : c.callee.ours ≢ []
   pub differ : c.caller.ours ≢ c.callee.ours
 
--- the two dialogs are those of the call, which was answered
+-- the two dialogs are the caller's and the callee's of the call, which was answered
 pub record IsCallOf (dx dy : Dialog) (c : Call) : Type 0 where
   pub answered : c.stage ≢ Asked
-  pub dialogs : ((c.caller ≡ dx) × (c.callee ≡ dy)) ⊎ ((c.callee ≡ dx) × (c.caller ≡ dy))
+  pub caller : c.caller ≡ dx
+  pub callee : c.callee ≡ dy
 
--- of the methods that may carry an offer, INVITE is one (RFC 3261 section 13.2.1), and neither ACK nor BYE is
+-- of the methods that may carry an offer, INVITE is one (RFC 3261 section 13.2.1), and neither ACK nor BYE nor CANCEL is
 pub record AreOffering (methods : List (List ℕ)) : Type 0 where
   pub invites : IsTrue (is_listed methods invite)
   pub acks : IsTrue (not (is_listed methods ack))
   pub byes : IsTrue (not (is_listed methods bye))
+  pub cancels : IsTrue (not (is_listed methods cancel))
 
 -- a request of ours that may carry an offer stands at the place
 pub record AsksAt (methods : List (List ℕ)) (t : List Datagram) (i : ℕ) (p : Datagram) : Type 0 where
@@ -116,7 +118,7 @@ pub record AskedAt (methods : List (List ℕ)) (t : List Datagram) (i : ℕ) (p 
   pub asks : IsTrue (asks methods p.message)
 
 abbrev pub Known : List (List ℕ) → List Datagram → List Call → Type 0
-Known methods t calls = (dx dy : Dialog) → CallOf methods t dx dy → AnyOf (IsCallOf dx dy) calls ⊎ (Ended t dx × Ended t dy)
+Known methods t calls = (dx dy : Dialog) → CallFrom methods t dx dy → AnyOf (IsCallOf dx dy) calls ⊎ (Ended t dx × Ended t dy)
 
 -- n events have passed. One event takes at most one datagram. Requests that are sent with one branch are copies, and of these only one
 -- was sent in an event that took a request. Two dialogs that are a call are listed, or both have ended.

@@ -6,10 +6,10 @@ use sdp::Description;
 /// The four descriptions of a session (RFC 3264): one end offers and the other answers, each through the server.
 #[derive(Drop)]
 pub struct Session {
-    pub offer_taken: Description,
-    pub answer_sent: Description,
-    pub offer_sent: Description,
-    pub answer_taken: Description,
+    pub offer_taken: Description<'static>,
+    pub answer_sent: Description<'static>,
+    pub offer_sent: Description<'static>,
+    pub answer_taken: Description<'static>,
 }
 
 /// A session, and which end offered it.
@@ -26,8 +26,8 @@ pub enum Stage {
     Asked,
     /// It was answered, and this was settled last. Whether the ACK came is no matter.
     Answered(Settled),
-    /// One end has left it; the other waits for its BYE.
-    Ending,
+    /// One end has left it, the caller where this is true; the other waits for its BYE.
+    Ending(bool),
 }
 
 /// An offer that was passed on and has no final response yet.

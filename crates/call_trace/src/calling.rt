@@ -14,7 +14,7 @@ use text::Texts;
 
 #[tactic(auto, unfolding(crate::specs::Computed::is_first))]
 fn is_first(
-    methods: &Texts,
+    methods: &Texts<'_>,
     trace: &[Datagram],
     dialog: &Dialog,
     at: Places,
@@ -31,7 +31,7 @@ fn is_first(
 
 /// Whether the exchange at these places began the dialog.
 #[tactic(auto, unfolding(crate::specs::Computed::first_at))]
-fn is_first_at(methods: &Texts, trace: &[Datagram], dialog: &Dialog, at: Places) -> bool
+fn is_first_at(methods: &Texts<'_>, trace: &[Datagram], dialog: &Dialog, at: Places) -> bool
     ensures { result ≡ first_at methods.now trace.now dialog.now at }
 {
     let Some(asked) = trace.get(at.asked) else {
@@ -44,14 +44,20 @@ fn is_first_at(methods: &Texts, trace: &[Datagram], dialog: &Dialog, at: Places)
 }
 
 #[tactic(auto, unfolding(crate::specs::Computed::partner_at))]
-fn is_partner_at(methods: &Texts, trace: &[Datagram], x: Places, dialog: &Dialog, y: Places) -> bool
+fn is_partner_at(
+    methods: &Texts<'_>,
+    trace: &[Datagram],
+    x: Places,
+    dialog: &Dialog,
+    y: Places,
+) -> bool
     ensures { result ≡ partner_at methods.now trace.now x dialog.now y }
 {
     is_first_at(methods, trace, dialog, y) && is_together_at(trace, x, y)
 }
 
 fn has_partner_answered_at(
-    methods: &Texts,
+    methods: &Texts<'_>,
     trace: &[Datagram],
     x: Places,
     dialog: &Dialog,
@@ -65,21 +71,21 @@ fn has_partner_answered_at(
 
 /// Whether an exchange that began this dialog was passed together with that at the places.
 #[tactic(auto, unfolding(crate::specs::Computed::has_partner))]
-fn has_partner(methods: &Texts, trace: &[Datagram], x: Places, dialog: &Dialog) -> bool
+fn has_partner(methods: &Texts<'_>, trace: &[Datagram], x: Places, dialog: &Dialog) -> bool
     ensures { result ≡ has_partner methods.now trace.now x dialog.now }
 {
     (0..trace.len()).any(|answered| has_partner_answered_at(methods, trace, x, dialog, answered))
 }
 
 #[tactic(auto, unfolding(crate::specs::Computed::begins_call))]
-fn begins_call(methods: &Texts, trace: &[Datagram], dx: &Dialog, dy: &Dialog, x: Places) -> bool
+fn begins_call(methods: &Texts<'_>, trace: &[Datagram], dx: &Dialog, dy: &Dialog, x: Places) -> bool
     ensures { result ≡ begins_call methods.now trace.now dx.now dy.now x }
 {
     is_first_at(methods, trace, dx, x) && has_partner(methods, trace, x, dy)
 }
 
 fn begins_call_answered_at(
-    methods: &Texts,
+    methods: &Texts<'_>,
     trace: &[Datagram],
     dx: &Dialog,
     dy: &Dialog,
@@ -92,14 +98,14 @@ fn begins_call_answered_at(
 }
 
 #[tactic(auto, unfolding(crate::specs::Computed::call_of))]
-fn are_call(methods: &Texts, trace: &[Datagram], dx: &Dialog, dy: &Dialog) -> bool
+fn are_call(methods: &Texts<'_>, trace: &[Datagram], dx: &Dialog, dy: &Dialog) -> bool
     ensures { result ≡ call_of methods.now trace.now dx.now dy.now }
 {
     (0..trace.len()).any(|answered| begins_call_answered_at(methods, trace, dx, dy, answered))
 }
 
 /// Whether the two dialogs are a call: exchanges that began them were passed together (RFC 3261 section 12.1).
-pub fn is_call(methods: &Texts, trace: &[Datagram], dx: &Dialog, dy: &Dialog) -> bool
+pub fn is_call(methods: &Texts<'_>, trace: &[Datagram], dx: &Dialog, dy: &Dialog) -> bool
     ensures { IsTrue result ↔ CallOf methods.now trace.now dx.now dy.now }
 {
     are_call(methods, trace, dx, dy)

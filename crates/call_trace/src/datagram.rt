@@ -22,20 +22,20 @@ pub enum Kind {
 pub struct Message {
     pub kind: Kind,
     /// The branch of the top Via.
-    pub branch: Text,
-    pub call_id: Text,
+    pub branch: Text<'static>,
+    pub call_id: Text<'static>,
     /// The tag of From, empty where there is none.
-    pub from_tag: Text,
+    pub from_tag: Text<'static>,
     /// The tag of To, empty where there is none.
-    pub to_tag: Text,
+    pub to_tag: Text<'static>,
     /// The number of CSeq.
     pub number: u32,
     /// The method of CSeq, which is that of the request.
-    pub method: Text,
+    pub method: Text<'static>,
     /// The body, where it is a description.
-    pub description: Option<Description>,
+    pub description: Option<Description<'static>>,
     /// The whole message, as it stood on the wire.
-    pub bytes: Text,
+    pub bytes: Text<'static>,
 }
 
 /// A datagram of a trace. The event is the number of the step in which it was taken or sent.
@@ -49,9 +49,9 @@ pub struct Datagram {
 /// What names a dialog at this server (RFC 3261 section 12): an absent tag is the empty text.
 #[derive(Debug, Drop, PartialEq, Eq)]
 pub struct Dialog {
-    pub call_id: Text,
+    pub call_id: Text<'static>,
     /// The tag that this server gave.
-    pub ours: Text,
+    pub ours: Text<'static>,
     /// The tag that the other end gave.
-    pub theirs: Text,
+    pub theirs: Text<'static>,
 }

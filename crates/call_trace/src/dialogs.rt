@@ -3,14 +3,12 @@
 ghost use Rattle.std.specs.Prelude.{◌≡◌, ◌↔◌, IsTrue, IfOk};
 ghost use Rattle.call_trace.specs.Dialogs.{is_ours_in_from, our_tag, their_tag, dialog_of};
 ghost use Rattle.call_trace.specs.Computed.{names};
-ghost use Rattle.call_trace.specs.Sending.{answered_in};
 
-use crate::datagram::{Datagram, Dialog, Direction, Kind, Message};
-use crate::naming::copied_text;
-use std::alloc::AllocError;
+use crate::datagram::{Datagram, Dialog, Direction, Kind};
+use std::alloc::{AllocError, Global};
 use text::Text;
 
-pub(crate) fn is_ours_in_from(direction: Direction, kind: Kind) -> bool
+fn is_ours_in_from(direction: Direction, kind: Kind) -> bool
     ensures { result ≡ is_ours_in_from direction kind }
 {
     match (direction, kind) {
@@ -21,7 +19,7 @@ pub(crate) fn is_ours_in_from(direction: Direction, kind: Kind) -> bool
     }
 }
 
-fn our_tag(datagram: &Datagram) -> &Text
+fn our_tag(datagram: &Datagram) -> &Text<'static>
     ensures { result.now ≡ our_tag datagram.now }
 {
     if is_ours_in_from(datagram.direction, datagram.message.kind) {
@@ -31,7 +29,7 @@ fn our_tag(datagram: &Datagram) -> &Text
     }
 }
 
-fn their_tag(datagram: &Datagram) -> &Text
+fn their_tag(datagram: &Datagram) -> &Text<'static>
     ensures { result.now ≡ their_tag datagram.now }
 {
     if is_ours_in_from(datagram.direction, datagram.message.kind) {
@@ -42,24 +40,13 @@ fn their_tag(datagram: &Datagram) -> &Text
 }
 
 /// The dialog that the datagram's identifiers name.
-pub fn dialog_of(datagram: &Datagram) -> Result<Dialog, AllocError>
+pub fn dialog_of(alloc: Global, datagram: &Datagram) -> Result<Dialog, AllocError>
     ensures { IfOk result (λ d. d ≡ dialog_of datagram.now) }
 {
     Ok(Dialog {
-        call_id: copied_text(&datagram.message.call_id)?,
-        ours: copied_text(our_tag(datagram))?,
-        theirs: copied_text(their_tag(datagram))?,
-    })
-}
-
-/// The dialog that a response of the other end names.
-pub(crate) fn answered_in(response: &Message) -> Result<Dialog, AllocError>
-    ensures { IfOk result (λ d. d ≡ answered_in response.now) }
-{
-    Ok(Dialog {
-        call_id: copied_text(&response.call_id)?,
-        ours: copied_text(&response.from_tag)?,
-        theirs: copied_text(&response.to_tag)?,
+        call_id: datagram.message.call_id.keep(alloc)?,
+        ours: our_tag(datagram).keep(alloc)?,
+        theirs: their_tag(datagram).keep(alloc)?,
     })
 }
 

@@ -30,7 +30,7 @@ pub(crate) fn takes_final(datagram: &Datagram, request: &Message) -> bool
 }
 
 #[tactic(auto, unfolding(crate::specs::Computed::sends_bytes))]
-pub(crate) fn sends_bytes(datagram: &Datagram, bytes: &Text) -> bool
+pub(crate) fn sends_bytes(datagram: &Datagram, bytes: &Text<'_>) -> bool
     ensures { result ≡ sends_bytes datagram.now bytes.now }
 {
     !is_taken(datagram.direction) && datagram.message.bytes == *bytes
@@ -38,7 +38,7 @@ pub(crate) fn sends_bytes(datagram: &Datagram, bytes: &Text) -> bool
 
 /// Whether the bytes were sent before the place.
 #[tactic(auto, unfolding(crate::specs::Computed::sent_before))]
-fn sent_before(trace: &[Datagram], at: usize, bytes: &Text) -> bool
+fn sent_before(trace: &[Datagram], at: usize, bytes: &Text<'_>) -> bool
     ensures { result ≡ sent_before trace.now at bytes.now }
 {
     trace
@@ -81,7 +81,7 @@ fn is_made(trace: &[Datagram], asked: &Datagram, at: usize, answered: &Datagram)
 /// Whether the two datagrams at these places are an exchange of the dialog.
 #[tactic(auto, unfolding(crate::specs::Computed::is_exchange))]
 pub(crate) fn is_exchange_of(
-    methods: &Texts,
+    methods: &Texts<'_>,
     trace: &[Datagram],
     dialog: &Dialog,
     at: Places,
@@ -101,7 +101,7 @@ pub(crate) fn is_exchange_of(
 
 #[tactic(auto, unfolding(crate::specs::Computed::exchange_at))]
 pub(crate) fn is_exchange_at(
-    methods: &Texts,
+    methods: &Texts<'_>,
     trace: &[Datagram],
     dialog: &Dialog,
     at: Places,
@@ -119,7 +119,7 @@ pub(crate) fn is_exchange_at(
 
 /// Whether an offer and its answer stand at these places, in the dialog. The methods are those whose requests may carry an
 /// offer (RFC 3261 sections 13 and 14, RFC 3264 section 4).
-pub fn is_exchange(methods: &Texts, trace: &[Datagram], dialog: &Dialog, at: Places) -> bool
+pub fn is_exchange(methods: &Texts<'_>, trace: &[Datagram], dialog: &Dialog, at: Places) -> bool
     ensures { IsTrue result
         ↔ HoldsAt trace.now at (λ e. IsExchange methods.now trace.now dialog.now e) }
 {
@@ -127,7 +127,7 @@ pub fn is_exchange(methods: &Texts, trace: &[Datagram], dialog: &Dialog, at: Pla
 }
 
 /// Whether the exchange at these places is one of the last of the dialog: none was answered later.
-pub fn is_last(methods: &Texts, trace: &[Datagram], dialog: &Dialog, at: Places) -> bool
+pub fn is_last(methods: &Texts<'_>, trace: &[Datagram], dialog: &Dialog, at: Places) -> bool
     ensures { IsTrue result
         ↔ HoldsAt trace.now at (λ e. IsLast methods.now trace.now dialog.now e) }
 {

@@ -13,8 +13,6 @@ pub(crate) const ACK: &[u8] = b"ACK";
 
 pub(crate) const BYE: &[u8] = b"BYE";
 
-pub(crate) const CANCEL: &[u8] = b"CANCEL";
-
 pub(crate) fn is_taken(direction: Direction) -> bool
     ensures { result ≡ is_taken direction }
 {
@@ -60,27 +58,27 @@ pub(crate) fn is_ok(kind: Kind) -> bool
     }
 }
 
-pub(crate) fn is_method(name: &[u8], method: &Text) -> bool
+pub(crate) fn is_method(name: &[u8], method: &Text<'_>) -> bool
     ensures { result ≡ is_method name.now method.now }
 {
     method.as_bytes() == name
 }
 
-fn is_listed(methods: &Texts, method: &Text) -> bool
+fn is_listed(methods: &Texts<'_>, method: &Text<'_>) -> bool
     ensures { result ≡ is_listed methods.now method.now }
 {
     methods.as_slice().iter().any(|name| *name == *method)
 }
 
 /// Whether this is a request of one of the methods.
-pub(crate) fn asks(methods: &Texts, message: &Message) -> bool
+pub(crate) fn asks(methods: &Texts<'_>, message: &Message) -> bool
     ensures { result ≡ asks methods.now message.now }
 {
     is_request(message.kind) && is_listed(methods, &message.method)
 }
 
 /// Whether this is a request of one of the methods, with a description.
-pub(crate) fn is_offer(methods: &Texts, message: &Message) -> bool
+pub(crate) fn is_offer(methods: &Texts<'_>, message: &Message) -> bool
     ensures { result ≡ is_offer methods.now message.now }
 {
     asks(methods, message) && message.description.is_some()

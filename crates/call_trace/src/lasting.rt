@@ -27,7 +27,7 @@ fn are_same(x: Places, y: Places) -> bool
 /// Whether these are other places than the chosen ones, of last exchanges that were passed together.
 #[tactic(auto, unfolding(crate::specs::Computed::rival_at))]
 fn is_rival_at(
-    methods: &Texts,
+    methods: &Texts<'_>,
     trace: &[Datagram],
     chosen: Chosen,
     e: Places,
@@ -42,7 +42,7 @@ fn is_rival_at(
 }
 
 fn has_rival_answered_at(
-    methods: &Texts,
+    methods: &Texts<'_>,
     trace: &[Datagram],
     chosen: Chosen,
     e: Places,
@@ -64,7 +64,7 @@ fn has_rival_answered_at(
 
 #[tactic(auto, unfolding(crate::specs::Computed::has_rival_for))]
 fn has_rival_for(
-    methods: &Texts,
+    methods: &Texts<'_>,
     trace: &[Datagram],
     chosen: Chosen,
     e: Places,
@@ -79,7 +79,7 @@ fn has_rival_for(
 
 #[tactic(auto, unfolding(crate::specs::Computed::has_rival_at))]
 fn has_rival_at(
-    methods: &Texts,
+    methods: &Texts<'_>,
     trace: &[Datagram],
     dx: &Dialog,
     dy: &Dialog,
@@ -92,7 +92,7 @@ fn has_rival_at(
 }
 
 fn has_rival_first_answered_at(
-    methods: &Texts,
+    methods: &Texts<'_>,
     trace: &[Datagram],
     dx: &Dialog,
     dy: &Dialog,
@@ -114,7 +114,13 @@ fn has_rival_first_answered_at(
 
 /// Whether two other last exchanges of the two dialogs were passed together.
 #[tactic(auto, unfolding(crate::specs::Computed::has_rival))]
-fn has_rival(methods: &Texts, trace: &[Datagram], dx: &Dialog, dy: &Dialog, chosen: Chosen) -> bool
+fn has_rival(
+    methods: &Texts<'_>,
+    trace: &[Datagram],
+    dx: &Dialog,
+    dy: &Dialog,
+    chosen: Chosen,
+) -> bool
     ensures { result ≡ has_rival methods.now trace.now dx.now dy.now chosen.x chosen.y }
 {
     (0..trace.len()).any(|answered| has_rival_first_answered_at(
@@ -124,7 +130,7 @@ fn has_rival(methods: &Texts, trace: &[Datagram], dx: &Dialog, dy: &Dialog, chos
 
 #[tactic(auto, unfolding(crate::specs::Computed::last_together))]
 fn last_together(
-    methods: &Texts,
+    methods: &Texts<'_>,
     trace: &[Datagram],
     dx: &Dialog,
     dy: &Dialog,
@@ -141,7 +147,7 @@ fn last_together(
 /// Whether the exchange at `x`, one of the last of the dialog `dx`, was passed on as that at `y`, one of the last of `dy`, and no
 /// other two of these were passed together.
 pub fn are_last(
-    methods: &Texts,
+    methods: &Texts<'_>,
     trace: &[Datagram],
     dx: &Dialog,
     dy: &Dialog,

@@ -4,43 +4,32 @@
 //! stands a plain program that computes it: lists, no cleverness.
 #![tactic(auto)]
 
-mod answering;
-mod asking;
 mod call;
 mod calling;
 mod datagram;
 mod dialogs;
 mod exchange;
-mod finding;
 mod kinds;
+mod knowing;
 mod lasting;
 mod laws;
-mod leaving;
 mod lives;
 mod moving;
-mod naming;
-mod numbering;
 mod offers;
 mod passing;
-mod planning;
-mod player;
-mod playing;
-mod repeating;
 mod replying;
 mod search;
-mod sending;
-mod straying;
 
 pub use call::{Call, Offer, Session, Settled, Stage};
 pub use calling::is_call;
 pub use datagram::{Datagram, Dialog, Direction, Kind, Message};
 pub use dialogs::{dialog_of, is_named};
 pub use exchange::{Places, is_exchange, is_last};
+pub use knowing::{calls_are_spared, dialogs_are_known};
 pub use lasting::are_last;
 pub use laws::{calls_stay, exchanges_stay, relayed_is_promised};
 pub use lives::{has_begun, has_ended, is_live};
 pub use moving::{calls_are_moves, moves_are_promised, moves_keep, standing_is_promised};
 pub use offers::is_open;
 pub use passing::{are_passed_together, is_passed_on};
-pub use player::{Outcome, Player};
 pub use replying::replies;

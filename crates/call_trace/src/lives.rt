@@ -27,7 +27,7 @@ fn is_accepted(datagram: &Datagram, dialog: &Dialog) -> bool
 
 /// Whether an INVITE with this branch was sent.
 #[tactic(auto, unfolding(crate::specs::Computed::invites_with))]
-fn invites_with(datagram: &Datagram, branch: &Text) -> bool
+fn invites_with(datagram: &Datagram, branch: &Text<'_>) -> bool
     ensures { result ≡ invites_with datagram.now branch.now }
 {
     !is_taken(datagram.direction)
@@ -36,7 +36,7 @@ fn invites_with(datagram: &Datagram, branch: &Text) -> bool
 }
 
 #[tactic(auto, unfolding(crate::specs::Computed::is_invited_with))]
-fn is_invited_with(trace: &[Datagram], branch: &Text) -> bool
+fn is_invited_with(trace: &[Datagram], branch: &Text<'_>) -> bool
     ensures { result ≡ is_invited_with trace.now branch.now }
 {
     trace.iter().any(|other| invites_with(other, branch))

@@ -24,7 +24,7 @@ fn final_from(trace: &[Datagram], at: usize, request: &Message) -> bool
 /// Whether this was sent in the dialog, may carry an offer, and got no final response from its place on.
 #[tactic(auto, unfolding(crate::specs::Computed::is_unanswered))]
 fn is_unanswered(
-    methods: &Texts,
+    methods: &Texts<'_>,
     trace: &[Datagram],
     dialog: &Dialog,
     at: usize,
@@ -38,7 +38,7 @@ fn is_unanswered(
 }
 
 #[tactic(auto, unfolding(crate::specs::Computed::unanswered_at))]
-fn is_unanswered_at(methods: &Texts, trace: &[Datagram], dialog: &Dialog, at: usize) -> bool
+fn is_unanswered_at(methods: &Texts<'_>, trace: &[Datagram], dialog: &Dialog, at: usize) -> bool
     ensures { result ≡ unanswered_at methods.now trace.now dialog.now at }
 {
     match trace.get(at) {
@@ -48,7 +48,7 @@ fn is_unanswered_at(methods: &Texts, trace: &[Datagram], dialog: &Dialog, at: us
 }
 
 #[tactic(auto, unfolding(crate::specs::Computed::open_in))]
-fn open_in(methods: &Texts, trace: &[Datagram], dialog: &Dialog) -> bool
+fn open_in(methods: &Texts<'_>, trace: &[Datagram], dialog: &Dialog) -> bool
     ensures { result ≡ open_in methods.now trace.now dialog.now }
 {
     (0..trace.len()).any(|at| is_unanswered_at(methods, trace, dialog, at))
@@ -56,7 +56,7 @@ fn open_in(methods: &Texts, trace: &[Datagram], dialog: &Dialog) -> bool
 
 /// Whether an offer is open in the dialog: a request that may carry one was sent in it, and no final response to it was
 /// taken since (RFC 3261 section 14.1, RFC 3264 section 4).
-pub fn is_open(methods: &Texts, trace: &[Datagram], dialog: &Dialog) -> bool
+pub fn is_open(methods: &Texts<'_>, trace: &[Datagram], dialog: &Dialog) -> bool
     ensures { IsTrue result ↔ Open methods.now trace.now dialog.now }
 {
     open_in(methods, trace, dialog)

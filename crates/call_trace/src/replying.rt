@@ -8,7 +8,7 @@ use crate::datagram::Message;
 use crate::kinds::is_request;
 use text::Text;
 
-pub(crate) fn is_absent(tag: &Text) -> bool
+pub(crate) fn is_absent(tag: &Text<'_>) -> bool
     ensures { result ≡ is_absent tag.now }
 {
     match tag.as_bytes() {

@@ -9,7 +9,7 @@ use text::Texts;
 
 /// Whether the response at this place answers an offer of the dialog.
 #[tactic(auto, unfolding(crate::specs::Computed::answered_at))]
-fn is_answered_at(methods: &Texts, trace: &[Datagram], dialog: &Dialog, answered: usize) -> bool
+fn is_answered_at(methods: &Texts<'_>, trace: &[Datagram], dialog: &Dialog, answered: usize) -> bool
     ensures { result ≡ answered_at methods.now trace.now dialog.now answered }
 {
     (0..answered).any(|asked| is_exchange_at(methods, trace, dialog, Places { asked, answered }))
@@ -18,7 +18,7 @@ fn is_answered_at(methods: &Texts, trace: &[Datagram], dialog: &Dialog, answered
 /// Whether an exchange of the dialog was answered at the place, which is behind the other.
 #[tactic(auto, unfolding(crate::specs::Computed::answered_behind))]
 fn is_answered_behind(
-    methods: &Texts,
+    methods: &Texts<'_>,
     trace: &[Datagram],
     dialog: &Dialog,
     answered: usize,
@@ -31,14 +31,19 @@ fn is_answered_behind(
 
 /// Whether an exchange of the dialog was answered behind this place.
 #[tactic(auto, unfolding(crate::specs::Computed::later_exchange))]
-fn has_later(methods: &Texts, trace: &[Datagram], dialog: &Dialog, answered: usize) -> bool
+fn has_later(methods: &Texts<'_>, trace: &[Datagram], dialog: &Dialog, answered: usize) -> bool
     ensures { result ≡ later_exchange methods.now trace.now dialog.now answered }
 {
     (0..trace.len()).any(|place| is_answered_behind(methods, trace, dialog, answered, place))
 }
 
 #[tactic(auto, unfolding(crate::specs::Computed::last_at))]
-pub(crate) fn is_last_at(methods: &Texts, trace: &[Datagram], dialog: &Dialog, at: Places) -> bool
+pub(crate) fn is_last_at(
+    methods: &Texts<'_>,
+    trace: &[Datagram],
+    dialog: &Dialog,
+    at: Places,
+) -> bool
     ensures { result ≡ last_at methods.now trace.now dialog.now at }
 {
     is_exchange_at(methods, trace, dialog, at) && !has_later(methods, trace, dialog, at.answered)

@@ -1,12 +1,11 @@
 //! Rows of calls of `call_trace` on traces that are written as tables.
 
-use crate::player_rows::{fired, hops_after, played, taken};
 use crate::trace_tables::{Descriptions, dialog, fault_text, methods};
 use call_trace::{
-    Datagram, Dialog, Places, are_last, are_passed_together, calls_are_moves, calls_stay,
-    dialog_of, exchanges_stay, has_begun, has_ended, is_call, is_exchange, is_last, is_live,
-    is_named, is_open, is_passed_on, moves_are_promised, moves_keep, relayed_is_promised, replies,
-    standing_is_promised,
+    Datagram, Dialog, Places, are_last, are_passed_together, calls_are_moves, calls_are_spared,
+    calls_stay, dialog_of, dialogs_are_known, exchanges_stay, has_begun, has_ended, is_call,
+    is_exchange, is_last, is_live, is_named, is_open, is_passed_on, moves_are_promised, moves_keep,
+    relayed_is_promised, replies, standing_is_promised,
 };
 use rows::{Rows, said, shown, usize_of};
 use sdp::DescriptionError;
@@ -49,7 +48,7 @@ fn last_word(are_last: bool) -> &'static str {
 /// which an offer is open.
 fn call_text(
     alloc: Global,
-    methods: &Texts,
+    methods: &Texts<'_>,
     trace: &[Datagram],
     (dx, dy): (&Dialog, &Dialog),
     (x, y): (Places, Places),
@@ -95,12 +94,14 @@ fn laws() {
     standing_is_promised();
     moves_are_promised();
     calls_are_moves();
+    dialogs_are_known();
+    calls_are_spared();
 }
 
 /// What is true of a dialog in a trace.
 fn of_dialog(
     alloc: Global,
-    methods: &Texts,
+    methods: &Texts<'_>,
     trace: &[Datagram],
     call: &str,
     words: &[u8],
@@ -118,7 +119,7 @@ fn of_dialog(
 /// What is true of the exchange of a dialog at two places.
 fn of_exchange(
     alloc: Global,
-    methods: &Texts,
+    methods: &Texts<'_>,
     trace: &[Datagram],
     call: &str,
     words: &[u8],
@@ -134,7 +135,7 @@ fn of_exchange(
 /// Whether two dialogs are a call.
 fn are_call(
     alloc: Global,
-    methods: &Texts,
+    methods: &Texts<'_>,
     trace: &[Datagram],
     x: &[u8],
     y: &[u8],
@@ -165,7 +166,7 @@ fn names(
 /// Whether a call that says yes or no says yes.
 fn truth(
     alloc: Global,
-    methods: &Texts,
+    methods: &Texts<'_>,
     trace: &[Datagram],
     call: &str,
     args: &[&[u8]],
@@ -203,7 +204,7 @@ fn truth_text(
 
 fn dialog_at(alloc: Global, trace: &[Datagram], at: usize) -> Result<String, AllocError> {
     match trace.get(at) {
-        Some(datagram) => dialog_text(alloc, &dialog_of(datagram)?),
+        Some(datagram) => dialog_text(alloc, &dialog_of(alloc, datagram)?),
         None => said(alloc, "none"),
     }
 }
@@ -240,15 +241,10 @@ impl CallTraceRows {
         call: &str,
         args: &[&[u8]],
     ) -> Result<Option<String>, DescriptionError> {
-        let descriptions = &self.descriptions;
         let answer = match (call, args) {
             ("trace", tables) => self.set(alloc, tables),
             ("first", tables) => self.outcome(alloc, places(b"0 7"), places(b"2 5"), tables),
             ("at", [x, y, tables @ ..]) => self.outcome(alloc, places(x), places(y), tables),
-            ("played", tables) => played(alloc, descriptions, tables),
-            ("hops", tables) => hops_after(alloc, descriptions, tables),
-            ("take", [line, tables @ ..]) => taken(alloc, descriptions, line, tables),
-            ("fire", [place, tables @ ..]) => fired(alloc, descriptions, usize_of(place), tables),
             _ => return Ok(None),
         };
         Ok(Some(answer?))

@@ -2,7 +2,6 @@
 #![tactic(auto)]
 
 mod call_trace_rows;
-mod player_rows;
 mod trace_tables;
 
 use crate::call_trace_rows::CallTraceRows;

@@ -9,8 +9,8 @@ use text::{Text, Texts};
 /// A description with a name.
 #[derive(Drop)]
 struct Named {
-    name: Text,
-    bytes: Text,
+    name: Text<'static>,
+    bytes: Text<'static>,
 }
 
 /// The descriptions that tables may name.
@@ -42,10 +42,10 @@ impl Descriptions {
         &self,
         alloc: Global,
         name: &str,
-    ) -> Result<Option<Description>, DescriptionError> {
+    ) -> Result<Option<Description<'static>>, DescriptionError> {
         for named in self.entries.as_slice() {
             if named.name.as_bytes() == name.as_bytes() {
-                return Ok(Some(read_description(alloc, named.bytes.as_bytes())?));
+                return Ok(Some(read_description(alloc, named.bytes.as_bytes())?.keep(alloc)?));
             }
         }
         Ok(None)
@@ -83,7 +83,7 @@ impl Descriptions {
     }
 
     /// The message of a line behind its mark.
-    pub(crate) fn message(&self, alloc: Global, line: &str) -> Result<Message, DescriptionError> {
+    fn message(&self, alloc: Global, line: &str) -> Result<Message, DescriptionError> {
         let words: Vec<&str> = line.split_whitespace().collect(alloc)?;
         self.from_words(alloc, line, &words)
     }
@@ -133,12 +133,12 @@ impl Descriptions {
 }
 
 /// The bytes as a text, empty where they are none.
-pub(crate) fn readable(bytes: &[u8]) -> &str {
+fn readable(bytes: &[u8]) -> &str {
     str::from_utf8(bytes).unwrap_or("")
 }
 
 /// A text, which `-` leaves empty.
-fn word(alloc: Global, word: &str) -> Result<Text, AllocError> {
+fn word(alloc: Global, word: &str) -> Result<Text<'static>, AllocError> {
     if word == "-" {
         Text::from_slice(alloc, b"")
     } else {
@@ -164,10 +164,11 @@ pub(crate) fn dialog(alloc: Global, words: &[u8]) -> Result<Dialog, AllocError> 
     })
 }
 
-/// INVITE alone may carry an offer.
-pub(crate) fn methods(alloc: Global) -> Result<Texts, AllocError> {
+/// INVITE and UPDATE may carry an offer.
+pub(crate) fn methods(alloc: Global) -> Result<Texts<'static>, AllocError> {
     let mut methods = Vec::new(alloc);
     methods.push(word(alloc, "INVITE")?)?;
+    methods.push(word(alloc, "UPDATE")?)?;
     Ok(Texts::from_vec(methods))
 }
 

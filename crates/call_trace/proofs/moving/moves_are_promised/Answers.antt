@@ -5,7 +5,7 @@ use Rattle.call_trace.proofs.moving.moves_are_promised.Goals as goal
 
 pub returns : goal.returns
 returns c = record {
-  media = λ methods server table calls events off mv relayed.
-      c.standing_is_promised.ensures.media methods server table calls (length events) (trace_from 0 events) (stands_from_none methods calls events off mv) relayed;
+  promised = λ methods server table holder calls events off mv served.
+      c.standing_is_promised.ensures.promised methods server table holder calls (length events) (trace_from 0 events) (stands_from_none methods calls events off mv) served;
   lives = λ methods calls events off mv. c.standing_is_promised.ensures.lives methods calls (length events) (trace_from 0 events) (stands_from_none methods calls events off mv);
 }
