@@ -1,9 +1,9 @@
 -- A request in a sound dialog, with a Via in front, is of the form that is written and read again.
-use Rattle.std.proofs.Common.{◌≡◌, ℕ, ◌≤◌, Bool, true, false, not, ◌&&◌, List, [], ◌∷◌, map, codes, refl, sym, ap, subst, ◌∙◌}
+use Rattle.std.proofs.Common.{◌≡◌, ℕ, ◌≤◌, true, not, ◌&&◌, List, [], ◌∷◌, map, codes, refl, sym, ap, subst, ◌∙◌}
 use Rattle.std.specs.List.{flat_map, list_all}
 use Rattle.std.proofs.lemmas.Bool.{and_parts, and_from}
 use Rattle.std.proofs.lemmas.List.{append-nil}
-use Rattle.text.specs.Class.{is_run_of, is_token_byte}
+use Rattle.text.specs.Class.{is_token_byte}
 use Rattle.text.specs.Pieces.{pieces}
 use Rattle.text.specs.declared.splitting.Within.TheVariants.{Nothing}
 use Rattle.sip_uri.specs.NameAddr.{name_addr_text}

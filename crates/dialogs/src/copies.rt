@@ -4,41 +4,44 @@ ghost use Rattle.std.specs.Prelude.{◌≡◌, IfOk};
 
 use crate::identifiers::DialogId;
 use crate::state::{Dialog, Party};
-use sip_uri::Uri;
-use std::alloc::AllocError;
+use sip_uri::keep_text;
+use std::alloc::{AllocError, Global};
 
-pub(crate) fn copied_uri(uri: &Uri) -> Result<Uri, AllocError>
-    ensures { IfOk result (λ u. u ≡ uri.now) }
-{
-    uri.clone()
-}
-
-fn copied_identifiers(id: &DialogId) -> Result<DialogId, AllocError>
+fn copied_identifiers(alloc: Global, id: &DialogId) -> Result<DialogId, AllocError>
     ensures { IfOk result (λ copy. copy ≡ id.now) }
 {
-    id.clone()
+    Ok(DialogId {
+        call_id: id.call_id.keep(alloc)?,
+        ours: id.ours.keep(alloc)?,
+        theirs: id.theirs.keep(alloc)?,
+    })
 }
 
-fn copied_party(party: &Party) -> Result<Party, AllocError>
+fn copied_party(alloc: Global, party: &Party) -> Result<Party, AllocError>
     ensures { IfOk result (λ copy. copy ≡ party.now) }
 {
-    party.clone()
+    Ok(Party {
+        display: keep_text(alloc, &party.display)?,
+        uri: party.uri.keep(alloc)?,
+    })
 }
 
-/// A copy of the dialog, written out: a derived one takes its proof minutes.
-pub(crate) fn copied_dialog(dialog: &Dialog) -> Result<Dialog, AllocError>
-    ensures { IfOk result (λ copy. copy ≡ dialog.now) }
-{
-    let id = copied_identifiers(&dialog.id)?;
-    let ours = copied_party(&dialog.ours)?;
-    let theirs = copied_party(&dialog.theirs)?;
-    let target = copied_uri(&dialog.target)?;
-    Ok(Dialog {
-        id,
-        ours,
-        theirs,
-        target,
-        local_number: dialog.local_number,
-        remote_number: dialog.remote_number,
-    })
+impl Dialog {
+    /// A copy of the dialog.
+    pub fn copy(&self, alloc: Global) -> Result<Dialog, AllocError>
+        ensures { IfOk result (λ copy. copy ≡ self.now) }
+    {
+        let id = copied_identifiers(alloc, &self.id)?;
+        let ours = copied_party(alloc, &self.ours)?;
+        let theirs = copied_party(alloc, &self.theirs)?;
+        let target = self.target.keep(alloc)?;
+        Ok(Dialog {
+            id,
+            ours,
+            theirs,
+            target,
+            local_number: self.local_number,
+            remote_number: self.remote_number,
+        })
+    }
 }

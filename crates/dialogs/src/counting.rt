@@ -20,7 +20,7 @@ fn is_above(last: Option<u32>, number: u32) -> bool
 impl Dialog {
     /// Takes a request of the other end in its order: its number is above that of the last one, or it is the first, and
     /// is kept. G1 is the only refusal. Takes no memory.
-    pub fn admit(&mut self, request: &Request) -> Result<(), DialogError>
+    pub fn admit(&mut self, request: &Request<'_>) -> Result<(), DialogError>
         ensures above { OnOk result (IsAbove self.old.remote_number request.now.parts.cseq.number) }
         ensures kept { OnOk result (self.new ≡ record self.old { remote_number = Some request.now.parts.cseq.number }) }
         ensures refused { IfErr result (RefusesRequest self.old request.now.parts.cseq.number) }

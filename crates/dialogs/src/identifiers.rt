@@ -9,14 +9,14 @@ use sip_uri::{Param, param_named};
 use text::Text;
 
 /// What names a dialog: the Call-ID, our tag and the other end's. An absent tag is the empty text.
-#[derive(Clone, Debug, Drop, PartialEq, Eq)]
+#[derive(Debug, Drop, PartialEq, Eq)]
 pub struct DialogId {
-    pub call_id: Text,
-    pub ours: Text,
-    pub theirs: Text,
+    pub call_id: Text<'static>,
+    pub ours: Text<'static>,
+    pub theirs: Text<'static>,
 }
 
-fn value_text(tag: Option<&Param>) -> &[u8]
+fn value_text<'m>(tag: Option<&'m Param<'_>>) -> &'m [u8]
     ensures { result.now ≡ value_text (option_copied tag.entry) }
 {
     match tag {
@@ -29,23 +29,23 @@ fn value_text(tag: Option<&Param>) -> &[u8]
 }
 
 /// The tag of a From or To with these parameters.
-pub(crate) fn tag_text(params: &[Param]) -> &[u8]
+pub(crate) fn tag_text<'m>(params: &'m [Param<'_>]) -> &'m [u8]
     ensures { result.now ≡ tag_text params.now }
 {
     value_text(param_named(params, b"tag"))
 }
 
 impl DialogId {
-    fn names(&self, call_id: &Text, ours: &[Param], theirs: &[Param]) -> bool
+    fn names(&self, call_id: &Text<'_>, ours: &[Param<'_>], theirs: &[Param<'_>]) -> bool
         ensures { result ≡ same_id self.now (record { call_id = call_id.now; ours = tag_text ours.now; theirs = tag_text theirs.now }) }
     {
-        self.call_id == *call_id
+        self.call_id.as_bytes() == call_id.as_bytes()
             && self.ours.as_bytes() == tag_text(ours)
             && self.theirs.as_bytes() == tag_text(theirs)
     }
 
     /// Whether a request that was taken belongs to this dialog: our tag stands in To. Takes no memory.
-    pub fn is_of_request(&self, request: &Request) -> bool
+    pub fn is_of_request(&self, request: &Request<'_>) -> bool
         ensures test { result ≡ same_id self.now (id_of_request request.now.parts) }
         ensures belongs { IsTrue result ↔ (id_of_request request.now.parts ≡ self.now) }
     {
@@ -55,7 +55,7 @@ impl DialogId {
     }
 
     /// Whether an answer that was taken belongs to this dialog: our tag stands in From. Takes no memory.
-    pub fn is_of_answer(&self, answer: &Response) -> bool
+    pub fn is_of_answer(&self, answer: &Response<'_>) -> bool
         ensures test { result ≡ same_id self.now (id_of_answer answer.now.parts) }
         ensures belongs { IsTrue result ↔ (id_of_answer answer.now.parts ≡ self.now) }
     {

@@ -5,19 +5,18 @@ ghost use Rattle.sip_uri.specs.NameAddr.{name_addr_text};
 ghost use Rattle.dialogs.specs.Counting.{method_text, following, greatest_for, RefusesNext};
 ghost use Rattle.dialogs.specs.Requests.{tag_params, tagged, cseq_text, parts_in, request_headers, request_in};
 
-use crate::copies::copied_uri;
 use crate::error::DialogError;
 use crate::method::Method;
 use crate::state::{Dialog, Party};
 use sip_message::{CSeq, Headers, Parts, Request, Vias, tag_param};
-use sip_uri::{NameAddr, Params, Uri, write_name_addr};
+use sip_uri::{NameAddr, Params, Uri, keep_text, write_name_addr};
 use std::alloc::{AllocError, Global};
 use text::{Text, put_number};
 
 /// The hops of a request that the server begins (RFC 3261 section 8.1.1.6).
 const MAX_FORWARDS: u8 = 70;
 
-fn tag_params(alloc: Global, tag: &Text) -> Result<Params, AllocError>
+fn tag_params(alloc: Global, tag: &Text<'_>) -> Result<Params<'static>, AllocError>
     ensures { IfOk result (λ params. params ≡ tag_params tag.now) }
 {
     let mut params = Vec::new(alloc);
@@ -28,11 +27,11 @@ fn tag_params(alloc: Global, tag: &Text) -> Result<Params, AllocError>
     Ok(Params::from_vec(params))
 }
 
-fn tagged(alloc: Global, party: &Party, tag: &Text) -> Result<NameAddr, AllocError>
+fn tagged(alloc: Global, party: &Party, tag: &Text<'_>) -> Result<NameAddr<'static>, AllocError>
     ensures { IfOk result (λ name. name ≡ tagged party.now tag.now) }
 {
-    let display = party.display.clone()?;
-    let uri = copied_uri(&party.uri)?;
+    let display = keep_text(alloc, &party.display)?;
+    let uri = party.uri.keep(alloc)?;
     let params = tag_params(alloc, tag)?;
     Ok(NameAddr {
         display,
@@ -41,13 +40,13 @@ fn tagged(alloc: Global, party: &Party, tag: &Text) -> Result<NameAddr, AllocErr
     })
 }
 
-fn name_text(alloc: Global, name: &NameAddr) -> Result<Text, AllocError>
+fn name_text(alloc: Global, name: &NameAddr<'_>) -> Result<Text<'static>, AllocError>
     ensures { IfOk result (λ text. text ≡ name_addr_text name.now) }
 {
     write_name_addr(alloc, name)
 }
 
-fn cseq_text(alloc: Global, number: u32, method: Method) -> Result<Text, AllocError>
+fn cseq_text(alloc: Global, number: u32, method: Method) -> Result<Text<'static>, AllocError>
     ensures { IfOk result (λ text. text ≡ cseq_text number method) }
 {
     let mut out = Vec::new(alloc);
@@ -59,7 +58,7 @@ fn cseq_text(alloc: Global, number: u32, method: Method) -> Result<Text, AllocEr
 
 /// The header fields of a request, but for its Via and for those that its body needs.
 #[tactic(auto, unfolding(crate::specs::Requests::request_headers))]
-fn request_headers(alloc: Global, parts: &Parts) -> Result<Headers, AllocError>
+fn request_headers(alloc: Global, parts: &Parts<'_>) -> Result<Headers<'static>, AllocError>
     ensures { IfOk result (λ hs. hs ≡ request_headers parts.now) }
 {
     let mut headers = Headers::from_vec(Vec::new(alloc));
@@ -74,8 +73,8 @@ fn request_headers(alloc: Global, parts: &Parts) -> Result<Headers, AllocError>
 /// A name, and its text.
 #[derive(Drop)]
 struct End {
-    name: NameAddr,
-    text: Text,
+    name: NameAddr<'static>,
+    text: Text<'static>,
 }
 
 /// From and To of a request.
@@ -88,11 +87,11 @@ struct Ends {
 /// A CSeq, and its text.
 #[derive(Drop)]
 struct Sequence {
-    cseq: CSeq,
-    text: Text,
+    cseq: CSeq<'static>,
+    text: Text<'static>,
 }
 
-fn end_of(alloc: Global, party: &Party, tag: &Text) -> Result<End, AllocError>
+fn end_of(alloc: Global, party: &Party, tag: &Text<'_>) -> Result<End, AllocError>
     ensures name { IfOk result (λ end. end.name ≡ tagged party.now tag.now) }
     ensures text { IfOk result (λ end. end.text ≡ name_addr_text (tagged party.now tag.now)) }
 {
@@ -126,8 +125,13 @@ fn sequence_for(alloc: Global, number: u32, method: Method) -> Result<Sequence, 
 }
 
 /// The parts of these values. With no way out it keeps the proof of `parts_in` short.
-fn parts_with(alloc: Global, ends: Ends, call_id: Text, sequence: Sequence) -> Parts
-    ensures { result ≡ record { vias = []; from = ends.from.name; to = ends.to.name; call_id = call_id; cseq = sequence.cseq; from_text = ends.from.text; to_text = ends.to.text; cseq_text = sequence.text } }
+fn parts_with(
+    alloc: Global,
+    ends: Ends,
+    call_id: Text<'static>,
+    sequence: Sequence,
+) -> Parts<'static>
+    ensures { result ≡ record { vias = []; from = ends.from.name; to = ends.to.name; call_id = call_id.entry; cseq = sequence.cseq; from_text = ends.from.text; to_text = ends.to.text; cseq_text = sequence.text } }
 {
     let Ends { from, to } = ends;
     Parts {
@@ -148,11 +152,11 @@ fn parts_in(
     dialog: &Dialog,
     method: Method,
     number: u32,
-) -> Result<Parts, AllocError>
+) -> Result<Parts<'static>, AllocError>
     ensures { IfOk result (λ parts. parts ≡ parts_in dialog.now method number) }
 {
     let ends = ends_in(alloc, dialog)?;
-    let call_id = dialog.id.call_id.clone()?;
+    let call_id = dialog.id.call_id.keep(alloc)?;
     let sequence = sequence_for(alloc, number, method)?;
     Ok(parts_with(alloc, ends, call_id, sequence))
 }
@@ -166,10 +170,10 @@ impl Dialog {
         alloc: Global,
         method: Method,
         number: u32,
-    ) -> Result<Request, AllocError>
+    ) -> Result<Request<'static>, AllocError>
         ensures request { IfOk result (λ r. r ≡ request_in self.now method number) }
     {
-        let uri = copied_uri(&self.target)?;
+        let uri = self.target.keep(alloc)?;
         let name = Text::from_slice(alloc, method.as_bytes())?;
         let parts = parts_in(alloc, self, method, number)?;
         let headers = request_headers(alloc, &parts)?;
@@ -185,7 +189,11 @@ impl Dialog {
 
     /// The next request of this method, an INVITE or a BYE, whose number is kept. G2 comes where no number is left. Its Via
     /// is the caller's to put in front.
-    pub fn next_request(&mut self, alloc: Global, method: Method) -> Result<Request, DialogError>
+    pub fn next_request(
+        &mut self,
+        alloc: Global,
+        method: Method,
+    ) -> Result<Request<'static>, DialogError>
         ensures request { IfOk result (λ r. r ≡ request_in self.old method (following self.old)) }
         ensures left { OnOk result (following self.old ≤ greatest_for method) }
         ensures kept { OnOk result (self.new ≡ record self.old { local_number = Some (following self.old) }) }
@@ -199,8 +207,8 @@ impl Dialog {
     }
 
     /// Sends the requests that follow to this URI (RFC 3261 section 12.2). Takes no memory.
-    pub fn refresh_target(&mut self, target: Uri)
-        ensures target { self.new ≡ record self.old { target = target } }
+    pub fn refresh_target(&mut self, target: Uri<'static>)
+        ensures target { self.new ≡ record self.old { target = target.entry } }
     {
         self.target = target;
     }

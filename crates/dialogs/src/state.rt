@@ -1,17 +1,14 @@
 //! What is known of a dialog.
 
-use crate::copies::copied_dialog;
 use crate::identifiers::DialogId;
 use sip_uri::Uri;
-use std::alloc::AllocError;
-use std::marker::Model;
 use text::Text;
 
 /// An end of a dialog, as From and To name it: display and URI, without the tag.
-#[derive(Clone, Debug, Drop)]
+#[derive(Debug, Drop)]
 pub struct Party {
-    pub display: Option<Text>,
-    pub uri: Uri,
+    pub display: Option<Text<'static>>,
+    pub uri: Uri<'static>,
 }
 
 /// The state of a dialog (RFC 3261 section 12). No route set is kept: the server sends each request to the target.
@@ -23,19 +20,9 @@ pub struct Dialog {
     /// The remote URI, with its display.
     pub theirs: Party,
     /// The remote target, to which the next request goes.
-    pub target: Uri,
+    pub target: Uri<'static>,
     /// The number of our last request, if there was one: below 2^31.
     pub local_number: Option<u32>,
     /// The number of the other end's last request, if there was one: below 2^31.
     pub remote_number: Option<u32>,
-}
-
-impl Clone for Dialog {
-    ghost use Rattle.std.specs.Prelude.{◌≡◌};
-
-    ghost is_clone = { λ v w. w ≡ v };
-
-    fn clone(&self) -> Result<Dialog, AllocError> {
-        copied_dialog(self)
-    }
 }

@@ -18,10 +18,11 @@ const DEFAULT_PORT: u16 = 5060;
 
 // The contacts of a REGISTER, or the last of them, one by one.
 pub(crate) fn with_contacts(
+    alloc: Global,
     bindings: Vec<Binding>,
     min_expires: u32,
-    register: &Register,
-    contacts: &[Contact],
+    register: &Register<'_>,
+    contacts: &[Contact<'_>],
     first_number: u32,
     now: u64,
 ) -> Result<Vec<Binding>, Refusal>
@@ -32,7 +33,7 @@ pub(crate) fn with_contacts(
     let mut kept = bindings;
     let mut number = first_number;
     for contact in contacts {
-        kept = with_contact(kept, min_expires, register, contact, number, now)?;
+        kept = with_contact(alloc, kept, min_expires, register, contact, number, now)?;
         number = number.saturating_add(1);
     }
     Ok(kept)
@@ -54,13 +55,13 @@ fn is_zero(expires: Option<u32>) -> bool
     expires == Some(0)
 }
 
-pub(crate) fn is_star_misused(register: &Register) -> bool
+pub(crate) fn is_star_misused(register: &Register<'_>) -> bool
     ensures { result ≡ is_star_misused register.now }
 {
     register.star && !(register.contacts.as_slice().is_empty() && is_zero(register.expires))
 }
 
-fn is_older_than_any(register: &Register, bindings: &[Binding]) -> bool
+fn is_older_than_any(register: &Register<'_>, bindings: &[Binding]) -> bool
     ensures { result ≡ list_any (is_older_than register.now) bindings.now }
 {
     bindings.iter().any(|b| is_older_than(register, b))
@@ -68,7 +69,7 @@ fn is_older_than_any(register: &Register, bindings: &[Binding]) -> bool
 
 pub(crate) fn cleared(
     alloc: Global,
-    register: &Register,
+    register: &Register<'_>,
     bindings: &[Binding],
 ) -> Result<Vec<Binding>, Refusal>
     ensures answer { Gives result (cleared register.now bindings.now) }
@@ -80,7 +81,7 @@ pub(crate) fn cleared(
     Ok(Vec::new(alloc))
 }
 
-fn is_bindable_uri(ip: [u8; 4], sip_port: u16, uri: &Uri) -> bool
+fn is_bindable_uri(ip: [u8; 4], sip_port: u16, uri: &Uri<'_>) -> bool
     ensures { result ≡ is_bindable_at ip sip_port uri.now.port uri.now.host }
 {
     match &uri.host {
@@ -89,7 +90,7 @@ fn is_bindable_uri(ip: [u8; 4], sip_port: u16, uri: &Uri) -> bool
     }
 }
 
-fn is_bindable(ip: [u8; 4], sip_port: u16, contact: &Contact) -> bool
+fn is_bindable(ip: [u8; 4], sip_port: u16, contact: &Contact<'_>) -> bool
     ensures { result ≡ is_bindable ip sip_port contact.now }
 {
     match &contact.uri {
@@ -98,7 +99,7 @@ fn is_bindable(ip: [u8; 4], sip_port: u16, contact: &Contact) -> bool
     }
 }
 
-pub(crate) fn all_bindable(ip: [u8; 4], sip_port: u16, contacts: &[Contact]) -> bool
+pub(crate) fn all_bindable(ip: [u8; 4], sip_port: u16, contacts: &[Contact<'_>]) -> bool
     ensures { result ≡ list_all (is_bindable ip sip_port) contacts.now }
 {
     contacts.iter().all(|c| is_bindable(ip, sip_port, c))

@@ -9,9 +9,9 @@ use text::Text;
 /// refreshed later; the numbers are given anew by each REGISTER.
 #[derive(Clone, Debug, Drop)]
 pub struct Binding {
-    pub uri: Uri,
+    pub uri: Uri<'static>,
     pub expires_at: u64,
-    pub call_id: Text,
+    pub call_id: Text<'static>,
     pub cseq: u32,
     pub refreshed: u32,
 }

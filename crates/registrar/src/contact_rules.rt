@@ -8,12 +8,12 @@ use crate::binding::Binding;
 use crate::refusal::Refusal;
 use crate::register::{Contact, Register};
 use sip_uri::{Uri, same_binding};
-use std::alloc::AllocError;
+use std::alloc::{AllocError, Global};
 
 const DEFAULT_EXPIRES: u32 = 3600;
 
 // The seconds that a binding of this contact is to last.
-fn lifetime(register: &Register, contact: &Contact) -> u32
+fn lifetime(register: &Register<'_>, contact: &Contact<'_>) -> u32
     ensures { result ≡ lifetime register.now contact.now }
 {
     match (contact.expires, register.expires) {
@@ -29,20 +29,20 @@ fn is_too_brief(min_expires: u32, seconds: u32) -> bool
     0 < seconds && seconds < min_expires
 }
 
-fn binding_of<'a>(bindings: &'a [Binding], uri: &Uri) -> Option<&'a Binding>
+fn binding_of<'a>(bindings: &'a [Binding], uri: &Uri<'_>) -> Option<&'a Binding>
     ensures { option_copied result ≡ find (is_of uri.now) bindings.now }
 {
     bindings.iter().find(|b| same_binding(&b.uri, uri))
 }
 
 /// Whether the request is of the Call-ID that bound it last, and no newer.
-pub(crate) fn is_older_than(register: &Register, binding: &Binding) -> bool
+pub(crate) fn is_older_than(register: &Register<'_>, binding: &Binding) -> bool
     ensures { result ≡ is_older_than register.now binding.now }
 {
-    binding.call_id == register.call_id && register.cseq <= binding.cseq
+    binding.call_id.as_bytes() == register.call_id.as_bytes() && register.cseq <= binding.cseq
 }
 
-fn is_stale(register: &Register, binding: Option<&Binding>) -> bool
+fn is_stale(register: &Register<'_>, binding: Option<&Binding>) -> bool
     ensures { result ≡ is_stale register.now (option_copied binding.entry) }
 {
     match binding {
@@ -52,8 +52,9 @@ fn is_stale(register: &Register, binding: Option<&Binding>) -> bool
 }
 
 fn bound_by(
-    register: &Register,
-    uri: &Uri,
+    alloc: Global,
+    register: &Register<'_>,
+    uri: &Uri<'_>,
     seconds: u32,
     number: u32,
     now: u64,
@@ -64,22 +65,22 @@ fn bound_by(
     ensures last { IfOk result (λ b. nat_lt now b.expires_at ≡ true) }
 {
     Ok(Binding {
-        uri: uri.clone()?,
+        uri: uri.keep(alloc)?,
         expires_at: now + u64::from(seconds) * 1000,
-        call_id: register.call_id.clone()?,
+        call_id: register.call_id.keep(alloc)?,
         cseq: register.cseq,
         refreshed: number,
     })
 }
 
-fn remove(bindings: &mut Vec<Binding>, uri: &Uri)
+fn remove(bindings: &mut Vec<Binding>, uri: &Uri<'_>)
     ensures others { bindings.new.items ≡ without bindings.old.items uri.now }
     ensures last { (now : ℕ) → AllLast now bindings.old.items → AllLast now bindings.new.items }
 {
     bindings.retain(|b| !same_binding(&b.uri, uri));
 }
 
-fn place_of(bindings: &[Binding], uri: &Uri) -> Option<usize>
+fn place_of(bindings: &[Binding], uri: &Uri<'_>) -> Option<usize>
     ensures place { result ≡ position (is_of uri.now) bindings.now }
     ensures bound { IfSome result (λ place. place < length bindings.now) }
 {
@@ -100,10 +101,11 @@ fn put(bindings: &mut Vec<Binding>, binding: Binding) -> Result<(), AllocError>
 
 /// Takes one contact of a REGISTER; `number` is that of its refresh (RFC 3261 section 10.3, step 7).
 pub(crate) fn with_contact(
+    alloc: Global,
     kept: Vec<Binding>,
     min_expires: u32,
-    register: &Register,
-    contact: &Contact,
+    register: &Register<'_>,
+    contact: &Contact<'_>,
     number: u32,
     now: u64,
 ) -> Result<Vec<Binding>, Refusal>
@@ -126,6 +128,9 @@ pub(crate) fn with_contact(
         remove(&mut kept, uri);
         return Ok(kept);
     }
-    put(&mut kept, bound_by(register, uri, seconds, number, now)?)?;
+    put(
+        &mut kept,
+        bound_by(alloc, register, uri, seconds, number, now)?,
+    )?;
     Ok(kept)
 }

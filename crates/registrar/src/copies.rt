@@ -6,10 +6,16 @@ ghost use Rattle.registrar.specs.Registering.{AllLast, present, capped, first_nu
 use crate::binding::Binding;
 use std::alloc::{AllocError, Global};
 
-fn copy_of(binding: &Binding) -> Result<Binding, AllocError>
+fn copy_of(alloc: Global, binding: &Binding) -> Result<Binding, AllocError>
     ensures { IfOk result (λ copy. copy ≡ binding.now) }
 {
-    binding.clone()
+    Ok(Binding {
+        uri: binding.uri.keep(alloc)?,
+        expires_at: binding.expires_at,
+        call_id: binding.call_id.keep(alloc)?,
+        cseq: binding.cseq,
+        refreshed: binding.refreshed,
+    })
 }
 
 /// The bindings that are not over, copied.
@@ -25,15 +31,19 @@ pub(crate) fn present(
         if !binding.is_present(now) {
             continue;
         }
-        kept.push(copy_of(binding)?)?;
+        kept.push(copy_of(alloc, binding)?)?;
     }
     Ok(kept)
 }
 
-pub(crate) fn copied(bindings: &Vec<Binding>) -> Result<Vec<Binding>, AllocError>
-    ensures { IfOk result (λ copy. copy.items ≡ bindings.now.items) }
+pub(crate) fn copied(alloc: Global, bindings: &[Binding]) -> Result<Vec<Binding>, AllocError>
+    ensures { IfOk result (λ copies. copies.items ≡ bindings.now) }
 {
-    bindings.clone()
+    let mut copies = Vec::new(alloc);
+    for binding in bindings {
+        copies.push(copy_of(alloc, binding)?)?;
+    }
+    Ok(copies)
 }
 
 fn capped(number: usize) -> u32
@@ -59,13 +69,13 @@ fn refreshed_before(bindings: &[Binding], binding: &Binding) -> u32
     )
 }
 
-fn numbered(binding: &Binding, number: u32) -> Result<Binding, AllocError>
+fn numbered(alloc: Global, binding: &Binding, number: u32) -> Result<Binding, AllocError>
     ensures { IfOk result (λ b. b ≡ numbered number binding.now) }
 {
     Ok(Binding {
-        uri: binding.uri.clone()?,
+        uri: binding.uri.keep(alloc)?,
         expires_at: binding.expires_at,
-        call_id: binding.call_id.clone()?,
+        call_id: binding.call_id.keep(alloc)?,
         cseq: binding.cseq,
         refreshed: number,
     })
@@ -85,7 +95,7 @@ pub(crate) fn renumbered(
         if !binding.is_present(now) {
             continue;
         }
-        kept.push(numbered(binding, refreshed_before(bindings, binding))?)?;
+        kept.push(numbered(alloc, binding, refreshed_before(bindings, binding))?)?;
     }
     Ok(kept)
 }

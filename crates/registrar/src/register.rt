@@ -7,18 +7,18 @@ use text::Text;
 /// A value of Contact that is no star: its URI, none where the value cannot be read as a URI of the scheme `sip`, and
 /// the seconds that its own parameter `expires` gives.
 #[derive(Clone, Debug, Drop)]
-pub struct Contact {
-    pub uri: Option<Uri>,
+pub struct Contact<'a> {
+    pub uri: Option<Uri<'a>>,
     pub expires: Option<u32>,
 }
 
 /// Contacts in order, which contracts see as a list.
 #[derive(Clone, Debug, Drop)]
-pub struct Contacts {
-    entries: Vec<Contact>,
+pub struct Contacts<'a> {
+    entries: Vec<Contact<'a>>,
 }
 
-impl Model for Contacts {
+impl<'a> Model for Contacts<'a> {
     ghost use Rattle.std.specs.Prelude.{List};
     ghost use Rattle.registrar.specs.declared.register.Contact.{Contact};
 
@@ -27,25 +27,25 @@ impl Model for Contacts {
     ghost view = { λ c. c.entries.items };
 }
 
-impl Contacts {
+impl<'a> Contacts<'a> {
     ghost use Rattle.std.specs.Prelude.{◌≡◌};
 
     /// The list of these contacts. Takes no memory.
-    pub fn from_vec(entries: Vec<Contact>) -> Contacts
-        ensures { result ≡ entries.items }
+    pub fn from_vec(entries: Vec<Contact<'a>>) -> Contacts<'a>
+        ensures { result ≡ entries.entry.items }
     {
         Contacts { entries }
     }
 
     /// The contacts. Takes no memory.
-    pub fn into_vec(self) -> Vec<Contact>
-        ensures { result.items ≡ self }
+    pub fn into_vec(self) -> Vec<Contact<'a>>
+        ensures { result.items ≡ self.entry }
     {
         self.entries
     }
 
     /// The contacts, lent.
-    pub fn as_slice(&self) -> &[Contact]
+    pub fn as_slice(&self) -> &[Contact<'a>]
         ensures { result.now ≡ self.now }
     {
         &self.entries
@@ -55,11 +55,11 @@ impl Contacts {
 /// A REGISTER (RFC 3261 section 10.2): the user that its To names, whether `*` stands among its contacts, the other
 /// contacts, the seconds of its header Expires, and its Call-ID and number.
 #[derive(Clone, Debug, Drop)]
-pub struct Register {
-    pub user: Option<Text>,
+pub struct Register<'a> {
+    pub user: Option<Text<'a>>,
     pub star: bool,
-    pub contacts: Contacts,
+    pub contacts: Contacts<'a>,
     pub expires: Option<u32>,
-    pub call_id: Text,
+    pub call_id: Text<'a>,
     pub cseq: u32,
 }

@@ -21,7 +21,7 @@ use text::{Text, Texts};
 /// A user and its bindings.
 #[derive(Debug, Drop)]
 pub(crate) struct Line {
-    pub user: Text,
+    pub user: Text<'static>,
     pub bindings: Bindings,
 }
 
@@ -32,7 +32,7 @@ pub struct Registrar {
     lines: Vec<Line>,
     ip: [u8; 4],
     sip_port: u16,
-    domain: Text,
+    domain: Text<'static>,
     min_expires: u32,
 }
 
@@ -51,10 +51,10 @@ impl Registrar {
     /// this number of seconds at least.
     pub fn new(
         alloc: Global,
-        users: Texts,
+        users: Texts<'static>,
         ip: [u8; 4],
         sip_port: u16,
-        domain: Text,
+        domain: Text<'static>,
         min_expires: u32,
     ) -> Result<Registrar, AllocError>
         requires some { 1 ≤ length users }
@@ -62,7 +62,7 @@ impl Registrar {
         requires distinct { IsTrue (are_distinct users) }
         requires least { 1 ≤ min_expires }
         requires bounded { min_expires ≤ most_min_expires }
-        ensures { IfOk result (λ r. StandsAfter r (rules_given users ip sip_port domain min_expires) []) }
+        ensures { IfOk result (λ r. StandsAfter r (rules_given users.entry ip sip_port domain.entry min_expires) []) }
     {
         let lines = without_bindings(alloc, users)?;
         Ok(Registrar {
@@ -78,7 +78,7 @@ impl Registrar {
     /// The user that the To of a REGISTER names: its host is the server's address or its domain (RFC 3261 section
     /// 10.3, steps 1 and 5). The user need not be known. Takes no memory.
     #[tactic(auto, unfolding(crate::specs::Registering::user_of))]
-    pub fn user_of<'a>(&self, to: &'a Uri) -> Option<&'a Text>
+    pub fn user_of<'m, 'a>(&self, to: &'m Uri<'a>) -> Option<&'m Text<'a>>
         ensures { option_copied result ≡ user_of (rules_of self.now) to.now }
     {
         if self.is_own_host(&to.host) {
@@ -89,7 +89,7 @@ impl Registrar {
     }
 
     /// Whether this is one of the users. Takes no memory.
-    pub fn knows(&self, user: &Text) -> bool
+    pub fn knows(&self, user: &Text<'_>) -> bool
         ensures { result ≡ is_known (rules_of self.now) user.now }
     {
         has_line(&self.lines, user)
@@ -97,7 +97,7 @@ impl Registrar {
 
     /// Takes a REGISTER, and answers the bindings that its user then has, oldest first (RFC 3261 section 10.3). The
     /// refusals are met in the order B1, B2, B6, then contact by contact B3 and B4, then B5.
-    pub fn apply(&mut self, register: &Register, now: u64) -> Result<Vec<Binding>, Refusal>
+    pub fn apply(&mut self, register: &Register<'_>, now: u64) -> Result<Vec<Binding>, Refusal>
         requires { now < 2 ^ 60 }
         ensures answer { (rules : Rules) (history : List Event) → StandsAfter self.old rules history
             → Gives result (answer_after rules history register.now now) }
@@ -115,7 +115,7 @@ impl Registrar {
 
     /// The bindings that a user has at a moment, oldest first: none for anyone unknown.
     #[tactic(auto, unfolding(crate::specs::Bound::bound, crate::specs::Registrar::bindings_at))]
-    pub fn bindings(&self, user: &Text, now: u64) -> Result<Vec<Binding>, AllocError>
+    pub fn bindings(&self, user: &Text<'_>, now: u64) -> Result<Vec<Binding>, AllocError>
         ensures bound { IfOk result (λ bindings. (rules : Rules) (history : List Event) → StandsAfter self.now rules history
             → bindings.items ≡ bound rules user.now history now) }
         ensures exact { IfOk result (λ bindings. bindings.items ≡ bindings_at self.now user.now now) }
@@ -126,7 +126,7 @@ impl Registrar {
     /// Where a call to a user goes: the URI of the binding that was refreshed last, of those that are not over (RFC 3261
     /// section 16.5, one target of several). Takes no memory.
     #[tactic(auto, unfolding(crate::specs::Bound::bound, crate::specs::Registrar::bindings_at))]
-    pub fn target(&self, user: &Text, now: u64) -> Option<&Uri>
+    pub fn target(&self, user: &Text<'_>, now: u64) -> Option<&Uri<'static>>
         ensures bound { (rules : Rules) (history : List Event) → StandsAfter self.now rules history
             → option_copied result ≡ target_of (bound rules user.now history now) }
         ensures exact { option_copied result ≡ target_of (bindings_at self.now user.now now) }
@@ -134,7 +134,7 @@ impl Registrar {
         target(bindings_of(&self.lines, user), now)
     }
 
-    fn is_own_host(&self, host: &Host) -> bool
+    fn is_own_host(&self, host: &Host<'_>) -> bool
         ensures { result ≡ is_own_host (rules_of self.now) host.now }
     {
         match host {
@@ -144,7 +144,7 @@ impl Registrar {
     }
 
     #[tactic(auto, unfolding(crate::specs::Registrar::answer_of, crate::specs::Registrar::registered))]
-    fn take(&mut self, register: &Register, now: u64) -> Result<Vec<Binding>, Refusal>
+    fn take(&mut self, register: &Register<'_>, now: u64) -> Result<Vec<Binding>, Refusal>
         requires { now < 2 ^ 60 }
         ensures answer { Gives result (answer_of self.old register.now now) }
         ensures table { Counts result → self.new ≡ registered self.old register.now (answer_of self.old register.now now) }
@@ -158,7 +158,7 @@ impl Registrar {
             return Err(Refusal::UnknownUser);
         };
         let bindings = self.applied(bindings_of(&self.lines, user), register, now)?;
-        let answer = copied(&bindings)?;
+        let answer = copied(self.alloc, &bindings)?;
         put_bindings(&mut self.lines, user, place, Bindings::from_vec(bindings));
         Ok(answer)
     }
@@ -167,7 +167,7 @@ impl Registrar {
     fn applied(
         &self,
         bindings: &[Binding],
-        register: &Register,
+        register: &Register<'_>,
         now: u64,
     ) -> Result<Vec<Binding>, Refusal>
         requires { now < 2 ^ 60 }
@@ -186,7 +186,7 @@ impl Registrar {
     fn changed(
         &self,
         bindings: &[Binding],
-        register: &Register,
+        register: &Register<'_>,
         now: u64,
     ) -> Result<Vec<Binding>, Refusal>
         requires { now < 2 ^ 60 }
@@ -200,6 +200,7 @@ impl Registrar {
         let kept = renumbered(self.alloc, bindings, now)?;
         let contacts = register.contacts.as_slice();
         within_limit(with_contacts(
+            self.alloc,
             kept,
             self.min_expires,
             register,
@@ -210,8 +211,8 @@ impl Registrar {
     }
 }
 
-fn without_bindings(alloc: Global, users: Texts) -> Result<Vec<Line>, AllocError>
-    ensures { IfOk result (λ lines. lines.items ≡ map without_bindings users) }
+fn without_bindings(alloc: Global, users: Texts<'static>) -> Result<Vec<Line>, AllocError>
+    ensures { IfOk result (λ lines. lines.items ≡ map without_bindings users.entry) }
 {
     let mut lines = Vec::new(alloc);
     for user in users.into_vec() {
@@ -221,29 +222,34 @@ fn without_bindings(alloc: Global, users: Texts) -> Result<Vec<Line>, AllocError
     Ok(lines)
 }
 
-fn bindings_of<'a>(lines: &'a [Line], user: &Text) -> &'a [Binding]
+fn bindings_of<'a>(lines: &'a [Line], user: &Text<'_>) -> &'a [Binding]
     ensures { result.now ≡ bindings_of lines.now user.now }
 {
-    match lines.iter().find(|line| line.user == *user) {
+    match lines
+        .iter()
+        .find(|line| line.user.as_bytes() == user.as_bytes())
+    {
         Some(line) => line.bindings.as_slice(),
         None => &[],
     }
 }
 
-fn line_of(lines: &[Line], user: &Text) -> Option<usize>
+fn line_of(lines: &[Line], user: &Text<'_>) -> Option<usize>
     ensures place { result ≡ position (is_for user.now) lines.now }
     ensures bound { IfSome result (λ place. place < length lines.now) }
 {
-    lines.iter().position(|line| line.user == *user)
+    lines
+        .iter()
+        .position(|line| line.user.as_bytes() == user.as_bytes())
 }
 
-fn has_line(lines: &[Line], user: &Text) -> bool
+fn has_line(lines: &[Line], user: &Text<'_>) -> bool
     ensures { result ≡ is_one_of (map (λ l. l.user) lines.now) user.now }
 {
     line_of(lines, user).is_some()
 }
 
-fn put_bindings(lines: &mut [Line], user: &Text, place: usize, bindings: Bindings)
+fn put_bindings(lines: &mut [Line], user: &Text<'_>, place: usize, bindings: Bindings)
     requires { position (is_for user.now) lines.old ≡ Some place }
     ensures { lines.new ≡ lines_with user.now bindings lines.old }
 {

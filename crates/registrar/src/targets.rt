@@ -41,7 +41,7 @@ fn latest(bindings: &[Binding], now: u64) -> Option<&Binding>
 
 /// The URI of the binding that was refreshed last, of those that are not over.
 #[tactic(auto, unfolding(crate::specs::Bound::target_of))]
-pub(crate) fn target(bindings: &[Binding], now: u64) -> Option<&Uri>
+pub(crate) fn target(bindings: &[Binding], now: u64) -> Option<&Uri<'static>>
     ensures { option_copied result ≡ target_of (present now bindings.now) }
 {
     match latest(bindings, now) {

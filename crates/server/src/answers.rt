@@ -18,8 +18,8 @@ use sip_uri::write_uri;
 use std::alloc::{AllocError, Global};
 use text::{Text, put_number};
 
-fn push_all(headers: &mut Headers, extra: Vec<Header>) -> Result<(), AllocError>
-    ensures { OnOk result (headers.new ≡ headers.old ++ extra.items) }
+fn push_all(headers: &mut Headers<'static>, extra: Vec<Header<'static>>) -> Result<(), AllocError>
+    ensures { OnOk result (headers.new ≡ headers.old ++ extra.entry.items) }
 {
     for header in extra {
         headers.push(header)?;
@@ -29,13 +29,13 @@ fn push_all(headers: &mut Headers, extra: Vec<Header>) -> Result<(), AllocError>
 
 fn with_headers(
     alloc: Global,
-    parts: &Parts,
+    parts: &Parts<'_>,
     status: u16,
     tag: &[u8],
-    extra: Vec<Header>,
-) -> Result<Response, AllocError>
+    extra: Vec<Header<'static>>,
+) -> Result<Response<'static>, AllocError>
     requires { IsTrue (is_run_of is_token_byte tag.now) }
-    ensures { IfOk result (λ r. r ≡ with_headers extra.items (reply_of parts.now source status tag.now)) }
+    ensures { IfOk result (λ r. r ≡ with_headers extra.entry.items (reply_of parts.now source status tag.now)) }
 {
     let mut response = reply_to(alloc, parts, SOURCE, status, tag)?;
     push_all(&mut response.headers, extra)?;
@@ -45,19 +45,19 @@ fn with_headers(
 /// The bytes of the answer with these further header fields.
 pub(crate) fn answered(
     alloc: Global,
-    parts: &Parts,
+    parts: &Parts<'_>,
     status: u16,
     tag: &[u8],
-    extra: Vec<Header>,
-) -> Result<Text, AllocError>
+    extra: Vec<Header<'static>>,
+) -> Result<Text<'static>, AllocError>
     requires { IsTrue (is_run_of is_token_byte tag.now) }
-    ensures { IfOk result (λ t. t ≡ answered parts.now status tag.now extra.items) }
+    ensures { IfOk result (λ t. t ≡ answered parts.now status tag.now extra.entry.items) }
 {
     let response = with_headers(alloc, parts, status, tag, extra)?;
     write_response(alloc, &response)
 }
 
-fn contact_header(alloc: Global, binding: &Binding) -> Result<Header, AllocError>
+fn contact_header(alloc: Global, binding: &Binding) -> Result<Header<'static>, AllocError>
     requires { nat_lt moment binding.now.expires_at ≡ true }
     ensures { IfOk result (λ h. h ≡ contact_header binding.now) }
 {
@@ -69,7 +69,7 @@ fn contact_header(alloc: Global, binding: &Binding) -> Result<Header, AllocError
     Header::of(alloc, b"Contact", &out)
 }
 
-fn contact_headers(alloc: Global, bindings: &[Binding]) -> Result<Vec<Header>, AllocError>
+fn contact_headers(alloc: Global, bindings: &[Binding]) -> Result<Vec<Header<'static>>, AllocError>
     requires { AllLast moment bindings.now }
     ensures { IfOk result (λ hs. hs.items ≡ map contact_header bindings.now) }
 {
@@ -91,7 +91,7 @@ fn status_of(refusal: Refusal) -> u16
     }
 }
 
-fn refusal_headers(alloc: Global, refusal: Refusal) -> Result<Vec<Header>, AllocError>
+fn refusal_headers(alloc: Global, refusal: Refusal) -> Result<Vec<Header<'static>>, AllocError>
     ensures { IfOk result (λ hs. hs.items ≡ refusal_headers refusal) }
 {
     let mut headers = Vec::new(alloc);
@@ -102,7 +102,11 @@ fn refusal_headers(alloc: Global, refusal: Refusal) -> Result<Vec<Header>, Alloc
     Ok(headers)
 }
 
-fn refused(alloc: Global, request: &Request, refusal: Refusal) -> Result<Text, AllocError>
+fn refused(
+    alloc: Global,
+    request: &Request<'_>,
+    refusal: Refusal,
+) -> Result<Text<'static>, AllocError>
     ensures { IfOk result (λ t. t ≡ answered request.now.parts (status_of refusal) token (refusal_headers refusal)) }
 {
     let headers = refusal_headers(alloc, refusal)?;
@@ -110,7 +114,7 @@ fn refused(alloc: Global, request: &Request, refusal: Refusal) -> Result<Text, A
 }
 
 /// What a registrar answers that has seen no REGISTER before.
-fn applied(alloc: Global, request: &Request) -> Result<Vec<Binding>, Refusal>
+fn applied(alloc: Global, request: &Request<'_>) -> Result<Vec<Binding>, Refusal>
     ensures answer { Gives result (answer_after example_rules [] (register_of example_rules request.now) moment) }
     ensures last { IfOk result (λ bindings. AllLast moment bindings.items) }
 {
@@ -121,7 +125,7 @@ fn applied(alloc: Global, request: &Request) -> Result<Vec<Binding>, Refusal>
 
 /// The answer to a REGISTER that passed the checks.
 #[tactic(auto, unfolding(crate::specs::Answers::registered))]
-pub(crate) fn registered(alloc: Global, request: &Request) -> Result<Text, AllocError>
+pub(crate) fn registered(alloc: Global, request: &Request<'_>) -> Result<Text<'static>, AllocError>
     ensures { IfOk result (λ t. t ≡ registered request.now) }
 {
     match applied(alloc, request) {

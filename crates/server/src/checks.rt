@@ -22,13 +22,13 @@ use text::Text;
 /// What every branch begins with (RFC 3261 section 8.1.1.7).
 const COOKIE: &[u8] = b"z9hG4bK";
 
-fn nothing(alloc: Global) -> Text
+fn nothing(alloc: Global) -> Text<'static>
     ensures { result ≡ [] }
 {
     Text::from_vec(Vec::new(alloc))
 }
 
-fn begins_with_cookie(value: Option<&Text>) -> bool
+fn begins_with_cookie(value: Option<&Text<'_>>) -> bool
     ensures { result ≡ begins_with_cookie (option_copied value.entry) }
 {
     match value {
@@ -37,7 +37,7 @@ fn begins_with_cookie(value: Option<&Text>) -> bool
     }
 }
 
-fn is_fit_branch(branch: Option<&Param>) -> bool
+fn is_fit_branch(branch: Option<&Param<'_>>) -> bool
     ensures { result ≡ is_fit_branch (option_copied branch.entry) }
 {
     match branch {
@@ -46,7 +46,7 @@ fn is_fit_branch(branch: Option<&Param>) -> bool
     }
 }
 
-fn has_fit_branch(vias: &[Via]) -> bool
+fn has_fit_branch(vias: &[Via<'_>]) -> bool
     ensures { result ≡ has_fit_branch vias.now }
 {
     match vias {
@@ -55,13 +55,13 @@ fn has_fit_branch(vias: &[Via]) -> bool
     }
 }
 
-fn has_header(name: &[u8], headers: &[Header]) -> bool
+fn has_header(name: &[u8], headers: &[Header<'_>]) -> bool
     ensures { result ≡ has_header name.now headers.now }
 {
     first_value(headers, name).is_some()
 }
 
-fn unsupported(alloc: Global, headers: &[Header]) -> Result<Vec<Header>, AllocError>
+fn unsupported(alloc: Global, headers: &[Header<'_>]) -> Result<Vec<Header<'static>>, AllocError>
     ensures { IfOk result (λ hs. hs.items ≡ named (codes "Unsupported") (joined_tags (required_tags headers.now)) ∷ []) }
 {
     let tags = required(alloc, headers)?;
@@ -72,14 +72,14 @@ fn unsupported(alloc: Global, headers: &[Header]) -> Result<Vec<Header>, AllocEr
 }
 
 /// The answer to a request that requires an extension: none is supported.
-fn extension_refused(alloc: Global, request: &Request) -> Result<Text, AllocError>
+fn extension_refused(alloc: Global, request: &Request<'_>) -> Result<Text<'static>, AllocError>
     ensures { IfOk result (λ t. t ≡ extension_refused request.now) }
 {
     let headers = unsupported(alloc, request.headers.as_slice())?;
     answered(alloc, &request.parts, 420, TOKEN, headers)
 }
 
-fn without_route(alloc: Global, request: &Request) -> Result<Text, AllocError>
+fn without_route(alloc: Global, request: &Request<'_>) -> Result<Text<'static>, AllocError>
     ensures { IfOk result (λ t. t ≡ without_route request.now) }
 {
     if has_header(b"Record-Route", request.headers.as_slice()) {
@@ -88,7 +88,7 @@ fn without_route(alloc: Global, request: &Request) -> Result<Text, AllocError>
     registered(alloc, request)
 }
 
-fn without_extension(alloc: Global, request: &Request) -> Result<Text, AllocError>
+fn without_extension(alloc: Global, request: &Request<'_>) -> Result<Text<'static>, AllocError>
     ensures { IfOk result (λ t. t ≡ without_extension request.now) }
 {
     if has_header(b"Require", request.headers.as_slice()) {
@@ -97,13 +97,13 @@ fn without_extension(alloc: Global, request: &Request) -> Result<Text, AllocErro
     without_route(alloc, request)
 }
 
-fn is_method(name: &[u8], request: &Request) -> bool
+fn is_method(name: &[u8], request: &Request<'_>) -> bool
     ensures { result ≡ is_method name.now request.now }
 {
     request.method.as_bytes() == name
 }
 
-fn with_branch(alloc: Global, request: &Request) -> Result<Text, AllocError>
+fn with_branch(alloc: Global, request: &Request<'_>) -> Result<Text<'static>, AllocError>
     ensures { IfOk result (λ t. t ≡ with_branch request.now) }
 {
     if !is_method(b"REGISTER", request) {
@@ -112,7 +112,7 @@ fn with_branch(alloc: Global, request: &Request) -> Result<Text, AllocError>
     without_extension(alloc, request)
 }
 
-fn without_branch(alloc: Global, request: &Request) -> Result<Text, AllocError>
+fn without_branch(alloc: Global, request: &Request<'_>) -> Result<Text<'static>, AllocError>
     ensures { IfOk result (λ t. t ≡ without_branch request.now) }
 {
     if is_method(b"ACK", request) {
@@ -123,7 +123,7 @@ fn without_branch(alloc: Global, request: &Request) -> Result<Text, AllocError>
 
 /// The answer to a request that was read.
 #[tactic(auto, unfolding(crate::specs::Once::request_answer))]
-fn request_answer(alloc: Global, request: &Request) -> Result<Text, AllocError>
+fn request_answer(alloc: Global, request: &Request<'_>) -> Result<Text<'static>, AllocError>
     ensures { IfOk result (λ t. t ≡ request_answer request.now) }
 {
     if !has_fit_branch(request.parts.vias.as_slice()) {
@@ -132,7 +132,11 @@ fn request_answer(alloc: Global, request: &Request) -> Result<Text, AllocError>
     with_branch(alloc, request)
 }
 
-fn stateless_answer(alloc: Global, status: u16, parts: Option<&Parts>) -> Result<Text, AllocError>
+fn stateless_answer(
+    alloc: Global,
+    status: u16,
+    parts: Option<&Parts<'_>>,
+) -> Result<Text<'static>, AllocError>
     ensures { IfOk result (λ t. t ≡ stateless_answer status (option_copied parts.entry)) }
 {
     match parts {
@@ -142,7 +146,7 @@ fn stateless_answer(alloc: Global, status: u16, parts: Option<&Parts>) -> Result
 }
 
 /// The answer without a transaction to a datagram that can't be read, where it can be answered.
-fn answered_unread(alloc: Global, status: u16, datagram: &[u8]) -> Result<Text, AllocError>
+fn answered_unread(alloc: Global, status: u16, datagram: &[u8]) -> Result<Text<'static>, AllocError>
     ensures { IfOk result (λ t. t ≡ stateless_answer status (answerable_of datagram.now)) }
 {
     let parts = answerable(alloc, datagram)?;
@@ -151,7 +155,11 @@ fn answered_unread(alloc: Global, status: u16, datagram: &[u8]) -> Result<Text, 
 
 /// The answer to a datagram that can't be read.
 #[tactic(auto, unfolding(crate::specs::Once::once_of, crate::specs::Once::unread_answer))]
-fn unread_answer(alloc: Global, datagram: &[u8], fault: MessageError) -> Result<Text, AllocError>
+fn unread_answer(
+    alloc: Global,
+    datagram: &[u8],
+    fault: MessageError,
+) -> Result<Text<'static>, AllocError>
     requires { Fails fault (message_of datagram.now) }
     ensures { IfOk result (λ t. t ≡ once_of datagram.now) }
 {
@@ -167,7 +175,7 @@ fn unread_answer(alloc: Global, datagram: &[u8], fault: MessageError) -> Result<
     }
 }
 
-fn read_answer(alloc: Global, message: &Message) -> Result<Text, AllocError>
+fn read_answer(alloc: Global, message: &Message<'_>) -> Result<Text<'static>, AllocError>
     ensures { IfOk result (λ t. t ≡ read_answer message.now) }
 {
     match message {
@@ -179,7 +187,7 @@ fn read_answer(alloc: Global, message: &Message) -> Result<Text, AllocError>
 /// The bytes of what a datagram is answered on the example office: none where it is not answered. An answer is as RFC 3261
 /// section 8.2.6 says, and that to a REGISTER as section 10.3 does.
 #[tactic(auto, unfolding(crate::specs::Once::once_of))]
-pub fn answer_to(alloc: Global, datagram: &[u8]) -> Result<Text, AllocError>
+pub fn answer_to(alloc: Global, datagram: &[u8]) -> Result<Text<'static>, AllocError>
     ensures { IfOk result (λ t. t ≡ once_of datagram.now) }
 {
     match read_message(alloc, datagram) {

@@ -25,7 +25,7 @@ pub(crate) const TOKEN: &[u8] = b"0000000000000001.1";
 pub(crate) const STATELESS: &[u8] = b"stateless";
 
 /// The office's users, 100, 101 and 102.
-fn example_users(alloc: Global) -> Result<Texts, AllocError>
+fn example_users(alloc: Global) -> Result<Texts<'static>, AllocError>
     ensures { IfOk result (λ us. us ≡ example_rules.users) }
 {
     let first = Text::from_slice(alloc, b"100")?;

@@ -7,7 +7,7 @@ ghost use Rattle.registrar.specs.Registrar.{rules_of};
 ghost use Rattle.server.specs.Registering.{seconds_of, seconds_by, expires_of, is_star, contact_from, contacts_from, register_of};
 
 use registrar::{Contact, Contacts, Register, Registrar};
-use sip_message::{ContactValue, Request, contact_values, first_value};
+use sip_message::{ContactValue, FieldValue, Request, contact_values, first_value};
 use sip_uri::{NameAddr, Param, param_named};
 use std::alloc::{AllocError, Global};
 use text::{Text, is_run_of_digits, number_upto};
@@ -15,7 +15,7 @@ use text::{Text, is_run_of_digits, number_upto};
 /// The seconds of a text that is no number below 2^32.
 const UNREADABLE_SECONDS: u32 = 3600;
 
-fn seconds_of(text: &Text) -> u32
+fn seconds_of(text: &Text<'_>) -> u32
     ensures { result ≡ seconds_of text.now }
 {
     if is_run_of_digits(text.as_bytes()) {
@@ -25,7 +25,7 @@ fn seconds_of(text: &Text) -> u32
     }
 }
 
-fn seconds_by(text: Option<&Text>) -> u32
+fn seconds_by(text: Option<&Text<'_>>) -> u32
     ensures { result ≡ seconds_by (option_copied text.entry) }
 {
     match text {
@@ -34,7 +34,7 @@ fn seconds_by(text: Option<&Text>) -> u32
     }
 }
 
-fn expires_of(params: &[Param]) -> Option<u32>
+fn expires_of(params: &[Param<'_>]) -> Option<u32>
     ensures { result ≡ expires_of params.now }
 {
     match param_named(params, b"expires") {
@@ -43,7 +43,7 @@ fn expires_of(params: &[Param]) -> Option<u32>
     }
 }
 
-fn is_star(value: &ContactValue) -> bool
+fn is_star(value: &ContactValue<'_>) -> bool
     ensures { result ≡ is_star value.now }
 {
     match value {
@@ -52,16 +52,16 @@ fn is_star(value: &ContactValue) -> bool
     }
 }
 
-fn any_star(values: &[ContactValue]) -> bool
+fn any_star(values: &[ContactValue<'_>]) -> bool
     ensures { result ≡ list_any is_star values.now }
 {
     values.iter().any(|value| is_star(value))
 }
 
-fn address_contact(name: &NameAddr) -> Result<Contact, AllocError>
+fn address_contact(alloc: Global, name: &NameAddr<'_>) -> Result<Contact<'static>, AllocError>
     ensures { IfOk result (λ c. c ≡ record { uri = Some name.now.uri; expires = expires_of name.now.params }) }
 {
-    let uri = name.uri.clone()?;
+    let uri = name.uri.keep(alloc)?;
     let expires = expires_of(name.params.as_slice());
     Ok(Contact {
         uri: Some(uri),
@@ -69,12 +69,15 @@ fn address_contact(name: &NameAddr) -> Result<Contact, AllocError>
     })
 }
 
-fn contact_from(value: &ContactValue) -> Result<Option<Contact>, AllocError>
+fn contact_from(
+    alloc: Global,
+    value: &ContactValue<'_>,
+) -> Result<Option<Contact<'static>>, AllocError>
     ensures { IfOk result (λ c. c ≡ contact_from value.now) }
 {
     match value {
         ContactValue::Star => Ok(None),
-        ContactValue::Address(name) => Ok(Some(address_contact(name)?)),
+        ContactValue::Address(name) => Ok(Some(address_contact(alloc, name)?)),
         ContactValue::Unreadable => Ok(Some(Contact {
             uri: None,
             expires: None,
@@ -82,10 +85,14 @@ fn contact_from(value: &ContactValue) -> Result<Option<Contact>, AllocError>
     }
 }
 
-fn push_contact(contacts: &mut Vec<Contact>, value: &ContactValue) -> Result<(), AllocError>
+fn push_contact(
+    alloc: Global,
+    contacts: &mut Vec<Contact<'static>>,
+    value: &ContactValue<'_>,
+) -> Result<(), AllocError>
     ensures { OnOk result (contacts.new.items ≡ contacts.old.items ++ option_to_list (contact_from value.now)) }
 {
-    match contact_from(value)? {
+    match contact_from(alloc, value)? {
         Some(contact) => {
             contacts.push(contact)?;
             Ok(())
@@ -94,31 +101,34 @@ fn push_contact(contacts: &mut Vec<Contact>, value: &ContactValue) -> Result<(),
     }
 }
 
-fn contacts_from(alloc: Global, values: &[ContactValue]) -> Result<Contacts, AllocError>
+fn contacts_from(
+    alloc: Global,
+    values: &[ContactValue<'_>],
+) -> Result<Contacts<'static>, AllocError>
     ensures { IfOk result (λ cs. cs ≡ contacts_from values.now) }
 {
     let mut contacts = Vec::new(alloc);
     for value in values {
-        push_contact(&mut contacts, value)?;
+        push_contact(alloc, &mut contacts, value)?;
     }
     Ok(Contacts::from_vec(contacts))
 }
 
-fn copied_user(user: Option<&Text>) -> Result<Option<Text>, AllocError>
+fn kept_user(alloc: Global, user: Option<&Text<'_>>) -> Result<Option<Text<'static>>, AllocError>
     ensures { IfOk result (λ u. u ≡ option_copied user.entry) }
 {
     match user {
         None => Ok(None),
-        Some(user) => Ok(Some(user.clone()?)),
+        Some(user) => Ok(Some(user.keep(alloc)?)),
     }
 }
 
-fn header_seconds(text: Option<&Text>) -> Option<u32>
-    ensures { result ≡ option_map seconds_of (option_copied text.entry) }
+fn header_seconds(alloc: Global, value: Option<&FieldValue<'_>>) -> Result<Option<u32>, AllocError>
+    ensures { IfOk result (λ seconds. seconds ≡ option_map seconds_of (option_copied value.entry)) }
 {
-    match text {
-        None => None,
-        Some(text) => Some(seconds_of(text)),
+    match value {
+        None => Ok(None),
+        Some(value) => Ok(Some(seconds_of(&value.text(alloc)?))),
     }
 }
 
@@ -127,15 +137,15 @@ fn header_seconds(text: Option<&Text>) -> Option<u32>
 pub(crate) fn register_of(
     alloc: Global,
     registrar: &Registrar,
-    request: &Request,
-) -> Result<Register, AllocError>
+    request: &Request<'_>,
+) -> Result<Register<'static>, AllocError>
     ensures { IfOk result (λ r. r ≡ register_of (rules_of registrar.now) request.now) }
 {
     let values = contact_values(alloc, request.headers.as_slice())?;
-    let user = copied_user(registrar.user_of(&request.parts.to.uri))?;
+    let user = kept_user(alloc, registrar.user_of(&request.parts.to.uri))?;
     let contacts = contacts_from(alloc, &values)?;
-    let expires = header_seconds(first_value(request.headers.as_slice(), b"Expires"));
-    let call_id = request.parts.call_id.clone()?;
+    let expires = header_seconds(alloc, first_value(request.headers.as_slice(), b"Expires"))?;
+    let call_id = request.parts.call_id.keep(alloc)?;
     Ok(Register {
         user,
         star: any_star(&values),

@@ -1,6 +1,8 @@
 //! The option tags of Require header fields.
 
-ghost use Rattle.std.specs.Prelude.{◌≡◌, ◌++◌, map, filter, IfOk, OnOk};
+ghost use Rattle.std.specs.Prelude.{◌≡◌, ◌++◌, map, filter, codes, IfOk, OnOk};
+ghost use Rattle.std.specs.List.{flat_map};
+ghost use Rattle.sip_message.specs.Lookup.{values_named};
 ghost use Rattle.server.specs.Tags.{is_some_text, tags_in, required_tags, behind_comma, joined_tags};
 
 use sip_message::{Header, values_named};
@@ -21,13 +23,24 @@ fn push_tags<'a>(alloc: Global, tags: &mut Vec<&'a [u8]>, value: &'a [u8]) -> Re
     Ok(())
 }
 
-fn required_tags<'a>(alloc: Global, headers: &'a [Header]) -> Result<Vec<&'a [u8]>, AllocError>
-    ensures { IfOk result (λ v. map (λ t. t.now) v.items ≡ required_tags headers.now) }
+/// The values of the Require header fields, each as one text.
+fn required_texts<'a>(alloc: Global, headers: &[Header<'a>]) -> Result<Vec<Text<'a>>, AllocError>
+    ensures { IfOk result (λ v. v.items ≡ values_named (codes "Require") headers.now) }
 {
     let values = values_named(alloc, headers, b"Require")?;
-    let mut tags = Vec::new(alloc);
+    let mut texts = Vec::new(alloc);
     for value in &values {
-        push_tags(alloc, &mut tags, value.as_bytes())?;
+        texts.push(value.text(alloc)?)?;
+    }
+    Ok(texts)
+}
+
+fn tags_of<'m>(alloc: Global, texts: &'m [Text<'_>]) -> Result<Vec<&'m [u8]>, AllocError>
+    ensures { IfOk result (λ v. map (λ t. t.now) v.items ≡ flat_map tags_in texts.now) }
+{
+    let mut tags = Vec::new(alloc);
+    for text in texts {
+        push_tags(alloc, &mut tags, text.as_bytes())?;
     }
     Ok(tags)
 }
@@ -55,10 +68,11 @@ fn put_joined(out: &mut Vec<u8>, tags: &[&[u8]]) -> Result<(), AllocError>
 }
 
 /// The tags of all Require header fields, with a comma and a space between each two.
-pub(crate) fn required(alloc: Global, headers: &[Header]) -> Result<Text, AllocError>
+pub(crate) fn required(alloc: Global, headers: &[Header<'_>]) -> Result<Text<'static>, AllocError>
     ensures { IfOk result (λ t. t ≡ joined_tags (required_tags headers.now)) }
 {
-    let tags = required_tags(alloc, headers)?;
+    let texts = required_texts(alloc, headers)?;
+    let tags = tags_of(alloc, &texts)?;
     let mut out = Vec::new(alloc);
     put_joined(&mut out, &tags)?;
     Ok(Text::from_vec(out))

@@ -6,13 +6,15 @@ ghost use Rattle.sip_uri.specs.NameAddr.{name_addr_text};
 ghost use Rattle.sip_message.specs.Writing.{message_text};
 ghost use Rattle.sip_message.specs.declared.message.Message.TheVariants as Kinds;
 ghost use Rattle.transactions.specs.Ack.{top_only, tag_params, ack_to, ack_cseq, ack_cseq_text, ack_parts, ack_headers, ack_of};
+ghost use Rattle.transactions.specs.Contents.{ack_for};
 
-use crate::copies::{copied_name, copied_text, copied_uri, copied_via};
 use crate::matching::tag_in;
+use crate::step::Sending;
+use crate::transaction::Transaction;
 use sip_message::{
-    CSeq, Headers, Parts, Request, Via, Vias, tag_param, via_headers, write_request,
+    CSeq, Headers, Parts, Request, Response, Via, Vias, tag_param, via_headers, write_request,
 };
-use sip_uri::{NameAddr, Params, Uri, write_name_addr};
+use sip_uri::{NameAddr, Params, Uri, keep_text, write_name_addr};
 use std::alloc::{AllocError, Global};
 use text::{Text, put_number};
 
@@ -20,17 +22,17 @@ use text::{Text, put_number};
 const MAX_FORWARDS: u8 = 70;
 
 // The top Via alone.
-fn top_only(alloc: Global, vias: &[Via]) -> Result<Vias, AllocError>
+fn top_only(alloc: Global, vias: &[Via<'_>]) -> Result<Vias<'static>, AllocError>
     ensures { IfOk result (λ v. v ≡ top_only vias.now) }
 {
     let mut top = Vec::new(alloc);
     if let [via, ..] = vias {
-        top.push(copied_via(via)?)?;
+        top.push(via.keep(alloc)?)?;
     }
     Ok(Vias::from_vec(top))
 }
 
-fn tag_params(alloc: Global, tag: Option<&Text>) -> Result<Params, AllocError>
+fn tag_params(alloc: Global, tag: Option<&Text<'_>>) -> Result<Params<'static>, AllocError>
     ensures { IfOk result (λ ps. ps ≡ tag_params (option_copied tag.entry)) }
 {
     let mut params = Vec::new(alloc);
@@ -41,19 +43,18 @@ fn tag_params(alloc: Global, tag: Option<&Text>) -> Result<Params, AllocError>
 }
 
 // Name and URI of the answer's To, with its tag.
-fn ack_to(alloc: Global, to: &NameAddr) -> Result<NameAddr, AllocError>
+fn ack_to(alloc: Global, to: &NameAddr<'_>) -> Result<NameAddr<'static>, AllocError>
     ensures { IfOk result (λ t. t ≡ ack_to to.now) }
 {
     let params = tag_params(alloc, tag_in(to))?;
-    let NameAddr { display, uri, .. } = copied_name(to)?;
     Ok(NameAddr {
-        display,
-        uri,
+        display: keep_text(alloc, &to.display)?,
+        uri: to.uri.keep(alloc)?,
         params,
     })
 }
 
-fn cseq_text(alloc: Global, number: u32) -> Result<Text, AllocError>
+fn cseq_text(alloc: Global, number: u32) -> Result<Text<'static>, AllocError>
     ensures { IfOk result (λ t. t ≡ ack_cseq_text number) }
 {
     let mut out = Vec::new(alloc);
@@ -62,7 +63,7 @@ fn cseq_text(alloc: Global, number: u32) -> Result<Text, AllocError>
     Ok(Text::from_vec(out))
 }
 
-fn ack_cseq(alloc: Global, number: u32) -> Result<CSeq, AllocError>
+fn ack_cseq(alloc: Global, number: u32) -> Result<CSeq<'static>, AllocError>
     ensures { IfOk result (λ c. c ≡ ack_cseq number) }
 {
     let method = Text::from_slice(alloc, b"ACK")?;
@@ -72,8 +73,8 @@ fn ack_cseq(alloc: Global, number: u32) -> Result<CSeq, AllocError>
 // A name, and its text.
 #[derive(Drop)]
 struct End {
-    name: NameAddr,
-    text: Text,
+    name: NameAddr<'static>,
+    text: Text<'static>,
 }
 
 // From and To of an ACK.
@@ -86,16 +87,16 @@ struct Ends {
 // A CSeq, and its text.
 #[derive(Drop)]
 struct Sequence {
-    cseq: CSeq,
-    text: Text,
+    cseq: CSeq<'static>,
+    text: Text<'static>,
 }
 
-fn ack_from(invite: &Parts) -> Result<End, AllocError>
+fn ack_from(alloc: Global, invite: &Parts<'_>) -> Result<End, AllocError>
     ensures name { IfOk result (λ from. from.name ≡ invite.now.from) }
     ensures text { IfOk result (λ from. from.text ≡ invite.now.from_text) }
 {
-    let name = copied_name(&invite.from)?;
-    let text = copied_text(&invite.from_text)?;
+    let name = invite.from.keep(alloc)?;
+    let text = invite.from_text.keep(alloc)?;
     Ok(End { name, text })
 }
 
@@ -114,7 +115,7 @@ fn ack_ends(alloc: Global, invite: &Parts, to: &NameAddr) -> Result<Ends, AllocE
     ensures to { IfOk result (λ ends. ends.to.name ≡ ack_to to.now) }
     ensures to_text { IfOk result (λ ends. ends.to.text ≡ name_addr_text (ack_to to.now)) }
 {
-    let from = ack_from(invite)?;
+    let from = ack_from(alloc, invite)?;
     let to = written_to(alloc, to)?;
     Ok(Ends { from, to })
 }
@@ -129,8 +130,13 @@ fn ack_sequence(alloc: Global, number: u32) -> Result<Sequence, AllocError>
 }
 
 // The parts of these values. With no way out it keeps the proof of `ack_parts` short.
-fn parts_with(vias: Vias, ends: Ends, call_id: Text, sequence: Sequence) -> Parts
-    ensures { result ≡ record { vias = vias; from = ends.from.name; to = ends.to.name; call_id = call_id; cseq = sequence.cseq; from_text = ends.from.text; to_text = ends.to.text; cseq_text = sequence.text } }
+fn parts_with(
+    vias: Vias<'static>,
+    ends: Ends,
+    call_id: Text<'static>,
+    sequence: Sequence,
+) -> Parts<'static>
+    ensures { result ≡ record { vias = vias.entry; from = ends.from.name; to = ends.to.name; call_id = call_id.entry; cseq = sequence.cseq; from_text = ends.from.text; to_text = ends.to.text; cseq_text = sequence.text } }
 {
     let Ends { from, to } = ends;
     Parts {
@@ -146,18 +152,22 @@ fn parts_with(vias: Vias, ends: Ends, call_id: Text, sequence: Sequence) -> Part
 }
 
 #[tactic(auto, unfolding(crate::specs::Ack::ack_parts))]
-fn ack_parts(alloc: Global, invite: &Parts, answer: &Parts) -> Result<Parts, AllocError>
+fn ack_parts(
+    alloc: Global,
+    invite: &Parts<'_>,
+    answer: &Parts<'_>,
+) -> Result<Parts<'static>, AllocError>
     ensures { IfOk result (λ p. p ≡ ack_parts invite.now answer.now) }
 {
     let vias = top_only(alloc, invite.vias.as_slice())?;
     let ends = ack_ends(alloc, invite, &answer.to)?;
-    let call_id = copied_text(&invite.call_id)?;
+    let call_id = invite.call_id.keep(alloc)?;
     let sequence = ack_sequence(alloc, invite.cseq.number)?;
     Ok(parts_with(vias, ends, call_id, sequence))
 }
 
 #[tactic(auto, unfolding(crate::specs::Ack::ack_headers))]
-fn ack_headers(alloc: Global, parts: &Parts) -> Result<Headers, AllocError>
+fn ack_headers(alloc: Global, parts: &Parts<'_>) -> Result<Headers<'static>, AllocError>
     ensures { IfOk result (λ hs. hs ≡ ack_headers parts.now) }
 {
     let mut headers = via_headers(alloc, parts.vias.as_slice())?;
@@ -170,10 +180,15 @@ fn ack_headers(alloc: Global, parts: &Parts) -> Result<Headers, AllocError>
 }
 
 #[tactic(auto, unfolding(crate::specs::Ack::ack_of))]
-fn ack_of(alloc: Global, uri: &Uri, invite: &Parts, answer: &Parts) -> Result<Request, AllocError>
+fn ack_of(
+    alloc: Global,
+    uri: &Uri<'_>,
+    invite: &Parts<'_>,
+    answer: &Parts<'_>,
+) -> Result<Request<'static>, AllocError>
     ensures { IfOk result (λ r. r ≡ ack_of uri.now invite.now answer.now) }
 {
-    let uri = copied_uri(uri)?;
+    let uri = uri.keep(alloc)?;
     let method = Text::from_slice(alloc, b"ACK")?;
     let parts = ack_parts(alloc, invite, answer)?;
     let headers = ack_headers(alloc, &parts)?;
@@ -188,14 +203,32 @@ fn ack_of(alloc: Global, uri: &Uri, invite: &Parts, answer: &Parts) -> Result<Re
 }
 
 /// The bytes of the ACK to a refusal of this INVITE.
-pub(crate) fn ack_text(
+fn ack_text(
     alloc: Global,
     uri: &Uri,
     invite: &Parts,
     answer: &Parts,
-) -> Result<Text, AllocError>
+) -> Result<Text<'static>, AllocError>
     ensures { IfOk result (λ t. t ≡ message_text (Kinds.Request (ack_of uri.now invite.now answer.now))) }
 {
     let ack = ack_of(alloc, uri, invite, answer)?;
     write_request(alloc, &ack)
+}
+
+/// The ACK to an answer, where one is sent.
+pub(crate) fn ack_for(
+    alloc: Global,
+    transaction: &Transaction,
+    response: &Response,
+    sending: Sending,
+) -> Result<Option<Text<'static>>, AllocError>
+    ensures { IfOk result (λ ack. ack ≡ ack_for transaction.now response.now sending) }
+{
+    match sending {
+        Sending::Nothing | Sending::Again => Ok(None),
+        Sending::Fresh => {
+            let text = ack_text(alloc, &transaction.uri, &transaction.parts, &response.parts)?;
+            Ok(Some(text))
+        }
+    }
 }

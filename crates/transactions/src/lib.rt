@@ -4,7 +4,6 @@
 #![tactic(auto)]
 
 mod ack;
-mod copies;
 mod error;
 mod input;
 mod invite_client;

@@ -11,7 +11,7 @@ use text::Text;
 /// The port of a sent-by that names none (RFC 3261 section 18.1.1).
 const DEFAULT_PORT: u16 = 5060;
 
-fn value_of<'a>(params: &'a [Param], name: &[u8]) -> Option<&'a Text>
+fn value_of<'m, 'a>(params: &'m [Param<'a>], name: &[u8]) -> Option<&'m Text<'a>>
     ensures { option_copied result ≡ value_of name.now params.now }
 {
     match param_named(params, name) {
@@ -20,7 +20,7 @@ fn value_of<'a>(params: &'a [Param], name: &[u8]) -> Option<&'a Text>
     }
 }
 
-fn branch_in(vias: &[Via]) -> Option<&Text>
+fn branch_in<'m, 'a>(vias: &'m [Via<'a>]) -> Option<&'m Text<'a>>
     ensures { option_copied result ≡ branch_in vias.now }
 {
     match vias {
@@ -29,7 +29,7 @@ fn branch_in(vias: &[Via]) -> Option<&Text>
     }
 }
 
-pub(crate) fn tag_in(party: &NameAddr) -> Option<&Text>
+pub(crate) fn tag_in<'m, 'a>(party: &'m NameAddr<'a>) -> Option<&'m Text<'a>>
     ensures { option_copied result ≡ tag_in party.now }
 {
     value_of(party.params.as_slice(), b"tag")
@@ -63,7 +63,7 @@ pub(crate) fn is_method(parts: &Parts, name: &[u8]) -> bool
 }
 
 // The method of the transaction that a request belongs to: an ACK belongs to its INVITE.
-fn served_method(method: &Text) -> &[u8]
+fn served_method<'m>(method: &'m Text<'_>) -> &'m [u8]
     ensures { result.now ≡ served_method method.now }
 {
     if method.as_bytes() == b"ACK".as_slice() {
@@ -95,10 +95,10 @@ fn keeps_to_tag(answer: &Parts, request: &Parts) -> bool
 fn is_same_call(a: &Parts, b: &Parts) -> bool
     ensures { result ≡ is_same_call a.now b.now }
 {
-    a.call_id == b.call_id
+    a.call_id.as_bytes() == b.call_id.as_bytes()
         && same_text(tag_in(&a.from), tag_in(&b.from))
         && a.cseq.number == b.cseq.number
-        && a.cseq.method == b.cseq.method
+        && a.cseq.method.as_bytes() == b.cseq.method.as_bytes()
 }
 
 /// Whether an answer is one to this request.

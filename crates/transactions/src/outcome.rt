@@ -11,7 +11,7 @@ use text::Text;
 #[derive(Debug, Drop)]
 pub struct Outgoing {
     pub to: Addr,
-    pub bytes: Text,
+    pub bytes: Text<'static>,
 }
 
 /// What became of a message. A number is that of a transaction.

@@ -13,18 +13,20 @@ ghost use Rattle.transactions.specs.Lines.{follows, starts_with_lines, has_sent,
 ghost use Rattle.transactions.specs.Slots.{at, is_asked, is_answered, free_number, named, serving, is_serving};
 ghost use Rattle.transactions.specs.Steps.{IsShort};
 ghost use Rattle.transactions.specs.Transactions.{served, asking, asking_timers, went, outgoing};
-ghost use Rattle.transactions.specs.Contents.{stepped, table_at, line_at, placed, opened, reception_at, input_of, verdict_by, begun, RefusesBegun, stray, request_reception, ack_at, ack_by, ack_for, response_input, response_reception, reception_of, after_begun, after_request, after_response, after_message, IsNew, RefusesMessage, after_start, answer_input, after_answer, answer_sent, RefusesAnswer, after_abandon, RefusesAbandon, fired_by, fired_of, after_fire, is_due, RefusesFire, merged};
+ghost use Rattle.transactions.specs.Contents.{stepped, table_at, line_at, placed, opened, reception_at, input_of, verdict_by, begun, RefusesBegun, stray, request_reception, ack_at, ack_by, response_input, response_reception, reception_of, after_begun, after_request, after_response, after_message, IsNew, RefusesMessage, after_start, answer_input, after_answer, answer_sent, RefusesAnswer, after_abandon, RefusesAbandon, fired_by, fired_of, after_fire, is_due, RefusesFire, merged};
 
-use crate::ack::ack_text;
+use crate::ack::ack_for;
 use crate::error::TableError;
 use crate::input::{Input, class_of};
 use crate::matching::{has_to_tag, is_method};
 use crate::outcome::{Fired, Outgoing, Reception, Started, Verdict};
 use crate::slots::{answered, any_merged, asked, free_number, named, serving, transaction_at};
 use crate::state::{State, advance, is_server};
-use crate::step::{Sending, Starts, Step};
+use crate::step::{Starts, Step};
 use crate::stopping::{has_come, moment, set_all, stop};
-use crate::transaction::{TimerId, Transaction, asking, asking_timers, sent, served, went};
+use crate::transaction::{
+    TimerId, Transaction, asking, asking_timers, discard, sent, served, went,
+};
 use crate::verdicts::{fired_by, input_of, verdict_by};
 use sip_message::{Message, Request, Response, write_request, write_response};
 use sip_uri::Addr;
@@ -105,7 +107,7 @@ impl Table {
     {
         let bytes = write_request(self.alloc, request)?;
         let kept = bytes.clone()?;
-        let transaction = asking(request, to, kept)?;
+        let transaction = asking(self.alloc, request, to, kept)?;
         let id = self.open(transaction, asking_timers(&request.parts), now)?;
         Ok(Started {
             id,
@@ -278,7 +280,7 @@ impl Table {
         if serving(&self.slots) >= MOST_SERVED {
             return Err(TableError::Full);
         }
-        let id = self.open(served(request, source)?, Starts::NoTimer, now)?;
+        let id = self.open(served(self.alloc, request, source)?, Starts::NoTimer, now)?;
         Ok(Reception {
             verdict: Verdict::New(id),
             before: None,
@@ -287,7 +289,7 @@ impl Table {
     }
 
     // The ACK that an answer to transaction id is to get.
-    fn ack_at(&self, id: usize, response: &Response) -> Result<Option<Text>, AllocError>
+    fn ack_at(&self, id: usize, response: &Response) -> Result<Option<Text<'static>>, AllocError>
         ensures { IfOk result (λ ack. ack ≡ ack_at (at self.now.slots id) response.now) }
     {
         let Some(transaction) = transaction_at(&self.slots, id) else {
@@ -307,14 +309,14 @@ impl Table {
         &mut self,
         id: usize,
         input: Input,
-        fresh: Option<Text>,
+        fresh: Option<Text<'static>>,
         now: u64,
     ) -> Result<Reception, AllocError>
         requires moment { now < 2 ^ 60 }
         requires not_ours { is_answer input ≡ false }
-        ensures reception { IfOk result (λ r. r ≡ reception_at id (at self.old.slots id) input fresh) }
+        ensures reception { IfOk result (λ r. r ≡ reception_at id (at self.old.slots id) input fresh.entry) }
         ensures old { IfOk result (λ r. IsNew r.verdict → ⊥) }
-        ensures table { OnOk result (self.new ≡ table_at self.old id (at self.old.slots id) input fresh now) }
+        ensures table { OnOk result (self.new ≡ table_at self.old id (at self.old.slots id) input fresh.entry now) }
         ensures err { OnErr result (self.new ≡ self.old) }
     {
         let Some(transaction) = transaction_at(&self.slots, id) else {
@@ -342,14 +344,14 @@ impl Table {
         &mut self,
         id: usize,
         step: Step,
-        fresh: Option<Text>,
+        fresh: Option<Text<'static>>,
         now: u64,
     ) -> Result<(), AllocError>
         requires there { IsSome (at self.old.slots id) }
         requires moment { now < 2 ^ 60 }
         requires short { IsShort step.starts }
         requires follows { (t : Transaction) → at self.old.slots id ≡ Some t → IsTrue (follows t.state (is_some fresh) step) }
-        ensures ok { OnOk result ((t : Transaction) → at self.old.slots id ≡ Some t → self.new ≡ stepped self.old id t step fresh now) }
+        ensures ok { OnOk result ((t : Transaction) → at self.old.slots id ≡ Some t → self.new ≡ stepped self.old id t step fresh.entry now) }
         ensures err { OnErr result (self.new ≡ self.old) }
     {
         self.timers.reserve(2)?;
@@ -375,7 +377,10 @@ impl Table {
         ensures err { OnErr result (self.new ≡ self.old) }
     {
         let id = free_number(&self.slots);
-        self.timers.reserve(2)?;
+        if self.timers.reserve(2).is_err() {
+            discard(transaction);
+            return Err(AllocError);
+        }
         place(&mut self.slots, id, transaction)?;
         set_all(&mut self.timers, id, starts, now);
         Ok(id)
@@ -400,9 +405,14 @@ fn place(
 }
 
 // The next state of transaction id.
-fn advance_at(slots: &mut Vec<Option<Transaction>>, id: usize, state: State, fresh: Option<Text>)
+fn advance_at(
+    slots: &mut Vec<Option<Transaction>>,
+    id: usize,
+    state: State,
+    fresh: Option<Text<'static>>,
+)
     requires { IsSome (at slots.old.items id) }
-    ensures { (t : Transaction) → at slots.old.items id ≡ Some t → slots.new.items ≡ slice_set slots.old.items id (Some (went t fresh state)) }
+    ensures { (t : Transaction) → at slots.old.items id ≡ Some t → slots.new.items ≡ slice_set slots.old.items id (Some (went t fresh.entry state)) }
 {
     let slot = &mut slots[id];
     let Some(transaction) = slot.take() else {
@@ -412,30 +422,17 @@ fn advance_at(slots: &mut Vec<Option<Transaction>>, id: usize, state: State, fre
 }
 
 // The next state of transaction id, or its end.
-fn write(slots: &mut Vec<Option<Transaction>>, id: usize, next: Option<State>, fresh: Option<Text>)
+fn write(
+    slots: &mut Vec<Option<Transaction>>,
+    id: usize,
+    next: Option<State>,
+    fresh: Option<Text<'static>>,
+)
     requires { IsSome (at slots.old.items id) }
-    ensures { (t : Transaction) → at slots.old.items id ≡ Some t → slots.new.items ≡ slice_set slots.old.items id (option_map (went t fresh) next) }
+    ensures { (t : Transaction) → at slots.old.items id ≡ Some t → slots.new.items ≡ slice_set slots.old.items id (option_map (went t fresh.entry) next) }
 {
     match next {
         Some(state) => advance_at(slots, id, state, fresh),
         None => slots[id] = None,
-    }
-}
-
-// The ACK to an answer, where one is sent.
-fn ack_for(
-    alloc: Global,
-    transaction: &Transaction,
-    response: &Response,
-    sending: Sending,
-) -> Result<Option<Text>, AllocError>
-    ensures { IfOk result (λ ack. ack ≡ ack_for transaction.now response.now sending) }
-{
-    match sending {
-        Sending::Nothing | Sending::Again => Ok(None),
-        Sending::Fresh => {
-            let text = ack_text(alloc, &transaction.uri, &transaction.parts, &response.parts)?;
-            Ok(Some(text))
-        }
     }
 }

@@ -5,7 +5,6 @@ ghost use Rattle.transactions.specs.Lines.{repeats, has_sent, starts_with_lines}
 ghost use Rattle.transactions.specs.Steps.{IsShort, timer, t1};
 ghost use Rattle.transactions.specs.Transactions.{served, served_state, asking, asking_state, asking_timers, went, outgoing, sent};
 
-use crate::copies::copied_uri;
 use crate::input::TimerKind;
 use crate::invite_client::InviteClient;
 use crate::invite_server::InviteServer;
@@ -17,7 +16,7 @@ use crate::state::State;
 use crate::step::{LIMIT, Sending, Start, Starts, T1};
 use sip_message::{Parts, Request, reply_address};
 use sip_uri::{Addr, Uri};
-use std::alloc::AllocError;
+use std::alloc::{AllocError, Global};
 use text::Text;
 
 /// A timer of a transaction, by the number of the transaction.
@@ -31,22 +30,26 @@ pub struct TimerId {
 #[derive(Drop)]
 pub struct Transaction {
     /// The Request-URI.
-    pub uri: Uri,
-    pub parts: Parts,
+    pub uri: Uri<'static>,
+    pub parts: Parts<'static>,
     pub state: State,
     /// Where all that it sends goes.
     pub place: Addr,
     /// What it sent last: its request, an answer, or the ACK to a refusal. None where nothing was sent.
-    pub last: Option<Text>,
+    pub last: Option<Text<'static>>,
 }
 
 /// The transaction that a request of another begins.
-pub(crate) fn served(request: &Request, source: Addr) -> Result<Transaction, AllocError>
+pub(crate) fn served(
+    alloc: Global,
+    request: &Request<'_>,
+    source: Addr,
+) -> Result<Transaction, AllocError>
     ensures served { IfOk result (λ t. t ≡ served request.now source) }
     ensures sent { IfOk result (λ t. IsTrue (has_sent (Some t))) }
 {
-    let uri = copied_uri(&request.uri)?;
-    let parts = request.parts.clone()?;
+    let uri = request.uri.keep(alloc)?;
+    let parts = request.parts.keep(alloc)?;
     Ok(Transaction {
         uri,
         parts,
@@ -68,12 +71,17 @@ fn served_state(parts: &Parts) -> State
 }
 
 /// The transaction that a request of the server's own begins, with its bytes.
-pub(crate) fn asking(request: &Request, to: Addr, bytes: Text) -> Result<Transaction, AllocError>
-    ensures asking { IfOk result (λ t. t ≡ asking request.now to bytes) }
+pub(crate) fn asking(
+    alloc: Global,
+    request: &Request<'_>,
+    to: Addr,
+    bytes: Text<'static>,
+) -> Result<Transaction, AllocError>
+    ensures asking { IfOk result (λ t. t ≡ asking request.now to bytes.entry) }
     ensures sent { IfOk result (λ t. IsTrue (has_sent (Some t))) }
 {
-    let uri = copied_uri(&request.uri)?;
-    let parts = request.parts.clone()?;
+    let uri = request.uri.keep(alloc)?;
+    let parts = request.parts.keep(alloc)?;
     Ok(Transaction {
         uri,
         parts,
@@ -122,9 +130,18 @@ pub(crate) fn asking_timers(parts: &Parts) -> Starts
     }
 }
 
+/// Gives up a transaction that was not kept. With no way out it keeps the proof of the table's `open` short.
+pub(crate) fn discard(transaction: Transaction) {
+    drop(transaction);
+}
+
 /// The transaction in its next state. What was fresh is what it sends again.
-pub(crate) fn went(transaction: Transaction, fresh: Option<Text>, state: State) -> Transaction
-    ensures { result ≡ went transaction fresh state }
+pub(crate) fn went(
+    transaction: Transaction,
+    fresh: Option<Text<'static>>,
+    state: State,
+) -> Transaction
+    ensures { result ≡ went transaction fresh.entry state }
 {
     Transaction {
         uri: transaction.uri,
@@ -135,7 +152,7 @@ pub(crate) fn went(transaction: Transaction, fresh: Option<Text>, state: State) 
     }
 }
 
-fn outgoing(place: Addr, bytes: &Option<Text>) -> Result<Option<Outgoing>, AllocError>
+fn outgoing(place: Addr, bytes: &Option<Text<'static>>) -> Result<Option<Outgoing>, AllocError>
     ensures { IfOk result (λ send. send ≡ option_map (outgoing place) bytes.now) }
 {
     match bytes {
@@ -150,7 +167,7 @@ fn outgoing(place: Addr, bytes: &Option<Text>) -> Result<Option<Outgoing>, Alloc
 /// What is sent, copied.
 pub(crate) fn sent(
     transaction: &Transaction,
-    fresh: &Option<Text>,
+    fresh: &Option<Text<'static>>,
     sending: Sending,
 ) -> Result<Option<Outgoing>, AllocError>
     ensures { IfOk result (λ send. send ≡ sent transaction.now fresh.now sending) }
