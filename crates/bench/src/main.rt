@@ -35,7 +35,7 @@ enum More {
     Written,
 }
 
-fn body_of(message: &Message) -> &[u8] {
+fn body_of<'m>(message: &'m Message<'_>) -> &'m [u8] {
     match message {
         Message::Request(request) => request.body.as_bytes(),
         Message::Response(response) => response.body.as_bytes(),
@@ -46,11 +46,11 @@ fn is_description(alloc: Global, bytes: &[u8]) -> bool {
     read_description(alloc, bytes).is_ok()
 }
 
-fn is_written(alloc: Global, message: &Message) -> bool {
+fn is_written(alloc: Global, message: &Message<'_>) -> bool {
     write_message(alloc, message).is_ok()
 }
 
-fn is_more_done(alloc: Global, message: &Message, more: More) -> bool {
+fn is_more_done(alloc: Global, message: &Message<'_>, more: More) -> bool {
     match more {
         More::Nothing => true,
         More::Description => is_description(alloc, body_of(message)),
@@ -59,7 +59,7 @@ fn is_more_done(alloc: Global, message: &Message, more: More) -> bool {
 }
 
 /// The message of these bytes, in a list of one, which is dropped as a whole.
-fn messages_of(alloc: Global, bytes: &[u8]) -> Result<Vec<Message>, MessageError> {
+fn messages_of(alloc: Global, bytes: &[u8]) -> Result<Vec<Message<'_>>, MessageError> {
     Ok(vec![in alloc; read_message(alloc, bytes)?]?)
 }
 

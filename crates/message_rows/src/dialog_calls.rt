@@ -61,12 +61,12 @@ fn truth_text(alloc: Global, truth: Result<bool, MessageError>) -> Result<String
     }
 }
 
-fn written(alloc: Global, request: Request) -> Result<Text, AllocError> {
+fn written(alloc: Global, request: Request<'static>) -> Result<Text<'static>, AllocError> {
     write_request(alloc, &request)
 }
 
 /// The bytes of the next request.
-fn next(alloc: Global, dialog: &mut Dialog, method: Method) -> Result<Text, DialogError> {
+fn next(alloc: Global, dialog: &mut Dialog, method: Method) -> Result<Text<'static>, DialogError> {
     Ok(written(alloc, dialog.next_request(alloc, method)?)?)
 }
 
@@ -85,7 +85,7 @@ fn next_number_text(alloc: Global, dialog: &Dialog, method: Method) -> Result<St
 }
 
 fn refreshed(alloc: Global, dialog: &mut Dialog, bytes: &[u8]) -> Result<(), UriError> {
-    dialog.refresh_target(read_uri(alloc, bytes)?);
+    dialog.refresh_target(read_uri(alloc, bytes)?.keep(alloc)?);
     Ok(())
 }
 
@@ -129,7 +129,7 @@ fn of_method(
 
 /// A copy of the dialog, in a list of one, which is dropped as a whole.
 fn copied_text(alloc: Global, dialog: &Dialog) -> Result<String, AllocError> {
-    let copies = vec![in alloc; dialog.clone()?]?;
+    let copies = vec![in alloc; dialog.copy(alloc)?]?;
     match copies.first() {
         Some(copy) => dialog_text(alloc, copy),
         None => said(alloc, "none"),

@@ -6,11 +6,11 @@ use sip_uri::{Uri, write_uri};
 use std::alloc::{AllocError, Global};
 use text::Text;
 
-fn uri_text(alloc: Global, uri: &Uri) -> Result<String, AllocError> {
+fn uri_text(alloc: Global, uri: &Uri<'_>) -> Result<String, AllocError> {
     shown(alloc, write_uri(alloc, uri)?.as_bytes())
 }
 
-fn display_text(alloc: Global, display: Option<&Text>) -> Result<String, AllocError> {
+fn display_text(alloc: Global, display: Option<&Text<'_>>) -> Result<String, AllocError> {
     match display {
         Some(display) => shown(alloc, display.as_bytes()),
         None => said(alloc, "nobody"),

@@ -19,13 +19,13 @@ pub(crate) struct DialogsRows {
     dialogs: Vec<Dialog>,
 }
 
-fn no_request(response: Response) -> MessageError {
+fn no_request(response: Response<'_>) -> MessageError {
     drop(response);
     MessageError::StartLine
 }
 
 /// The request that these bytes are.
-pub(crate) fn request_of(alloc: Global, bytes: &[u8]) -> Result<Request, MessageError>
+pub(crate) fn request_of(alloc: Global, bytes: &[u8]) -> Result<Request<'_>, MessageError>
     ensures { IfOk result (λ request. ReadsMessage bytes.now (Kinds.Request request)) }
 {
     match read_message(alloc, bytes)? {
@@ -34,13 +34,13 @@ pub(crate) fn request_of(alloc: Global, bytes: &[u8]) -> Result<Request, Message
     }
 }
 
-fn no_response(request: Request) -> MessageError {
+fn no_response(request: Request<'_>) -> MessageError {
     drop(request);
     MessageError::StartLine
 }
 
 /// The response that these bytes are.
-pub(crate) fn response_of(alloc: Global, bytes: &[u8]) -> Result<Response, MessageError>
+pub(crate) fn response_of(alloc: Global, bytes: &[u8]) -> Result<Response<'_>, MessageError>
     ensures { IfOk result (λ response. ReadsMessage bytes.now (Kinds.Response response)) }
 {
     match read_message(alloc, bytes)? {
@@ -49,7 +49,7 @@ pub(crate) fn response_of(alloc: Global, bytes: &[u8]) -> Result<Response, Messa
     }
 }
 
-fn is_invite(parts: &Parts) -> bool
+fn is_invite(parts: &Parts<'_>) -> bool
     ensures { result ≡ is_invite parts.now }
 {
     parts.cseq.method.as_bytes() == b"INVITE".as_slice()
@@ -59,7 +59,7 @@ fn is_invite(parts: &Parts) -> bool
 fn callee_of(
     alloc: Global,
     bytes: &[u8],
-    invite: &Request,
+    invite: &Request<'_>,
     tag: &[u8],
 ) -> Result<Dialog, MessageError>
     requires { ReadsMessage bytes.now (Kinds.Request invite.now) }
@@ -79,9 +79,9 @@ fn callee(alloc: Global, bytes: &[u8], tag: &[u8]) -> Result<Dialog, MessageErro
 /// The dialog with the sender of a 2xx to an INVITE.
 fn caller_of(
     alloc: Global,
-    invite: &Request,
+    invite: &Request<'_>,
     bytes: &[u8],
-    answer: &Response,
+    answer: &Response<'_>,
 ) -> Result<Dialog, MessageError>
     requires { ReadsMessage bytes.now (Kinds.Response answer.now) }
 {
@@ -96,7 +96,7 @@ fn caller_of(
     Err(MessageError::StartLine)
 }
 
-fn caller_by(alloc: Global, invite: &Request, bytes: &[u8]) -> Result<Dialog, MessageError> {
+fn caller_by(alloc: Global, invite: &Request<'_>, bytes: &[u8]) -> Result<Dialog, MessageError> {
     let response = response_of(alloc, bytes)?;
     caller_of(alloc, invite, bytes, &response)
 }

@@ -2,13 +2,15 @@
 
 use crate::message_texts::{contacts_text, headers_text};
 use rows::{said, shown};
-use sip_message::{Header, Headers, contact_values, first_value, tag_param, values_named};
+use sip_message::{
+    FieldValue, Header, Headers, contact_values, first_value, tag_param, values_named,
+};
 use sip_uri::put_param;
 use std::alloc::{AllocError, Global};
-use text::{Text, cut, trimmed};
+use text::{cut, trimmed};
 
 /// The header fields that the words write.
-fn headers_of(alloc: Global, words: &[&[u8]]) -> Result<Vec<Header>, AllocError> {
+fn headers_of(alloc: Global, words: &[&[u8]]) -> Result<Vec<Header<'static>>, AllocError> {
     let mut headers = Vec::new(alloc);
     for word in words {
         let (name, value) = cut(word, b':');
@@ -18,7 +20,7 @@ fn headers_of(alloc: Global, words: &[&[u8]]) -> Result<Vec<Header>, AllocError>
 }
 
 /// Two header fields put behind those of the words, the second one as name and value.
-fn added(alloc: Global, words: &[&[u8]]) -> Result<Headers, AllocError> {
+fn added(alloc: Global, words: &[&[u8]]) -> Result<Headers<'static>, AllocError> {
     let mut headers = Headers::from_vec(headers_of(alloc, words)?);
     headers.push(Header::of(alloc, b"Pushed", b"1")?)?;
     headers.add(alloc, b"Added", b"2")?;
@@ -36,7 +38,13 @@ fn listed_text(alloc: Global, words: &[&[u8]]) -> Result<String, AllocError> {
     headers_text(alloc, headers.as_slice())
 }
 
-fn values_text(alloc: Global, values: &[&Text]) -> Result<String, AllocError> {
+fn value_text(alloc: Global, value: &FieldValue<'_>) -> Result<String, AllocError> {
+    let mut bytes = Vec::new(alloc);
+    value.put(&mut bytes)?;
+    shown(alloc, &bytes)
+}
+
+fn values_text(alloc: Global, values: &[&FieldValue<'_>]) -> Result<String, AllocError> {
     if values.is_empty() {
         return said(alloc, "none");
     }
@@ -45,7 +53,7 @@ fn values_text(alloc: Global, values: &[&Text]) -> Result<String, AllocError> {
         if !out.is_empty() {
             out.push(' ')?;
         }
-        out.push_str(shown(alloc, value.as_bytes())?.as_str())?;
+        out.push_str(value_text(alloc, value)?.as_str())?;
         out.push(';')?;
     }
     Ok(out)
@@ -66,7 +74,7 @@ fn contact_values_text(alloc: Global, words: &[&[u8]]) -> Result<String, AllocEr
 fn first_text(alloc: Global, name: &[u8], words: &[&[u8]]) -> Result<String, AllocError> {
     let headers = headers_of(alloc, words)?;
     match first_value(&headers, name) {
-        Some(value) => shown(alloc, value.as_bytes()),
+        Some(value) => value_text(alloc, value),
         None => said(alloc, "none"),
     }
 }

@@ -6,7 +6,7 @@ use sip_uri::{NameAddr, put_host, put_params, write_name_addr, write_uri};
 use std::alloc::{AllocError, Global};
 
 /// Kind and start line of a message, how many header fields it has, and how many bytes its body.
-pub(crate) fn summary(alloc: Global, message: &Message) -> Result<String, AllocError> {
+pub(crate) fn summary(alloc: Global, message: &Message<'_>) -> Result<String, AllocError> {
     match message {
         Message::Request(request) => {
             let method = shown(alloc, request.method.as_bytes())?;
@@ -31,7 +31,7 @@ pub(crate) fn summary(alloc: Global, message: &Message) -> Result<String, AllocE
 }
 
 /// A Via value: sent-by, host, port and parameters.
-fn via_text(alloc: Global, via: &Via) -> Result<String, AllocError> {
+fn via_text(alloc: Global, via: &Via<'_>) -> Result<String, AllocError> {
     let mut host = Vec::new(alloc);
     put_host(&mut host, &via.host)?;
     let mut params = Vec::new(alloc);
@@ -46,7 +46,7 @@ fn via_text(alloc: Global, via: &Via) -> Result<String, AllocError> {
 }
 
 /// Via values in order.
-pub(crate) fn vias_text(alloc: Global, vias: &[Via]) -> Result<String, AllocError> {
+pub(crate) fn vias_text(alloc: Global, vias: &[Via<'_>]) -> Result<String, AllocError> {
     let mut out = String::new(alloc);
     for via in vias {
         if !out.is_empty() {
@@ -58,12 +58,12 @@ pub(crate) fn vias_text(alloc: Global, vias: &[Via]) -> Result<String, AllocErro
 }
 
 /// A name and an address as they are written.
-pub(crate) fn name_text(alloc: Global, name: &NameAddr) -> Result<String, AllocError> {
+pub(crate) fn name_text(alloc: Global, name: &NameAddr<'_>) -> Result<String, AllocError> {
     shown(alloc, write_name_addr(alloc, name)?.as_bytes())
 }
 
 /// What an answer repeats: the values, and behind `as` the texts of From, To and CSeq as received.
-pub(crate) fn parts_text(alloc: Global, parts: &Parts) -> Result<String, AllocError> {
+pub(crate) fn parts_text(alloc: Global, parts: &Parts<'_>) -> Result<String, AllocError> {
     let mut out = vias_text(alloc, parts.vias.as_slice())?;
     let from = name_text(alloc, &parts.from)?;
     let to = name_text(alloc, &parts.to)?;
@@ -82,14 +82,16 @@ pub(crate) fn parts_text(alloc: Global, parts: &Parts) -> Result<String, AllocEr
     Ok(out)
 }
 
-fn header_text(alloc: Global, header: &Header) -> Result<String, AllocError> {
+fn header_text(alloc: Global, header: &Header<'_>) -> Result<String, AllocError> {
     let name = shown(alloc, header.name.as_bytes())?;
-    let value = shown(alloc, header.value.as_bytes())?;
+    let mut bytes = Vec::new(alloc);
+    header.value.put(&mut bytes)?;
+    let value = shown(alloc, &bytes)?;
     format!(in alloc; "{name}: {value}\\r\\n")
 }
 
 /// Header fields in order, each on a line of its own.
-pub(crate) fn headers_text(alloc: Global, headers: &[Header]) -> Result<String, AllocError> {
+pub(crate) fn headers_text(alloc: Global, headers: &[Header<'_>]) -> Result<String, AllocError> {
     let mut out = String::new(alloc);
     for header in headers {
         out.push_str(header_text(alloc, header)?.as_str())?;
@@ -97,7 +99,7 @@ pub(crate) fn headers_text(alloc: Global, headers: &[Header]) -> Result<String, 
     Ok(out)
 }
 
-fn contact_text(alloc: Global, contact: &ContactValue) -> Result<String, AllocError> {
+fn contact_text(alloc: Global, contact: &ContactValue<'_>) -> Result<String, AllocError> {
     match contact {
         ContactValue::Star => said(alloc, "star;"),
         ContactValue::Address(name) => {
@@ -111,7 +113,7 @@ fn contact_text(alloc: Global, contact: &ContactValue) -> Result<String, AllocEr
 /// Contact values in order.
 pub(crate) fn contacts_text(
     alloc: Global,
-    contacts: &[ContactValue],
+    contacts: &[ContactValue<'_>],
 ) -> Result<String, AllocError> {
     if contacts.is_empty() {
         return said(alloc, "none");

@@ -13,7 +13,7 @@ use std::alloc::{AllocError, Global};
 use text::{Text, is_run_of_token};
 
 /// The message of these bytes, in a list of one, which is dropped as a whole.
-pub(crate) fn message_of(alloc: Global, bytes: &[u8]) -> Result<Vec<Message>, MessageError> {
+pub(crate) fn message_of(alloc: Global, bytes: &[u8]) -> Result<Vec<Message<'_>>, MessageError> {
     let messages = vec![in alloc; read_message(alloc, bytes)?]?;
     Ok(messages)
 }
@@ -27,21 +27,21 @@ pub(crate) fn fault_text(alloc: Global, fault: MessageError) -> Result<String, A
 }
 
 /// What an answer to the message repeats.
-fn parts_in(message: &Message) -> &Parts {
+fn parts_in<'m, 'a>(message: &'m Message<'a>) -> &'m Parts<'a> {
     match message {
         Message::Request(request) => &request.parts,
         Message::Response(response) => &response.parts,
     }
 }
 
-fn headers_in(message: &Message) -> &[Header] {
+fn headers_in<'m, 'a>(message: &'m Message<'a>) -> &'m [Header<'a>] {
     match message {
         Message::Request(request) => request.headers.as_slice(),
         Message::Response(response) => response.headers.as_slice(),
     }
 }
 
-fn body_in(message: &Message) -> &[u8] {
+fn body_in<'m>(message: &'m Message<'_>) -> &'m [u8] {
     match message {
         Message::Request(request) => request.body.as_bytes(),
         Message::Response(response) => response.body.as_bytes(),
@@ -49,24 +49,24 @@ fn body_in(message: &Message) -> &[u8] {
 }
 
 /// The bytes of a message by the call for its kind.
-fn written_by_kind(alloc: Global, message: &Message) -> Result<Text, AllocError> {
+fn written_by_kind(alloc: Global, message: &Message<'_>) -> Result<Text<'static>, AllocError> {
     match message {
         Message::Request(request) => write_request(alloc, request),
         Message::Response(response) => write_response(alloc, response),
     }
 }
 
-fn by_kind_shown(alloc: Global, message: &Message) -> Result<String, AllocError> {
+fn by_kind_shown(alloc: Global, message: &Message<'_>) -> Result<String, AllocError> {
     let text = written_by_kind(alloc, message)?;
     shown(alloc, text.as_bytes())
 }
 
-fn message_shown(alloc: Global, message: &Message) -> Result<String, AllocError> {
+fn message_shown(alloc: Global, message: &Message<'_>) -> Result<String, AllocError> {
     let text = write_message(alloc, message)?;
     shown(alloc, text.as_bytes())
 }
 
-fn response_shown(alloc: Global, response: &Response) -> Result<String, AllocError> {
+fn response_shown(alloc: Global, response: &Response<'_>) -> Result<String, AllocError> {
     let text = write_response(alloc, response)?;
     shown(alloc, text.as_bytes())
 }
@@ -74,7 +74,7 @@ fn response_shown(alloc: Global, response: &Response) -> Result<String, AllocErr
 /// The bytes of the answer to a request with these parts.
 fn reply_text(
     alloc: Global,
-    parts: &Parts,
+    parts: &Parts<'_>,
     source: Addr,
     status: u16,
     tag: &[u8],
@@ -86,14 +86,23 @@ fn reply_text(
     response_shown(alloc, &response)
 }
 
-/// A copy of the parts.
-fn copied_text(alloc: Global, parts: &Parts) -> Result<String, AllocError> {
-    let copy = parts.clone()?;
-    parts_text(alloc, &copy)
+/// The parts as they are kept.
+fn kept_text(alloc: Global, parts: &Parts<'_>) -> Result<String, AllocError> {
+    let kept = parts.keep(alloc)?;
+    parts_text(alloc, &kept)
+}
+
+/// The message as it is kept, written.
+fn kept_shown(alloc: Global, message: &Message<'_>) -> Result<String, AllocError> {
+    let kept = vec![in alloc; message.keep(alloc)?]?;
+    match kept.first() {
+        Some(message) => message_shown(alloc, message),
+        None => said(alloc, "none"),
+    }
 }
 
 /// What can be answered of a request that can't be read, in a list of one, or none.
-fn found(alloc: Global, bytes: &[u8]) -> Result<Vec<Parts>, AllocError> {
+fn found(alloc: Global, bytes: &[u8]) -> Result<Vec<Parts<'_>>, AllocError> {
     match answerable(alloc, bytes)? {
         Some(parts) => Ok(vec![in alloc; parts]?),
         None => Ok(Vec::new(alloc)),
@@ -123,18 +132,18 @@ fn found_reply_text(
     }
 }
 
-fn via_headers_text(alloc: Global, vias: &[Via]) -> Result<String, AllocError> {
+fn via_headers_text(alloc: Global, vias: &[Via<'_>]) -> Result<String, AllocError> {
     let headers = via_headers(alloc, vias)?;
     headers_text(alloc, headers.as_slice())
 }
 
 /// The Via values, taken out of a copy of their list and put into a list again.
-fn listed_vias_text(alloc: Global, vias: &Vias) -> Result<String, AllocError> {
-    let vias = Vias::from_vec(vias.clone()?.into_vec());
+fn listed_vias_text(alloc: Global, vias: &Vias<'_>) -> Result<String, AllocError> {
+    let vias = Vias::from_vec(vias.keep(alloc)?.into_vec());
     vias_text(alloc, vias.as_slice())
 }
 
-fn contacts_in(alloc: Global, message: &Message) -> Result<String, AllocError> {
+fn contacts_in(alloc: Global, message: &Message<'_>) -> Result<String, AllocError> {
     let values = contacts(alloc, message)?;
     contacts_text(alloc, &values)
 }
@@ -142,7 +151,7 @@ fn contacts_in(alloc: Global, message: &Message) -> Result<String, AllocError> {
 /// What a call on a message that was read answers.
 fn of_message(
     alloc: Global,
-    message: &Message,
+    message: &Message<'_>,
     call: &str,
     more: &[&[u8]],
 ) -> Result<Option<String>, AllocError> {
@@ -150,7 +159,8 @@ fn of_message(
     let answer = match (call, more) {
         ("read", []) => summary(alloc, message),
         ("parts", []) => parts_text(alloc, parts),
-        ("copied", []) => copied_text(alloc, parts),
+        ("kept", []) => kept_text(alloc, parts),
+        ("keep_and_write", []) => kept_shown(alloc, message),
         ("headers", []) => headers_text(alloc, headers_in(message)),
         ("body", []) => shown(alloc, body_in(message)),
         ("contacts", []) => contacts_in(alloc, message),

@@ -47,7 +47,7 @@ fn numbered(alloc: Global, text: &[u8], number: u64) -> Result<Vec<u8>, AllocErr
 }
 
 /// Whether the message begins a transaction.
-fn is_begun(table: &mut Table, message: &Message) -> Result<bool, AllocError> {
+fn is_begun(table: &mut Table, message: &Message<'_>) -> Result<bool, AllocError> {
     match table.receive(message, PLACE, 0) {
         Ok(reception) => Ok(matches!(reception.verdict, Verdict::New(_))),
         Err(TableError::OutOfMemory) => Err(AllocError),

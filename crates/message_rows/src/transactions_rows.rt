@@ -89,7 +89,7 @@ impl TransactionsRows {
     fn receive(
         &mut self,
         alloc: Global,
-        message: &Message,
+        message: &Message<'_>,
         source: Addr,
         now: u64,
     ) -> Result<String, AllocError>
@@ -104,7 +104,7 @@ impl TransactionsRows {
     fn start(
         &mut self,
         alloc: Global,
-        request: &Request,
+        request: &Request<'_>,
         to: Addr,
         now: u64,
     ) -> Result<String, AllocError>
@@ -118,7 +118,7 @@ impl TransactionsRows {
         &mut self,
         alloc: Global,
         id: usize,
-        response: &Response,
+        response: &Response<'_>,
         now: u64,
     ) -> Result<String, AllocError>
         requires { now < 2 ^ 60 }
@@ -151,7 +151,7 @@ impl TransactionsRows {
     fn of_message(
         &mut self,
         alloc: Global,
-        message: &Message,
+        message: &Message<'_>,
         call: &str,
         more: &[&[u8]],
     ) -> Result<Option<String>, AllocError> {

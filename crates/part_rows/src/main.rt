@@ -9,6 +9,7 @@ mod registrar_rows;
 mod registrar_words;
 mod sdp_rows;
 mod sdp_words;
+mod session_rows;
 mod sip_uri_rows;
 mod sip_uri_words;
 mod stream_words;

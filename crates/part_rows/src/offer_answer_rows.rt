@@ -2,10 +2,12 @@
 
 use crate::readdress_rows::sent_text;
 use crate::sdp_rows::told;
+use crate::session_rows::session_words;
 use crate::stream_words::streams_words;
 use offer_answer::{
     OwnRange, alike_is_equivalence, check_answer, check_offer, destination, fewer_rows, held_call,
     hold_passes, joined_is_direct, meaning, plain_call, relayed_is_direct, rows_lead,
+    rows_of_session_stand,
 };
 use rows::{address_words, said};
 use sdp::{Description, DescriptionError, read_description};
@@ -14,6 +16,13 @@ use std::fmt::Display;
 
 const RANGE: OwnRange = OwnRange {
     ip: [192, 0, 2, 1],
+    first: 40000,
+    last: 40015,
+};
+
+/// The relay ports of a server at 0.0.0.0.
+const HOLD_RANGE: OwnRange = OwnRange {
+    ip: [0, 0, 0, 0],
     first: 40000,
     last: 40015,
 };
@@ -33,7 +42,10 @@ fn pair(alloc: Global, one: Vec<u8>, other: Vec<u8>) -> Result<Vec<Vec<u8>>, All
 }
 
 /// The descriptions of these texts.
-fn descriptions(alloc: Global, texts: &[Vec<u8>]) -> Result<Vec<Description>, DescriptionError> {
+fn descriptions(
+    alloc: Global,
+    texts: &[Vec<u8>],
+) -> Result<Vec<Description<'_>>, DescriptionError> {
     let mut found = Vec::new(alloc);
     for text in texts {
         found.push(read_description(alloc, text)?)?;
@@ -66,7 +78,7 @@ fn offer_texts(
     pair(alloc, text, Vec::from_slice(alloc, previous)?)
 }
 
-fn offer_words(alloc: Global, descriptions: &[Description]) -> Result<String, AllocError> {
+fn offer_words(alloc: Global, descriptions: &[Description<'_>]) -> Result<String, AllocError> {
     match descriptions {
         [new] => taken_or(alloc, check_offer(new, None, RANGE)),
         [new, previous] => taken_or(alloc, check_offer(new, Some(previous), RANGE)),
@@ -86,7 +98,7 @@ fn offer_check(
     Ok(offer_words(alloc, &descriptions)?)
 }
 
-fn answer_words(alloc: Global, descriptions: &[Description]) -> Result<String, AllocError> {
+fn answer_words(alloc: Global, descriptions: &[Description<'_>]) -> Result<String, AllocError> {
     match descriptions {
         [offer, answer] => taken_or(alloc, check_answer(offer, answer, RANGE)),
         _ => said(alloc, "no description"),
@@ -106,7 +118,7 @@ fn answer_check(
     Ok(answer_words(alloc, &descriptions)?)
 }
 
-fn meaning_words(alloc: Global, descriptions: &[Description]) -> Result<String, AllocError> {
+fn meaning_words(alloc: Global, descriptions: &[Description<'_>]) -> Result<String, AllocError> {
     let [offer, answer] = descriptions else {
         return said(alloc, "no description");
     };
@@ -114,6 +126,33 @@ fn meaning_words(alloc: Global, descriptions: &[Description]) -> Result<String, 
         return said(alloc, "other number of media");
     }
     streams_words(alloc, &meaning(alloc, offer, answer)?)
+}
+
+/// The checks of an offer and of an answer at 0.0.0.0 by a server at 0.0.0.0.
+fn hold_checks(alloc: Global, media: &[u8]) -> Result<String, DescriptionError> {
+    let text = text_of(alloc, b"IP4 0.0.0.0", media)?;
+    let description = read_description(alloc, &text)?;
+    let offer = taken_or(alloc, check_offer(&description, None, HOLD_RANGE))?;
+    let answer = taken_or(alloc, check_answer(&description, &description, HOLD_RANGE))?;
+    Ok(format!(in alloc; "offer {offer}, answer {answer}")?)
+}
+
+/// What a call on a session answers, of which the row has the connection and media of the offer, the media of what was sent
+/// on in place of the answer and of the offer, and connection and media of the answer.
+fn session_of(
+    alloc: Global,
+    call: &str,
+    offer: &[&[u8]; 2],
+    sent: &[&[u8]; 2],
+    answer: &[&[u8]; 2],
+) -> Result<String, DescriptionError> {
+    let mut texts = Vec::new(alloc);
+    texts.push(text_of(alloc, offer[0], offer[1])?)?;
+    texts.push(text_of(alloc, b"IP4 192.0.2.1", sent[0])?)?;
+    texts.push(text_of(alloc, b"IP4 192.0.2.1", sent[1])?)?;
+    texts.push(text_of(alloc, answer[0], answer[1])?)?;
+    let descriptions = descriptions(alloc, &texts)?;
+    Ok(session_words(alloc, call, &descriptions)?)
 }
 
 /// What an offer and an answer mean, which have as many media.
@@ -128,7 +167,7 @@ fn meaning_of(
     Ok(meaning_words(alloc, &descriptions)?)
 }
 
-fn destination_words(alloc: Global, description: &Description) -> Result<String, AllocError> {
+fn destination_words(alloc: Global, description: &Description<'_>) -> Result<String, AllocError> {
     let Some(medium) = description.media.as_slice().first() else {
         return said(alloc, "no medium");
     };
@@ -144,7 +183,8 @@ fn first_destination(
     connection: &[u8],
     media: &[u8],
 ) -> Result<String, DescriptionError> {
-    let description = read_description(alloc, &text_of(alloc, connection, media)?)?;
+    let text = text_of(alloc, connection, media)?;
+    let description = read_description(alloc, &text)?;
     Ok(destination_words(alloc, &description)?)
 }
 
@@ -153,6 +193,7 @@ fn laws(alloc: Global) -> Result<String, DescriptionError> {
     alike_is_equivalence();
     joined_is_direct();
     rows_lead();
+    rows_of_session_stand();
     relayed_is_direct();
     hold_passes();
     plain_call();
@@ -175,6 +216,16 @@ pub(crate) fn answer(
         }
         ("destination", [at, media]) => first_destination(alloc, at, media),
         ("readdress", [text, id, version, ports]) => { sent_text(alloc, text, id, version, ports) }
+        ("hold_checks", [media]) => hold_checks(alloc, media),
+        ("session_lines" | "plan_session", [at, offer, for_answer, for_offer, from, answer]) => {
+            session_of(
+                alloc,
+                call,
+                &[at, offer],
+                &[for_answer, for_offer],
+                &[from, answer],
+            )
+        }
         ("laws", []) => laws(alloc),
         _ => return Ok(None),
     };

@@ -4,7 +4,7 @@ ghost use Rattle.std.specs.Prelude.{◌≢◌, IsTrue, All};
 ghost use Rattle.port_pool.specs.Pool.{AreOwn, StandOnce};
 
 use crate::port_pool_words::{changes_words, hop_words, pairs_words};
-use port_pool::{Hop, Pair, Pool, PoolError, RelayLine};
+use port_pool::{Change, Hop, Pair, Pool, PoolError, RelayLine, RelayTable};
 use rows::{number, number_or_none, said, u16_of};
 use sip_uri::{Addr, ip4};
 use std::alloc::{AllocError, Global};
@@ -40,6 +40,24 @@ fn line_of(word: &[u8]) -> RelayLine {
             from: u16_of(from),
         }),
     }
+}
+
+/// What a line changes: a line with a hop puts it, and one without takes the row of its port out.
+fn change_of(word: &[u8]) -> Change {
+    let RelayLine { port, hop } = line_of(word);
+    match hop {
+        Some(hop) => Change::Put(port, hop),
+        None => Change::Remove(port),
+    }
+}
+
+/// The row that a new table has at a port after these changes.
+fn changed(alloc: Global, port: u16, words: &[&[u8]]) -> Result<String, AllocError> {
+    let mut table = RelayTable::new(alloc)?;
+    for word in words {
+        table.change(&change_of(word));
+    }
+    hop_words(alloc, table.hop(port))
 }
 
 /// The lines of a call's rows.
@@ -88,12 +106,82 @@ fn pool_of(alloc: Global, first: u16, pairs: u16) -> Result<Option<Pool>, AllocE
 }
 
 /// Gives a pair back, where its ports have no row.
-fn release(alloc: Global, pool: &mut Pool, call: u64, even: u16) -> Result<String, PoolError> {
+fn release(
+    alloc: Global,
+    pool: &mut Pool,
+    call: u64,
+    even: u16,
+    now: u64,
+) -> Result<String, PoolError> {
     if even == u16::MAX || pool.hop(even).is_some() || pool.hop(even + 1).is_some() {
         return Ok(said(alloc, "the pair has a row")?);
     }
-    pool.release(call, Pair { even })?;
+    pool.release(call, Pair { even }, now)?;
     Ok(said(alloc, "free")?)
+}
+
+/// Frees a pair that a call holds, where its ports have no row.
+fn free(alloc: Global, pool: &mut Pool, even: u16, now: u64) -> Result<String, AllocError> {
+    if even == u16::MAX || pool.hop(even).is_some() || pool.hop(even + 1).is_some() {
+        return said(alloc, "the pair has a row");
+    }
+    if even % 2 == 1 || pool.holder(even).is_none() {
+        return said(alloc, "nobody's pair");
+    }
+    pool.free(Pair { even }, now);
+    said(alloc, "free")
+}
+
+/// What the rows of a call would change, where the lines are all of its ports, each port once.
+fn plan_commit(
+    alloc: Global,
+    pool: &Pool,
+    call: u64,
+    words: &[&[u8]],
+) -> Result<String, AllocError> {
+    let lines = lines_of(alloc, words)?;
+    if !are_own(pool, call, &lines) || !stand_once(&lines) {
+        return said(alloc, "no lines of the call");
+    }
+    changes_words(alloc, &pool.plan_commit(call, &lines)?)
+}
+
+/// Makes what the rows of a call would change.
+fn put(alloc: Global, pool: &mut Pool, call: u64, words: &[&[u8]]) -> Result<String, AllocError> {
+    let lines = lines_of(alloc, words)?;
+    if !are_own(pool, call, &lines) || !stand_once(&lines) {
+        return said(alloc, "no lines of the call");
+    }
+    let changes = pool.plan_commit(call, &lines)?;
+    pool.put(&changes);
+    said(alloc, "put")
+}
+
+/// Ends a call by its plan.
+fn end_call(alloc: Global, pool: &mut Pool, call: u64, now: u64) -> Result<String, AllocError> {
+    let removals = pool.plan_drop(call)?;
+    pool.end_call(call, &removals, now);
+    said(alloc, "ended")
+}
+
+/// The pairs that a call would get.
+fn plan_reserve(alloc: Global, pool: &Pool, pairs: u64, now: u64) -> Result<String, PoolError> {
+    let pairs = usize::try_from(pairs).unwrap_or(0);
+    Ok(pairs_words(alloc, &pool.plan_reserve(pairs, now)?)?)
+}
+
+/// Gives a call the pairs that it would get.
+fn hold(
+    alloc: Global,
+    pool: &mut Pool,
+    call: u64,
+    pairs: u64,
+    now: u64,
+) -> Result<String, PoolError> {
+    let pairs = usize::try_from(pairs).unwrap_or(0);
+    let planned = pool.plan_reserve(pairs, now)?;
+    pool.hold(call, &planned, now);
+    Ok(said(alloc, "held")?)
 }
 
 /// Puts the rows of a call, where the lines are all of its ports, each port once.
@@ -102,23 +190,57 @@ fn commit(
     pool: &mut Pool,
     call: u64,
     words: &[&[u8]],
+    now: u64,
 ) -> Result<String, AllocError> {
     let lines = lines_of(alloc, words)?;
     if !are_own(pool, call, &lines) || !stand_once(&lines) {
         return said(alloc, "no lines of the call");
     }
-    changes_words(alloc, &pool.commit(call, &lines)?)
+    changes_words(alloc, &pool.commit(call, &lines, now)?)
 }
 
 /// What ends with a call.
-fn without(alloc: Global, pool: &mut Pool, call: u64) -> Result<String, AllocError> {
-    changes_words(alloc, &pool.drop_call(call)?)
+fn without(alloc: Global, pool: &mut Pool, call: u64, now: u64) -> Result<String, AllocError> {
+    changes_words(alloc, &pool.drop_call(call, now)?)
 }
 
 /// The pairs that a call gets.
-fn reserve(alloc: Global, pool: &mut Pool, call: u64, pairs: u64) -> Result<String, PoolError> {
+fn reserve(
+    alloc: Global,
+    pool: &mut Pool,
+    call: u64,
+    pairs: u64,
+    now: u64,
+) -> Result<String, PoolError> {
     let pairs = usize::try_from(pairs).unwrap_or(0);
-    Ok(pairs_words(alloc, &pool.reserve(call, pairs)?)?)
+    Ok(pairs_words(alloc, &pool.reserve(call, pairs, now)?)?)
+}
+
+/// What a plan, or what carries one out, answers, if the call is one of these.
+fn plan_answer(
+    alloc: Global,
+    pool: &mut Pool,
+    call: &str,
+    args: &[&[u8]],
+) -> Result<Option<String>, AllocError> {
+    let answer = match (call, args) {
+        ("plan_reserve", [now, pairs]) => {
+            told(alloc, plan_reserve(alloc, pool, number(pairs), number(now)))
+        }
+        ("hold", [now, owner, pairs]) => {
+            told(
+                alloc,
+                hold(alloc, pool, number(owner), number(pairs), number(now)),
+            )
+        }
+        ("free", [now, even]) => free(alloc, pool, u16_of(even), number(now)),
+        ("plan_commit", [owner, lines @ ..]) => plan_commit(alloc, pool, number(owner), lines),
+        ("put", [owner, lines @ ..]) => put(alloc, pool, number(owner), lines),
+        ("plan_drop", [owner]) => changes_words(alloc, &pool.plan_drop(number(owner))?),
+        ("end_call", [now, owner]) => end_call(alloc, pool, number(owner), number(now)),
+        _ => return Ok(None),
+    };
+    Ok(Some(answer?))
 }
 
 /// What a call of the pool answers, if there is one.
@@ -129,14 +251,22 @@ fn answer_of(
     args: &[&[u8]],
 ) -> Result<Option<String>, AllocError> {
     let answer = match (call, args) {
-        ("reserve", [owner, pairs]) => {
-            told(alloc, reserve(alloc, pool, number(owner), number(pairs)))
+        ("reserve", [now, owner, pairs]) => {
+            told(
+                alloc,
+                reserve(alloc, pool, number(owner), number(pairs), number(now)),
+            )
         }
-        ("release", [owner, even]) => {
-            told(alloc, release(alloc, pool, number(owner), u16_of(even)))
+        ("release", [now, owner, even]) => {
+            told(
+                alloc,
+                release(alloc, pool, number(owner), u16_of(even), number(now)),
+            )
         }
-        ("commit", [owner, lines @ ..]) => commit(alloc, pool, number(owner), lines),
-        ("drop_call", [owner]) => without(alloc, pool, number(owner)),
+        ("commit", [now, owner, lines @ ..]) => {
+            commit(alloc, pool, number(owner), lines, number(now))
+        }
+        ("drop_call", [now, owner]) => without(alloc, pool, number(owner), number(now)),
         ("holder", [port]) => number_or_none(alloc, pool.holder(u16_of(port))),
         ("hop", [port]) => hop_words(alloc, pool.hop(u16_of(port))),
         ("table", [port]) => hop_words(alloc, pool.table().hop(u16_of(port))),
@@ -144,7 +274,7 @@ fn answer_of(
             pool.pairs_never_meet();
             said(alloc, "called")
         }
-        _ => return Ok(None),
+        _ => return plan_answer(alloc, pool, call, args),
     };
     Ok(Some(answer?))
 }
@@ -161,6 +291,9 @@ impl PortPoolRows {
         call: &str,
         args: &[&[u8]],
     ) -> Result<Option<String>, AllocError> {
+        if let ("changed", [port, changes @ ..]) = (call, args) {
+            return Ok(Some(changed(alloc, u16_of(port), changes)?));
+        }
         if let ("new", [first, pairs]) = (call, args) {
             self.pool = pool_of(alloc, u16_of(first), u16_of(pairs))?;
             let made = self.pool.is_some();

@@ -12,7 +12,7 @@ use std::alloc::{AllocError, Global};
 const SERVER: [u8; 4] = [192, 0, 2, 1];
 
 /// Whether no port is 0 for a medium whose port is not 0.
-fn have_ports(ports: &[u16], media: &[Media]) -> bool
+fn have_ports(ports: &[u16], media: &[Media<'_>]) -> bool
     ensures { IsTrue result → IsTrue (has_ports ports.now media.now) }
 {
     let [port, ports @ ..] = ports else {
@@ -38,11 +38,11 @@ fn ports_of(alloc: Global, word: &[u8]) -> Result<Vec<u16>, AllocError> {
 /// What the server sends in place of a description, with a port for each medium.
 fn sent_for(
     alloc: Global,
-    description: &Description,
+    description: &Description<'_>,
     ports: &[u16],
     id: u64,
     version: u64,
-) -> Result<Description, AllocError>
+) -> Result<Description<'static>, AllocError>
     requires one_each { length ports.now ≡ length description.now.media }
     requires not_zero { IsTrue (has_ports ports.now description.now.media) }
 {
@@ -57,7 +57,7 @@ fn sent_on(
     ports: &[u16],
     id: u64,
     version: u64,
-) -> Result<Option<Description>, DescriptionError> {
+) -> Result<Option<Description<'static>>, DescriptionError> {
     let description = read_description(alloc, text)?;
     let media = description.media.as_slice();
     if ports.len() != media.len() || !have_ports(ports, media) {
@@ -66,7 +66,7 @@ fn sent_on(
     Ok(Some(sent_for(alloc, &description, ports, id, version)?))
 }
 
-fn sent_words(alloc: Global, sent: Option<&Description>) -> Result<String, AllocError> {
+fn sent_words(alloc: Global, sent: Option<&Description<'_>>) -> Result<String, AllocError> {
     match sent {
         Some(sent) => description_shown(alloc, sent),
         None => said(alloc, "no port for each medium"),

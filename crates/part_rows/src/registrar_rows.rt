@@ -47,7 +47,7 @@ fn office(alloc: Global, min_expires: u32) -> Result<Option<Registrar>, AllocErr
 }
 
 /// The URI of a word, if it is one.
-fn uri_of(alloc: Global, word: &[u8]) -> Result<Option<Uri>, AllocError> {
+fn uri_of(alloc: Global, word: &[u8]) -> Result<Option<Uri<'_>>, AllocError> {
     match read_uri(alloc, word) {
         Ok(uri) => Ok(Some(uri)),
         Err(UriError::OutOfMemory) => Err(AllocError),
@@ -64,7 +64,7 @@ fn seconds_of(word: &[u8]) -> Option<u32> {
 }
 
 /// The contacts of a row, each a URI and perhaps its own seconds, without a `*` among them.
-fn contacts_of(alloc: Global, words: &[&[u8]]) -> Result<Contacts, AllocError> {
+fn contacts_of<'a>(alloc: Global, words: &[&'a [u8]]) -> Result<Contacts<'a>, AllocError> {
     let mut contacts = Vec::new(alloc);
     for word in words {
         let (uri, expires) = cut_word(word);
@@ -78,14 +78,14 @@ fn contacts_of(alloc: Global, words: &[&[u8]]) -> Result<Contacts, AllocError> {
 }
 
 /// A REGISTER: its user, or `-` for none, its Call-ID, number, and Expires, and its contacts.
-fn register_of(
+fn register_of<'a>(
     alloc: Global,
-    head: &[&[u8]; 4],
-    contacts: &[&[u8]],
-) -> Result<Register, AllocError> {
+    head: &[&'a [u8]; 4],
+    contacts: &[&'a [u8]],
+) -> Result<Register<'a>, AllocError> {
     let user = match head[0] {
         b"-" => None,
-        user => Some(Text::from_slice(alloc, user)?),
+        user => Some(Text::lent(user)),
     };
     let listed = contacts_of(alloc, contacts)?;
     Ok(Register {
@@ -93,7 +93,7 @@ fn register_of(
         star: listed.as_slice().len() < contacts.len(),
         contacts: listed,
         expires: seconds_of(head[3]),
-        call_id: Text::from_slice(alloc, head[1])?,
+        call_id: Text::lent(head[1]),
         cseq: u32_of(head[2]),
     })
 }
@@ -102,7 +102,7 @@ fn register_of(
 fn answer_to(
     alloc: Global,
     registrar: &mut Registrar,
-    register: &Register,
+    register: &Register<'_>,
     now: u64,
 ) -> Result<String, Refusal> {
     if now >= END_OF_TIME {
@@ -131,13 +131,13 @@ fn bindings_then(
     now: u64,
     then: u64,
 ) -> Result<String, AllocError> {
-    let user = Text::from_slice(alloc, user)?;
+    let user = Text::lent(user);
     bindings_words(alloc, &registrar.bindings(&user, now)?, then)
 }
 
 /// Whether there is such a user.
 fn knows(alloc: Global, registrar: &Registrar, user: &[u8]) -> Result<String, AllocError> {
-    let user = Text::from_slice(alloc, user)?;
+    let user = Text::lent(user);
     yes_or_no(alloc, registrar.knows(&user))
 }
 
@@ -148,7 +148,7 @@ fn target_words(
     user: &[u8],
     now: u64,
 ) -> Result<String, AllocError> {
-    let user = Text::from_slice(alloc, user)?;
+    let user = Text::lent(user);
     match registrar.target(&user, now) {
         Some(uri) => shown(alloc, write_uri(alloc, uri)?.as_bytes()),
         None => said(alloc, "none"),

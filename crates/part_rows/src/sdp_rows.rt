@@ -25,7 +25,7 @@ pub(crate) fn told(
     }
 }
 
-fn session_words(alloc: Global, description: &Description) -> Result<String, AllocError> {
+fn session_words(alloc: Global, description: &Description<'_>) -> Result<String, AllocError> {
     let origin = origin_words(alloc, description)?;
     let before = lines_words(alloc, "before", description.before.as_slice())?;
     let address = connection_words(alloc, &description.connection)?;
@@ -49,7 +49,7 @@ enum Asked {
 
 fn words_at(
     alloc: Global,
-    description: &Description,
+    description: &Description<'_>,
     at: usize,
     asked: Asked,
 ) -> Result<String, AllocError> {
@@ -69,7 +69,7 @@ fn medium(alloc: Global, text: &[u8], at: &[u8], asked: Asked) -> Result<String,
 /// A description as it is written.
 pub(crate) fn description_shown(
     alloc: Global,
-    description: &Description,
+    description: &Description<'_>,
 ) -> Result<String, AllocError> {
     let text = write_description(alloc, description)?;
     shown(alloc, text.as_bytes())
@@ -80,6 +80,12 @@ fn back(alloc: Global, text: &[u8]) -> Result<String, DescriptionError> {
     let mut description = read_description(alloc, text)?;
     description.media = MediaList::from_vec(description.media.into_vec());
     description.before = Lines::from_vec(description.before.into_vec());
+    Ok(description_shown(alloc, &description)?)
+}
+
+/// A description as it is kept, written.
+fn kept(alloc: Global, text: &[u8]) -> Result<String, DescriptionError> {
+    let description = read_description(alloc, text)?.keep(alloc)?;
     Ok(description_shown(alloc, &description)?)
 }
 
@@ -106,7 +112,8 @@ fn origin(alloc: Global, value: &[u8]) -> Result<String, DescriptionError> {
 /// The address of a description that has this `c=` line.
 fn connection(alloc: Global, value: &[u8]) -> Result<String, DescriptionError> {
     let front = between(alloc, FRONT, b"c=", value)?;
-    let description = read_description(alloc, &between(alloc, &front, b"\nt=0 0\n", b"")?)?;
+    let text = between(alloc, &front, b"\nt=0 0\n", b"")?;
+    let description = read_description(alloc, &text)?;
     Ok(connection_words(alloc, &description.connection)?)
 }
 
@@ -125,6 +132,7 @@ pub(crate) fn answer(
     let outcome = match (call, args) {
         ("read_description", [text]) => session(alloc, text),
         ("write_description", [text]) => back(alloc, text),
+        ("keep_description", [text]) => kept(alloc, text),
         ("lines", [lines]) => behind_front(alloc, lines),
         ("origin", [value]) => origin(alloc, value),
         ("connection", [value]) => connection(alloc, value),

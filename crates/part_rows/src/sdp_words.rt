@@ -5,7 +5,7 @@ use sdp::{Address, Description, Line, Media, Way, place_of, way_of};
 use std::alloc::{AllocError, Global};
 
 /// An address and its kind.
-fn address_words(alloc: Global, address: &Address) -> Result<String, AllocError> {
+fn address_words(alloc: Global, address: &Address<'_>) -> Result<String, AllocError> {
     match address {
         Address::Ip4(octets) => format!(in alloc; "ip4 {}", ip4_words(alloc, octets)?),
         Address::Multicast(text) => {
@@ -19,7 +19,7 @@ fn address_words(alloc: Global, address: &Address) -> Result<String, AllocError>
 /// The address of a `c=` line, if there is one.
 pub(crate) fn connection_words(
     alloc: Global,
-    address: &Option<Address>,
+    address: &Option<Address<'_>>,
 ) -> Result<String, AllocError> {
     match address {
         Some(address) => address_words(alloc, address),
@@ -28,7 +28,11 @@ pub(crate) fn connection_words(
 }
 
 /// A name, and each line behind it in brackets.
-pub(crate) fn lines_words(alloc: Global, name: &str, lines: &[Line]) -> Result<String, AllocError> {
+pub(crate) fn lines_words(
+    alloc: Global,
+    name: &str,
+    lines: &[Line<'_>],
+) -> Result<String, AllocError> {
     let mut out = said(alloc, name)?;
     for line in lines {
         let mut text = vec![in alloc; line.letter, b'=']?;
@@ -40,7 +44,10 @@ pub(crate) fn lines_words(alloc: Global, name: &str, lines: &[Line]) -> Result<S
 }
 
 /// The fields of the `o=` line.
-pub(crate) fn origin_words(alloc: Global, description: &Description) -> Result<String, AllocError> {
+pub(crate) fn origin_words(
+    alloc: Global,
+    description: &Description<'_>,
+) -> Result<String, AllocError> {
     let origin = &description.origin;
     let fields = [
         origin.username.as_bytes(),
@@ -54,7 +61,7 @@ pub(crate) fn origin_words(alloc: Global, description: &Description) -> Result<S
 }
 
 /// The formats of a medium in brackets.
-fn formats_words(alloc: Global, medium: &Media) -> Result<String, AllocError> {
+fn formats_words(alloc: Global, medium: &Media<'_>) -> Result<String, AllocError> {
     let mut formats: Vec<&[u8]> = Vec::new(alloc);
     for format in medium.formats.as_slice() {
         formats.push(format.as_bytes())?;
@@ -63,7 +70,7 @@ fn formats_words(alloc: Global, medium: &Media) -> Result<String, AllocError> {
 }
 
 /// The `i=` line of a medium, if it has one.
-fn info_words(alloc: Global, medium: &Media) -> Result<String, AllocError> {
+fn info_words(alloc: Global, medium: &Media<'_>) -> Result<String, AllocError> {
     match &medium.info {
         Some(info) => boxes(alloc, &[info.as_bytes()]),
         None => said(alloc, "none"),
@@ -71,7 +78,7 @@ fn info_words(alloc: Global, medium: &Media) -> Result<String, AllocError> {
 }
 
 /// A medium and what stands under it.
-pub(crate) fn medium_words(alloc: Global, medium: &Media) -> Result<String, AllocError> {
+pub(crate) fn medium_words(alloc: Global, medium: &Media<'_>) -> Result<String, AllocError> {
     let kind = shown(alloc, medium.kind.as_bytes())?;
     let port = medium.port;
     let count = match medium.count {
@@ -102,8 +109,8 @@ fn way_words(alloc: Global, way: Way) -> Result<String, AllocError> {
 /// Where a medium is wanted and which way it goes.
 pub(crate) fn direction_words(
     alloc: Global,
-    description: &Description,
-    medium: &Media,
+    description: &Description<'_>,
+    medium: &Media<'_>,
 ) -> Result<String, AllocError> {
     let place = match place_of(description, medium) {
         Some(place) => {

@@ -19,7 +19,7 @@ fn told(alloc: Global, outcome: Result<String, UriError>) -> Result<String, Allo
     }
 }
 
-fn uri_words(alloc: Global, uri: &Uri) -> Result<String, AllocError> {
+fn uri_words(alloc: Global, uri: &Uri<'_>) -> Result<String, AllocError> {
     let user = text_words(alloc, "user", uri.user.as_ref())?;
     let host = host_words(alloc, &uri.host)?;
     let port = match uri.port {
@@ -37,7 +37,13 @@ fn uri_parts(alloc: Global, text: &[u8]) -> Result<String, UriError> {
     Ok(uri_words(alloc, &uri)?)
 }
 
-fn uri_shown(alloc: Global, uri: &Uri) -> Result<String, AllocError> {
+/// The parts of a URI as it is kept.
+fn kept_uri(alloc: Global, text: &[u8]) -> Result<String, UriError> {
+    let uri = read_uri(alloc, text)?.keep(alloc)?;
+    Ok(uri_words(alloc, &uri)?)
+}
+
+fn uri_shown(alloc: Global, uri: &Uri<'_>) -> Result<String, AllocError> {
     let text = write_uri(alloc, uri)?;
     shown(alloc, text.as_bytes())
 }
@@ -48,7 +54,7 @@ fn uri_back(alloc: Global, text: &[u8]) -> Result<String, UriError> {
     Ok(uri_shown(alloc, &uri)?)
 }
 
-fn name_words(alloc: Global, name: &NameAddr) -> Result<String, AllocError> {
+fn name_words(alloc: Global, name: &NameAddr<'_>) -> Result<String, AllocError> {
     let display = text_words(alloc, "display", name.display.as_ref())?;
     let uri = write_uri(alloc, &name.uri)?;
     let uri = boxes(alloc, &[uri.as_bytes()])?;
@@ -62,7 +68,13 @@ fn name_parts(alloc: Global, text: &[u8]) -> Result<String, UriError> {
     Ok(name_words(alloc, &name)?)
 }
 
-fn name_shown(alloc: Global, name: &NameAddr) -> Result<String, AllocError> {
+/// The parts of a name and an address as they are kept.
+fn kept_name(alloc: Global, text: &[u8]) -> Result<String, UriError> {
+    let name = read_name_addr(alloc, text)?.keep(alloc)?;
+    Ok(name_words(alloc, &name)?)
+}
+
+fn name_shown(alloc: Global, name: &NameAddr<'_>) -> Result<String, AllocError> {
     let text = write_name_addr(alloc, name)?;
     shown(alloc, text.as_bytes())
 }
@@ -81,23 +93,23 @@ fn are_one_binding(alloc: Global, a: &[u8], b: &[u8]) -> Result<String, UriError
 
 /// Whether two hosts are one.
 fn are_one_host(alloc: Global, a: &[u8], b: &[u8]) -> Result<String, AllocError> {
-    match (read_host(alloc, a)?, read_host(alloc, b)?) {
+    match (read_host(a), read_host(b)) {
         (Some(a), Some(b)) => yes_or_no(alloc, same_host(&a, &b)),
         _ => said(alloc, "no host"),
     }
 }
 
 /// The text of a word; none for `-`.
-fn text_or_none(alloc: Global, word: &[u8]) -> Result<Option<Text>, AllocError> {
+fn text_or_none(word: &[u8]) -> Option<Text<'_>> {
     match word {
-        b"-" => Ok(None),
-        _ => Ok(Some(Text::from_slice(alloc, word)?)),
+        b"-" => None,
+        _ => Some(Text::lent(word)),
     }
 }
 
 /// Whether two texts are one, or neither is there.
 fn are_one_text(alloc: Global, a: &[u8], b: &[u8]) -> Result<String, AllocError> {
-    let (a, b) = (text_or_none(alloc, a)?, text_or_none(alloc, b)?);
+    let (a, b) = (text_or_none(a), text_or_none(b));
     yes_or_no(alloc, same_text(a.as_ref(), b.as_ref()))
 }
 
@@ -139,7 +151,7 @@ fn named(alloc: Global, text: &[u8], name: &[u8]) -> Result<String, AllocError> 
 
 /// A host of a URI or of a Via.
 fn host(alloc: Global, text: &[u8]) -> Result<String, AllocError> {
-    match read_host(alloc, text)? {
+    match read_host(text) {
         Some(host) => host_words(alloc, &host),
         None => said(alloc, "none"),
     }
@@ -169,6 +181,8 @@ pub(crate) fn answer(
     let answer = match (call, args) {
         ("read_uri", [text]) => told(alloc, uri_parts(alloc, text)),
         ("write_uri", [text]) => told(alloc, uri_back(alloc, text)),
+        ("keep_uri", [text]) => told(alloc, kept_uri(alloc, text)),
+        ("keep_name_addr", [text]) => told(alloc, kept_name(alloc, text)),
         ("read_name_addr", [text]) => told(alloc, name_parts(alloc, text)),
         ("write_name_addr", [text]) => told(alloc, name_back(alloc, text)),
         ("same_binding", [a, b]) => told(alloc, are_one_binding(alloc, a, b)),

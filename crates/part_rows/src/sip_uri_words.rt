@@ -9,7 +9,7 @@ use text::Text;
 pub(crate) fn params_words(
     alloc: Global,
     name: &str,
-    params: &[Param],
+    params: &[Param<'_>],
 ) -> Result<String, AllocError> {
     let mut out = said(alloc, name)?;
     for param in params {
@@ -25,7 +25,7 @@ pub(crate) fn params_words(
 pub(crate) fn text_words(
     alloc: Global,
     name: &str,
-    text: Option<&Text>,
+    text: Option<&Text<'_>>,
 ) -> Result<String, AllocError> {
     match text {
         Some(text) => format!(in alloc; "{name} {}", boxes(alloc, &[text.as_bytes()])?),
@@ -34,7 +34,7 @@ pub(crate) fn text_words(
 }
 
 /// A host and its kind.
-pub(crate) fn host_words(alloc: Global, host: &Host) -> Result<String, AllocError> {
+pub(crate) fn host_words(alloc: Global, host: &Host<'_>) -> Result<String, AllocError> {
     let kind = match host {
         Host::Ip4(_) => "ip4",
         Host::Name(_) => "name",

@@ -4,7 +4,7 @@ use rows::{boxes, byte_of, number, number_or_none, said, shown, yes_or_no};
 use std::alloc::{AllocError, Global};
 use text::{
     Text, Texts, Within, cut, cut_piece, cut_word, is_blank, is_run_of_digits, is_run_of_token,
-    is_token_byte, number_upto, pieces, put_number, put_pieces, same_without_case, trimmed,
+    is_token_byte, lent, number_upto, pieces, put_number, put_pieces, same_without_case, trimmed,
     without_blanks,
 };
 
@@ -97,11 +97,38 @@ fn with_number(alloc: Global, front: &[u8], number: u64) -> Result<String, Alloc
     boxes(alloc, &[&out])
 }
 
-/// Whether two texts are one byte by byte, each copied and taken apart before.
+/// Whether two texts are one byte by byte: one of its own and one that is lent.
 fn are_same(alloc: Global, a: &[u8], b: &[u8]) -> Result<String, AllocError> {
-    let a = Text::from_slice(alloc, a)?.clone()?;
-    let b = Text::from_vec(Text::from_slice(alloc, b)?.into_vec());
-    yes_or_no(alloc, a == b)
+    let a = Text::from_vec(Vec::from_slice(alloc, a)?);
+    yes_or_no(alloc, a == Text::lent(b))
+}
+
+/// A text and what it borrows: the bytes where they stand, or nothing.
+fn place_words(alloc: Global, text: &Text<'_>) -> Result<String, AllocError> {
+    let said = boxes(alloc, &[text.as_bytes()])?;
+    match text.in_place() {
+        Some(bytes) => format!(in alloc; "{said} at {}", boxes(alloc, &[bytes])?),
+        None => format!(in alloc; "{said} of its own"),
+    }
+}
+
+/// A text of a word, none for `-`, that is lent.
+fn lent_words(alloc: Global, word: &[u8]) -> Result<String, AllocError> {
+    let bytes = if word == b"-".as_slice() {
+        None
+    } else {
+        Some(word)
+    };
+    match lent(bytes) {
+        Some(text) => place_words(alloc, &text),
+        None => said(alloc, "none"),
+    }
+}
+
+/// A text that was lent, as it is kept.
+fn kept_words(alloc: Global, word: &[u8]) -> Result<String, AllocError> {
+    let kept = Text::lent(word).keep(alloc)?;
+    place_words(alloc, &kept)
 }
 
 /// Texts, made a list, taken apart and made a list again.
@@ -143,6 +170,8 @@ pub(crate) fn answer(
         ("put_number", [front, word]) => with_number(alloc, front, number(word)),
         ("same_without_case", [a, b]) => yes_or_no(alloc, same_without_case(a, b)),
         ("same", [a, b]) => are_same(alloc, a, b),
+        ("lent", [word]) => lent_words(alloc, word),
+        ("keep", [word]) => kept_words(alloc, word),
         ("texts", words) => listed(alloc, words),
         _ => return Ok(None),
     };

@@ -90,7 +90,7 @@ impl Notation {
         Ok(line.is_empty() || line.starts_with('#'))
     }
 
-    fn text_of(&self, alloc: Global, word: &str) -> Result<Text, AllocError> {
+    fn text_of(&self, alloc: Global, word: &str) -> Result<Text<'static>, AllocError> {
         if let Some(name) = word.strip_prefix('$') {
             let found = self
                 .texts
@@ -106,7 +106,7 @@ impl Notation {
     }
 
     /// The texts that the words of a row stand for.
-    pub fn texts_of(&self, alloc: Global, words: &[&str]) -> Result<Texts, AllocError> {
+    pub fn texts_of(&self, alloc: Global, words: &[&str]) -> Result<Texts<'static>, AllocError> {
         let mut texts = Vec::new(alloc);
         for word in words {
             texts.push(self.text_of(alloc, word)?)?;
