@@ -2,19 +2,21 @@
 //! say what one round takes, whatever else the machine does.
 //!
 //! Words: a task and a number of rounds; with no words each task is done once. A task is the name of a file without `.bin`,
-//! which is read; behind it `+description`, where the description in its body is read too, or `+written`, where what was
-//! read is written again. Prints how often the task was done.
+//! which is read, or `plain_call`, the seven messages that the server writes in a plain call; behind it `+description`, where
+//! the description in its body is read too, or `+written`, where what was read is written again. Prints how often the task
+//! was done.
 #![tactic(auto)]
 
 use sdp::{read_description, write_description};
-use sip_message::{Message, MessageError, read_message, write_message};
+use sip_message::{Message, read_message};
+use sip_writing::write_message;
 use std::alloc::Global;
 use std::fs::Files;
 use std::hint::black_box;
 use std::{env, fs, io};
 
 /// Every task.
-const TASKS: [&str; 10] = [
+const TASKS: [&str; 12] = [
     "invite",
     "invite+description",
     "invite+written",
@@ -25,6 +27,19 @@ const TASKS: [&str; 10] = [
     "response+written",
     "description",
     "description+written",
+    "plain_call",
+    "plain_call+written",
+];
+
+/// The messages that the server writes in a plain call, in the order of sending.
+const PLAIN_CALL: [&str; 7] = [
+    "call_trying",
+    "call_invite",
+    "call_ringing",
+    "call_ack",
+    "call_answered",
+    "call_ended",
+    "call_bye",
 ];
 
 /// What becomes of what was read.
@@ -58,17 +73,15 @@ fn is_more_done(alloc: Global, message: &Message<'_>, more: More) -> bool {
     }
 }
 
-/// The message of these bytes, in a list of one, which is dropped as a whole.
-fn messages_of(alloc: Global, bytes: &[u8]) -> Result<Vec<Message<'_>>, MessageError> {
-    Ok(vec![in alloc; read_message(alloc, bytes)?]?)
+/// What there is to do with a message done; it is dropped behind it.
+fn is_whole_done(alloc: Global, message: Message<'_>, more: More) -> bool {
+    is_more_done(alloc, &message, more)
 }
 
 /// Whether a message is read, and what there is to do with it done.
 fn is_message_done(alloc: Global, bytes: &[u8], more: More) -> bool {
-    match messages_of(alloc, bytes) {
-        Ok(messages) => messages
-            .iter()
-            .all(|message| is_more_done(alloc, message, more)),
+    match read_message(alloc, bytes) {
+        Ok(message) => is_whole_done(alloc, message, more),
         Err(_) => false,
     }
 }
@@ -89,7 +102,7 @@ fn is_done(alloc: Global, name: &str, more: More, bytes: &[u8]) -> bool {
     }
 }
 
-/// The file of a task, and what becomes of what was read.
+/// The name of a task, and what becomes of what was read.
 fn parts_of(task: &str) -> (&str, More) {
     match task.split_once('+') {
         Some((name, "description")) => (name, More::Description),
@@ -98,22 +111,46 @@ fn parts_of(task: &str) -> (&str, More) {
     }
 }
 
+/// Whether a round of the task is done with each of these texts.
+fn are_done(alloc: Global, name: &str, more: More, texts: &[Vec<u8>]) -> bool {
+    texts
+        .iter()
+        .all(|bytes| is_done(alloc, name, more, black_box(bytes)))
+}
+
 /// Does a task so many rounds; how often it was done.
-fn times_done(alloc: Global, task: &str, bytes: &[u8], rounds: u32) -> u32 {
+fn times_done(alloc: Global, task: &str, texts: &[Vec<u8>], rounds: u32) -> u32 {
     let (name, more) = parts_of(task);
     let mut times = 0u32;
     for _ in 0..rounds {
-        if is_done(alloc, name, more, black_box(bytes)) {
+        if are_done(alloc, name, more, texts) {
             times = times.saturating_add(1);
         }
     }
     times
 }
 
+fn read_file<R: Files + AllocGlobal>(rt: &R, name: &str) -> io::Result<Vec<u8>> {
+    fs::read(rt, format!(in rt.alloc(); "{name}.bin")?.as_str())
+}
+
+/// The files of a task.
+fn read_files<R: Files + AllocGlobal>(rt: &R, name: &str) -> io::Result<Vec<Vec<u8>>> {
+    let mut texts = Vec::new(rt.alloc());
+    if name != "plain_call" {
+        texts.push(read_file(rt, name)?)?;
+        return Ok(texts);
+    }
+    for file in PLAIN_CALL {
+        texts.push(read_file(rt, file)?)?;
+    }
+    Ok(texts)
+}
+
 fn perform<R: Files + Print + AllocGlobal>(rt: &R, task: &str, rounds: u32) -> io::Result<()> {
     let (name, _) = parts_of(task);
-    let bytes = fs::read(rt, format!(in rt.alloc(); "{name}.bin")?.as_str())?;
-    let times = times_done(rt.alloc(), task, &bytes, rounds);
+    let texts = read_files(rt, name)?;
+    let times = times_done(rt.alloc(), task, &texts, rounds);
     println!(rt; "{task}: {times} of {rounds}")
 }
 

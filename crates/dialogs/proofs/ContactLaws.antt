@@ -10,10 +10,12 @@ use Rattle.sip_message.specs.declared.headers.Header.{Header}
 use Rattle.sip_message.specs.declared.message.Message.TheVariants as Kinds
 use Rattle.sip_message.specs.declared.message.Request.{Request}
 use Rattle.sip_message.specs.declared.message.Response.{Response}
+use Rattle.sip_message.specs.declared.needs.ContactNeed.{ContactNeed}
+use Rattle.sip_message.specs.declared.needs.ContactNeed.TheVariants.{One, AtMostOne, Unlooked}
 use Rattle.sip_message.specs.Contacts.{contact_of, contacts_of}
 use Rattle.sip_message.specs.Grammar.{SaysContact, ReadsMessage}
 use Rattle.sip_message.specs.Lookup.{is_named, values_named}
-use Rattle.sip_message.specs.Needs.{is_one_address, is_success}
+use Rattle.sip_message.specs.Needs.{need_by_method, is_one_address, is_success}
 use Rattle.sip_message.specs.Values.{without_length}
 use Rattle.dialogs.specs.Making.{is_invite}
 
@@ -33,15 +35,16 @@ values_kept (x ∷ hs) = step (is_named (codes "Contact") x) (not (is_named (cod
 contacts_kept : (hs : List Header) → contacts_of (without_length hs) ≡ contacts_of hs
 contacts_kept hs = ap (λ (vs : List (List ℕ)). map contact_of (flat_map (λ v. pieces 44 Nothing v) vs)) (values_kept hs)
 
-said : (needed : Bool) (fields headers : List Header) → headers ≡ without_length fields → needed ≡ true → SaysContact needed (contacts_of fields) → is_one_address (contacts_of headers) ≡ true
-said true fields headers kept e says = rw kept (rw (contacts_kept fields) says)
-said false fields headers kept e says = absurd cc
+said : (need : ContactNeed) (fields headers : List Header) → headers ≡ without_length fields → need ≡ One → SaysContact need (contacts_of fields) → is_one_address (contacts_of headers) ≡ true
+said One fields headers kept e says = rw kept (rw (contacts_kept fields) says)
+said AtMostOne fields headers kept e says = absurd cc
+said Unlooked fields headers kept e says = absurd cc
 
 pub invite_names_contact : (text : List ℕ) (invite : Request) → ReadsMessage text (Kinds.Request invite) → IsTrue (is_invite invite.parts) → IsTrue (is_one_address (contacts_of invite.headers))
 invite_names_contact text invite reads is =
-    said (pointwise nat_eq invite.parts.cseq.method (codes "INVITE") && true) reads.fields invite.headers reads.headers (rw is refl) reads.says.says_contact
+    said (need_by_method invite.parts.cseq.method) reads.fields invite.headers reads.headers (rw is refl) reads.says.says_contact
 
 pub answer_names_contact : (text : List ℕ) (answer : Response) → ReadsMessage text (Kinds.Response answer) → IsTrue (is_invite answer.parts) → IsTrue (is_success answer.status)
     → IsTrue (is_one_address (contacts_of answer.headers))
 answer_names_contact text answer reads is success =
-    said (pointwise nat_eq answer.parts.cseq.method (codes "INVITE") && is_success answer.status) reads.fields answer.headers reads.headers (rw (is, success) refl) reads.says.says_contact
+    said (cond (is_success answer.status) (need_by_method answer.parts.cseq.method) Unlooked) reads.fields answer.headers reads.headers (rw (is, success) refl) reads.says.says_contact

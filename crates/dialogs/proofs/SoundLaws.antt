@@ -1,6 +1,7 @@
 -- Dialogs of messages that were read are sound.
-use Rattle.std.proofs.Common.{◌≡◌, ℕ, Bool, true, false, cond, List, [], ◌∷◌, map, codes, Option, Some, None, Result, Ok, Err, refl, subst}
-use Rattle.std.specs.Prelude.{filter, IsTrue}
+use Rattle.std.proofs.Common.{◌≡◌, ◌==◌, ℕ, Bool, true, false, cond, List, [], ◌∷◌, length, map, codes, Option, Some, None, Result, Ok, Err, refl, subst}
+use Rattle.std.specs.Prelude.{filter, IsTrue, if◌then◌else◌}
+use Rattle.sip_uri.specs.declared.uri.Param.{Param}
 use Rattle.std.specs.List.{list_all}
 use Rattle.std.proofs.lemmas.Bool.{and_parts}
 use Rattle.text.specs.Class.{is_run_of, is_token_byte}
@@ -23,14 +24,14 @@ use Rattle.sip_message.specs.Lookup.{named, is_named, values_named}
 use Rattle.sip_message.specs.LongNames.{long_name}
 use Rattle.sip_message.specs.Party.{has_fit_tag, party_from, party_of}
 use Rattle.sip_message.specs.Repeatable.{IsValue}
-use Rattle.sip_message.specs.WritingHead.{is_written}
-use Rattle.sip_message.proofs.AnswerTrip.{written_with}
-use Rattle.sip_message.proofs.HeadRoundTrip.{written_is}
+use Rattle.sip_message.specs.Written.{is_written}
+use Rattle.sip_writing.proofs.AnswerTrip.{written_with}
+use Rattle.sip_message.proofs.WrittenLaws.{written_is}
 use Rattle.sip_message.proofs.ReadWritten.{read_is_written}
 use Rattle.dialogs.specs.declared.state.Dialog.{Dialog}
-use Rattle.dialogs.specs.Identifiers.{tag_text}
-use Rattle.dialogs.specs.Making.{reached_at, party_named, callees_dialog, callers_dialog}
-use Rattle.dialogs.specs.Written.{IsReadParty, IsSound}
+use Rattle.sip_message.specs.Words.{tag_text}
+use Rattle.dialogs.specs.Making.{own_tag, reached_at, party_named, callees_dialog, callers_dialog}
+use Rattle.dialogs.specs.Sound.{IsReadUri, IsReadParty, IsSound}
 use Rattle.dialogs.proofs.TagLaws.{tag_token, tag_run}
 
 -- ---- values of header fields
@@ -103,15 +104,7 @@ response_ends text r reads =
     let written = read_is_written reads.opens.rest reads.fields reads.raw reads.opens.head in
     ends_said reads.fields r.parts written says.one_from says.from says.one_to says.to says.one_call_id
 
-pub call_id_written : (text : List ℕ) → IsValue text → is_written (named (codes "Call-ID") text) ≡ true
-unfolding long_name
-call_id_written text h = written_with (codes "Call-ID") text refl refl h
-
 -- ---- Contact
-
-pub record IsReadUri (uri : Uri) : Type 0 where
-  pub text : List ℕ
-  pub reads : ReadsUri text uri
 
 contact_read : (text : List ℕ) (uri : Uri) → reached_at (contact_of text ∷ []) ≡ Some uri → IsReadUri uri
 unfolding contact_of
@@ -132,12 +125,20 @@ only_one (Address n) b more = refl
 some_uri : (o : Option Uri) (uri : Uri) → o ≡ None → o ≡ Some uri → ⊥
 some_uri o uri h k = cc
 
-target_of : (texts : List (List ℕ)) (uri : Uri) → reached_at (map contact_of texts) ≡ Some uri → IsReadUri uri
+pub target_of : (texts : List (List ℕ)) (uri : Uri) → reached_at (map contact_of texts) ≡ Some uri → IsReadUri uri
 target_of [] uri h = absurd cc
 target_of (t ∷ []) uri h = contact_read t uri h
 target_of (t ∷ u ∷ more) uri h = absurd (some_uri (reached_at (map contact_of (t ∷ u ∷ more))) uri (only_one (contact_of t) (contact_of u) (map contact_of more)) h)
 
 -- ---- dialogs
+
+-- the tag of the server's answers is a token
+own_is : (params : List Param) (tag : List ℕ) → list_all is_token_byte (tag_text params) ≡ true → is_run_of is_token_byte tag ≡ true
+    → is_run_of is_token_byte (if length (tag_text params) == 0 then tag else tag_text params) ≡ true
+own_is params tag fits token = step (length (tag_text params) == 0) refl where
+  step : (b : Bool) → (length (tag_text params) == 0) ≡ b → is_run_of is_token_byte (cond b tag (tag_text params)) ≡ true
+  step true e = token
+  step false e = rw e fits
 
 pub callees_is_sound : (text : List ℕ) (invite : Request) (tag : List ℕ) (target : Uri) → ReadsMessage text (Kinds.Request invite) → IsTrue (is_run_of is_token_byte tag)
     → reached_at (contacts_of invite.headers) ≡ Some target → IsSound (callees_dialog invite tag target)
@@ -147,17 +148,16 @@ callees_is_sound text invite tag target reads token reached =
     let uri = target_of (contact_texts invite.headers) target reached in
     record {
       call_id = says.call_id;
-      call_id_written = call_id_written invite.parts.call_id ends.call_id;
-      our_tag = token;
+      call_id_value = ends.call_id;
+      our_tag = own_is invite.parts.to.params tag ends.to_tag token;
       their_tag = ends.from_tag;
       ours = ends.to;
       theirs = ends.from;
-      target_text = uri.text;
-      target = uri.reads;
+      target = uri;
     }
 
 pub callers_is_sound : (text answer_text : List ℕ) (invite : Request) (answer : Response) (target : Uri) → ReadsMessage text (Kinds.Request invite) → ReadsMessage answer_text (Kinds.Response answer)
-    → reached_at (contacts_of answer.headers) ≡ Some target → IsSound (callers_dialog invite answer target)
+    → reached_at (contacts_of answer.headers) ≡ Some target → IsSound (callers_dialog invite.parts answer target)
 callers_is_sound text answer_text invite answer target reads answered reached =
     let says = reads.says.says_parts in
     let ends = request_ends text invite reads in
@@ -165,37 +165,34 @@ callers_is_sound text answer_text invite answer target reads answered reached =
     let uri = target_of (contact_texts answer.headers) target reached in
     record {
       call_id = says.call_id;
-      call_id_written = call_id_written invite.parts.call_id ends.call_id;
+      call_id_value = ends.call_id;
       our_tag = tag_run invite.parts.from.params (party_is invite.parts.from_text invite.parts.from says.from).fits says.from_tag;
       their_tag = answer_ends.to_tag;
       ours = ends.from;
       theirs = ends.to;
-      target_text = uri.text;
-      target = uri.reads;
+      target = uri;
     }
 
 -- numbers are no part of it
 pub counted_is_sound : (d : Dialog) (local_number remote_number : Option ℕ) → IsSound d → IsSound (record d { local_number = local_number; remote_number = remote_number })
 counted_is_sound d local_number remote_number h = record {
   call_id = h.call_id;
-  call_id_written = h.call_id_written;
+  call_id_value = h.call_id_value;
   our_tag = h.our_tag;
   their_tag = h.their_tag;
   ours = h.ours;
   theirs = h.theirs;
-  target_text = h.target_text;
   target = h.target;
 }
 
 -- another target that was read
-pub refreshed_is_sound : (d : Dialog) (text : List ℕ) (target : Uri) → IsSound d → ReadsUri text target → IsSound (record d { target = target })
-refreshed_is_sound d text target h reads = record {
+pub refreshed_is_sound : (d : Dialog) (target : Uri) → IsSound d → IsReadUri target → IsSound (record d { target = target })
+refreshed_is_sound d target h reads = record {
   call_id = h.call_id;
-  call_id_written = h.call_id_written;
+  call_id_value = h.call_id_value;
   our_tag = h.our_tag;
   their_tag = h.their_tag;
   ours = h.ours;
   theirs = h.theirs;
-  target_text = text;
   target = reads;
 }

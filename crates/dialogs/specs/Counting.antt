@@ -4,7 +4,7 @@ use Rattle.sip_message.specs.CSeq.{greatest_number}
 use Rattle.dialogs.specs.declared.error.DialogError.{DialogError}
 use Rattle.dialogs.specs.declared.error.DialogError.TheVariants.{OutOfMemory, OldNumber, NoNumberLeft}
 use Rattle.dialogs.specs.declared.method.Method.{Method}
-use Rattle.dialogs.specs.declared.method.Method.TheVariants.{Invite, Ack, Bye}
+use Rattle.dialogs.specs.declared.method.Method.TheVariants.{Invite, Update, Bye}
 use Rattle.dialogs.specs.declared.state.Dialog.{Dialog}
 
 -- ---- requests that were taken
@@ -33,7 +33,7 @@ RefusesRequest d number NoNumberLeft = ⊥
 
 abbrev pub method_text : Method → List ℕ
 method_text Invite = codes "INVITE"
-method_text Ack = codes "ACK"
+method_text Update = codes "UPDATE"
 method_text Bye = codes "BYE"
 
 -- the number of the last request, and 0 before the first
@@ -47,7 +47,7 @@ following d = last_number d + 1
 -- the greatest number of all (section 8.1.1.5) is left for a BYE, so that a dialog can always be ended
 abbrev pub greatest_for : Method → ℕ
 greatest_for Invite = greatest_number - 1
-greatest_for Ack = greatest_number - 1
+greatest_for Update = greatest_number - 1
 greatest_for Bye = greatest_number
 
 -- why there is no number for a new request

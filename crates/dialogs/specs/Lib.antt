@@ -1,5 +1,5 @@
 pub mod Identifiers
 pub mod Counting
 pub mod Making
+pub mod Sound
 pub mod Requests
-pub mod Written

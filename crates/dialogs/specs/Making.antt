@@ -1,5 +1,5 @@
 -- Dialogs that begin (RFC 3261 section 12.1).
-use Rattle.std.specs.Prelude.{ℕ, Bool, nat_eq, List, [], ◌∷◌, codes, Option, Some, None}
+use Rattle.std.specs.Prelude.{ℕ, ◌==◌, Bool, nat_eq, List, [], ◌∷◌, codes, length, Option, Some, None, if◌then◌else◌}
 use Rattle.std.specs.Cmp.Lexicographic.{pointwise}
 use Rattle.sip_uri.specs.declared.uri.NameAddr.{NameAddr}
 use Rattle.sip_uri.specs.declared.uri.Uri.{Uri}
@@ -10,7 +10,7 @@ use Rattle.sip_message.specs.declared.message.Request.{Request}
 use Rattle.sip_message.specs.declared.message.Response.{Response}
 use Rattle.dialogs.specs.declared.state.Dialog.{Dialog}
 use Rattle.dialogs.specs.declared.state.Party.{Party}
-use Rattle.dialogs.specs.Identifiers.{tag_text}
+use Rattle.sip_message.specs.Words.{tag_text}
 
 -- an INVITE, or an answer to one
 abbrev pub is_invite : Parts → Bool
@@ -28,10 +28,14 @@ reached_at (Address name ∷ other ∷ more) = None
 abbrev pub party_named : NameAddr → Party
 party_named name = record { display = name.display; uri = name.uri }
 
+-- the tag of the server's answers to an INVITE: that of its To where it has one, and else the given one (section 8.2.6.2)
+abbrev pub own_tag : Request → List ℕ → List ℕ
+own_tag invite tag = if length (tag_text invite.parts.to.params) == 0 then tag else tag_text invite.parts.to.params
+
 -- with the sender of an INVITE (section 12.1.1): To is ours and has our tag in the answer, From is theirs, and their number counts
 abbrev pub callees_dialog : Request → List ℕ → Uri → Dialog
 callees_dialog invite tag target = record {
-  id = record { call_id = invite.parts.call_id; ours = tag; theirs = tag_text invite.parts.from.params };
+  id = record { call_id = invite.parts.call_id; ours = own_tag invite tag; theirs = tag_text invite.parts.from.params };
   ours = party_named invite.parts.to;
   theirs = party_named invite.parts.from;
   target = target;
@@ -41,12 +45,12 @@ callees_dialog invite tag target = record {
 
 -- with the sender of a 2xx to our INVITE (section 12.1.2): From is ours, To is theirs and has their tag in the answer, and our
 -- number counts
-abbrev pub callers_dialog : Request → Response → Uri → Dialog
+abbrev pub callers_dialog : Parts → Response → Uri → Dialog
 callers_dialog invite answer target = record {
-  id = record { call_id = invite.parts.call_id; ours = tag_text invite.parts.from.params; theirs = tag_text answer.parts.to.params };
-  ours = party_named invite.parts.from;
-  theirs = party_named invite.parts.to;
+  id = record { call_id = invite.call_id; ours = tag_text invite.from.params; theirs = tag_text answer.parts.to.params };
+  ours = party_named invite.from;
+  theirs = party_named invite.to;
   target = target;
-  local_number = Some invite.parts.cseq.number;
+  local_number = Some invite.cseq.number;
   remote_number = None;
 }

@@ -1,58 +1,64 @@
 -- Requests in a dialog (RFC 3261 section 12.2.1.1).
-use Rattle.std.specs.Prelude.{ℕ, ◌==◌, List, [], ◌∷◌, ◌++◌, length, codes, decimal, if◌then◌else◌}
+use Rattle.std.specs.Prelude.{◌≡◌, ◌≤◌, ℕ, List, ◌++◌, ◌∷◌, [], length, codes, IsTrue}
+use Rattle.std.specs.List.{list_all}
 use Rattle.sip_uri.specs.declared.uri.NameAddr.{NameAddr}
-use Rattle.sip_uri.specs.declared.uri.Param.{Param}
 use Rattle.sip_uri.specs.NameAddr.{name_addr_text}
 use Rattle.sip_message.specs.declared.headers.Header.{Header}
 use Rattle.sip_message.specs.declared.message.Parts.{Parts}
 use Rattle.sip_message.specs.declared.message.Request.{Request}
-use Rattle.sip_message.specs.Lookup.{named}
-use Rattle.sip_message.specs.Reply.{tag_param}
-use Rattle.dialogs.specs.declared.method.Method.{Method}
+use Rattle.sip_message.specs.declared.start.Start.TheVariants.{Asking}
+use Rattle.sip_message.specs.declared.via.Via.{Via}
+use Rattle.sip_message.specs.Contacts.{contacts_of}
+use Rattle.sip_message.specs.CSeq.{greatest_number}
+use Rattle.sip_message.specs.Grammar.{SaysContact, SaysType}
+use Rattle.sip_message.specs.Lookup.{values_named}
+use Rattle.sip_message.specs.Needs.{contact_need}
+use Rattle.sip_message.specs.Values.{greatest_length}
+use Rattle.sip_message.specs.Written.{is_written}
+use Rattle.sip_writing.specs.Requests.{name_with_tag, cseq_text, headers_with, IsReadVia, is_further}
 use Rattle.dialogs.specs.declared.state.Dialog.{Dialog}
-use Rattle.dialogs.specs.declared.state.Party.{Party}
-use Rattle.dialogs.specs.Counting.{method_text}
 
--- an absent tag is left out
-abbrev pub tag_params : List ℕ → List Param
-tag_params tag = if length tag == 0 then [] else tag_param tag ∷ []
+-- From and To: display and URI of the end, with its tag, which is left out where it is absent
+abbrev pub our_name : Dialog → NameAddr
+our_name d = name_with_tag d.ours.display d.ours.uri d.id.ours
 
--- From and To: display and URI of the end, and its tag
-abbrev pub tagged : Party → List ℕ → NameAddr
-tagged party tag = record { display = party.display; uri = party.uri; params = tag_params tag }
+abbrev pub their_name : Dialog → NameAddr
+their_name d = name_with_tag d.theirs.display d.theirs.uri d.id.theirs
 
-abbrev pub cseq_text : ℕ → Method → List ℕ
-cseq_text number method = decimal number ++ 32 ∷ method_text method
-
--- From is ours, To is theirs; the Via is put in front later
-unfoldable pub parts_in : Dialog → Method → ℕ → Parts
-parts_in d method number = record {
-  vias = [];
-  from = tagged d.ours d.id.ours;
-  to = tagged d.theirs d.id.theirs;
+unfoldable pub parts_in : Dialog → Via → List ℕ → ℕ → Parts
+parts_in d via method number = record {
+  vias = via ∷ [];
+  from = our_name d;
+  to = their_name d;
   call_id = d.id.call_id;
-  cseq = record { number = number; method = method_text method };
-  from_text = name_addr_text (tagged d.ours d.id.ours);
-  to_text = name_addr_text (tagged d.theirs d.id.theirs);
+  cseq = record { number = number; method = method };
+  from_text = name_addr_text (our_name d);
+  to_text = name_addr_text (their_name d);
   cseq_text = cseq_text number method;
 }
 
--- each on a line of its own; Max-Forwards is 70 (section 8.1.1.6)
-unfoldable pub request_headers : Parts → List Header
-request_headers parts =
-    named (codes "Max-Forwards") (codes "70") ∷ []
-    ++ named (codes "From") parts.from_text ∷ []
-    ++ named (codes "To") parts.to_text ∷ []
-    ++ named (codes "Call-ID") parts.call_id ∷ []
-    ++ named (codes "CSeq") parts.cseq_text ∷ []
-
--- a request to the target, without a body
-unfoldable pub request_in : Dialog → Method → ℕ → Request
-request_in d method number = record {
-  method = method_text method;
+-- a request to the target, with so many hops, and with further header fields and a body
+unfoldable pub request_in : Dialog → Via → List ℕ → ℕ → ℕ → List Header → List ℕ → Request
+request_in d via method number hops further body = record {
+  method = method;
   uri = d.target;
-  parts = parts_in d method number;
-  max_forwards = 70;
-  headers = request_headers (parts_in d method number);
-  body = [];
+  parts = parts_in d via method number;
+  max_forwards = hops;
+  headers = headers_with hops (parts_in d via method number) ++ further;
+  body = body;
 }
+
+-- an ACK is written so, and has the number of its INVITE (section 13.2.2.4)
+abbrev pub ack_text : List ℕ
+ack_text = codes "ACK"
+
+-- what a request of this method and number may have besides what the dialog says, so that it is read again
+pub record MayHave (d : Dialog) (via : Via) (method : List ℕ) (number : ℕ) (further : List Header) (body : List ℕ) : Type 0 where
+  pub low : number ≤ greatest_number
+  pub read_via : IsReadVia via
+  pub all_written : IsTrue (list_all is_written further)
+  pub all_further : IsTrue (list_all is_further further)
+  -- an INVITE needs a Contact, and an UPDATE may have one (section 8.1.1.8, RFC 3311 section 4)
+  pub contact : SaysContact (contact_need (Asking (record { method = method; uri = d.target })) method) (contacts_of further)
+  pub content_type : SaysType (values_named (codes "Content-Type") further)
+  pub small : length body ≤ greatest_length

@@ -34,8 +34,8 @@ impl Dialog {
         Ok(())
     }
 
-    /// The number of the next request of this method, an INVITE or a BYE: 1, or one more than that of the last. G2 is the
-    /// only refusal. Takes no memory.
+    /// The number of the next request of this method: 1, or one more than that of the last. G2 is the only refusal. Takes no
+    /// memory.
     pub fn next_number(&self, method: Method) -> Result<u32, DialogError>
         ensures number { IfOk result (λ n. n ≡ following self.now) }
         ensures left { OnOk result (following self.now ≤ greatest_for method) }
@@ -46,5 +46,12 @@ impl Dialog {
             return Err(DialogError::NoNumberLeft);
         }
         Ok(last + 1)
+    }
+
+    /// Keeps the number of a request that was sent. Takes no memory.
+    pub fn keep_number(&mut self, number: u32)
+        ensures { self.new ≡ record self.old { local_number = Some number } }
+    {
+        self.local_number = Some(number);
     }
 }

@@ -1,11 +1,11 @@
 //! The identifiers of a dialog (RFC 3261 section 12).
 
 ghost use Rattle.std.specs.Prelude.{◌≡◌, ◌↔◌, IsTrue, IfOk};
-ghost use Rattle.std.specs.Option.{option_copied};
-ghost use Rattle.dialogs.specs.Identifiers.{value_text, tag_text, id_of_request, id_of_answer, same_id};
+ghost use Rattle.sip_message.specs.Words.{tag_text};
+ghost use Rattle.dialogs.specs.Identifiers.{id_of_request, id_of_answer, same_id};
 
-use sip_message::{Parts, Request, Response};
-use sip_uri::{Param, param_named};
+use sip_message::{Request, Response, tag_text};
+use sip_uri::Param;
 use text::Text;
 
 /// What names a dialog: the Call-ID, our tag and the other end's. An absent tag is the empty text.
@@ -14,25 +14,6 @@ pub struct DialogId {
     pub call_id: Text<'static>,
     pub ours: Text<'static>,
     pub theirs: Text<'static>,
-}
-
-fn value_text<'m>(tag: Option<&'m Param<'_>>) -> &'m [u8]
-    ensures { result.now ≡ value_text (option_copied tag.entry) }
-{
-    match tag {
-        None => b"",
-        Some(tag) => match &tag.value {
-            None => b"",
-            Some(value) => value.as_bytes(),
-        },
-    }
-}
-
-/// The tag of a From or To with these parameters.
-pub(crate) fn tag_text<'m>(params: &'m [Param<'_>]) -> &'m [u8]
-    ensures { result.now ≡ tag_text params.now }
-{
-    value_text(param_named(params, b"tag"))
 }
 
 impl DialogId {

@@ -2,7 +2,7 @@
 //! goes. Nothing here knows of transactions, timers, sockets or descriptions.
 #![tactic(auto)]
 
-mod contact_uri;
+mod contact;
 mod copies;
 mod counting;
 mod error;
@@ -13,8 +13,10 @@ mod method;
 mod requests;
 mod state;
 
+pub use contact::contact_uri;
 pub use error::DialogError;
 pub use identifiers::DialogId;
-pub use laws::{dialogs_are_sound, invites_name_a_contact, requests_are_written};
+pub use laws::{contacts_are_read, dialogs_are_sound, invites_name_a_contact};
 pub use method::Method;
+pub use requests::{Extras, NextRequest};
 pub use state::{Dialog, Party};

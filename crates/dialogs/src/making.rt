@@ -6,13 +6,12 @@ ghost use Rattle.sip_message.specs.Contacts.{contacts_of};
 ghost use Rattle.sip_message.specs.Grammar.{ReadsMessage};
 ghost use Rattle.sip_message.specs.Needs.{is_one_address, is_success};
 ghost use Rattle.sip_message.specs.declared.message.Message.TheVariants as Kinds;
-ghost use Rattle.dialogs.specs.Making.{is_invite, reached_at, party_named, callees_dialog, callers_dialog};
-ghost use Rattle.dialogs.specs.Written.{IsSound};
+ghost use Rattle.dialogs.specs.Making.{is_invite, reached_at, own_tag, party_named, callees_dialog, callers_dialog};
 
-use crate::contact_uri::read_contact_uri;
-use crate::identifiers::{DialogId, tag_text};
+use crate::contact::read_contact_uri;
+use crate::identifiers::DialogId;
 use crate::state::{Dialog, Party};
-use sip_message::{Request, Response};
+use sip_message::{Parts, Request, Response, tag_text};
 use sip_uri::{NameAddr, keep_text};
 use std::alloc::{AllocError, Global};
 use text::Text;
@@ -43,19 +42,26 @@ fn identifiers(
     })
 }
 
+/// The tag of the server's answers to an INVITE.
+fn own_tag<'m>(invite: &'m Request<'_>, tag: &'m [u8]) -> &'m [u8]
+    ensures { result.now ≡ own_tag invite.now tag.now }
+{
+    let to_tag = tag_text(invite.parts.to.params.as_slice());
+    if to_tag.is_empty() { tag } else { to_tag }
+}
+
 impl Dialog {
-    /// The dialog with the sender of an INVITE, which the server answers with this tag (RFC 3261 section 12.1.1).
+    /// The dialog with the sender of an INVITE, which the server answers with this tag, or with that of its To where it has one
+    /// (RFC 3261 section 12.1.1).
     pub fn as_callee(alloc: Global, invite: &Request<'_>, tag: &[u8]) -> Result<Dialog, AllocError>
-        requires invite { IsTrue (is_invite invite.now.parts) }
-        requires contact { IsTrue (is_one_address (contacts_of invite.now.headers)) }
-        requires token { IsTrue (is_run_of is_token_byte tag.now) }
+        requires { IsTrue (is_one_address (contacts_of invite.now.headers)) }
         ensures target { IfOk result (λ d. reached_at (contacts_of invite.now.headers) ≡ Some d.target) }
         ensures dialog { IfOk result (λ d. d ≡ callees_dialog invite.now tag.now d.target) }
     {
         let parts = &invite.parts;
         let target = read_contact_uri(alloc, invite.headers.as_slice())?;
         let their_tag = tag_text(parts.from.params.as_slice());
-        let id = identifiers(alloc, &parts.call_id, tag, their_tag)?;
+        let id = identifiers(alloc, &parts.call_id, own_tag(invite, tag), their_tag)?;
         let ours = party_named(alloc, &parts.to)?;
         let theirs = party_named(alloc, &parts.from)?;
         Ok(Dialog {
@@ -68,32 +74,28 @@ impl Dialog {
         })
     }
 
-    /// The dialog with the sender of a 2xx to an INVITE of the server's (RFC 3261 section 12.1.2).
+    /// The dialog with the sender of a 2xx to an INVITE of the server's, which has these parts (RFC 3261 section 12.1.2).
     pub fn as_caller(
         alloc: Global,
-        invite: &Request<'_>,
+        invite: &Parts<'_>,
         answer: &Response<'_>,
     ) -> Result<Dialog, AllocError>
-        requires invite { IsTrue (is_invite invite.now.parts) }
-        requires answer { IsTrue (is_invite answer.now.parts) }
-        requires success { IsTrue (is_success answer.now.status) }
-        requires contact { IsTrue (is_one_address (contacts_of answer.now.headers)) }
+        requires { IsTrue (is_one_address (contacts_of answer.now.headers)) }
         ensures target { IfOk result (λ d. reached_at (contacts_of answer.now.headers) ≡ Some d.target) }
         ensures dialog { IfOk result (λ d. d ≡ callers_dialog invite.now answer.now d.target) }
     {
-        let parts = &invite.parts;
         let target = read_contact_uri(alloc, answer.headers.as_slice())?;
-        let our_tag = tag_text(parts.from.params.as_slice());
+        let our_tag = tag_text(invite.from.params.as_slice());
         let their_tag = tag_text(answer.parts.to.params.as_slice());
-        let id = identifiers(alloc, &parts.call_id, our_tag, their_tag)?;
-        let ours = party_named(alloc, &parts.from)?;
-        let theirs = party_named(alloc, &parts.to)?;
+        let id = identifiers(alloc, &invite.call_id, our_tag, their_tag)?;
+        let ours = party_named(alloc, &invite.from)?;
+        let theirs = party_named(alloc, &invite.to)?;
         Ok(Dialog {
             id,
             ours,
             theirs,
             target,
-            local_number: Some(parts.cseq.number),
+            local_number: Some(invite.cseq.number),
             remote_number: None,
         })
     }

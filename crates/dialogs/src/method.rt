@@ -1,10 +1,11 @@
-//! The methods of the requests that the server sends in a dialog.
+//! The methods of the requests that the server numbers in a dialog.
 
-/// A method of the requests that the server sends in a dialog (RFC 3261 section 13, 14 and 15).
+/// A method of a request of the server's that has a number of its own in a dialog (RFC 3261 sections 14 and 15, RFC 3311). An
+/// ACK has that of its INVITE.
 #[derive(Clone, Copy, Debug, PartialEq, Eq)]
 pub enum Method {
     Invite,
-    Ack,
+    Update,
     Bye,
 }
 
@@ -12,13 +13,13 @@ impl Method {
     ghost use Rattle.std.specs.Prelude.{◌≡◌};
     ghost use Rattle.dialogs.specs.Counting.{method_text, greatest_for};
 
-    /// The method as it is written.
+    /// The method as it is written. Takes no memory.
     pub fn as_bytes(self) -> &'static [u8]
         ensures { result.now ≡ method_text self }
     {
         match self {
             Method::Invite => b"INVITE",
-            Method::Ack => b"ACK",
+            Method::Update => b"UPDATE",
             Method::Bye => b"BYE",
         }
     }
@@ -29,7 +30,7 @@ impl Method {
     {
         match self {
             Method::Bye => 2_147_483_647,
-            Method::Invite | Method::Ack => 2_147_483_646,
+            Method::Invite | Method::Update => 2_147_483_646,
         }
     }
 }

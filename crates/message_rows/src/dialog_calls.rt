@@ -3,17 +3,18 @@
 use crate::dialog_texts::dialog_text;
 use crate::dialogs_rows::{request_of, response_of};
 use crate::sip_message_rows::fault_text;
-use dialogs::{Dialog, DialogError, DialogId, Method};
-use rows::{number, said, shown};
-use sip_message::{MessageError, Request, write_request};
-use sip_uri::{UriError, read_uri};
+use dialogs::{Dialog, DialogError, DialogId, Extras, Method, NextRequest, contact_uri};
+use rows::{number, said, shown, u32_of};
+use sip_message::{Header, MessageError, Request, Via};
+use sip_uri::{Addr, UriError, read_uri, write_uri};
+use sip_writing::{server_via, write_request};
 use std::alloc::{AllocError, Global};
 use text::Text;
 
 fn method(word: &[u8]) -> Option<Method> {
     match word {
         b"INVITE" => Some(Method::Invite),
-        b"ACK" => Some(Method::Ack),
+        b"UPDATE" => Some(Method::Update),
         b"BYE" => Some(Method::Bye),
         _ => None,
     }
@@ -65,13 +66,76 @@ fn written(alloc: Global, request: Request<'static>) -> Result<Text<'static>, Al
     write_request(alloc, &request)
 }
 
-/// The bytes of the next request.
-fn next(alloc: Global, dialog: &mut Dialog, method: Method) -> Result<Text<'static>, DialogError> {
-    Ok(written(alloc, dialog.next_request(alloc, method)?)?)
+/// The Via of the rows.
+fn via_of_rows(alloc: Global) -> Result<Via<'static>, AllocError> {
+    let server = Addr {
+        ip: [192, 0, 2, 1],
+        port: 5060,
+    };
+    server_via(alloc, server, b"2.7")
 }
 
-fn next_text(alloc: Global, dialog: &mut Dialog, method: Method) -> Result<String, AllocError> {
-    match next(alloc, dialog, method) {
+/// The header fields behind those that each request has, where there is a body.
+fn further_of(alloc: Global, body: &[u8]) -> Result<Vec<Header<'static>>, AllocError> {
+    let mut further = Vec::new(alloc);
+    if body.is_empty() {
+        return Ok(further);
+    }
+    further.push(Header::of(alloc, b"Contact", b"<sip:192.0.2.1:5060>")?)?;
+    further.push(Header::of(alloc, b"Content-Type", b"application/sdp")?)?;
+    Ok(further)
+}
+
+fn request_with(
+    alloc: Global,
+    dialog: &Dialog,
+    method: Method,
+    extras: &Extras<'_, '_>,
+) -> Result<NextRequest, DialogError> {
+    dialog.next_request(alloc, method, extras)
+}
+
+/// The next request, with so many hops and this body.
+fn next_of(
+    alloc: Global,
+    dialog: &Dialog,
+    method: Method,
+    hops: &[u8],
+    body: &[u8],
+) -> Result<NextRequest, DialogError> {
+    let via = via_of_rows(alloc)?;
+    let further = further_of(alloc, body)?;
+    let extras = Extras {
+        via: &via,
+        max_forwards: u8::try_from(number(hops)).unwrap_or(0),
+        further: &further,
+        body,
+    };
+    request_with(alloc, dialog, method, &extras)
+}
+
+/// The bytes of the next request, whose number is kept.
+fn next(
+    alloc: Global,
+    dialog: &mut Dialog,
+    method: Method,
+    hops: &[u8],
+    body: &[u8],
+) -> Result<Text<'static>, DialogError> {
+    let NextRequest { number, request } = next_of(alloc, dialog, method, hops, body)?;
+    let text = written(alloc, request)?;
+    dialog.keep_number(number);
+    Ok(text)
+}
+
+fn next_text(
+    alloc: Global,
+    dialog: &mut Dialog,
+    method: Method,
+    hops: &[u8],
+    body: &[u8],
+) -> Result<String, AllocError> {
+    match next(alloc, dialog, method, hops, body) {
         Ok(text) => shown(alloc, text.as_bytes()),
         Err(fault) => refusal_text(alloc, fault),
     }
@@ -97,14 +161,37 @@ fn refreshed_text(alloc: Global, dialog: &mut Dialog, bytes: &[u8]) -> Result<St
     }
 }
 
-fn numbered_text(
-    alloc: Global,
-    dialog: &Dialog,
-    method: Method,
-    number: u32,
-) -> Result<String, AllocError> {
-    let text = written(alloc, dialog.numbered_request(alloc, method, number)?)?;
+/// The ACK of the INVITE with this number.
+fn ack(alloc: Global, dialog: &Dialog, number: u32) -> Result<Request<'static>, AllocError> {
+    let via = via_of_rows(alloc)?;
+    let extras = Extras {
+        via: &via,
+        max_forwards: 70,
+        further: &[],
+        body: b"",
+    };
+    dialog.ack(alloc, number, &extras)
+}
+
+fn ack_text(alloc: Global, dialog: &Dialog, number: u32) -> Result<String, AllocError> {
+    let text = written(alloc, ack(alloc, dialog, number)?)?;
     shown(alloc, text.as_bytes())
+}
+
+/// The URI of the one Contact address of a request.
+fn contact_text(alloc: Global, bytes: &[u8]) -> Result<String, MessageError> {
+    let request = request_of(alloc, bytes)?;
+    let Some(uri) = contact_uri(alloc, request.headers.as_slice())? else {
+        return Ok(said(alloc, "none")?);
+    };
+    Ok(shown(alloc, write_uri(alloc, &uri)?.as_bytes())?)
+}
+
+fn reached_text(alloc: Global, bytes: &[u8]) -> Result<String, AllocError> {
+    match contact_text(alloc, bytes) {
+        Ok(text) => Ok(text),
+        Err(fault) => fault_text(alloc, fault),
+    }
 }
 
 /// What a call on a dialog with a method answers.
@@ -116,12 +203,9 @@ fn of_method(
     more: &[&[u8]],
 ) -> Result<Option<String>, AllocError> {
     let answer = match (call, more) {
-        ("next", []) => next_text(alloc, dialog, method),
+        ("next", [hops]) => next_text(alloc, dialog, method, hops, b""),
+        ("next", [hops, body]) => next_text(alloc, dialog, method, hops, body),
         ("next_number", []) => next_number_text(alloc, dialog, method),
-        ("numbered", [word]) => {
-            let number = u32::try_from(number(word)).unwrap_or(0);
-            numbered_text(alloc, dialog, method, number)
-        }
         _ => return Ok(None),
     };
     Ok(Some(answer?))
@@ -148,6 +232,8 @@ pub(crate) fn of_dialog(
         ("copied", []) => copied_text(alloc, dialog),
         ("admit", [bytes]) => admission_text(alloc, dialog, bytes),
         ("refresh_target", [uri]) => refreshed_text(alloc, dialog, uri),
+        ("ack", [number]) => ack_text(alloc, dialog, u32_of(number)),
+        ("contact_uri", [bytes]) => reached_text(alloc, bytes),
         ("is_of_request", [bytes]) => truth_text(alloc, is_of_request(alloc, &dialog.id, bytes)),
         ("is_of_answer", [bytes]) => truth_text(alloc, is_of_response(alloc, &dialog.id, bytes)),
         (_, [word, more @ ..]) => {

@@ -7,11 +7,10 @@ ghost use Rattle.dialogs.specs.Making.{is_invite};
 
 use crate::dialog_calls::of_dialog;
 use crate::sip_message_rows::fault_text;
-use dialogs::{Dialog, dialogs_are_sound, invites_name_a_contact, requests_are_written};
+use dialogs::{Dialog, contacts_are_read, dialogs_are_sound, invites_name_a_contact};
 use rows::said;
 use sip_message::{Message, MessageError, Parts, Request, Response, read_message};
 use std::alloc::{AllocError, Global};
-use text::is_run_of_token;
 
 /// The dialog that the rows before have left, if there is one.
 #[derive(Drop)]
@@ -65,7 +64,7 @@ fn callee_of(
     requires { ReadsMessage bytes.now (Kinds.Request invite.now) }
 {
     invites_name_a_contact();
-    if is_invite(&invite.parts) && is_run_of_token(tag) {
+    if is_invite(&invite.parts) {
         return Ok(Dialog::as_callee(alloc, invite, tag)?);
     }
     Err(MessageError::StartLine)
@@ -91,7 +90,7 @@ fn caller_of(
         && 200 <= answer.status
         && answer.status <= 299
     {
-        return Ok(Dialog::as_caller(alloc, invite, answer)?);
+        return Ok(Dialog::as_caller(alloc, &invite.parts, answer)?);
     }
     Err(MessageError::StartLine)
 }
@@ -139,7 +138,7 @@ impl DialogsRows {
             ("laws", []) => {
                 invites_name_a_contact();
                 dialogs_are_sound();
-                requests_are_written();
+                contacts_are_read();
                 said(alloc, "hold")
             }
             ("as_callee", [bytes, tag]) => self.begin(alloc, callee(alloc, bytes, tag)),

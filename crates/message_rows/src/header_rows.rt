@@ -2,10 +2,9 @@
 
 use crate::message_texts::{contacts_text, headers_text};
 use rows::{said, shown};
-use sip_message::{
-    FieldValue, Header, Headers, contact_values, first_value, tag_param, values_named,
-};
+use sip_message::{FieldValue, Header, Headers, contact_values, first_value, values_named};
 use sip_uri::put_param;
+use sip_writing::tag_param;
 use std::alloc::{AllocError, Global};
 use text::{cut, trimmed};
 

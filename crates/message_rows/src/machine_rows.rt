@@ -30,7 +30,8 @@ pub(crate) fn timer_kind(word: &[u8]) -> Option<TimerKind> {
 
 fn invite_client(word: &[u8], interval: u64) -> Option<State> {
     let state = match word {
-        b"Calling" => InviteClient::Calling(interval),
+        b"Calling" => InviteClient::Calling(interval, false),
+        b"Abandoned" => InviteClient::Calling(interval, true),
         b"Proceeding" => InviteClient::Proceeding,
         b"Completed" => InviteClient::Completed,
         b"Accepted" => InviteClient::Accepted,

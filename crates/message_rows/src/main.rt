@@ -10,6 +10,7 @@ mod message_texts;
 mod sip_message_rows;
 mod table_texts;
 mod transactions_rows;
+mod words_rows;
 
 use crate::dialogs_rows::DialogsRows;
 use crate::transactions_rows::TransactionsRows;

@@ -2,13 +2,16 @@
 
 use crate::header_rows::of_headers;
 use crate::message_texts::{contacts_text, headers_text, parts_text, summary, vias_text};
+use crate::words_rows::{built_text, words_text};
 use rows::{address_of, address_words, number, said, shown, u16_of};
 use sip_message::{
     Header, Message, MessageError, Parts, Response, Via, Vias, answerable, contacts, one_message,
-    read_message, reply_address, reply_to, via_headers, write_message, write_request,
-    write_response,
+    read_message,
 };
 use sip_uri::Addr;
+use sip_writing::{
+    reply_address, reply_to, via_headers, write_message, write_request, write_response,
+};
 use std::alloc::{AllocError, Global};
 use text::{Text, is_run_of_token};
 
@@ -164,6 +167,10 @@ fn of_message(
         ("headers", []) => headers_text(alloc, headers_in(message)),
         ("body", []) => shown(alloc, body_in(message)),
         ("contacts", []) => contacts_in(alloc, message),
+        ("words", []) => words_text(alloc, message, parts, headers_in(message)),
+        ("build", [server, token, tag]) => {
+            built_text(alloc, message, address_of(server), token, tag)
+        }
         ("write", []) => message_shown(alloc, message),
         ("write_by_kind", []) => by_kind_shown(alloc, message),
         ("via_headers", []) => via_headers_text(alloc, parts.vias.as_slice()),

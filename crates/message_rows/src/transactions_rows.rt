@@ -7,12 +7,12 @@ use crate::sip_message_rows::{fault_text, message_of};
 use crate::table_texts::{
     PLACE, filled, id_text, next_text, refusal_text, timer_text, verdict_text,
 };
-use rows::{address_of, address_words, number, said, shown, usize_of};
+use rows::{address_of, address_words, number, said, shown, u16_of, usize_of};
 use sip_message::{Message, Request, Response};
 use sip_uri::Addr;
 use std::alloc::{AllocError, Global};
 use text::cut;
-use transactions::{Fired, Outgoing, Reception, Started, Table, TimerId, once, replies};
+use transactions::{Change, Fired, Outgoing, Reception, Started, Table, TimerId, once, replies};
 
 /// The table that the rows before have left, and the bytes that were sent last.
 #[derive(Drop)]
@@ -75,7 +75,8 @@ impl TransactionsRows {
 
     fn started_text(&mut self, alloc: Global, started: &Started) -> Result<String, AllocError> {
         let sends = self.send_text(alloc, &started.send)?;
-        format!(in alloc; "{} {sends}", started.id)
+        let number = id_text(alloc, started.id)?;
+        format!(in alloc; "{number} {sends}")
     }
 
     fn fired_text(&mut self, alloc: Global, fired: &Fired) -> Result<String, AllocError> {
@@ -112,6 +113,29 @@ impl TransactionsRows {
     {
         let started = self.table.start(request, to, now)?;
         self.started_text(alloc, &started)
+    }
+
+    /// A request of the server's own, abandoned at once: two changes that are entered together.
+    fn apply(
+        &mut self,
+        alloc: Global,
+        request: &Request<'_>,
+        now: u64,
+    ) -> Result<String, AllocError>
+        requires { now < 2 ^ 60 }
+    {
+        let mut changes = Vec::new(alloc);
+        changes.push(Change::starts(alloc, request, PLACE)?)?;
+        changes.push(Change::abandons(0))?;
+        self.table.apply(changes, now)?;
+        said(alloc, "entered")
+    }
+
+    fn state_text(&self, alloc: Global, id: usize) -> Result<String, AllocError> {
+        match self.table.transaction(id) {
+            Some(transaction) => format!(in alloc; "{:?}", transaction.state),
+            None => said(alloc, "none"),
+        }
     }
 
     fn reply(
@@ -165,6 +189,9 @@ impl TransactionsRows {
             }
             ("start", Message::Request(request), [now, to]) => {
                 self.start(alloc, request, address_of(to), moment(now))
+            }
+            ("apply", Message::Request(request), [now]) => {
+                self.apply(alloc, request, moment(now))
             }
             ("answer", Message::Response(response), [number, now]) => {
                 self.reply(alloc, usize_of(number), response, moment(now))
@@ -224,6 +251,13 @@ impl TransactionsRows {
                 }
                 None => return Ok(None),
             },
+            ("transaction", [number]) => self.state_text(alloc, usize_of(number)),
+            ("may_answer", [number, status]) => {
+                format!(in alloc;
+                    "{}",
+                    self.table.may_answer(usize_of(number), u16_of(status))
+                )
+            }
             ("first_due", [now]) => timer_text(alloc, self.table.first_due(number(now))),
             ("next", []) => next_text(alloc, self.table.next()),
             ("sent", []) => shown(alloc, &self.sent),

@@ -8,8 +8,8 @@ use Rattle.sip_message.specs.declared.message.Parts.{Parts}
 use Rattle.sip_message.specs.declared.message.Request.{Request}
 use Rattle.sip_message.specs.declared.message.Response.{Response}
 use Rattle.sip_message.specs.Lookup.{named}
-use Rattle.sip_message.specs.Reply.{reply_of}
-use Rattle.sip_message.specs.Writing.{message_text}
+use Rattle.sip_writing.specs.Reply.{reply_of}
+use Rattle.sip_writing.specs.Writing.{message_text}
 use Rattle.registrar.specs.declared.binding.Binding.{Binding}
 use Rattle.registrar.specs.declared.refusal.Refusal.{Refusal}
 use Rattle.registrar.specs.declared.refusal.Refusal.TheVariants.{OutOfMemory, UnknownUser, StarMisused, TooBrief, OutOfOrder, TooManyBindings, BadContact}

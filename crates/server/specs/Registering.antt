@@ -1,5 +1,5 @@
 -- What a REGISTER request asks of the registrar (RFC 3261 sections 10.2 and 10.3).
-use Rattle.std.specs.Prelude.{ℕ, Bool, true, false, List, codes, Option, Some, None, option_map, unwrap_or, if◌then◌else◌}
+use Rattle.std.specs.Prelude.{ℕ, Bool, true, false, nat_lt, List, [], ◌∷◌, ◌++◌, count_by, codes, Option, Some, None, option_map, unwrap_or, if◌then◌else◌}
 use Rattle.std.specs.List.{list_any, filter_map}
 use Rattle.std.specs.Char.{is_ascii_digit}
 use Rattle.text.specs.Class.{is_run_of}
@@ -40,8 +40,16 @@ contact_from Star = None
 contact_from (Address name) = Some (record { uri = Some name.uri; expires = expires_of name.params })
 contact_from Unreadable = Some (record { uri = None; expires = None })
 
+-- those that are no star
+abbrev pub contacts_without_star : List ContactValue → List Contact
+contacts_without_star values = filter_map contact_from values
+
+-- a further star stands as a contact that can't be read, and so beside the first one, which is to stand alone
+abbrev pub further_star : List ContactValue → List Contact
+further_star values = if nat_lt 1 (count_by is_star values) then record { uri = None; expires = None } ∷ [] else []
+
 abbrev pub contacts_from : List ContactValue → List Contact
-contacts_from values = filter_map contact_from values
+contacts_from values = contacts_without_star values ++ further_star values
 
 -- what a REGISTER asks; of several Expires header fields the first counts
 unfoldable pub register_of : Rules → Request → Register

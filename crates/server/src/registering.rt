@@ -1,10 +1,10 @@
 //! What a REGISTER request asks of the registrar.
 
-ghost use Rattle.std.specs.Prelude.{◌≡◌, ◌++◌, Some, IfOk, OnOk, option_map};
+ghost use Rattle.std.specs.Prelude.{◌≡◌, ◌++◌, Some, IfOk, OnOk, count_by, option_map};
 ghost use Rattle.std.specs.List.{list_any, filter_map};
 ghost use Rattle.std.specs.Option.{option_copied, option_to_list};
 ghost use Rattle.registrar.specs.Registrar.{rules_of};
-ghost use Rattle.server.specs.Registering.{seconds_of, seconds_by, expires_of, is_star, contact_from, contacts_from, register_of};
+ghost use Rattle.server.specs.Registering.{seconds_of, seconds_by, expires_of, is_star, contact_from, contacts_without_star, further_star, contacts_from, register_of};
 
 use registrar::{Contact, Contacts, Register, Registrar};
 use sip_message::{ContactValue, FieldValue, Request, contact_values, first_value};
@@ -101,16 +101,48 @@ fn push_contact(
     }
 }
 
+fn contacts_without_star(
+    alloc: Global,
+    values: &[ContactValue<'_>],
+) -> Result<Vec<Contact<'static>>, AllocError>
+    ensures { IfOk result (λ cs. cs.items ≡ contacts_without_star values.now) }
+{
+    let mut contacts = Vec::new(alloc);
+    for value in values {
+        push_contact(alloc, &mut contacts, value)?;
+    }
+    Ok(contacts)
+}
+
+fn count_of_stars(values: &[ContactValue<'_>]) -> usize
+    ensures { result ≡ count_by is_star values.now }
+{
+    values.iter().filter(|value| is_star(value)).count()
+}
+
+fn push_further_star(
+    contacts: &mut Vec<Contact<'static>>,
+    values: &[ContactValue<'_>],
+) -> Result<(), AllocError>
+    ensures { OnOk result (contacts.new.items ≡ contacts.old.items ++ further_star values.now) }
+{
+    if count_of_stars(values) > 1 {
+        contacts.push(Contact {
+            uri: None,
+            expires: None,
+        })?;
+    }
+    Ok(())
+}
+
 fn contacts_from(
     alloc: Global,
     values: &[ContactValue<'_>],
 ) -> Result<Contacts<'static>, AllocError>
     ensures { IfOk result (λ cs. cs ≡ contacts_from values.now) }
 {
-    let mut contacts = Vec::new(alloc);
-    for value in values {
-        push_contact(alloc, &mut contacts, value)?;
-    }
+    let mut contacts = contacts_without_star(alloc, values)?;
+    push_further_star(&mut contacts, values)?;
     Ok(Contacts::from_vec(contacts))
 }
 

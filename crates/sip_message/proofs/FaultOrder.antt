@@ -11,6 +11,8 @@ use Rattle.sip_message.specs.declared.error.HeaderName.TheVariants as Names
 use Rattle.sip_message.specs.declared.error.MessageError.{MessageError}
 use Rattle.sip_message.specs.declared.error.MessageError.TheVariants.{OutOfMemory, StartLine, Version, HeaderLine, Missing, Unreadable, Short, TooLong}
 use Rattle.sip_message.specs.declared.headers.Header.{Header}
+use Rattle.sip_message.specs.declared.needs.ContactNeed.{ContactNeed}
+use Rattle.sip_message.specs.declared.needs.ContactNeed.TheVariants.{One, AtMostOne, Unlooked}
 use Rattle.sip_message.specs.declared.start.Start.{Start}
 use Rattle.sip_message.specs.Contacts.{contacts_of}
 use Rattle.sip_message.specs.CSeq.{cseq_of}
@@ -18,10 +20,10 @@ use Rattle.sip_message.specs.Faults.{and_then, readable}
 use Rattle.sip_message.specs.Form.{is_call_id, is_media_type, max_forwards_of}
 use Rattle.sip_message.specs.Lookup.{values_named}
 use Rattle.sip_message.specs.Named.{at_most_one, exactly_one}
-use Rattle.sip_message.specs.Needs.{needs_contact, is_one_address}
+use Rattle.sip_message.specs.Needs.{contact_need, is_one_address, is_one_address_at_most}
 use Rattle.sip_message.specs.Party.{party_of}
 use Rattle.sip_message.specs.Reading.{contents_of}
-use Rattle.sip_message.specs.Values.{each_via, via_texts, some_vias, if_tagged, with_text, from_for, to_of, call_id_of, of_method, with_number, cseq_for, one_address, contact_for, hops_by, hops_of, type_by, type_of, ends_for, parts_of, hops_behind, values_of, greatest_length, long_enough, body_by, body_of}
+use Rattle.sip_message.specs.Values.{each_via, via_texts, some_vias, if_tagged, with_text, from_for, to_of, call_id_of, of_method, with_number, cseq_for, one_address, contacts_for, contact_for, hops_by, hops_of, type_by, type_of, ends_for, parts_of, hops_behind, values_of, greatest_length, long_enough, body_by, body_of}
 
 -- a fault of header fields or body
 abbrev pub IsContentsFault : MessageError → Type 0
@@ -93,10 +95,11 @@ address_fits [] = tt
 address_fits (value ∷ values) = test_fits Names.Contact (is_one_address (value ∷ values)) tt
 
 contact_fits : (start : Start) (method : List ℕ) (fields : List Header) → FaultFits (contact_for start method fields)
-contact_fits start method fields = step (needs_contact start method) where
-  step : (b : Bool) → FaultFits (cond b (one_address (contacts_of fields)) (Ok tt))
-  step true = address_fits (contacts_of fields)
-  step false = tt
+contact_fits start method fields = step (contact_need start method) where
+  step : (need : ContactNeed) → FaultFits (contacts_for need (contacts_of fields))
+  step One = address_fits (contacts_of fields)
+  step AtMostOne = test_fits Names.Contact (is_one_address_at_most (contacts_of fields)) tt
+  step Unlooked = tt
 
 ends_fit : (start : Start) (fields : List Header) → FaultFits (ends_for start fields)
 ends_fit start fields =

@@ -8,23 +8,16 @@ pub mod HeadSteps
 pub mod FieldLaws
 pub mod HeadLaws
 pub mod ValueLaws
-pub mod HeadRoundTrip
+pub mod PlaceLaws
+pub mod WrittenLaws
 pub mod ReadWritten
 pub mod LookupLaws
 pub mod FaultLaws
-pub mod ReplyLaws
-pub mod RepliesLaws
 pub mod ViaLaws
-pub mod StartTexts
 pub mod StartLaws
 pub mod SaysLaws
 pub mod FaultOrder
 pub mod MessageLaws
-pub mod MessageRoundTrip
 pub mod CleanLaws
-pub mod ParamTrip
-pub mod ViaTrip
-pub mod MarkedTrip
-pub mod AnswerTrip
 pub mod RepeatableLaws
 mod NextLine

@@ -1,4 +1,4 @@
--- Headers that were read are of the written form.
+-- Header fields that were read are of the written form.
 use Rattle.std.proofs.Common.{◌≡◌, ℕ, Bool, true, false, not, ◌&&◌, cond, eqb, List, [], ◌∷◌, length, map, Option, Some, None, refl, sym, ap, ◌∙◌}
 use Rattle.std.specs.Prelude.{nat_eq, is_some, unwrap_or, option_map, find, IfOk, Result, Ok, Err, slice_index}
 use Rattle.std.specs.Borrow.{Bor}
@@ -13,7 +13,7 @@ use Rattle.sip_message.specs.Lines.{is_clean}
 use Rattle.sip_message.specs.LongNames.{compact_names, long_of, long_name}
 use Rattle.sip_message.specs.Fields.{RawField, name_of, begun_value, is_continuing, begins_blank, is_raw_field, value_of, field_of}
 use Rattle.sip_message.specs.Heads.{ReadsHead, head_of, GivesHead}
-use Rattle.sip_message.specs.WritingHead.{is_written}
+use Rattle.sip_message.specs.Written.{is_written}
 use Rattle.sip_message.specs.declared.headers.Header.{Header}
 use Rattle.sip_message.specs.declared.head.HeadError.{HeadError}
 use Rattle.sip_message.proofs.FieldLaws.{field_is}
@@ -103,7 +103,3 @@ fields_written (f ∷ fields) h =
 -- headers that are read are of the written form
 pub read_is_written : (text : List ℕ) (headers : List Header) (body : List ℕ) → ReadsHead text headers body → list_all is_written headers ≡ true
 read_is_written text headers body reads = ap (list_all is_written) reads.says ∙ fields_written reads.fields reads.each
-
-pub written_at : (limit : ℕ) (text : List ℕ) (r : Result (List Header × Bor (List ℕ)) HeadError) → GivesHead r (head_of limit text) → IfOk r (λ x. list_all is_written x.0 ≡ true)
-written_at limit text (Ok x) gives = read_is_written text x.0 x.1.now (head_is limit text (x.0, x.1.now) gives).reads
-written_at limit text (Err e) gives = tt

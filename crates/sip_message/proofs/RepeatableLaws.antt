@@ -30,9 +30,9 @@ use Rattle.sip_message.specs.Party.{party_of}
 use Rattle.sip_message.specs.Repeatable.{IsValue, CanBeRepeated, IfRepeatable, parts_in}
 use Rattle.sip_message.specs.Values.{via_texts, parts_with}
 use Rattle.sip_message.specs.Via.{via_of}
-use Rattle.sip_message.specs.WritingHead.{is_written}
+use Rattle.sip_message.specs.Written.{is_written}
 use Rattle.sip_message.proofs.CleanLaws.{clean_pieces}
-use Rattle.sip_message.proofs.HeadRoundTrip.{written_is}
+use Rattle.sip_message.proofs.WrittenLaws.{written_is}
 use Rattle.sip_message.proofs.ReadWritten.{field_written, read_is_written}
 use Rattle.sip_message.proofs.SaysLaws.{vias_are}
 

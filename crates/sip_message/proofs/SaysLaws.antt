@@ -15,6 +15,8 @@ use Rattle.sip_message.specs.declared.error.MessageError.{MessageError}
 use Rattle.sip_message.specs.declared.error.MessageError.TheVariants.{Missing, Unreadable, Short}
 use Rattle.sip_message.specs.declared.headers.Header.{Header}
 use Rattle.sip_message.specs.declared.message.Parts.{Parts}
+use Rattle.sip_message.specs.declared.needs.ContactNeed.{ContactNeed}
+use Rattle.sip_message.specs.declared.needs.ContactNeed.TheVariants.{One, AtMostOne, Unlooked}
 use Rattle.sip_message.specs.declared.party.Ends.{Ends}
 use Rattle.sip_message.specs.declared.party.Party.{Party}
 use Rattle.sip_message.specs.declared.read.Contents.{Contents}
@@ -28,10 +30,10 @@ use Rattle.sip_message.specs.Form.{is_call_id, is_media_type, max_forwards_of}
 use Rattle.sip_message.specs.Grammar.{SaysParts, SaysContact, SaysHops, SaysType, SaysBody, Says}
 use Rattle.sip_message.specs.Lookup.{values_named}
 use Rattle.sip_message.specs.Named.{at_most_one, exactly_one}
-use Rattle.sip_message.specs.Needs.{is_tagged_for, is_method_for, needs_contact, is_one_address}
+use Rattle.sip_message.specs.Needs.{is_tagged_for, is_method_for, contact_need, is_one_address, is_one_address_at_most}
 use Rattle.sip_message.specs.Party.{party_of}
 use Rattle.sip_message.specs.Reading.{contents_of}
-use Rattle.sip_message.specs.Values.{with_via, each_via, via_texts, some_vias, if_tagged, with_text, from_for, to_of, call_id_of, of_method, with_number, cseq_for, one_address, contact_for, hops_by, hops_of, type_by, type_of, ends_for, parts_with, parts_of, hops_behind, values_of, greatest_length, long_enough, body_by, body_of}
+use Rattle.sip_message.specs.Values.{with_via, each_via, via_texts, some_vias, if_tagged, with_text, from_for, to_of, call_id_of, of_method, with_number, cseq_for, one_address, contacts_for, contact_for, hops_by, hops_of, type_by, type_of, ends_for, parts_with, parts_of, hops_behind, values_of, greatest_length, long_enough, body_by, body_of}
 use Rattle.sip_message.specs.Via.{via_of}
 
 -- ---- steps
@@ -243,17 +245,23 @@ address_again : (values : List ContactValue) → is_one_address values ≡ true 
 address_again [] h = absurd cc
 address_again (value ∷ values) h = rw h refl
 
-contact_is : (start : Start) (method : List ℕ) (fields : List Header) (u : Unit {0}) → contact_for start method fields ≡ Ok u → SaysContact (needs_contact start method) (contacts_of fields)
-contact_is start method fields u h = step (needs_contact start method) h where
-  step : (b : Bool) → cond b (one_address (contacts_of fields)) (ok tt) ≡ Ok u → SaysContact b (contacts_of fields)
-  step true k = address_is (contacts_of fields) u k
-  step false k = tt
+at_most_is : (b : Bool) (u : Unit {0}) → cond b (ok tt) (failed (Unreadable Names.Contact)) ≡ Ok u → b ≡ true
+at_most_is true u h = refl
+at_most_is false u h = absurd (no_ok (Unreadable Names.Contact) u h)
 
-contact_again : (start : Start) (method : List ℕ) (fields : List Header) → SaysContact (needs_contact start method) (contacts_of fields) → contact_for start method fields ≡ Ok tt
-contact_again start method fields h = step (needs_contact start method) h where
-  step : (b : Bool) → SaysContact b (contacts_of fields) → cond b (one_address (contacts_of fields)) (ok tt) ≡ ok tt
-  step true k = address_again (contacts_of fields) k
-  step false k = refl
+contact_is : (start : Start) (method : List ℕ) (fields : List Header) (u : Unit {0}) → contact_for start method fields ≡ Ok u → SaysContact (contact_need start method) (contacts_of fields)
+contact_is start method fields u h = step (contact_need start method) h where
+  step : (need : ContactNeed) → contacts_for need (contacts_of fields) ≡ Ok u → SaysContact need (contacts_of fields)
+  step One k = address_is (contacts_of fields) u k
+  step AtMostOne k = at_most_is (is_one_address_at_most (contacts_of fields)) u k
+  step Unlooked k = tt
+
+contact_again : (start : Start) (method : List ℕ) (fields : List Header) → SaysContact (contact_need start method) (contacts_of fields) → contact_for start method fields ≡ Ok tt
+contact_again start method fields h = step (contact_need start method) h where
+  step : (need : ContactNeed) → SaysContact need (contacts_of fields) → contacts_for need (contacts_of fields) ≡ ok tt
+  step One k = address_again (contacts_of fields) k
+  step AtMostOne k = rw k refl
+  step Unlooked k = refl
 
 -- ---- Max-Forwards, Content-Type, Content-Length
 
@@ -317,7 +325,7 @@ values parts hops = record { parts = parts; max_forwards = hops }
 -- the header fields say these values
 record SaysValues (start : Start) (fields : List Header) (v : Values) : Type 0 where
   says_parts : SaysParts start fields v.parts
-  says_contact : SaysContact (needs_contact start v.parts.cseq.method) (contacts_of fields)
+  says_contact : SaysContact (contact_need start v.parts.cseq.method) (contacts_of fields)
   says_hops : SaysHops (values_named (codes "Max-Forwards") fields) v.max_forwards
   says_type : SaysType (values_named (codes "Content-Type") fields)
 

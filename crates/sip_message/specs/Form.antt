@@ -1,5 +1,5 @@
 -- The forms of Call-ID, Content-Type and Max-Forwards (RFC 3261 sections 20.8, 20.15, 20.22 and 25.1).
-use Rattle.std.specs.Prelude.{ℕ, Bool, false, ◌&&◌, ◌||◌, List, codes, Option, Some, None, is_some, if◌then◌else◌}
+use Rattle.std.specs.Prelude.{ℕ, Bool, false, ◌&&◌, ◌||◌, List, codes, Option, Some, None, if◌then◌else◌}
 use Rattle.std.specs.List.{list_all}
 use Rattle.std.specs.Char.{is_ascii_alphanumeric, is_ascii_digit}
 use Rattle.text.specs.Class.{is_one_of, is_run_of, is_token_byte, passes_if_there}
@@ -8,6 +8,7 @@ use Rattle.text.specs.Number.{number_upto}
 use Rattle.text.specs.Trim.{trimmed}
 use Rattle.sip_uri.specs.declared.uri.Param.{Param}
 use Rattle.sip_uri.specs.FieldParams.{field_params_read}
+use Rattle.sip_uri.specs.Quoted.{is_quoted}
 
 abbrev pub is_word_byte : ℕ → Bool
 is_word_byte b = is_ascii_alphanumeric b || is_one_of (codes "-.!%*_+`'~()<>:\\\"/[]?{}") b
@@ -33,14 +34,18 @@ is_there_and p (Some text) = p text
 abbrev pub is_media_range : List ℕ → Bool
 is_media_range text = is_token (before 47 text) && is_there_and is_token (after 47 text)
 
-abbrev pub all_valued : List Param → Bool
-all_valued params = list_all (λ p. is_some p.value) params
+-- a token or a quoted string, and no host: m-value of section 25.1
+abbrev pub is_media_value : List ℕ → Bool
+is_media_value value = is_run_of is_token_byte value || is_quoted value
+
+abbrev pub is_media_param : Param → Bool
+is_media_param param = is_there_and is_media_value param.value
 
 abbrev pub are_media_params : Option (List Param) → Bool
 are_media_params None = false
-are_media_params (Some params) = all_valued params
+are_media_params (Some params) = list_all is_media_param params
 
--- `type/subtype;name=value`
+-- `type/subtype;name=value`, where each parameter has a value
 abbrev pub is_media_type : List ℕ → Bool
 is_media_type text = is_media_range (before 59 text) && are_media_params (field_params_read (after 59 text))
 

@@ -7,6 +7,8 @@ use Rattle.text.specs.Number.{number_upto}
 use Rattle.sip_uri.specs.Grammar.{ReadsUri}
 use Rattle.sip_message.specs.declared.contact.ContactValue.{ContactValue}
 use Rattle.sip_message.specs.declared.error.MessageError.{MessageError}
+use Rattle.sip_message.specs.declared.needs.ContactNeed.{ContactNeed}
+use Rattle.sip_message.specs.declared.needs.ContactNeed.TheVariants.{One, AtMostOne, Unlooked}
 use Rattle.sip_message.specs.declared.error.MessageError.TheVariants.{OutOfMemory, StartLine, Version, HeaderLine, Missing, Unreadable, Short, TooLong}
 use Rattle.sip_message.specs.declared.headers.Header.{Header}
 use Rattle.sip_message.specs.declared.message.Message.{Message}
@@ -24,7 +26,7 @@ use Rattle.sip_message.specs.Form.{is_call_id, is_media_type, max_forwards_of}
 use Rattle.sip_message.specs.Heads.{ReadsHead, line_count}
 use Rattle.sip_message.specs.Lines.{before_line_end, is_clean}
 use Rattle.sip_message.specs.Lookup.{values_named}
-use Rattle.sip_message.specs.Needs.{is_tagged_for, is_method_for, needs_contact, is_one_address}
+use Rattle.sip_message.specs.Needs.{is_tagged_for, is_method_for, contact_need, is_one_address, is_one_address_at_most}
 use Rattle.sip_message.specs.Party.{party_of}
 use Rattle.sip_message.specs.Reading.{contents_of, greatest_datagram, greatest_lines}
 use Rattle.sip_message.specs.Start.{begins_sip, has_no_space, is_part, is_version, status_read}
@@ -98,10 +100,11 @@ pub record SaysParts (start : Start) (fields : List Header) (parts : Parts) : Ty
   pub cseq : cseq_of parts.cseq_text ≡ Some parts.cseq
   pub cseq_method : IsTrue (is_method_for start parts.cseq.method)
 
--- the values of Contact: where one is needed, it is one address
-abbrev pub SaysContact : Bool → List ContactValue → Type 0
-SaysContact false values = Unit {0}
-SaysContact true values = IsTrue (is_one_address values)
+-- the values of Contact: one address where one is needed, one at most where it may stand, and elsewhere it isn't looked at
+abbrev pub SaysContact : ContactNeed → List ContactValue → Type 0
+SaysContact One values = IsTrue (is_one_address values)
+SaysContact AtMostOne values = IsTrue (is_one_address_at_most values)
+SaysContact Unlooked values = Unit {0}
 
 -- the values of Max-Forwards, of which there is one at most: it is 0 to 255 (section 20.22), and 70 where there is none (section 8.1.1.6)
 abbrev pub SaysHops : List (List ℕ) → ℕ → Type 0
@@ -125,7 +128,7 @@ SaysBody (one ∷ two ∷ more) raw body = ⊥
 -- values and body are what the header fields, and the bytes behind them, say
 pub record Says (start : Start) (fields : List Header) (raw : List ℕ) (parts : Parts) (hops : ℕ) (body : List ℕ) : Type 0 where
   pub says_parts : SaysParts start fields parts
-  pub says_contact : SaysContact (needs_contact start parts.cseq.method) (contacts_of fields)
+  pub says_contact : SaysContact (contact_need start parts.cseq.method) (contacts_of fields)
   pub says_hops : SaysHops (values_named (codes "Max-Forwards") fields) hops
   pub says_type : SaysType (values_named (codes "Content-Type") fields)
   pub says_body : SaysBody (values_named (codes "Content-Length") fields) raw body

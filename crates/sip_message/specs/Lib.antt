@@ -18,14 +18,11 @@ pub mod RawVia
 pub mod Start
 pub mod Values
 pub mod Via
-pub mod WritingHead
+pub mod Written
 pub mod Answerable
 pub mod Reading
-pub mod Reasons
-pub mod Reply
-pub mod Replies
-pub mod Writing
 pub mod Contacts
 pub mod Grammar
-pub mod WritingMessage
 pub mod Repeatable
+pub mod Words
+pub mod Places

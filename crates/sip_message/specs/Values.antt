@@ -11,6 +11,8 @@ use Rattle.sip_message.specs.declared.error.HeaderName.TheVariants as Names
 use Rattle.sip_message.specs.declared.error.MessageError.{MessageError}
 use Rattle.sip_message.specs.declared.error.MessageError.TheVariants.{Missing, Unreadable, Short}
 use Rattle.sip_message.specs.declared.headers.Header.{Header}
+use Rattle.sip_message.specs.declared.needs.ContactNeed.{ContactNeed}
+use Rattle.sip_message.specs.declared.needs.ContactNeed.TheVariants.{One, AtMostOne, Unlooked}
 use Rattle.sip_message.specs.declared.cseq.CSeq.{CSeq}
 use Rattle.sip_message.specs.declared.via.Via.{Via}
 use Rattle.sip_message.specs.declared.message.Parts.{Parts}
@@ -26,7 +28,7 @@ use Rattle.sip_message.specs.Faults.{and_then, readable}
 use Rattle.sip_message.specs.Form.{is_call_id, is_media_type, max_forwards_of}
 use Rattle.sip_message.specs.Lookup.{is_named, values_named}
 use Rattle.sip_message.specs.Named.{at_most_one, exactly_one}
-use Rattle.sip_message.specs.Needs.{is_tagged_for, is_method_for, needs_contact, is_one_address}
+use Rattle.sip_message.specs.Needs.{is_tagged_for, is_method_for, contact_need, is_one_address, is_one_address_at_most}
 use Rattle.sip_message.specs.Party.{party_of}
 use Rattle.sip_message.specs.Via.{via_of}
 
@@ -97,9 +99,14 @@ abbrev pub one_address : List ContactValue → Result (Unit {0}) MessageError
 one_address [] = Err (Missing Names.Contact)
 one_address (value ∷ values) = if is_one_address (value ∷ values) then Ok tt else Err (Unreadable Names.Contact)
 
--- Contact has one value, an address, where the message needs one; elsewhere it isn't looked at
+abbrev pub contacts_for : ContactNeed → List ContactValue → Result (Unit {0}) MessageError
+contacts_for One values = one_address values
+contacts_for AtMostOne values = if is_one_address_at_most values then Ok tt else Err (Unreadable Names.Contact)
+contacts_for Unlooked values = Ok tt
+
+-- Contact has one value, an address, where the message needs one, and one at most where it may have one; elsewhere it isn't looked at
 abbrev pub contact_for : Start → List ℕ → List Header → Result (Unit {0}) MessageError
-contact_for start method headers = if needs_contact start method then one_address (contacts_of headers) else Ok tt
+contact_for start method headers = contacts_for (contact_need start method) (contacts_of headers)
 
 abbrev pub hops_by : Option (List ℕ) → Result ℕ MessageError
 hops_by None = Ok 70

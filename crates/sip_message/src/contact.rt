@@ -14,7 +14,7 @@ use std::alloc::{AllocError, Global};
 use text::{cut_piece, trimmed};
 
 /// One value of a Contact header field.
-#[derive(Clone, Debug, Drop)]
+#[derive(Debug, Drop)]
 pub enum ContactValue<'a> {
     /// `*`, which stands for every binding.
     Star,

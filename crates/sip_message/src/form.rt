@@ -1,10 +1,10 @@
 //! The forms of Call-ID, Content-Type and Max-Forwards (RFC 3261 sections 20.8, 20.15 and 20.22).
 
-ghost use Rattle.std.specs.Prelude.{◌≡◌, is_some, IfOk};
+ghost use Rattle.std.specs.Prelude.{◌≡◌, IfOk};
 ghost use Rattle.std.specs.List.{list_all};
-ghost use Rattle.sip_message.specs.Form.{is_word_byte, is_word, is_call_id, is_token, all_valued, is_media_range, is_media_type, max_forwards_of};
+ghost use Rattle.sip_message.specs.Form.{is_word_byte, is_word, is_call_id, is_token, is_media_value, is_media_param, is_media_range, is_media_type, max_forwards_of};
 
-use sip_uri::{Param, read_field_params};
+use sip_uri::{Param, is_quoted, read_field_params};
 use std::alloc::{AllocError, Global};
 use text::{cut, is_run_of_digits, is_run_of_token, number_upto, trimmed};
 
@@ -58,10 +58,25 @@ fn is_media_range(text: &[u8]) -> bool
     is_token(kind) && subtype.is_some_and(|subtype| is_token(subtype))
 }
 
-fn all_valued(params: &[Param]) -> bool
-    ensures { result ≡ all_valued params.now }
+fn is_media_value(value: &[u8]) -> bool
+    ensures { result ≡ is_media_value value.now }
 {
-    params.iter().all(|param| param.value.is_some())
+    is_run_of_token(value) || is_quoted(value)
+}
+
+fn is_media_param(param: &Param) -> bool
+    ensures { result ≡ is_media_param param.now }
+{
+    match &param.value {
+        None => false,
+        Some(value) => is_media_value(value.as_bytes()),
+    }
+}
+
+fn all_media_params(params: &[Param]) -> bool
+    ensures { result ≡ list_all is_media_param params.now }
+{
+    params.iter().all(|param| is_media_param(param))
 }
 
 /// Whether the text is `type/subtype;name=value`.
@@ -73,7 +88,7 @@ pub(crate) fn is_media_type(alloc: Global, text: &[u8]) -> Result<bool, AllocErr
         return Ok(false);
     }
     match read_field_params(alloc, params)? {
-        Some(params) => Ok(all_valued(params.as_slice())),
+        Some(params) => Ok(all_media_params(params.as_slice())),
         None => Ok(false),
     }
 }

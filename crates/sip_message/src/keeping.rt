@@ -49,7 +49,7 @@ impl<'a> Vias<'a> {
     }
 }
 
-pub(crate) fn kept_party(
+fn kept_party(
     alloc: Global,
     name: &NameAddr<'_>,
     text: &Text<'_>,
@@ -72,19 +72,26 @@ fn kept_ends(alloc: Global, parts: &Parts<'_>) -> Result<Ends<'static>, AllocErr
     })
 }
 
-pub(crate) fn kept_sequence(
-    alloc: Global,
-    parts: &Parts<'_>,
-) -> Result<Sequence<'static>, AllocError>
-    ensures { IfOk result (λ sequence. (sequence.cseq ≡ parts.now.cseq) × (sequence.text ≡ parts.now.cseq_text)) }
-{
-    Ok(Sequence {
-        text: parts.cseq_text.keep(alloc)?,
-        cseq: parts.cseq.keep(alloc)?,
-    })
-}
-
 impl<'a> Parts<'a> {
+    /// From and its text, which borrow nothing.
+    pub fn keep_from(&self, alloc: Global) -> Result<Party<'static>, AllocError>
+        ensures name { IfOk result (λ party. party.name ≡ self.now.from) }
+        ensures text { IfOk result (λ party. party.text ≡ self.now.from_text) }
+    {
+        kept_party(alloc, &self.from, &self.from_text)
+    }
+
+    /// CSeq and its text, which borrow nothing.
+    pub fn keep_sequence(&self, alloc: Global) -> Result<Sequence<'static>, AllocError>
+        ensures cseq { IfOk result (λ sequence. sequence.cseq ≡ self.now.cseq) }
+        ensures text { IfOk result (λ sequence. sequence.text ≡ self.now.cseq_text) }
+    {
+        Ok(Sequence {
+            text: self.cseq_text.keep(alloc)?,
+            cseq: self.cseq.keep(alloc)?,
+        })
+    }
+
     /// The same parts, which borrow nothing.
     pub fn keep(&self, alloc: Global) -> Result<Parts<'static>, AllocError>
         ensures { IfOk result (λ p. p ≡ self.now) }
@@ -92,7 +99,7 @@ impl<'a> Parts<'a> {
         let vias = self.vias.keep(alloc)?;
         let ends = kept_ends(alloc, self)?;
         let call_id = self.call_id.keep(alloc)?;
-        let sequence = kept_sequence(alloc, self)?;
+        let sequence = self.keep_sequence(alloc)?;
         Ok(parts_with(vias, ends, call_id, sequence))
     }
 }

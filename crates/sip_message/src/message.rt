@@ -12,7 +12,7 @@ use std::marker::Model;
 use text::Text;
 
 /// Via values, the top one first.
-#[derive(Clone, Debug, Drop)]
+#[derive(Debug, Drop)]
 pub struct Vias<'a> {
     vias: Vec<Via<'a>>,
 }
@@ -66,7 +66,7 @@ pub struct Parts<'a> {
 }
 
 /// The parts of these values. With no way out it keeps the proofs of those that read or copy them short.
-pub(crate) fn parts_with<'a>(
+pub fn parts_with<'a>(
     vias: Vias<'a>,
     ends: Ends<'a>,
     call_id: Text<'a>,

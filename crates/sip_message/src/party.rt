@@ -9,15 +9,15 @@ use std::alloc::{AllocError, Global};
 use text::{Text, is_run_of_token};
 
 /// The value of From or To, and its text as received, unfolded and trimmed.
-#[derive(Clone, Debug, Drop)]
-pub(crate) struct Party<'a> {
+#[derive(Debug, Drop)]
+pub struct Party<'a> {
     pub text: Text<'a>,
     pub name: NameAddr<'a>,
 }
 
 /// From and To.
 #[derive(Drop)]
-pub(crate) struct Ends<'a> {
+pub struct Ends<'a> {
     pub from: Party<'a>,
     pub to: Party<'a>,
 }
@@ -40,8 +40,8 @@ fn has_fit_tag(params: &[Param]) -> bool
     tag_fits(param_named(params, b"tag"))
 }
 
-/// Whether the header has a tag (RFC 3261 section 19.3).
-pub(crate) fn has_tag(params: &[Param]) -> bool
+/// Whether From or To with these parameters has a tag (RFC 3261 section 19.3). Takes no memory.
+pub fn has_tag(params: &[Param]) -> bool
     ensures { result ≡ has_tag params.now }
 {
     param_named(params, b"tag").is_some()

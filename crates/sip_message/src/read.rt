@@ -3,7 +3,9 @@
 ghost use Rattle.std.specs.Prelude.{◌≡◌, ℕ, Ok, IfOk, IfErr};
 ghost use Rattle.std.specs.Option.{option_copied};
 ghost use Rattle.sip_message.specs.Repeatable.{CanBeRepeated, parts_in};
+ghost use Rattle.sip_message.specs.Contacts.{headers_in};
 ghost use Rattle.sip_message.specs.Faults.{Gives};
+ghost use Rattle.sip_message.specs.Places.{IsPlaced};
 ghost use Rattle.sip_message.specs.Grammar.{ReadsMessage, IsWithin, Refuses};
 ghost use Rattle.sip_message.specs.Reading.{contents_of, message_with, behind_start, message_of};
 ghost use Rattle.sip_message.specs.Values.{without_length};
@@ -130,6 +132,8 @@ pub fn read_message(alloc: Global, bytes: &[u8]) -> Result<Message<'_>, MessageE
     ensures only { (m : Message) (reads : ReadsMessage bytes.now m) → IsWithin bytes.now m reads → Gives result (Ok m) }
     ensures refused { IfErr result (λ e. Refuses bytes.now e) }
     ensures exact { Gives result (message_of bytes.now) }
+    // Its header fields stand in the bytes in their order, none over another, and each says what stands at its place.
+    ensures placed { IfOk result (λ m. IsPlaced bytes.now (headers_in m)) }
     ensures repeatable { IfOk result (λ m. CanBeRepeated (parts_in m)) }
 {
     read(alloc, bytes)

@@ -12,14 +12,14 @@ use text::{Text, cut, is_run_of_digits, is_run_of_token, number_upto};
 
 /// The start line of a request.
 #[derive(Drop)]
-pub(crate) struct RequestLine<'a> {
+pub struct RequestLine<'a> {
     pub method: Text<'a>,
     pub uri: Uri<'a>,
 }
 
 /// The start line of an answer.
 #[derive(Drop)]
-pub(crate) struct StatusLine<'a> {
+pub struct StatusLine<'a> {
     /// 100 to 699.
     pub status: u16,
     pub reason: Text<'a>,
@@ -27,7 +27,7 @@ pub(crate) struct StatusLine<'a> {
 
 /// A start line.
 #[derive(Drop)]
-pub(crate) enum Start<'a> {
+pub enum Start<'a> {
     Asking(RequestLine<'a>),
     Answering(StatusLine<'a>),
 }

@@ -1,7 +1,8 @@
 //! What the header fields of a message say.
 
 ghost use Rattle.sip_message.specs.Faults.{Gives};
-ghost use Rattle.sip_message.specs.Values.{from_for, to_of, call_id_of, cseq_for, contact_for, hops_of, type_of, ends_for, parts_of, hops_behind, values_of};
+ghost use Rattle.sip_message.specs.declared.needs.ContactNeed.TheVariants.{AtMostOne};
+ghost use Rattle.sip_message.specs.Values.{from_for, to_of, call_id_of, cseq_for, one_address, contacts_for, contact_for, hops_of, type_of, ends_for, parts_of, hops_behind, values_of};
 
 use crate::contact::{ContactValue, contact_values};
 use crate::cseq::{Sequence, read_cseq};
@@ -10,7 +11,7 @@ use crate::form::{is_call_id, is_media_type, read_max_forwards};
 use crate::headers::Header;
 use crate::message::{Parts, parts_with};
 use crate::named::{at_most_one, exactly_one};
-use crate::needs::{is_method_for, is_tagged_for, needs_contact};
+use crate::needs::{ContactNeed, contact_need, is_method_for, is_tagged_for};
 use crate::party::{Ends, Party, read_party};
 use crate::start::Start;
 use crate::vias::read_vias;
@@ -110,6 +111,25 @@ fn read_type<'a>(alloc: Global, headers: &[Header<'a>]) -> Result<Option<Text<'a
     Ok(Some(text))
 }
 
+fn one_address(values: &[ContactValue<'_>]) -> Result<(), MessageError>
+    ensures { Gives result (one_address values.now) }
+{
+    match values {
+        [] => Err(MessageError::Missing(HeaderName::Contact)),
+        [ContactValue::Address(_)] => Ok(()),
+        _ => Err(MessageError::Unreadable(HeaderName::Contact)),
+    }
+}
+
+fn one_address_at_most(values: &[ContactValue<'_>]) -> Result<(), MessageError>
+    ensures { Gives result (contacts_for AtMostOne values.now) }
+{
+    match values {
+        [] | [ContactValue::Address(_)] => Ok(()),
+        _ => Err(MessageError::Unreadable(HeaderName::Contact)),
+    }
+}
+
 #[tactic(auto, using(crate::proofs::FaultLaws::fails_itself))]
 fn check_contact(
     alloc: Global,
@@ -119,13 +139,10 @@ fn check_contact(
 ) -> Result<(), MessageError>
     ensures { Gives result (contact_for start.now method.now headers.now) }
 {
-    if !needs_contact(start, method) {
-        return Ok(());
-    }
-    match contact_values(alloc, headers)?.as_slice() {
-        [] => Err(MessageError::Missing(HeaderName::Contact)),
-        [ContactValue::Address(_)] => Ok(()),
-        _ => Err(MessageError::Unreadable(HeaderName::Contact)),
+    match contact_need(start, method) {
+        ContactNeed::Unlooked => Ok(()),
+        ContactNeed::One => one_address(contact_values(alloc, headers)?.as_slice()),
+        ContactNeed::AtMostOne => one_address_at_most(contact_values(alloc, headers)?.as_slice()),
     }
 }
 

@@ -13,7 +13,7 @@ use std::marker::Model;
 use text::{Text, cut, cut_word, is_run_of_digits, number_upto, trimmed, without_blanks};
 
 /// Where an answer goes (RFC 3261 section 18.2.2). `sent_by` is host and port as received, without blanks.
-#[derive(Clone, Debug, Drop)]
+#[derive(Debug, Drop)]
 pub struct Via<'a> {
     pub sent_by: Text<'a>,
     pub host: Host<'a>,

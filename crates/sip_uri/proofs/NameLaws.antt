@@ -8,12 +8,17 @@ use Rattle.sip_uri.specs.declared.uri.Uri.{Uri}
 use Rattle.sip_uri.specs.declared.uri.Param.{Param}
 use Rattle.sip_uri.specs.declared.uri.NameAddr.{NameAddr}
 use Rattle.sip_uri.specs.FieldParams.{is_field_params, field_params_of, field_params_read}
+use Rattle.sip_uri.specs.Grammar.{Refuses}
 use Rattle.sip_uri.specs.NameParts.{RawName, name_of, stands_well}
+use Rattle.sip_uri.specs.RawUri.{raw_text}
 use Rattle.sip_uri.specs.NameAddr.{name_params, judged, name_addr_from, name_addr_of, SpellsName, FitsName, ReadsNameAddr, RefusesName}
 use Rattle.sip_uri.specs.Reading.{Gives, uri_of}
 use Rattle.sip_uri.proofs.GrammarLaws.{is_found, is_read, is_refused}
 use Rattle.sip_uri.proofs.NameCuts.{name_is}
 use Rattle.sip_uri.proofs.NameSpelling.{name_again}
+
+abbrev none : Option (List Param)
+none = None
 
 abbrev some : List Param → Option (List Param)
 some ps = Some ps
@@ -105,31 +110,56 @@ not_ok text e h n reads = clash n e (sym (name_is_read text n reads) ∙ h) wher
   clash : (n : NameAddr) (e : UriError) → ok n ≡ failed e → ⊥
   clash n e h = absurd cc
 
-malformed : (text : List ℕ) (e : UriError) → name_addr_of text ≡ Err e → failed Malformed ≡ failed e → RefusesName text e
-malformed text e whole h = subst (λ (x : UriError). RefusesName text x) (error_is Malformed e h) (not_ok text e whole)
+-- why the whole is not of its form
+abbrev MayBeMalformed : List ℕ → RawName → Type 0
+MayBeMalformed text r = (Refuses r.uri Scheme → ⊥) × (FitsName text r → Refuses r.uri Malformed)
 
-refused_by : (text : List ℕ) (e : UriError) (r : RawName) (o : Option (List Param)) (u : Result Uri UriError) → name_addr_of text ≡ Err e → SpellsName text r → name_params r ≡ o → uri_of r.uri ≡ u → judged r o u ≡ Err e → RefusesName text e
-refused_by text e r (Some ps) (Ok u) whole spelled params uri h = absurd cc
-refused_by text e r None (Ok u) whole spelled params uri h = malformed text e whole h
-refused_by text e r o (Err Scheme) whole spelled params uri h = subst (λ (x : UriError). RefusesName text x) (error_is Scheme e h) (r, spelled, is_refused r.uri Scheme uri)
-refused_by text e r o (Err OutOfMemory) whole spelled params uri h = subst (λ (x : UriError). RefusesName text x) (error_is OutOfMemory e h) tt
-refused_by text e r o (Err Malformed) whole spelled params uri h = malformed text e whole h
-refused_by text e r None (Err BadEscape) whole spelled params uri h = malformed text e whole h
-refused_by text e r (Some ps) (Err BadEscape) whole spelled params uri h =
-    subst (λ (x : UriError). RefusesName text x) (error_is BadEscape e h) (r, fits_at text r ps spelled params, is_refused r.uri BadEscape uri)
-refused_by text e r None (Err Port) whole spelled params uri h = malformed text e whole h
-refused_by text e r (Some ps) (Err Port) whole spelled params uri h =
-    subst (λ (x : UriError). RefusesName text x) (error_is Port e h) (r, fits_at text r ps spelled params, is_refused r.uri Port uri)
+some_name : (a b : RawName) → Some a ≡ Some b → a ≡ b
+some_name a b e = cc
+
+malformed : (text : List ℕ) (e : UriError) → name_addr_of text ≡ Err e → failed Malformed ≡ failed e → ((r : RawName) → name_of text ≡ Some r → MayBeMalformed text r) → RefusesName text e
+malformed text e whole h why = subst (λ (x : UriError). RefusesName text x) (error_is Malformed e h) (not_ok text e whole, why)
+
+at_cut : (text : List ℕ) (r : RawName) → name_of text ≡ Some r → MayBeMalformed text r → (raw : RawName) → name_of text ≡ Some raw → MayBeMalformed text raw
+at_cut text r cut h raw e = subst (λ (x : RawName). MayBeMalformed text x) (some_name r raw (sym cut ∙ e)) h
+
+no_params : (text : List ℕ) (r : RawName) → name_params r ≡ None → FitsName text r → Refuses r.uri Malformed
+no_params text r params fits = clash (field_params_of r.params) (sym params ∙ params_again text r fits) where
+  clash : (ps : List Param) → none ≡ some ps → Refuses r.uri Malformed
+  clash ps e = absurd cc
+
+refused_by : (text : List ℕ) (e : UriError) (r : RawName) (o : Option (List Param)) (u : Result Uri UriError) → name_addr_of text ≡ Err e → name_of text ≡ Some r → SpellsName text r → name_params r ≡ o → uri_of r.uri ≡ u → judged r o u ≡ Err e → RefusesName text e
+refused_by text e r (Some ps) (Ok u) whole cut spelled params uri h = absurd cc
+refused_by text e r None (Ok u) whole cut spelled params uri h =
+    let reads = is_found r.uri u uri in
+    malformed text e whole h (at_cut text r cut (λ other. other (raw_text reads.raw) reads.spelled.begins, no_params text r params))
+refused_by text e r o (Err Scheme) whole cut spelled params uri h = subst (λ (x : UriError). RefusesName text x) (error_is Scheme e h) (r, cut, spelled, is_refused r.uri Scheme uri)
+refused_by text e r o (Err OutOfMemory) whole cut spelled params uri h = subst (λ (x : UriError). RefusesName text x) (error_is OutOfMemory e h) tt
+refused_by text e r o (Err Malformed) whole cut spelled params uri h =
+    let no = is_refused r.uri Malformed uri in
+    malformed text e whole h (at_cut text r cut (λ other. other no.0.0 no.0.1, λ fits. no))
+refused_by text e r None (Err BadEscape) whole cut spelled params uri h =
+    let no = is_refused r.uri BadEscape uri in
+    malformed text e whole h (at_cut text r cut (λ other. other (raw_text no.0) no.1.begins, no_params text r params))
+refused_by text e r (Some ps) (Err BadEscape) whole cut spelled params uri h =
+    subst (λ (x : UriError). RefusesName text x) (error_is BadEscape e h) (r, cut, fits_at text r ps spelled params, is_refused r.uri BadEscape uri)
+refused_by text e r None (Err Port) whole cut spelled params uri h =
+    let no = is_refused r.uri Port uri in
+    malformed text e whole h (at_cut text r cut (λ other. other (raw_text no.0) no.1.begins, no_params text r params))
+refused_by text e r (Some ps) (Err Port) whole cut spelled params uri h =
+    subst (λ (x : UriError). RefusesName text x) (error_is Port e h) (r, cut, fits_at text r ps spelled params, is_refused r.uri Port uri)
 
 given : (text : List ℕ) (e : UriError) → name_addr_of text ≡ Err e → name_addr_from (name_of text) ≡ Err e
 unfolding name_addr_of
 given text e h = h
 
 pub name_is_refused : (text : List ℕ) (e : UriError) → name_addr_of text ≡ Err e → RefusesName text e
-name_is_refused text e h = step (name_of text) (λ r k. name_is text r k) (given text e h) where
-  step : (o : Option RawName) → ((r : RawName) → o ≡ Some r → SpellsName text r) → name_addr_from o ≡ Err e → RefusesName text e
-  step None is k = malformed text e h k
-  step (Some r) is k = refused_by text e r (name_params r) (uri_of r.uri) h (is r refl) refl refl k
+name_is_refused text e h = step (name_of text) refl (λ r k. name_is text r k) (given text e h) where
+  step : (o : Option RawName) → name_of text ≡ o → ((r : RawName) → o ≡ Some r → SpellsName text r) → name_addr_from o ≡ Err e → RefusesName text e
+  step None cut is k = malformed text e h k (λ raw found. no_cut raw (sym cut ∙ found)) where
+    no_cut : (raw : RawName) → None ≡ Some raw → MayBeMalformed text raw
+    no_cut raw e = absurd cc
+  step (Some r) cut is k = refused_by text e r (name_params r) (uri_of r.uri) h cut (is r refl) refl refl k
 
 -- ---- at a call that gives what reading gives
 

@@ -9,3 +9,4 @@ pub mod Quoted
 pub mod FieldParams
 pub mod NameParts
 pub mod NameAddr
+pub mod Address

@@ -1,6 +1,7 @@
 //! URIs of the scheme `sip`, and the names and addresses that headers are made of (RFC 3261 sections 19.1 and 20.10).
 #![tactic(auto)]
 
+mod address;
 mod binding;
 mod class;
 mod error;
@@ -16,6 +17,7 @@ mod read;
 mod uri;
 mod write;
 
+pub use address::{address_of, port_or_default};
 pub use binding::{param_named, same_binding, same_host, same_text};
 pub use error::UriError;
 pub use field_params::read_field_params;
@@ -23,6 +25,7 @@ pub use hosts::{ip4, is_host};
 pub use keeping::keep_text;
 pub use laws::{binding_is_equivalence, one_value};
 pub use name_addr::{read_name_addr, write_name_addr};
+pub use quoted::is_quoted;
 pub use read::{read_host, read_uri};
 pub use uri::{Addr, Host, NameAddr, Param, Params, Uri};
 pub use write::{put_host, put_ip4, put_param, put_params, write_uri};

@@ -319,22 +319,22 @@ fires_then slots timers table timer now fireable view due found there =
     ap (λ o. is_some (fired_of o timer.kind)) there
     ∙ due_fires (record { slots = slots; timers = timers }) timer now fireable (ap (λ v. is_due v timer now) view ∙ sym due)
 
--- ---- what is fresh without being asked for
+-- ---- what is fresh where it is asked for
 
 given_too : (state : State) (given : Bool) (step : Step) (next : Option State) → follows_to state false step next ≡ true → follows_to state given step next ≡ true
 given_too state given step None h = h
 given_too state false step (Some next) h = h
 given_too state true step (Some next) h = and_from _ true (and_parts _ _ h).0 refl
 
-follows_given : (state : State) (asked given : Bool) (step : Step) → asked ≡ false → follows state asked step ≡ true → follows state given step ≡ true
+follows_more : (state : State) (asked given : Bool) (step : Step) → (asked ≡ true → given ≡ true) → follows state asked step ≡ true → follows state given step ≡ true
 unfolding follows
-follows_given state true given step e h = absurd (false≢true (sym e))
-follows_given state false given step e h = given_too state given step step.next h
+follows_more state true given step e h = subst (λ b. follows_to state b step step.next ≡ true) (sym (e refl)) h
+follows_more state false given step e h = given_too state given step step.next h
 
-pub follows_there : (slots : List (Option Transaction)) (id : ℕ) (found : Transaction) (asked given : Bool) (step : Step)
-    → asked ≡ false → Some found ≡ at slots id → follows found.state asked step ≡ true
+pub follows_by : (slots : List (Option Transaction)) (id : ℕ) (found : Transaction) (asked given : Bool) (step : Step)
+    → (asked ≡ true → given ≡ true) → Some found ≡ at slots id → follows found.state asked step ≡ true
     → (t : Transaction) → at slots id ≡ Some t → follows t.state given step ≡ true
-follows_there slots id found asked given step e there h t at_id =
+follows_by slots id found asked given step e there h t at_id =
     let some : Some found ≡ Some t = there ∙ at_id in
     let same : found ≡ t = cc in
-    subst (λ u. follows u.state given step ≡ true) same (follows_given found.state asked given step e h)
+    subst (λ u. follows u.state given step ≡ true) same (follows_more found.state asked given step e h)

@@ -9,22 +9,25 @@ use Rattle.std.proofs.lemmas.List.Folds.{list_any_at}
 use Rattle.std.proofs.lemmas.List.Sums.{prefix_len-le-length, passes_at_first}
 use Rattle.sip_uri.specs.declared.uri.Addr.{Addr}
 use Rattle.sip_message.specs.declared.message.Message.TheVariants as Kinds
-use Rattle.sip_message.specs.Writing.{message_text}
+use Rattle.sip_writing.specs.Writing.{message_text}
 use Rattle.sip_message.specs.declared.message.Parts.{Parts}
 use Rattle.sip_message.specs.declared.message.Request.{Request}
 use Rattle.sip_message.specs.declared.message.Response.{Response}
+use Rattle.transactions.specs.declared.change.Entry.TheVariants.{Opens, Leaves}
 use Rattle.transactions.specs.declared.input.Input.{Input}
 use Rattle.transactions.specs.declared.input.Input.TheVariants as inputs
 use Rattle.transactions.specs.declared.outcome.Verdict.TheVariants as verdicts
 use Rattle.transactions.specs.declared.state.State.{State}
+use Rattle.transactions.specs.declared.step.Starts.{Starts}
 use Rattle.transactions.specs.declared.step.Starts.TheVariants.{NoTimer}
 use Rattle.transactions.specs.declared.step.Step.{Step}
 use Rattle.transactions.specs.declared.transaction.Transaction.{Transaction}
 use Rattle.transactions.specs.Machines.{row_of, is_server}
 use Rattle.transactions.specs.Matching.{is_copy, is_method}
 use Rattle.transactions.specs.Slots.{at, is_asked, is_answered, free_number}
-use Rattle.transactions.specs.Transactions.{went, served, served_state, asking}
-use Rattle.transactions.specs.Contents.{Contents, stepped_by, table_at, opened, placed, stray, reception_of, request_reception, after_message, after_request, after_response, input_of, response_input, answer_input, ack_at, IsNew}
+use Rattle.transactions.specs.Transactions.{went, served, served_state, asking, asking_timers}
+use Rattle.transactions.specs.Contents.{Contents, stepped_by, table_at, opened, placed, stray, reception_of, request_reception, input_of, response_input, answer_input, ack_at, IsNew}
+use Rattle.transactions.specs.Changes.{entered, request_change, response_change, change_of, after_message}
 use Rattle.transactions.specs.Calls.{Call, Receive, Start, Answer, Abandon, Fire, Leave, after, after_all, tells, noticed, is_end, is_ended}
 use Rattle.transactions.specs.Lines.{follows, follows_to, is_answer}
 use Rattle.transactions.specs.Once.{IsLeftBy, IsLeft, Lasts, NewOnce}
@@ -134,28 +137,29 @@ told_left table place id t input fresh now there = elim (cases_eq place id) [
       (other_left table place id (at table.slots place) input fresh now (λ e. other (sym e)) ∙ there)
 ]
 
-begun_left : (table : Contents) (r : Request) (source : Addr) (now id : ℕ) (t : Transaction) (b : Bool) → at table.slots id ≡ Some t
-    → at (cond b table (opened table (served r source) NoTimer now)).slots id ≡ Some t
-begun_left table r source now id t true there = there
-begun_left table r source now id t false there = placed_other table.slots id (served r source) t there
+begun_left : (table : Contents) (u : Transaction) (starts : Starts) (now id : ℕ) (t : Transaction) (b : Bool) → at table.slots id ≡ Some t
+    → at (entered now table (cond b Leaves (Opens u starts))).slots id ≡ Some t
+begun_left table u starts now id t true there = there
+begun_left table u starts now id t false there = placed_other table.slots id u t there
 
 request_left : (table : Contents) (r : Request) (source : Addr) (now id : ℕ) (t : Transaction) (number : Option ℕ) → at table.slots id ≡ Some t
-    → IsLeftBy t (is_ended t id (option_map (tells (input_of r.parts)) number)) (at (after_request table r source now number).slots id)
+    → IsLeftBy t (is_ended t id (option_map (tells (input_of r.parts)) number)) (at (entered now table (request_change r source number)).slots id)
 request_left table r source now id t None there =
-    left_as t false _ refl (begun_left table r source now id t (is_method (codes "ACK") r.parts) there)
+    left_as t false _ refl (begun_left table (served r source) NoTimer now id t (is_method (codes "ACK") r.parts) there)
 request_left table r source now id t (Some place) there = told_left table place id t (input_of r.parts) None now there
 
 response_left : (table : Contents) (r : Response) (now id : ℕ) (t : Transaction) (number : Option ℕ) → at table.slots id ≡ Some t
-    → IsLeftBy t (is_ended t id (option_map (tells (response_input r)) number)) (at (after_response table r now number).slots id)
+    → IsLeftBy t (is_ended t id (option_map (tells (response_input r)) number)) (at (entered now table (response_change table r number)).slots id)
 response_left table r now id t None there = left_as t false _ refl there
 response_left table r now id t (Some place) there = told_left table place id t (response_input r) (ack_at (at table.slots place) r) now there
 
 pub left : (table : Contents) (call : Call) (id : ℕ) → IsLeft table call id
-unfolding after_message
+unfolding after_message change_of
 left table (Receive (Kinds.Request r) source now) id t there = request_left table r source now id t (position (is_asked r.parts) table.slots) there
 left table (Receive (Kinds.Response r) source now) id t there = response_left table r now id t (position (is_answered r.parts) table.slots) there
 left table (Start r to now) id t there =
-    left_as t false _ refl (placed_other table.slots id (asking r to (message_text (Kinds.Request r))) t there)
+    left_as t false _ refl
+    (begun_left table (asking r to (message_text (Kinds.Request r))) (asking_timers r.parts) now id t (is_method (codes "ACK") r.parts) there)
 left table (Answer place r now) id t there = told_left table place id t (answer_input r) (Some (message_text (Kinds.Response r))) now there
 left table (Abandon place now) id t there = told_left table place id t inputs.Abandon None now there
 left table (Fire timer now) id t there = told_left table timer.id id t (inputs.Fires timer.kind) None now there
@@ -212,22 +216,22 @@ new_number table r None id h = begun_number table (is_method (codes "ACK") r.par
 new_number table r (Some place) id h = absurd (by_transaction place (at table.slots place) (input_of r.parts) None (subst IsNew (sym h) tt))
 
 served_at : (table : Contents) (r : Request) (source : Addr) (now : ℕ) (b : Bool) → b ≡ false
-    → at (cond b table (opened table (served r source) NoTimer now)).slots (free_number table.slots) ≡ Some (served r source)
+    → at (entered now table (cond b Leaves (Opens (served r source) NoTimer))).slots (free_number table.slots) ≡ Some (served r source)
 served_at table r source now true e = absurd (cc)
 served_at table r source now false e = placed_own table.slots (served r source)
 
 begun_at : (table : Contents) (r : Request) (source : Addr) (now : ℕ) (number : Option ℕ) → number ≡ None → is_method (codes "ACK") r.parts ≡ false
-    → at (after_request table r source now number).slots (free_number table.slots) ≡ Some (served r source)
+    → at (entered now table (request_change r source number)).slots (free_number table.slots) ≡ Some (served r source)
 begun_at table r source now None e h = served_at table r source now (is_method (codes "ACK") r.parts) h
 begun_at table r source now (Some place) e h = absurd (cc)
 
 new_at : (table : Contents) (r : Request) (source : Addr) (now id : ℕ) → (reception_of table (Kinds.Request r)).verdict ≡ verdicts.New id
     → at (after_message table (Kinds.Request r) source now).slots id ≡ Some (served r source)
-unfolding reception_of after_message
+unfolding reception_of after_message change_of
 new_at table r source now id h =
     let number = position (is_asked r.parts) table.slots in
     let new = subst IsNew (sym h) tt in
-    subst (λ n. at (after_request table r source now number).slots n ≡ Some (served r source)) (new_number table r number id h)
+    subst (λ n. at (entered now table (request_change r source number)).slots n ≡ Some (served r source)) (new_number table r number id h)
     (begun_at table r source now number (none_asked table r new) (no_ack table r number new))
 
 pub new_once : (table : Contents) (r : Request) (source : Addr) (now : ℕ) (calls : List Call) → NewOnce table r source now calls

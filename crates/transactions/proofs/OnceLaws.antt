@@ -17,6 +17,7 @@ use Rattle.sip_message.specs.declared.via.Via.{Via}
 use Rattle.sip_message.specs.declared.message.Message.TheVariants as Kinds
 use Rattle.sip_message.specs.declared.message.Parts.{Parts}
 use Rattle.sip_message.specs.declared.message.Request.{Request}
+use Rattle.transactions.specs.declared.change.Entry.TheVariants.{Opens, Leaves}
 use Rattle.transactions.specs.declared.input.Input.{Input}
 use Rattle.transactions.specs.declared.input.Input.TheVariants.{Repeat, Ack, Answer, Response, Abandon, Fires}
 use Rattle.transactions.specs.declared.outcome.Verdict.{Verdict}
@@ -35,7 +36,8 @@ use Rattle.transactions.specs.Machines.{row_of, is_server}
 use Rattle.transactions.specs.Matching.{is_copy, is_method, served_method, same_top, same_sent_by, branch_in, default_port}
 use Rattle.transactions.specs.Slots.{at, is_asked, free_number}
 use Rattle.transactions.specs.Transactions.{served, served_state}
-use Rattle.transactions.specs.Contents.{Contents, upward, repeat_by, reception_by, reception_at, request_reception, reception_of, after_message, after_request, opened, placed, stray, input_of, IsNew}
+use Rattle.transactions.specs.Contents.{Contents, upward, repeat_by, reception_by, reception_at, request_reception, reception_of, placed, stray, input_of, IsNew}
+use Rattle.transactions.specs.Changes.{entered, request_change, change_of, after_message}
 use Rattle.transactions.specs.Once.{stands}
 
 -- ---- only New is new
@@ -143,18 +145,18 @@ any_placed : (p : Option Transaction → Bool) (slots : List (Option Transaction
 any_placed p slots id t h = any_placed_by p slots id (Some t) (nat_lt id (length slots)) (λ lt. ltb-true id (length slots) lt) h
 
 stands_begun : (table : Contents) (r : Request) (source : Addr) (now : ℕ) (b : Bool) → b ≡ false → is_method (codes "ACK") r.parts ≡ false
-    → stands (cond b table (opened table (served r source) starts.NoTimer now)) r.parts ≡ true
+    → stands (entered now table (cond b Leaves (Opens (served r source) starts.NoTimer))) r.parts ≡ true
 stands_begun table r source now true e h = cc
 stands_begun table r source now false e h = any_placed (is_asked r.parts) table.slots (free_number table.slots) (served r source) (own_asked r source h)
 
 stands_after : (table : Contents) (r : Request) (source : Addr) (now : ℕ) (number : Option ℕ) → number ≡ None → is_method (codes "ACK") r.parts ≡ false
-    → stands (after_request table r source now number) r.parts ≡ true
+    → stands (entered now table (request_change r source number)) r.parts ≡ true
 stands_after table r source now None e h = stands_begun table r source now (is_method (codes "ACK") r.parts) h h
 stands_after table r source now (Some id) e h = cc
 
 pub stands_then : (table : Contents) (r : Request) (source : Addr) (now : ℕ) → IsNew (reception_of table (Kinds.Request r)).verdict
     → stands (after_message table (Kinds.Request r) source now) r.parts ≡ true
-unfolding reception_of after_message
+unfolding reception_of after_message change_of
 stands_then table r source now h =
     let number = position (is_asked r.parts) table.slots in
     stands_after table r source now number (none_asked table r h) (no_ack table r number h)

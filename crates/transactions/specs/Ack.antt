@@ -10,7 +10,7 @@ use Rattle.sip_message.specs.declared.message.Parts.{Parts}
 use Rattle.sip_message.specs.declared.message.Request.{Request}
 use Rattle.sip_message.specs.declared.via.Via.{Via}
 use Rattle.sip_message.specs.Lookup.{named}
-use Rattle.sip_message.specs.Reply.{via_headers, tag_param}
+use Rattle.sip_writing.specs.Reply.{via_headers, tag_param}
 use Rattle.transactions.specs.Matching.{tag_in}
 
 -- a single Via, the top one of the INVITE

@@ -12,7 +12,8 @@ use Rattle.transactions.specs.declared.transaction.TimerId.{TimerId}
 use Rattle.transactions.specs.declared.transaction.Transaction.{Transaction}
 use Rattle.transactions.specs.Machines.{row_of}
 use Rattle.transactions.specs.Slots.{is_asked, is_answered}
-use Rattle.transactions.specs.Contents.{Contents, after_message, after_start, after_answer, after_abandon, after_fire, input_of, response_input, answer_input}
+use Rattle.transactions.specs.Contents.{Contents, after_answer, after_abandon, after_fire, input_of, response_input, answer_input}
+use Rattle.transactions.specs.Changes.{after_message, after_start}
 
 -- A call that was done. One that was refused, or that only asks, leaves the table.
 pub data Call : Type 0 where

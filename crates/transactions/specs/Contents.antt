@@ -9,7 +9,7 @@ use Rattle.sip_message.specs.declared.message.Message.TheVariants as Kinds
 use Rattle.sip_message.specs.declared.message.Parts.{Parts}
 use Rattle.sip_message.specs.declared.message.Request.{Request}
 use Rattle.sip_message.specs.declared.message.Response.{Response}
-use Rattle.sip_message.specs.Writing.{message_text}
+use Rattle.sip_writing.specs.Writing.{message_text}
 use Rattle.transactions.specs.declared.error.TableError.{TableError}
 use Rattle.transactions.specs.declared.error.TableError.TheVariants.{OutOfMemory, Unknown, AfterFinal, Full}
 use Rattle.transactions.specs.declared.input.Input.{Input}
@@ -146,22 +146,6 @@ unfoldable pub reception_of : Contents → Message → Reception
 reception_of table (Kinds.Request r) = request_reception table r (position (is_asked r.parts) table.slots)
 reception_of table (Kinds.Response r) = response_reception table r (position (is_answered r.parts) table.slots)
 
-abbrev pub after_begun : Contents → Request → Addr → ℕ → Contents
-after_begun table r source now = if is_method (codes "ACK") r.parts then table else opened table (served r source) NoTimer now
-
-abbrev pub after_request : Contents → Request → Addr → ℕ → Option ℕ → Contents
-after_request table r source now None = after_begun table r source now
-after_request table r source now (Some id) = table_at table id (at table.slots id) (input_of r.parts) None now
-
-abbrev pub after_response : Contents → Response → ℕ → Option ℕ → Contents
-after_response table r now None = table
-after_response table r now (Some id) = table_at table id (at table.slots id) (response_input r) (ack_at (at table.slots id) r) now
-
--- the table after a message
-unfoldable pub after_message : Contents → Message → Addr → ℕ → Contents
-after_message table (Kinds.Request r) source now = after_request table r source now (position (is_asked r.parts) table.slots)
-after_message table (Kinds.Response r) source now = after_response table r now (position (is_answered r.parts) table.slots)
-
 abbrev pub IsNew : Verdict → Type 0
 IsNew (verdicts.New id) = Unit {0}
 IsNew verdicts.Repeat = ⊥
@@ -184,9 +168,6 @@ RefusesBegun table parts Unknown = ⊥
 RefusesBegun table parts AfterFinal = ⊥
 
 -- ---- the core asks, answers and abandons
-
-abbrev pub after_start : Contents → Request → Addr → ℕ → Contents
-after_start table r to now = opened table (asking r to (message_text (Kinds.Request r))) (asking_timers r.parts) now
 
 abbrev pub answer_input : Response → Input
 answer_input r = inputs.Answer (class_of r.status)

@@ -1,4 +1,5 @@
 pub mod Ack
+pub mod Changes
 pub mod Contents
 pub mod Inputs
 pub mod InviteClient

@@ -9,7 +9,8 @@ use Rattle.transactions.specs.declared.outcome.Verdict.TheVariants as verdicts
 use Rattle.transactions.specs.declared.transaction.Transaction.{Transaction}
 use Rattle.transactions.specs.Machines.{is_server}
 use Rattle.transactions.specs.Matching.{is_copy}
-use Rattle.transactions.specs.Contents.{Contents, reception_of, after_message, IsNew}
+use Rattle.transactions.specs.Contents.{Contents, reception_of, IsNew}
+use Rattle.transactions.specs.Changes.{after_message}
 use Rattle.transactions.specs.Calls.{Call, after, after_all, is_ended, noticed}
 use Rattle.transactions.specs.Slots.{at, is_asked}
 

@@ -1,9 +1,9 @@
 -- One transaction: how it begins, goes on, and what it sends.
-use Rattle.std.specs.Prelude.{ℕ, ◌*◌, List, codes, Option, Some, None, option_map, if◌then◌else◌}
+use Rattle.std.specs.Prelude.{ℕ, ◌*◌, false, List, codes, Option, Some, None, option_map, if◌then◌else◌}
 use Rattle.sip_uri.specs.declared.uri.Addr.{Addr}
 use Rattle.sip_message.specs.declared.message.Parts.{Parts}
 use Rattle.sip_message.specs.declared.message.Request.{Request}
-use Rattle.sip_message.specs.Reply.{answer_address}
+use Rattle.sip_writing.specs.Reply.{answer_address}
 use Rattle.transactions.specs.declared.input.TimerKind.TheVariants as letter
 use Rattle.transactions.specs.declared.invite_client.InviteClient.TheVariants.{Calling}
 use Rattle.transactions.specs.declared.invite_server.InviteServer.TheVariants as invite
@@ -32,7 +32,7 @@ served r source = record { uri = r.uri; parts = r.parts; state = served_state r.
 -- ---- a request of the server's own
 
 abbrev pub asking_state : Parts → State
-asking_state parts = if is_method (codes "INVITE") parts then machine.InviteClient (Calling t1) else machine.OtherClient (asked.Trying t1)
+asking_state parts = if is_method (codes "INVITE") parts then machine.InviteClient (Calling t1 false) else machine.OtherClient (asked.Trying t1)
 
 abbrev pub asking : Request → Addr → List ℕ → Transaction
 asking r to bytes = record { uri = r.uri; parts = r.parts; state = asking_state r.parts; place = to; last = Some bytes }

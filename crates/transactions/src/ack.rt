@@ -3,7 +3,7 @@
 ghost use Rattle.std.specs.Prelude.{◌≡◌, IfOk};
 ghost use Rattle.std.specs.Option.{option_copied};
 ghost use Rattle.sip_uri.specs.NameAddr.{name_addr_text};
-ghost use Rattle.sip_message.specs.Writing.{message_text};
+ghost use Rattle.sip_writing.specs.Writing.{message_text};
 ghost use Rattle.sip_message.specs.declared.message.Message.TheVariants as Kinds;
 ghost use Rattle.transactions.specs.Ack.{top_only, tag_params, ack_to, ack_cseq, ack_cseq_text, ack_parts, ack_headers, ack_of};
 ghost use Rattle.transactions.specs.Contents.{ack_for};
@@ -11,10 +11,9 @@ ghost use Rattle.transactions.specs.Contents.{ack_for};
 use crate::matching::tag_in;
 use crate::step::Sending;
 use crate::transaction::Transaction;
-use sip_message::{
-    CSeq, Headers, Parts, Request, Response, Via, Vias, tag_param, via_headers, write_request,
-};
+use sip_message::{CSeq, Headers, Parts, Request, Response, Via, Vias};
 use sip_uri::{NameAddr, Params, Uri, keep_text, write_name_addr};
+use sip_writing::{tag_param, via_headers, write_request};
 use std::alloc::{AllocError, Global};
 use text::{Text, put_number};
 

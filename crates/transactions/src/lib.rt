@@ -4,7 +4,10 @@
 #![tactic(auto)]
 
 mod ack;
+mod applying;
+mod change;
 mod error;
+mod foreseeing;
 mod input;
 mod invite_client;
 mod invite_server;
@@ -21,7 +24,9 @@ mod table;
 mod transaction;
 mod verdicts;
 
+pub use change::{Change, Entry};
 pub use error::TableError;
+pub use foreseeing::{Foreseen, ForeseenFire};
 pub use input::{Class, Input, TimerKind};
 pub use invite_client::InviteClient;
 pub use invite_server::InviteServer;

@@ -51,10 +51,11 @@ impl Reception {
     }
 }
 
-/// A transaction that was begun, and what is to be sent.
+/// What a request of the server's own began, and what is to be sent.
 #[derive(Debug, Drop)]
 pub struct Started {
-    pub id: usize,
+    /// The number of the transaction. None for an ACK, which begins none.
+    pub id: Option<usize>,
     pub send: Outgoing,
 }
 

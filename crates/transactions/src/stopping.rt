@@ -5,6 +5,7 @@ ghost use Rattle.transactions.specs.Timing.{same_timer, timer_of, without_kinds,
 ghost use Rattle.transactions.specs.Steps.{IsShort};
 ghost use Rattle.timers.specs.Queue.{without, moment};
 ghost use Rattle.transactions.specs.Contents.{has_come};
+ghost use Rattle.transactions.specs.Changes.{starts_count};
 
 use crate::input::TimerKind;
 use crate::step::{Start, Starts, Stops};
@@ -95,10 +96,11 @@ fn set(timers: &mut Timers<TimerId>, id: usize, timer: Start, now: u64)
 
 /// Starts timers of a transaction. There is room for them.
 pub(crate) fn set_all(timers: &mut Timers<TimerId>, id: usize, starts: Starts, now: u64)
-    requires room { 2 ≤ timers.old.room }
+    requires room { starts_count starts ≤ timers.old.room }
     requires moment { now < 2 ^ 60 }
     requires short { IsShort starts }
-    ensures { timers.new.timers ≡ started timers.old.timers id starts now }
+    ensures timers { timers.new.timers ≡ started timers.old.timers id starts now }
+    ensures room { timers.old.room ≤ timers.new.room + 2 }
 {
     match starts {
         Starts::NoTimer => {}

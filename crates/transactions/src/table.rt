@@ -1,50 +1,44 @@
 //! The table of transactions, with its timers.
 
-ghost use Rattle.std.specs.Prelude.{ℕ, List, Option, ◌≡◌, ◌<◌, ◌≤◌, ◌^◌, [], OnOk, OnErr, IfOk, IfErr, Some, None, IfSome, IsSome, is_some, false, position, option_map, slice_set, nat_lt, length, ◌++◌, ◌∷◌, if◌then◌else◌, true, IsTrue};
-ghost use Rattle.sip_uri.specs.declared.uri.Addr.{Addr};
+ghost use Rattle.std.specs.Prelude.{◌≡◌, ◌<◌, ◌^◌, [], OnOk, OnErr, IfOk, IfErr, Some, IfSome, IsSome, is_some, option_map, IsTrue};
+ghost use Rattle.std.specs.Option.{option_copied};
 ghost use Rattle.timers.specs.Queue.{first, first_due};
 ghost use Rattle.sip_message.specs.Grammar.{ReadsMessage};
-ghost use Rattle.sip_message.specs.Writing.{message_text};
-ghost use Rattle.sip_message.specs.WritingMessage.{IsWrittenMessage};
+ghost use Rattle.sip_writing.specs.Writing.{message_text};
+ghost use Rattle.sip_writing.specs.WritingMessage.{IsWrittenMessage};
 ghost use Rattle.sip_message.specs.declared.message.Message.TheVariants as Kinds;
-ghost use Rattle.transactions.specs.declared.transaction.Transaction.{Transaction};
 ghost use Rattle.transactions.specs.Limits.{most_served};
-ghost use Rattle.transactions.specs.Lines.{follows, starts_with_lines, has_sent, is_answer};
-ghost use Rattle.transactions.specs.Slots.{at, is_asked, is_answered, free_number, named, serving, is_serving};
-ghost use Rattle.transactions.specs.Steps.{IsShort};
-ghost use Rattle.transactions.specs.Transactions.{served, asking, asking_timers, went, outgoing};
-ghost use Rattle.transactions.specs.Contents.{stepped, table_at, line_at, placed, opened, reception_at, input_of, verdict_by, begun, RefusesBegun, stray, request_reception, ack_at, ack_by, response_input, response_reception, reception_of, after_begun, after_request, after_response, after_message, IsNew, RefusesMessage, after_start, answer_input, after_answer, answer_sent, RefusesAnswer, after_abandon, RefusesAbandon, fired_by, fired_of, after_fire, is_due, RefusesFire, merged};
+ghost use Rattle.transactions.specs.Slots.{at, named, serving, is_serving};
+ghost use Rattle.transactions.specs.Transactions.{outgoing};
+ghost use Rattle.transactions.specs.Inputs.{class_of};
+ghost use Rattle.transactions.specs.Contents.{line_at, reception_of, IsNew, RefusesMessage, answer_input, after_answer, answer_sent, RefusesAnswer, after_abandon, RefusesAbandon, fired_of, after_fire, is_due, RefusesFire, merged};
+ghost use Rattle.transactions.specs.Changes.{entered, entered_all, after_message, after_start, started_number};
 
-use crate::ack::ack_for;
+use crate::applying::{enter, enter_all, make_room, make_room_for};
+use crate::change::Change;
 use crate::error::TableError;
+use crate::foreseeing::{Foreseen, ForeseenFire};
 use crate::input::{Input, class_of};
 use crate::matching::{has_to_tag, is_method};
-use crate::outcome::{Fired, Outgoing, Reception, Started, Verdict};
-use crate::slots::{answered, any_merged, asked, free_number, named, serving, transaction_at};
-use crate::state::{State, advance, is_server};
-use crate::step::{Starts, Step};
-use crate::stopping::{has_come, moment, set_all, stop};
-use crate::transaction::{
-    TimerId, Transaction, asking, asking_timers, discard, sent, served, went,
-};
-use crate::verdicts::{fired_by, input_of, verdict_by};
-use sip_message::{Message, Request, Response, write_request, write_response};
+use crate::outcome::{Fired, Outgoing, Reception, Started};
+use crate::slots::{any_merged, free_number, named, transaction_at};
+use crate::state::{advance, is_server};
+use crate::stopping::{has_come, moment};
+use crate::transaction::{TimerId, Transaction};
+use sip_message::{Message, Request, Response};
 use sip_uri::Addr;
+use sip_writing::{write_request, write_response};
 use std::alloc::{AllocError, Global};
 use std::marker::Model;
-use text::Text;
 use timers::{Timer, Timers};
-
-/// Server transactions at most. What the server itself asks is not counted.
-const MOST_SERVED: usize = 4096;
 
 /// The transactions of the server (RFC 3261 section 17), each with a number, and their timers. Moments are in
 /// milliseconds.
 #[derive(Drop)]
 pub struct Table {
-    alloc: Global,
-    slots: Vec<Option<Transaction>>,
-    timers: Timers<TimerId>,
+    pub(crate) alloc: Global,
+    pub(crate) slots: Vec<Option<Transaction>>,
+    pub(crate) timers: Timers<TimerId>,
 }
 
 impl Model for Table {
@@ -75,6 +69,7 @@ impl Table {
     /// Takes a message that came from `source`. A request that belongs to no transaction begins one, under the least
     /// number that none has; an answer or an ACK that belongs to none is stray. A refusal (X3, no memory) leaves the
     /// table as it was.
+    #[tactic(auto, unfolding(crate::specs::Changes::after_message))]
     pub fn receive(
         &mut self,
         message: &Message,
@@ -89,17 +84,16 @@ impl Table {
         ensures refused { IfErr result (RefusesMessage self.old message.now) }
         ensures err { OnErr result (self.new ≡ self.old) }
     {
-        match message {
-            Message::Request(request) => self.receive_request(request, source, now),
-            Message::Response(response) => Ok(self.receive_response(response, now)?),
-        }
+        let Foreseen { reception, change } = self.foresee(message, source)?;
+        self.enter_alone(change, now)?;
+        Ok(reception)
     }
 
-    /// Begins the transaction of a request of the server's own, which is sent. A refusal (no memory) leaves the table
-    /// as it was.
+    /// Sends a request of the server's own, which begins a transaction. An ACK belongs to none, and is only sent (RFC
+    /// 3261 section 17.1.1.3). A refusal (no memory) leaves the table as it was.
     pub fn start(&mut self, request: &Request, to: Addr, now: u64) -> Result<Started, AllocError>
         requires { now < 2 ^ 60 }
-        ensures id { IfOk result (λ s. s.id ≡ free_number self.old.slots) }
+        ensures id { IfOk result (λ s. s.id ≡ started_number self.old request.now) }
         ensures send { IfOk result (λ s. s.send ≡ outgoing to (message_text (Kinds.Request request.now))) }
         ensures reads { IsWrittenMessage (Kinds.Request request.now) → IfOk result (λ s. ReadsMessage s.send.bytes (Kinds.Request request.now)) }
         ensures table { OnOk result (self.new ≡ after_start self.old request.now to now) }
@@ -107,8 +101,9 @@ impl Table {
     {
         let bytes = write_request(self.alloc, request)?;
         let kept = bytes.clone()?;
-        let transaction = asking(self.alloc, request, to, kept)?;
-        let id = self.open(transaction, asking_timers(&request.parts), now)?;
+        let id = self.started_number(request);
+        let change = Change::starts_with(self.alloc, request, to, kept)?;
+        self.enter_alone(change, now)?;
         Ok(Started {
             id,
             send: Outgoing { to, bytes },
@@ -136,13 +131,14 @@ impl Table {
         if !is_server(transaction.state) {
             return Err(TableError::Unknown);
         }
-        let Some(step) = advance(transaction.state, Input::Answer(class_of(response.status))) else {
+        let class = class_of(response.status);
+        if advance(transaction.state, Input::Answer(class)).is_none() {
             return Err(TableError::AfterFinal);
-        };
+        }
         let to = transaction.place;
         let bytes = write_response(self.alloc, response)?;
         let kept = bytes.clone()?;
-        self.carry_out(id, step, Some(kept), now)?;
+        self.enter_alone(Change::answers_with(id, class, kept), now)?;
         Ok(Outgoing { to, bytes })
     }
 
@@ -157,10 +153,10 @@ impl Table {
         let Some(transaction) = transaction_at(&self.slots, id) else {
             return Err(TableError::Unknown);
         };
-        let Some(step) = advance(transaction.state, Input::Abandon) else {
+        if advance(transaction.state, Input::Abandon).is_none() {
             return Err(TableError::Unknown);
-        };
-        self.carry_out(id, step, None, now)?;
+        }
+        self.enter_alone(Change::abandons(id), now)?;
         Ok(())
     }
 
@@ -173,21 +169,40 @@ impl Table {
         ensures refused { IfErr result (RefusesFire self.old timer now) }
         ensures err { OnErr result (self.new ≡ self.old) }
     {
-        if !self.is_due(timer, now) {
-            return Err(TableError::Unknown);
-        }
-        let Some(transaction) = transaction_at(&self.slots, timer.id) else {
-            unreachable!()
-        };
-        let Some(step) = advance(transaction.state, Input::Fires(timer.kind)) else {
-            unreachable!()
-        };
-        let send = sent(transaction, &None, step.send)?;
-        let Some(fired) = fired_by(step.told, send) else {
-            unreachable!()
-        };
-        self.carry_out(timer.id, step, None, now)?;
+        let ForeseenFire { fired, change } = self.foresee_fire(timer, now)?;
+        self.enter_alone(change, now)?;
         Ok(fired)
+    }
+
+    /// Enters all changes, in order, or none: the only refusal is for want of memory. Each is looked up when it is
+    /// entered, so that an answer may follow the request in one list.
+    pub fn apply(&mut self, changes: Vec<Change>, now: u64) -> Result<(), AllocError>
+        requires { now < 2 ^ 60 }
+        ensures ok { OnOk result (self.new ≡ entered_all now self.old changes.items) }
+        ensures err { OnErr result (self.new ≡ self.old) }
+    {
+        make_room(&mut self.slots, &mut self.timers, changes.as_slice().len())?;
+        enter_all(&mut self.slots, &mut self.timers, changes, now);
+        Ok(())
+    }
+
+    /// A transaction by its number. Takes no memory.
+    pub fn transaction(&self, id: usize) -> Option<&Transaction>
+        ensures { option_copied result ≡ at self.now.slots id }
+    {
+        transaction_at(&self.slots, id)
+    }
+
+    /// Whether a server transaction takes an answer of the core with this status. Takes no memory.
+    pub fn may_answer(&self, id: usize, status: u16) -> bool
+        ensures { result ≡ is_some (line_at self.now id (Input.Answer (class_of status))) }
+    {
+        match transaction_at(&self.slots, id) {
+            Some(transaction) => {
+                advance(transaction.state, Input::Answer(class_of(status))).is_some()
+            }
+            None => false,
+        }
     }
 
     /// The timer that is due first, and its moment. It is one that `fire` takes. Takes no memory.
@@ -221,218 +236,31 @@ impl Table {
         !has_to_tag(&request.parts) && any_merged(&self.slots, &request.parts)
     }
 
-    fn is_due(&self, timer: TimerId, now: u64) -> bool
+    pub(crate) fn is_due(&self, timer: TimerId, now: u64) -> bool
         ensures { result ≡ is_due self.now timer now }
     {
         has_come(moment(&self.timers, timer.id, timer.kind), now)
     }
 
-    #[tactic(auto, unfolding(crate::specs::Contents::reception_of, crate::specs::Contents::after_message))]
-    fn receive_request(
-        &mut self,
-        request: &Request,
-        source: Addr,
-        now: u64,
-    ) -> Result<Reception, TableError>
-        requires { now < 2 ^ 60 }
-        ensures reception { IfOk result (λ r. r ≡ reception_of self.old (Kinds.Request request.now)) }
-        ensures table { OnOk result (self.new ≡ after_message self.old (Kinds.Request request.now) source now) }
-        ensures room { IfOk result (λ r. IsNew r.verdict → serving self.old.slots < most_served) }
-        ensures refused { IfErr result (RefusesMessage self.old (Kinds.Request request.now)) }
-        ensures err { OnErr result (self.new ≡ self.old) }
-    {
-        match asked(&self.slots, &request.parts) {
-            Some(id) => Ok(self.take(id, input_of(&request.parts), None, now)?),
-            None => self.begin(request, source, now),
-        }
-    }
-
-    // An answer.
-    #[tactic(auto, unfolding(crate::specs::Contents::reception_of, crate::specs::Contents::after_message))]
-    fn receive_response(&mut self, response: &Response, now: u64) -> Result<Reception, AllocError>
-        requires { now < 2 ^ 60 }
-        ensures reception { IfOk result (λ r. r ≡ reception_of self.old (Kinds.Response response.now)) }
-        ensures old { IfOk result (λ r. IsNew r.verdict → ⊥) }
-        ensures table { (source : Addr) → OnOk result (self.new ≡ after_message self.old (Kinds.Response response.now) source now) }
-        ensures err { OnErr result (self.new ≡ self.old) }
-    {
-        match answered(&self.slots, &response.parts) {
-            Some(id) => {
-                let ack = self.ack_at(id, response)?;
-                self.take(id, Input::Response(class_of(response.status)), ack, now)
-            }
-            None => Ok(Reception::stray()),
-        }
-    }
-
-    // A request that belongs to no transaction.
-    fn begin(&mut self, request: &Request, source: Addr, now: u64) -> Result<Reception, TableError>
-        requires { now < 2 ^ 60 }
-        ensures reception { IfOk result (λ r. r ≡ begun self.old request.now.parts) }
-        ensures table { OnOk result (self.new ≡ after_begun self.old request.now source now) }
-        ensures room { IfOk result (λ r. IsNew r.verdict → serving self.old.slots < most_served) }
-        ensures refused { IfErr result (RefusesBegun self.old request.now.parts) }
-        ensures err { OnErr result (self.new ≡ self.old) }
+    // The number of the transaction that a request of the server's own begins.
+    fn started_number(&self, request: &Request) -> Option<usize>
+        ensures { result ≡ started_number self.now request.now }
     {
         if is_method(&request.parts, b"ACK") {
-            return Ok(Reception::stray());
+            None
+        } else {
+            Some(free_number(&self.slots))
         }
-        if serving(&self.slots) >= MOST_SERVED {
-            return Err(TableError::Full);
-        }
-        let id = self.open(served(self.alloc, request, source)?, Starts::NoTimer, now)?;
-        Ok(Reception {
-            verdict: Verdict::New(id),
-            before: None,
-            send: None,
-        })
     }
 
-    // The ACK that an answer to transaction id is to get.
-    fn ack_at(&self, id: usize, response: &Response) -> Result<Option<Text<'static>>, AllocError>
-        ensures { IfOk result (λ ack. ack ≡ ack_at (at self.now.slots id) response.now) }
-    {
-        let Some(transaction) = transaction_at(&self.slots, id) else {
-            return Ok(None);
-        };
-        let Some(step) = advance(
-            transaction.state,
-            Input::Response(class_of(response.status)),
-        ) else {
-            return Ok(None);
-        };
-        ack_for(self.alloc, transaction, response, step.send)
-    }
-
-    // A message of transaction id.
-    fn take(
-        &mut self,
-        id: usize,
-        input: Input,
-        fresh: Option<Text<'static>>,
-        now: u64,
-    ) -> Result<Reception, AllocError>
-        requires moment { now < 2 ^ 60 }
-        requires not_ours { is_answer input ≡ false }
-        ensures reception { IfOk result (λ r. r ≡ reception_at id (at self.old.slots id) input fresh.entry) }
-        ensures old { IfOk result (λ r. IsNew r.verdict → ⊥) }
-        ensures table { OnOk result (self.new ≡ table_at self.old id (at self.old.slots id) input fresh.entry now) }
+    // One change.
+    fn enter_alone(&mut self, change: Change, now: u64) -> Result<(), AllocError>
+        requires { now < 2 ^ 60 }
+        ensures ok { OnOk result (self.new ≡ entered now self.old change) }
         ensures err { OnErr result (self.new ≡ self.old) }
     {
-        let Some(transaction) = transaction_at(&self.slots, id) else {
-            return Ok(Reception::stray());
-        };
-        let before = transaction.state;
-        let Some(step) = advance(before, input) else {
-            return Ok(Reception {
-                verdict: Verdict::Swallowed,
-                before: Some(before),
-                send: None,
-            });
-        };
-        let send = sent(transaction, &fresh, step.send)?;
-        self.carry_out(id, step, fresh, now)?;
-        Ok(Reception {
-            verdict: verdict_by(id, input, step.send, step.told),
-            before: Some(before),
-            send,
-        })
-    }
-
-    // A step of transaction id, with what is fresh.
-    fn carry_out(
-        &mut self,
-        id: usize,
-        step: Step,
-        fresh: Option<Text<'static>>,
-        now: u64,
-    ) -> Result<(), AllocError>
-        requires there { IsSome (at self.old.slots id) }
-        requires moment { now < 2 ^ 60 }
-        requires short { IsShort step.starts }
-        requires follows { (t : Transaction) → at self.old.slots id ≡ Some t → IsTrue (follows t.state (is_some fresh) step) }
-        ensures ok { OnOk result ((t : Transaction) → at self.old.slots id ≡ Some t → self.new ≡ stepped self.old id t step fresh.entry now) }
-        ensures err { OnErr result (self.new ≡ self.old) }
-    {
-        self.timers.reserve(2)?;
-        write(&mut self.slots, id, step.next, fresh);
-        stop(&mut self.timers, id, step.stops);
-        set_all(&mut self.timers, id, step.starts, now);
+        make_room_for(&mut self.slots, &mut self.timers, &change)?;
+        enter(&mut self.slots, &mut self.timers, change, now);
         Ok(())
-    }
-
-    // A new transaction, under the least number that is free.
-    fn open(
-        &mut self,
-        transaction: Transaction,
-        starts: Starts,
-        now: u64,
-    ) -> Result<usize, AllocError>
-        requires moment { now < 2 ^ 60 }
-        requires short { IsShort starts }
-        requires lines { IsTrue (starts_with_lines transaction.state starts) }
-        requires sent { IsTrue (has_sent (Some transaction)) }
-        ensures id { IfOk result (λ id. id ≡ free_number self.old.slots) }
-        ensures table { OnOk result (self.new ≡ opened self.old transaction starts now) }
-        ensures err { OnErr result (self.new ≡ self.old) }
-    {
-        let id = free_number(&self.slots);
-        if self.timers.reserve(2).is_err() {
-            discard(transaction);
-            return Err(AllocError);
-        }
-        place(&mut self.slots, id, transaction)?;
-        set_all(&mut self.timers, id, starts, now);
-        Ok(id)
-    }
-}
-
-// A transaction at a place, which may be one past the last.
-fn place(
-    slots: &mut Vec<Option<Transaction>>,
-    id: usize,
-    transaction: Transaction,
-) -> Result<(), AllocError>
-    ensures ok { OnOk result (slots.new.items ≡ placed slots.old.items id transaction) }
-    ensures err { OnErr result (slots.new.items ≡ slots.old.items) }
-{
-    if id < slots.len() {
-        slots[id] = Some(transaction);
-        return Ok(());
-    }
-    slots.push(Some(transaction))?;
-    Ok(())
-}
-
-// The next state of transaction id.
-fn advance_at(
-    slots: &mut Vec<Option<Transaction>>,
-    id: usize,
-    state: State,
-    fresh: Option<Text<'static>>,
-)
-    requires { IsSome (at slots.old.items id) }
-    ensures { (t : Transaction) → at slots.old.items id ≡ Some t → slots.new.items ≡ slice_set slots.old.items id (Some (went t fresh.entry state)) }
-{
-    let slot = &mut slots[id];
-    let Some(transaction) = slot.take() else {
-        unreachable!()
-    };
-    *slot = Some(went(transaction, fresh, state));
-}
-
-// The next state of transaction id, or its end.
-fn write(
-    slots: &mut Vec<Option<Transaction>>,
-    id: usize,
-    next: Option<State>,
-    fresh: Option<Text<'static>>,
-)
-    requires { IsSome (at slots.old.items id) }
-    ensures { (t : Transaction) → at slots.old.items id ≡ Some t → slots.new.items ≡ slice_set slots.old.items id (option_map (went t fresh.entry) next) }
-{
-    match next {
-        Some(state) => advance_at(slots, id, state, fresh),
-        None => slots[id] = None,
     }
 }

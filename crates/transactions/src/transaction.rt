@@ -14,8 +14,9 @@ use crate::other_server::OtherServer;
 use crate::outcome::Outgoing;
 use crate::state::State;
 use crate::step::{LIMIT, Sending, Start, Starts, T1};
-use sip_message::{Parts, Request, reply_address};
+use sip_message::{Parts, Request};
 use sip_uri::{Addr, Uri};
+use sip_writing::reply_address;
 use std::alloc::{AllocError, Global};
 use text::Text;
 
@@ -95,7 +96,7 @@ fn asking_state(parts: &Parts) -> State
     ensures { result ≡ asking_state parts.now }
 {
     if is_method(parts, b"INVITE") {
-        State::InviteClient(InviteClient::Calling(T1))
+        State::InviteClient(InviteClient::Calling(T1, false))
     } else {
         State::OtherClient(OtherClient::Trying(T1))
     }
@@ -128,11 +129,6 @@ pub(crate) fn asking_timers(parts: &Parts) -> Starts
     } else {
         starts_two(TimerKind::E, TimerKind::F)
     }
-}
-
-/// Gives up a transaction that was not kept. With no way out it keeps the proof of the table's `open` short.
-pub(crate) fn discard(transaction: Transaction) {
-    drop(transaction);
 }
 
 /// The transaction in its next state. What was fresh is what it sends again.

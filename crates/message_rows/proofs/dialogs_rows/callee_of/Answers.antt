@@ -1,6 +1,6 @@
 use Rattle.std.proofs.Common.{rules}
 use Rattle.message_rows.proofs.dialogs_rows.callee_of.Goals as goal
 
-pub as_callee-requires-clause-contact : goal.as_callee-requires-clause-contact
-as_callee-requires-clause-contact c =
+pub as_callee-requires : goal.as_callee-requires
+as_callee-requires c =
     c.invites_name_a_contact.ensures.request c.args.bytes.now c.args.invite.now c.requires (search rules)

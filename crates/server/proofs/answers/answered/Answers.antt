@@ -1,7 +1,7 @@
 use Rattle.std.proofs.Common.{◌≡◌, subst, IfOk}
 use Rattle.sip_message.specs.declared.message.Message.TheVariants as Kinds
 use Rattle.sip_message.specs.declared.message.Response.{Response}
-use Rattle.sip_message.specs.Writing.{message_text}
+use Rattle.sip_writing.specs.Writing.{message_text}
 use Rattle.server.specs.Answers.{answered}
 use Rattle.server.proofs.answers.answered.Goals as goal
 

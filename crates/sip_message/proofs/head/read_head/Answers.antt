@@ -1,5 +1,4 @@
 use Rattle.sip_message.proofs.HeadLaws.{found_at, only_at, refused_at}
-use Rattle.sip_message.proofs.ReadWritten.{written_at}
 use Rattle.sip_message.proofs.head.read_head.Goals as goal
 
 pub returns-clause-found : goal.returns-clause-found
@@ -10,6 +9,3 @@ returns-clause-only c = λ headers body reads few. only_at c.args.limit c.args.t
 
 pub returns-clause-refused : goal.returns-clause-refused
 returns-clause-refused c = refused_at c.args.limit c.args.text.now c.read_fields.result c.read_fields.ensures.exact
-
-pub returns-clause-written : goal.returns-clause-written
-returns-clause-written c = written_at c.args.limit c.args.text.now c.read_fields.result c.read_fields.ensures.exact

@@ -1,4 +1,5 @@
 use Rattle.sip_message.proofs.MessageLaws.{found_at, only_at, refused_at}
+use Rattle.sip_message.proofs.PlaceLaws.{placed_at}
 use Rattle.sip_message.proofs.RepeatableLaws.{repeatable_at}
 use Rattle.sip_message.proofs.read.read_message.Goals as goal
 
@@ -13,3 +14,6 @@ returns-clause-refused c = refused_at c.args.bytes.now c.read.result c.read.ensu
 
 pub returns-clause-repeatable : goal.returns-clause-repeatable
 returns-clause-repeatable c = repeatable_at c.args.bytes.now c.read.result (found_at c.args.bytes.now c.read.result c.read.ensures)
+
+pub returns-clause-placed : goal.returns-clause-placed
+returns-clause-placed c = placed_at c.args.bytes.now c.read.result (found_at c.args.bytes.now c.read.result c.read.ensures)

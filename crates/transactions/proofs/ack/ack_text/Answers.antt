@@ -1,6 +1,6 @@
 use Rattle.std.proofs.Common.{◌≡◌, IfOk, subst}
 use Rattle.sip_message.specs.declared.message.Message.TheVariants as Kinds
-use Rattle.sip_message.specs.Writing.{message_text}
+use Rattle.sip_writing.specs.Writing.{message_text}
 use Rattle.transactions.proofs.ack.ack_text.Goals as goal
 
 pub returns : goal.returns

@@ -1,0 +1,47 @@
+//! Where the sender of a message is reached (RFC 3261 sections 12.1.1 and 12.1.2).
+
+ghost use Rattle.std.specs.Prelude.{◌≡◌, Some, IfOk, IsTrue};
+ghost use Rattle.sip_message.specs.Contacts.{contacts_of};
+ghost use Rattle.sip_message.specs.Needs.{is_one_address};
+ghost use Rattle.dialogs.specs.Making.{reached_at};
+
+use sip_message::{ContactValue, Header, contact_values};
+use sip_uri::Uri;
+use std::alloc::{AllocError, Global};
+
+fn uri_of(alloc: Global, values: &[ContactValue<'_>]) -> Result<Option<Uri<'static>>, AllocError>
+    ensures { IfOk result (λ uri. uri ≡ reached_at values.now) }
+{
+    let [value] = values else {
+        return Ok(None);
+    };
+    match value {
+        ContactValue::Address(name) => Ok(Some(name.uri.keep(alloc)?)),
+        ContactValue::Star | ContactValue::Unreadable => Ok(None),
+    }
+}
+
+/// The URI of the one Contact address that these header fields have; none where there is no Contact, or another one.
+pub fn contact_uri(
+    alloc: Global,
+    headers: &[Header<'_>],
+) -> Result<Option<Uri<'static>>, AllocError>
+    ensures { IfOk result (λ uri. uri ≡ reached_at (contacts_of headers.now)) }
+{
+    let values = contact_values(alloc, headers)?;
+    uri_of(alloc, &values)
+}
+
+/// The URI of the Contact that these header fields have.
+pub(crate) fn read_contact_uri(
+    alloc: Global,
+    headers: &[Header<'_>],
+) -> Result<Uri<'static>, AllocError>
+    requires { IsTrue (is_one_address (contacts_of headers.now)) }
+    ensures { IfOk result (λ uri. reached_at (contacts_of headers.now) ≡ Some uri) }
+{
+    match contact_uri(alloc, headers)? {
+        Some(uri) => Ok(uri),
+        None => unreachable!(),
+    }
+}

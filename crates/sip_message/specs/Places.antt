@@ -1,0 +1,29 @@
+-- Where the header fields of a message stand in its text (RFC 3261 section 7.3.1).
+use Rattle.std.specs.Prelude.{◌≡◌, ℕ, ◌+◌, List, [], ◌∷◌, ◌++◌, length, map}
+use Rattle.sip_message.specs.declared.headers.Header.{Header}
+use Rattle.sip_message.specs.Fields.{RawField, field_lines, field_of}
+use Rattle.sip_message.specs.Lines.{lines_text}
+use Rattle.sip_message.specs.Values.{without_length}
+
+-- the raw text of a field: its lines, each with its end
+abbrev pub field_text : RawField → List ℕ
+field_text f = lines_text (field_lines f)
+
+-- the raw text is what stands at this place
+pub record StandsAt (text : List ℕ) (place : ℕ) (raw : List ℕ) : Type 0 where
+  pub front : List ℕ
+  pub rest : List ℕ
+  pub whole : text ≡ front ++ (raw ++ rest)
+  pub at : length front ≡ place
+
+-- the first field stands at this place, and each other where the one before it ends
+abbrev pub ArePlaced : List ℕ → ℕ → List RawField → Type 0
+ArePlaced text place [] = Unit {0}
+ArePlaced text place (f ∷ fs) = StandsAt text place (field_text f) × ArePlaced text (place + length (field_text f)) fs
+
+-- the header fields, but for Content-Length, are what fields say that stand in the text in this order, none over another
+pub record IsPlaced (text : List ℕ) (headers : List Header) : Type 0 where
+  pub fields : List RawField
+  pub begin : ℕ
+  pub placed : ArePlaced text begin fields
+  pub says : headers ≡ without_length (map field_of fields)

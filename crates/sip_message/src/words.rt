@@ -1,0 +1,117 @@
+//! Words on messages that the crates above share.
+
+ghost use Rattle.std.specs.Prelude.{◌≡◌, ◌++◌, map, IfOk, OnOk};
+ghost use Rattle.std.specs.Char.{to_ascii_lowercase};
+ghost use Rattle.std.specs.Option.{option_copied};
+ghost use Rattle.sip_message.specs.Words.{param_value, top_branch, tag_value, tag_text, is_method, class_of, lower_case, media_range, content_type_of};
+
+use crate::headers::Header;
+use crate::lookup::first_value;
+use crate::message::{Parts, Vias};
+use sip_uri::{Param, param_named};
+use std::alloc::{AllocError, Global};
+use text::{Text, cut, trimmed};
+
+/// The class of a response's status (RFC 3261 section 7.2).
+#[derive(Clone, Copy, Debug, PartialEq, Eq)]
+pub enum Class {
+    /// Below 200.
+    Provisional,
+    /// 200 to 299.
+    Success,
+    /// 300 and above: a final response that is no success.
+    Failure,
+}
+
+/// The class of a status. Takes no memory.
+pub fn class_of(status: u16) -> Class
+    ensures class { result ≡ class_of status }
+{
+    if status < 200 {
+        Class::Provisional
+    } else if status < 300 {
+        Class::Success
+    } else {
+        Class::Failure
+    }
+}
+
+fn param_value<'m, 'a>(params: &'m [Param<'a>], name: &[u8]) -> Option<&'m Text<'a>>
+    ensures { option_copied result ≡ param_value name.now params.now }
+{
+    match param_named(params, name) {
+        Some(param) => param.value.as_ref(),
+        None => None,
+    }
+}
+
+/// The branch of the top Via, where it has one (RFC 3261 section 8.1.1.7). Takes no memory.
+pub fn top_branch<'m, 'a>(vias: &'m Vias<'a>) -> Option<&'m Text<'a>>
+    ensures branch { option_copied result ≡ top_branch vias.now }
+{
+    match vias.as_slice() {
+        [] => None,
+        [via, ..] => param_value(via.params.as_slice(), b"branch"),
+    }
+}
+
+/// The tag of a From or To with these parameters, where it has one (RFC 3261 section 19.3). Takes no memory.
+pub fn tag_value<'m, 'a>(params: &'m [Param<'a>]) -> Option<&'m Text<'a>>
+    ensures tag { option_copied result ≡ tag_value params.now }
+{
+    param_value(params, b"tag")
+}
+
+/// The tag of a From or To with these parameters, as a text that is empty where there is none (RFC 3261 section 12.1.1).
+/// Takes no memory.
+pub fn tag_text<'m>(params: &'m [Param<'_>]) -> &'m [u8]
+    ensures tag { result.now ≡ tag_text params.now }
+{
+    match tag_value(params) {
+        Some(tag) => tag.as_bytes(),
+        None => b"",
+    }
+}
+
+/// Whether this is the method of CSeq. Takes no memory.
+pub fn is_method(parts: &Parts<'_>, name: &[u8]) -> bool
+    ensures method { result ≡ is_method name.now parts.now }
+{
+    parts.cseq.method.as_bytes() == name
+}
+
+fn put_lower_case(out: &mut Vec<u8>, text: &[u8]) -> Result<(), AllocError>
+    ensures { OnOk result (out.new.items ≡ out.old.items ++ lower_case text.now) }
+{
+    for b in text {
+        out.push(b.to_ascii_lowercase())?;
+    }
+    Ok(())
+}
+
+fn media_range(alloc: Global, text: &[u8]) -> Result<Text<'static>, AllocError>
+    ensures { IfOk result (λ range. range ≡ media_range text.now) }
+{
+    let (kind, subtype) = cut(text, b'/');
+    let mut out = Vec::new(alloc);
+    put_lower_case(&mut out, trimmed(kind))?;
+    out.push(b'/')?;
+    put_lower_case(&mut out, trimmed(subtype.unwrap_or(b"")))?;
+    Ok(Text::from_vec(out))
+}
+
+/// What the body is, as Content-Type says it: `type/subtype` in lower case, without its parameters, where that header
+/// field stands (RFC 3261 sections 7.4.1 and 20.15).
+pub fn content_type(
+    alloc: Global,
+    headers: &[Header<'_>],
+) -> Result<Option<Text<'static>>, AllocError>
+    ensures content_type { IfOk result (λ kind. kind ≡ content_type_of headers.now) }
+{
+    let Some(value) = first_value(headers, b"Content-Type") else {
+        return Ok(None);
+    };
+    let text = value.text(alloc)?;
+    let (range, _) = cut(text.as_bytes(), b';');
+    Ok(Some(media_range(alloc, range)?))
+}

@@ -1,0 +1,16 @@
+//! What is written of messages of the session initiation protocol (RFC 3261 sections 7, 8.2.6, 18.2 and 21, RFC 3581):
+//! the bytes of a message, the response to a request, and where that goes. What is written for a message of the written
+//! form is read as that message. Nothing here knows of sockets, time, transactions or users.
+#![tactic(auto)]
+
+mod laws;
+mod reasons;
+mod received;
+mod reply;
+mod requests;
+mod write;
+
+pub use laws::written_is_read;
+pub use reply::{reply_address, reply_to, tag_param, via_headers};
+pub use requests::{Draft, build_request, name_with_tag, server_via};
+pub use write::{write_message, write_request, write_response};

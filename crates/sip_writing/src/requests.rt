@@ -1,0 +1,263 @@
+//! Requests that the server makes (RFC 3261 sections 7, 8.1.1, 12.2.1.1 and 17.1.1.3).
+
+ghost use Rattle.std.specs.Prelude.{◌≡◌, ◌≤◌, ◌++◌, ◌∷◌, [], ℕ, Some, IfOk, OnOk, IsTrue, codes, decimal, length};
+ghost use Rattle.text.specs.Cut.{led_by};
+ghost use Rattle.sip_uri.specs.Writing.{ip4_text};
+ghost use Rattle.text.specs.Class.{is_run_of, is_token_byte};
+ghost use Rattle.sip_uri.specs.NameAddr.{name_addr_text};
+ghost use Rattle.sip_message.specs.declared.message.Message.TheVariants as Kinds;
+ghost use Rattle.sip_message.specs.Lookup.{named};
+ghost use Rattle.sip_writing.specs.Requests.{branch_text, server_via, tag_params, name_with_tag, cseq_text, parts_of, headers_with, request_of, IsReadVia, IsSound};
+ghost use Rattle.sip_writing.specs.WritingMessage.{IsWrittenMessage};
+
+use crate::received::numbers_fit;
+use crate::reply::{tag_param, via_headers};
+use sip_message::{
+    CSeq, Ends, Header, Headers, Parts, Party, Request, Sequence, Via, Vias, parts_with,
+};
+use sip_uri::{Addr, Host, NameAddr, Param, Params, Uri, keep_text, put_ip4, write_name_addr};
+use std::alloc::{AllocError, Global};
+use text::{Text, put_number};
+
+/// What a request is made of. The body's length is written of the body.
+#[derive(Clone, Copy)]
+pub struct Draft<'m, 'a> {
+    pub method: &'m [u8],
+    pub uri: &'m Uri<'a>,
+    pub via: &'m Via<'a>,
+    pub max_forwards: u8,
+    pub from: &'m NameAddr<'a>,
+    pub to: &'m NameAddr<'a>,
+    pub call_id: &'m [u8],
+    /// The number of CSeq.
+    pub number: u32,
+    /// Header fields that stand behind those that each request has.
+    pub further: &'m [Header<'a>],
+    pub body: &'m [u8],
+}
+
+fn branch_param(alloc: Global, token: &[u8]) -> Result<Param<'static>, AllocError>
+    ensures { IfOk result (λ p. p ≡ record { name = codes "branch"; value = Some (branch_text token.now) }) }
+{
+    let name = Text::from_slice(alloc, b"branch")?;
+    let mut branch = Vec::from_slice(alloc, b"z9hG4bK")?;
+    branch.extend_from_slice(token)?;
+    Ok(Param {
+        name,
+        value: Some(Text::from_vec(branch)),
+    })
+}
+
+fn put_address(out: &mut Vec<u8>, server: Addr) -> Result<(), AllocError>
+    ensures { OnOk result (out.new.items ≡ out.old.items ++ ip4_text server.ip ++ led_by 58 (Some (decimal server.port))) }
+{
+    put_ip4(out, &server.ip)?;
+    out.push(b':')?;
+    put_number(out, u64::from(server.port))
+}
+
+#[tactic(auto, unfolding(crate::specs::Requests::server_via))]
+fn made_via(alloc: Global, server: Addr, token: &[u8]) -> Result<Via<'static>, AllocError>
+    ensures { IfOk result (λ via. via ≡ server_via server token.now) }
+{
+    let mut params = Vec::new(alloc);
+    params.push(branch_param(alloc, token)?)?;
+    let mut sent_by = Vec::new(alloc);
+    put_address(&mut sent_by, server)?;
+    Ok(Via {
+        sent_by: Text::from_vec(sent_by),
+        host: Host::Ip4(server.ip),
+        port: Some(server.port),
+        params: Params::from_vec(params),
+    })
+}
+
+/// A law: an IPv4 address has four octets.
+fn four_octets(ip: &[u8; 4])
+    ensures { length ip.now ≡ 4 }
+{}
+
+/// The Via of a request that the server sends from this address: `SIP/2.0/UDP ADDRESS:PORT;branch=z9hG4bKTOKEN`
+/// (RFC 3261 section 8.1.1.7).
+pub fn server_via(alloc: Global, server: Addr, token: &[u8]) -> Result<Via<'static>, AllocError>
+    ensures via { IfOk result (λ via. via ≡ server_via server token.now) }
+    // It is one that can be read, and so one that a request may have.
+    ensures read { IfOk result (λ via. IsTrue (is_run_of is_token_byte token.now) → 1 ≤ server.port → IsReadVia via) }
+{
+    numbers_fit(&server.ip, server.port);
+    four_octets(&server.ip);
+    made_via(alloc, server, token)
+}
+
+fn tag_params(alloc: Global, tag: &[u8]) -> Result<Params<'static>, AllocError>
+    ensures { IfOk result (λ params. params ≡ tag_params tag.now) }
+{
+    let mut params = Vec::new(alloc);
+    if tag.is_empty() {
+        return Ok(Params::from_vec(params));
+    }
+    params.push(tag_param(alloc, tag)?)?;
+    Ok(Params::from_vec(params))
+}
+
+/// The name of From or To of a request: display and URI, with this tag alone, which is left out where it is empty (RFC
+/// 3261 section 12.2.1.1).
+pub fn name_with_tag(
+    alloc: Global,
+    display: &Option<Text<'_>>,
+    uri: &Uri<'_>,
+    tag: &[u8],
+) -> Result<NameAddr<'static>, AllocError>
+    ensures name { IfOk result (λ name. name ≡ name_with_tag display.now uri.now tag.now) }
+{
+    let display = keep_text(alloc, display)?;
+    let uri = uri.keep(alloc)?;
+    let params = tag_params(alloc, tag)?;
+    Ok(NameAddr {
+        display,
+        uri,
+        params,
+    })
+}
+
+fn party_of(alloc: Global, name: &NameAddr<'_>) -> Result<Party<'static>, AllocError>
+    ensures name { IfOk result (λ party. party.name ≡ name.now) }
+    ensures text { IfOk result (λ party. party.text ≡ name_addr_text name.now) }
+{
+    let text = write_name_addr(alloc, name)?;
+    let name = name.keep(alloc)?;
+    Ok(Party { text, name })
+}
+
+fn ends_of(alloc: Global, draft: &Draft<'_, '_>) -> Result<Ends<'static>, AllocError>
+    ensures from { IfOk result (λ ends. (ends.from.name ≡ draft.now.from.now) × (ends.from.text ≡ name_addr_text draft.now.from.now)) }
+    ensures to { IfOk result (λ ends. (ends.to.name ≡ draft.now.to.now) × (ends.to.text ≡ name_addr_text draft.now.to.now)) }
+{
+    let from = party_of(alloc, draft.from)?;
+    let to = party_of(alloc, draft.to)?;
+    Ok(Ends { from, to })
+}
+
+fn cseq_text(alloc: Global, number: u32, method: &[u8]) -> Result<Text<'static>, AllocError>
+    ensures { IfOk result (λ text. text ≡ cseq_text number method.now) }
+{
+    let mut out = Vec::new(alloc);
+    put_number(&mut out, u64::from(number))?;
+    out.push(b' ')?;
+    out.extend_from_slice(method)?;
+    Ok(Text::from_vec(out))
+}
+
+fn sequence_of(alloc: Global, number: u32, method: &[u8]) -> Result<Sequence<'static>, AllocError>
+    ensures cseq { IfOk result (λ s. s.cseq ≡ record { number = number; method = method.now }) }
+    ensures text { IfOk result (λ s. s.text ≡ cseq_text number method.now) }
+{
+    let text = cseq_text(alloc, number, method)?;
+    let method = Text::from_slice(alloc, method)?;
+    Ok(Sequence {
+        text,
+        cseq: CSeq { number, method },
+    })
+}
+
+fn one_via(alloc: Global, via: &Via<'_>) -> Result<Vias<'static>, AllocError>
+    ensures { IfOk result (λ vias. vias ≡ via.now ∷ []) }
+{
+    let mut vias = Vec::new(alloc);
+    vias.push(via.keep(alloc)?)?;
+    Ok(Vias::from_vec(vias))
+}
+
+#[tactic(auto, unfolding(crate::specs::Requests::parts_of))]
+fn parts_of(alloc: Global, draft: &Draft<'_, '_>) -> Result<Parts<'static>, AllocError>
+    ensures { IfOk result (λ parts. parts ≡ parts_of draft.now) }
+{
+    let vias = one_via(alloc, draft.via)?;
+    let ends = ends_of(alloc, draft)?;
+    let call_id = Text::from_slice(alloc, draft.call_id)?;
+    let sequence = sequence_of(alloc, draft.number, draft.method)?;
+    Ok(parts_with(vias, ends, call_id, sequence))
+}
+
+fn add_hops(alloc: Global, headers: &mut Headers<'static>, hops: u8) -> Result<(), AllocError>
+    ensures { OnOk result (headers.new ≡ headers.old ++ named (codes "Max-Forwards") (decimal hops) ∷ []) }
+{
+    let mut out = Vec::new(alloc);
+    put_number(&mut out, u64::from(hops))?;
+    headers.add(alloc, b"Max-Forwards", &out)
+}
+
+#[tactic(auto, unfolding(crate::specs::Requests::headers_with))]
+fn headers_with(alloc: Global, hops: u8, parts: &Parts<'_>) -> Result<Headers<'static>, AllocError>
+    ensures { IfOk result (λ hs. hs ≡ headers_with hops parts.now) }
+{
+    let mut headers = via_headers(alloc, parts.vias.as_slice())?;
+    add_hops(alloc, &mut headers, hops)?;
+    headers.add(alloc, b"From", parts.from_text.as_bytes())?;
+    headers.add(alloc, b"To", parts.to_text.as_bytes())?;
+    headers.add(alloc, b"Call-ID", parts.call_id.as_bytes())?;
+    headers.add(alloc, b"CSeq", parts.cseq_text.as_bytes())?;
+    Ok(headers)
+}
+
+/// Puts these header fields behind those that are there.
+fn add_further(
+    alloc: Global,
+    headers: &mut Headers<'static>,
+    further: &[Header<'_>],
+) -> Result<(), AllocError>
+    ensures { OnOk result (headers.new ≡ headers.old ++ further.now) }
+{
+    for header in further {
+        headers.push(header.keep(alloc)?)?;
+    }
+    Ok(())
+}
+
+fn headers_of(
+    alloc: Global,
+    hops: u8,
+    parts: &Parts<'_>,
+    further: &[Header<'_>],
+) -> Result<Headers<'static>, AllocError>
+    ensures { IfOk result (λ hs. hs ≡ headers_with hops parts.now ++ further.now) }
+{
+    let mut headers = headers_with(alloc, hops, parts)?;
+    add_further(alloc, &mut headers, further)?;
+    Ok(headers)
+}
+
+#[tactic(auto, unfolding(crate::specs::Requests::request_of))]
+fn request_of(alloc: Global, draft: &Draft<'_, '_>) -> Result<Request<'static>, AllocError>
+    ensures { IfOk result (λ r. r ≡ request_of draft.now) }
+{
+    let method = Text::from_slice(alloc, draft.method)?;
+    let uri = draft.uri.keep(alloc)?;
+    let body = Text::from_slice(alloc, draft.body)?;
+    let parts = parts_of(alloc, draft)?;
+    let headers = headers_of(alloc, draft.max_forwards, &parts, draft.further)?;
+    Ok(Request {
+        method,
+        uri,
+        parts,
+        max_forwards: draft.max_forwards,
+        headers,
+        body,
+    })
+}
+
+/// A law: hops have eight bits.
+fn hops_fit(hops: u8)
+    ensures { hops ≤ 255 }
+{}
+
+/// The request of a draft: its header fields are Via, Max-Forwards, From, To, Call-ID, CSeq and the further ones, in this
+/// order. It borrows nothing.
+pub fn build_request(alloc: Global, draft: &Draft<'_, '_>) -> Result<Request<'static>, AllocError>
+    ensures request { IfOk result (λ r. r ≡ request_of draft.now) }
+    // What is written for the request of a sound draft is read as that request.
+    ensures written { IfOk result (λ r. IsSound draft.now → IsWrittenMessage (Kinds.Request r)) }
+{
+    hops_fit(draft.max_forwards);
+    request_of(alloc, draft)
+}

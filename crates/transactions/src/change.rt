@@ -1,0 +1,151 @@
+//! Changes of the table for which all is at hand that takes memory.
+
+ghost use Rattle.std.specs.Prelude.{ℕ, ◌≡◌, ◌+◌, IfOk, IsTrue, Some, None, false};
+ghost use Rattle.sip_writing.specs.Writing.{message_text};
+ghost use Rattle.sip_message.specs.declared.message.Message.TheVariants as Kinds;
+ghost use Rattle.transactions.specs.declared.change.Entry.TheVariants.{Opens, Tells};
+ghost use Rattle.transactions.specs.declared.input.Input.TheVariants as inputs;
+ghost use Rattle.transactions.specs.declared.step.Starts.TheVariants.{NoTimer};
+ghost use Rattle.transactions.specs.Changes.{start_with, start_of, answer_of, fire_of};
+ghost use Rattle.transactions.specs.Lines.{is_answer};
+ghost use Rattle.transactions.specs.Transactions.{served};
+
+use crate::input::{Class, Input, class_of};
+use crate::matching::is_method;
+use crate::step::Starts;
+use crate::transaction::{TimerId, Transaction, asking, asking_timers, served};
+use sip_message::{Request, Response};
+use sip_uri::Addr;
+use sip_writing::{write_request, write_response};
+use std::alloc::{AllocError, Global};
+use std::marker::Model;
+use text::Text;
+
+/// What a change does.
+#[derive(Drop)]
+pub enum Entry {
+    /// A new transaction, under the least number that is free, and its timers.
+    Opens(Transaction, Starts),
+    /// A transaction is told something that is no answer of the core, perhaps with what it is to send.
+    Tells(usize, Input, Option<Text<'static>>),
+    /// An answer of the core, with its bytes.
+    Answers(usize, Class, Text<'static>),
+    /// Nothing.
+    Leaves,
+}
+
+/// A change of the table, made ready before any is made: to enter it takes no memory but room for a transaction and
+/// its timers. What a transaction does is looked up when the change is entered.
+#[derive(Drop)]
+pub struct Change {
+    pub(crate) entry: Entry,
+}
+
+impl Model for Change {
+    ghost use Rattle.transactions.specs.declared.change.Entry.{Entry};
+    ghost use Rattle.transactions.specs.Changes.{IsReady};
+
+    ghost Value = { Entry };
+
+    ghost view = { λ c. c.entry };
+
+    ghost invariant = { λ c. IsReady c.entry };
+}
+
+impl Change {
+    /// A request of the server's own begins a transaction. An ACK belongs to none, and changes nothing (RFC 3261
+    /// section 17.1.1.3).
+    pub fn starts(alloc: Global, request: &Request, to: Addr) -> Result<Change, AllocError>
+        ensures { IfOk result (λ c. c ≡ start_of request.now to) }
+    {
+        let bytes = write_request(alloc, request)?;
+        Change::starts_with(alloc, request, to, bytes)
+    }
+
+    /// The same, with the request's bytes.
+    pub(crate) fn starts_with(
+        alloc: Global,
+        request: &Request,
+        to: Addr,
+        bytes: Text<'static>,
+    ) -> Result<Change, AllocError>
+        ensures { IfOk result (λ c. c ≡ start_with request.now to bytes.entry) }
+    {
+        if is_method(&request.parts, b"ACK") {
+            return Ok(Change::leaves());
+        }
+        let transaction = asking(alloc, request, to, bytes)?;
+        Ok(Change {
+            entry: Entry::Opens(transaction, asking_timers(&request.parts)),
+        })
+    }
+
+    /// An answer of the core to the request of server transaction `id`. Where that takes none (`may_answer`), the change
+    /// changes nothing.
+    pub fn answers(alloc: Global, id: usize, response: &Response) -> Result<Change, AllocError>
+        ensures { IfOk result (λ c. c ≡ answer_of id response.now) }
+    {
+        let bytes = write_response(alloc, response)?;
+        Ok(Change::answers_with(id, class_of(response.status), bytes))
+    }
+
+    /// The same, with the answer's class and bytes.
+    pub(crate) fn answers_with(id: usize, class: Class, bytes: Text<'static>) -> Change
+        ensures { result ≡ Entry.Answers id class bytes.entry }
+    {
+        Change {
+            entry: Entry::Answers(id, class, bytes),
+        }
+    }
+
+    /// The core no longer waits for an answer to its INVITE. Takes no memory.
+    pub fn abandons(id: usize) -> Change
+        ensures { result ≡ Tells id inputs.Abandon None }
+    {
+        Change {
+            entry: Entry::Tells(id, Input::Abandon, None),
+        }
+    }
+
+    /// A timer fires. Takes no memory.
+    pub(crate) fn fires(timer: TimerId) -> Change
+        ensures { result ≡ fire_of timer }
+    {
+        Change {
+            entry: Entry::Tells(timer.id, Input::Fires(timer.kind), None),
+        }
+    }
+
+    /// A transaction is told something that is no answer of the core.
+    pub(crate) fn tells(id: usize, input: Input, fresh: Option<Text<'static>>) -> Change
+        requires { is_answer input ≡ false }
+        ensures { result ≡ Tells id input fresh.entry }
+    {
+        Change {
+            entry: Entry::Tells(id, input, fresh),
+        }
+    }
+
+    /// The request of another begins a transaction.
+    pub(crate) fn serves(
+        alloc: Global,
+        request: &Request,
+        source: Addr,
+    ) -> Result<Change, AllocError>
+        ensures { IfOk result (λ c. c ≡ Opens (served request.now source) NoTimer) }
+    {
+        let transaction = served(alloc, request, source)?;
+        Ok(Change {
+            entry: Entry::Opens(transaction, Starts::NoTimer),
+        })
+    }
+
+    /// Nothing changes.
+    pub(crate) fn leaves() -> Change
+        ensures { result ≡ Entry.Leaves }
+    {
+        Change {
+            entry: Entry::Leaves,
+        }
+    }
+}
