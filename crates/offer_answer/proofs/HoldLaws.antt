@@ -9,7 +9,7 @@ use Rattle.offer_answer.specs.declared.range.OwnRange.{OwnRange}
 use Rattle.offer_answer.specs.Checks.{is_carried, is_same_media, used_fault, medium_fault, accepted_fault, answered_fault}
 use Rattle.offer_answer.specs.Direct.{hold_address}
 
-pub hold_offered : (range : OwnRange) (d : Description) (m : Media) → address_of_medium d m ≡ Some (Ip4 hold_address) → is_carried m.protocol ≡ true → m.count ≡ None
+pub hold_offered : (range : OwnRange) (d : Description) (m : Media) → address_of_medium d m ≡ Some (Ip4 hold_address) → is_carried m.proto ≡ true → m.count ≡ None
     → medium_fault range d m ≡ None
 unfolding used_fault
 hold_offered range d m at carried single = step (eqb m.port 0) where

@@ -138,5 +138,5 @@ stream_joined server table OX ox SX sx OY oy SY sy offers answers own_s own_o ro
       refl (sym offer_way) (sym answer_way) refl (sym (same_formats sy sx answers.medium)) refl (both_second (is_some (destination SX sx)) (is_some (destination SY sy)) to_a.also_some) to_a.through_table in
       let o = side_joined (way_of SX sx) (way_of SY sy) (way_of OX ox) (way_of OY oy) (matching ox sx) (matching oy sy) (matching ox sy) (destination OX ox) (destination OY oy) (destination OX ox) (through server table (place_of OY oy)) (way_of SY sy) (way_of OX ox)
       (sym answer_way) refl refl (sym offer_way) same_x same_y (both_first (is_some (destination OX ox)) (is_some (destination OY oy)) to_o.also_some) to_o.through_table in
-      rw (e, f, g, i) (ap (λ v. Used ox.kind ox.protocol v (joined_side (side (way_of SX sx) (way_of OX ox) (matching ox sx) (destination OX ox)) (side (way_of SY sy) (way_of OY oy) (matching oy sy) (destination OY oy)) (through server table (place_of OY oy)))) a
-      ∙ ap (λ v. Used ox.kind ox.protocol (side (way_of OX ox) (way_of SY sy) sy.formats (destination SY sy)) v) o)
+      rw (e, f, g, i) (ap (λ v. Used ox.kind ox.proto v (joined_side (side (way_of SX sx) (way_of OX ox) (matching ox sx) (destination OX ox)) (side (way_of SY sy) (way_of OY oy) (matching oy sy) (destination OY oy)) (through server table (place_of OY oy)))) a
+      ∙ ap (λ v. Used ox.kind ox.proto (side (way_of OX ox) (way_of SY sy) sy.formats (destination SY sy)) v) o)

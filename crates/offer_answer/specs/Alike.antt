@@ -24,7 +24,7 @@ pub record BareMedia : Type 0 where
   pub kind : List ℕ
   pub is_refused : Bool
   pub count : Option ℕ
-  pub protocol : List ℕ
+  pub proto : List ℕ
   pub formats : List (List ℕ)
   pub info : Option (List ℕ)
   pub connection : Option Bool
@@ -41,7 +41,7 @@ bare_media m = record {
   kind = m.kind;
   is_refused = m.port == 0;
   count = m.count;
-  protocol = m.protocol;
+  proto = m.proto;
   formats = m.formats;
   info = m.info;
   connection = option_map is_hold m.connection;

@@ -66,13 +66,13 @@ is_own_place range (Some p) = not (is_hold p.address) && is_server range.ip p.ad
 
 -- the protocols that the relay carries: RTP in its four profiles (RFC 3551, RFC 4585, RFC 3711, RFC 5124)
 abbrev pub is_carried : List ℕ → Bool
-is_carried protocol =
-    pointwise nat_eq protocol (codes "RTP/AVP") || pointwise nat_eq protocol (codes "RTP/AVPF") || pointwise nat_eq protocol (codes "RTP/SAVP") || pointwise nat_eq protocol (codes "RTP/SAVPF")
+is_carried proto =
+    pointwise nat_eq proto (codes "RTP/AVP") || pointwise nat_eq proto (codes "RTP/AVPF") || pointwise nat_eq proto (codes "RTP/SAVP") || pointwise nat_eq proto (codes "RTP/SAVPF")
 
 -- the first fault of an offered medium with a port
 unfoldable pub used_fault : OwnRange → Description → Media → Option OfferFault
 used_fault range d m = first_fault (
-    (not (is_carried m.protocol), Protocol)
+    (not (is_carried m.proto), Protocol)
     ∷ (is_some m.count, PortCount)
     ∷ (is_name (address_of_medium d m), HostName)
     ∷ (is_ip6 (address_of_medium d m), Ip6Address)
@@ -104,7 +104,7 @@ abbrev pub is_good_place : OwnRange → Description → Media → Bool
 is_good_place range d m = not (is_some m.count) && is_ip4 (address_of_medium d m) && not (is_own_place range (place_of d m))
 
 abbrev pub is_same_media : Media → Media → Bool
-is_same_media o s = pointwise nat_eq s.kind o.kind && pointwise nat_eq s.protocol o.protocol
+is_same_media o s = pointwise nat_eq s.kind o.kind && pointwise nat_eq s.proto o.proto
 
 -- the first fault of an answered medium with a port, for the medium offered (RFC 3264 sections 6, 6.1 and 8.2)
 unfoldable pub accepted_fault : OwnRange → Media → Description → Media → Option AnswerFault

@@ -57,7 +57,7 @@ matching o s = filter (is_answered o s) o.formats
 unfoldable pub stream_of : Description → Media → Description → Media → Stream
 stream_of O o S s =
     if o.port == 0 || s.port == 0 then Rejected
-    else Used o.kind o.protocol
+    else Used o.kind o.proto
     (side (way_of O o) (way_of S s) s.formats (destination S s))
     (side (way_of S s) (way_of O o) (matching o s) (destination O o))
 

@@ -34,9 +34,9 @@ joined_side x y destination =
 
 -- rejected where either leg rejects it; the first destination is the answerer's, the second the offerer's
 abbrev pub joined_stream : Stream → Stream → Option Addr → Option Addr → Stream
-joined_stream (Used kind protocol a o) (Used kind' protocol' a' o') to_answerer to_offerer =
-    Used kind protocol (joined_side a a' to_answerer) (joined_side o o' to_offerer)
-joined_stream (Used kind protocol a o) Rejected to_answerer to_offerer = Rejected
+joined_stream (Used kind proto a o) (Used kind' proto' a' o') to_answerer to_offerer =
+    Used kind proto (joined_side a a' to_answerer) (joined_side o o' to_offerer)
+joined_stream (Used kind proto a o) Rejected to_answerer to_offerer = Rejected
 joined_stream Rejected y to_answerer to_offerer = Rejected
 
 -- what the offerer sends goes to its leg's answer, what the answerer sends to its leg's offer

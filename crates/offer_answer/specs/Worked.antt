@@ -22,7 +22,7 @@ abbrev pub attribute : List ℕ → Line
 attribute text = record { letter = 97; value = text }
 
 abbrev pub medium : List ℕ → ℕ → List (List ℕ) → List Line → Media
-medium kind port formats after = record { kind = kind; port = port; count = None; protocol = codes "RTP/AVP"; formats = formats; info = None; connection = None; after = after }
+medium kind port formats after = record { kind = kind; port = port; count = None; proto = codes "RTP/AVP"; formats = formats; info = None; connection = None; after = after }
 
 abbrev pub said_by : List ℕ → List ℕ → List Media → Description
 said_by user ip media = record {

@@ -50,13 +50,13 @@ fn address_of_medium<'m, 'a>(
     place_of(description, medium).map(|place| place.address)
 }
 
-fn is_carried(protocol: &[u8]) -> bool
-    ensures { result ≡ is_carried protocol.now }
+fn is_carried(proto: &[u8]) -> bool
+    ensures { result ≡ is_carried proto.now }
 {
-    protocol == b"RTP/AVP".as_slice()
-        || protocol == b"RTP/AVPF".as_slice()
-        || protocol == b"RTP/SAVP".as_slice()
-        || protocol == b"RTP/SAVPF".as_slice()
+    proto == b"RTP/AVP".as_slice()
+        || proto == b"RTP/AVPF".as_slice()
+        || proto == b"RTP/SAVP".as_slice()
+        || proto == b"RTP/SAVPF".as_slice()
 }
 
 /// The fault of the place of an offered medium.
@@ -89,7 +89,7 @@ fn used_fault(
 ) -> Option<OfferFault>
     ensures { result ≡ used_fault range description.now medium.now }
 {
-    if !is_carried(medium.protocol.as_bytes()) {
+    if !is_carried(medium.proto.as_bytes()) {
         return Some(OfferFault::Protocol);
     }
     if medium.count.is_some() {
@@ -176,7 +176,7 @@ fn is_good_place<'m, 'a>(
 fn is_same_media(offered: &Media<'_>, answered: &Media<'_>) -> bool
     ensures { result ≡ is_same_media offered.now answered.now }
 {
-    answered.kind == offered.kind && answered.protocol == offered.protocol
+    answered.kind == offered.kind && answered.proto == offered.proto
 }
 
 #[tactic(auto, unfolding(crate::specs::Checks::accepted_fault))]

@@ -100,7 +100,7 @@ fn stream_of(
     let shared = matching(alloc, offered, answered)?;
     Ok(Stream::Used {
         kind: offered.kind.keep(alloc)?,
-        protocol: offered.protocol.keep(alloc)?,
+        proto: offered.proto.keep(alloc)?,
         to_answerer: side(out, back, listed, destination(answer, answered)),
         to_offerer: side(back, out, shared, destination(offer, offered)),
     })

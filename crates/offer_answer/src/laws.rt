@@ -71,7 +71,7 @@ pub fn rows_of_session_stand()
 /// server's own places are (RFC 3264 section 8.4).
 pub fn hold_passes()
     ensures offer { (range : OwnRange) (d : Description) (m : Media) →
-        address_of_medium d m ≡ Some (Ip4 hold_address) → IsTrue (is_carried m.protocol) → m.count ≡ None →
+        address_of_medium d m ≡ Some (Ip4 hold_address) → IsTrue (is_carried m.proto) → m.count ≡ None →
         medium_fault range d m ≡ None }
     ensures answer { (range : OwnRange) (o : Media) (d : Description) (m : Media) →
         address_of_medium d m ≡ Some (Ip4 hold_address) → IsTrue (is_same_media o m) → m.count ≡ None → o.port ≢ 0 →

@@ -119,7 +119,7 @@ fn readdressed_medium(
     ensures { IfOk result (λ m. m ≡ readdressed_medium ip port medium.now) }
 {
     let kind = medium.kind.keep(alloc)?;
-    let protocol = medium.protocol.keep(alloc)?;
+    let proto = medium.proto.keep(alloc)?;
     let formats = keep_formats(alloc, &medium.formats)?;
     let info = keep_text(alloc, &medium.info)?;
     let after = kept(alloc, &medium.after)?;
@@ -127,7 +127,7 @@ fn readdressed_medium(
         kind,
         port: told_port(port, medium),
         count: medium.count,
-        protocol,
+        proto,
         formats,
         info,
         connection: readdressed_connection(&medium.connection, ip),

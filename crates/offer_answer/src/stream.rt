@@ -22,7 +22,7 @@ pub enum Stream {
     /// The medium is used.
     Used {
         kind: Text<'static>,
-        protocol: Text<'static>,
+        proto: Text<'static>,
         to_answerer: Side,
         to_offerer: Side,
     },

@@ -85,12 +85,12 @@ pub(crate) fn medium_words(alloc: Global, medium: &Media<'_>) -> Result<String, 
         Some(count) => format!(in alloc; "/{count}")?,
         None => String::new(alloc),
     };
-    let protocol = shown(alloc, medium.protocol.as_bytes())?;
+    let proto = shown(alloc, medium.proto.as_bytes())?;
     let formats = formats_words(alloc, medium)?;
     let info = info_words(alloc, medium)?;
     let address = connection_words(alloc, &medium.connection)?;
     let after = lines_words(alloc, "after", medium.after.as_slice())?;
-    format!(in alloc; "{kind} {port}{count} {protocol} {formats}, info {info}, {address}, {after}")
+    format!(in alloc; "{kind} {port}{count} {proto} {formats}, info {info}, {address}, {after}")
 }
 
 /// A direction, and whether it sends and receives.

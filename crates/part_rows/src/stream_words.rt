@@ -27,17 +27,15 @@ fn stream_words(alloc: Global, stream: &Stream) -> Result<String, AllocError> {
         Stream::Rejected => said(alloc, "rejected"),
         Stream::Used {
             kind,
-            protocol,
+            proto,
             to_answerer,
             to_offerer,
         } => {
             let kind = shown(alloc, kind.as_bytes())?;
-            let protocol = shown(alloc, protocol.as_bytes())?;
+            let proto = shown(alloc, proto.as_bytes())?;
             let to_answerer = side_words(alloc, to_answerer)?;
             let to_offerer = side_words(alloc, to_offerer)?;
-            format!(in alloc;
-                "{kind} {protocol}, to answerer {to_answerer}, to offerer {to_offerer}"
-            )
+            format!(in alloc; "{kind} {proto}, to answerer {to_answerer}, to offerer {to_offerer}")
         }
     }
 }

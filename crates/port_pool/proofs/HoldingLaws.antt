@@ -9,7 +9,7 @@ use Rattle.std.proofs.lemmas.List.Kept.{AllPairs-cons}
 use Rattle.port_pool.specs.Limits.{least_port, last_port, rest_time}
 use Rattle.port_pool.specs.declared.pair.Pair.{Pair}
 use Rattle.port_pool.specs.declared.holdings.Holding.{Holding}
-use Rattle.port_pool.specs.Holdings.{unheld, is_call, holds, is_free, pair_of, free_pairs, has_even, holder_of, is_among, is_resting, held_by, freed_at, holding_after_taking, holding_after_release, holding_after_drop, taken, released, dropped, HasOdd, LeadsPair, AreRising, PairsFrom, PairsRise}
+use Rattle.port_pool.specs.Holdings.{unheld, is_call, holds, is_free, pair_of, free_pairs, has_even, holder_of, is_among, is_resting, held_by, freed_at, holding_after_taking, holding_after_release, holding_after_drop, taken, released, dropped, HasOdd, LeadsPair, AreRising, PairsFrom, PairsRise, is_other, holding_after_freeing_others, others_freed}
 
 -- a holding, where a list has none
 abbrev pub no_holding : Holding
@@ -58,6 +58,12 @@ released_even pair now s = chosen_even (s.even == pair.even) (freed_at now s) s 
 dropped_even : (call now : ℕ) (s : Holding) → (holding_after_drop call now s).even ≡ s.even
 dropped_even call now s = chosen_even (holds call s) (freed_at now s) s refl
 
+others_even : (call : ℕ) (kept : List Pair) (now : ℕ) (s : Holding) → (holding_after_freeing_others call kept now s).even ≡ s.even
+others_even call kept now s = chosen_even (is_other call kept s) (freed_at now s) s refl
+
+pub PairsFrom-others : (call : ℕ) (kept : List Pair) (now n : ℕ) (holdings : List Holding) → PairsFrom n holdings → PairsFrom n (others_freed call kept now holdings)
+PairsFrom-others call kept now n holdings h = PairsFrom-map (holding_after_freeing_others call kept now) (others_even call kept now) n holdings h
+
 pub PairsFrom-taken : (call : ℕ) (pairs : List Pair) (n : ℕ) (holdings : List Holding) → PairsFrom n holdings → PairsFrom n (taken call pairs holdings)
 PairsFrom-taken call pairs n holdings h = PairsFrom-map (holding_after_taking call pairs) (taken_even call pairs) n holdings h
 
@@ -102,6 +108,12 @@ holder_of-released pair now holdings e =
 pub holder_of-dropped : (call now : ℕ) (holdings : List Holding) (e : ℕ) → holder_of (dropped call now holdings) e ≡ cond (is_call call (holder_of holdings e)) None (holder_of holdings e)
 holder_of-dropped call now holdings e =
     holder_of-map (holding_after_drop call now) (λ n h. cond (is_call call h) None h) (dropped_even call now) (λ s. chosen_holder (holds call s) (freed_at now s) s) holdings e (λ none. refl)
+
+pub holder_of-others : (call : ℕ) (kept : List Pair) (now : ℕ) (holdings : List Holding) (e : ℕ)
+    → holder_of (others_freed call kept now holdings) e ≡ cond (is_call call (holder_of holdings e) && not (is_among kept e)) None (holder_of holdings e)
+holder_of-others call kept now holdings e =
+    holder_of-map (holding_after_freeing_others call kept now) (λ n h. cond (is_call call h && not (is_among kept n)) None h) (others_even call kept now)
+    (λ s. chosen_holder (is_other call kept s) (freed_at now s) s) holdings e (λ none. refl)
 
 holder_of-taken : (call : ℕ) (pairs : List Pair) (holdings : List Holding) (e : ℕ) → (is_among pairs e ≡ true → is_some (find (has_even e) holdings) ≡ true)
     → holder_of (taken call pairs holdings) e ≡ cond (is_among pairs e) (Some call) (holder_of holdings e)
@@ -329,4 +341,19 @@ rests-dropped call now moment n (s ∷ ss) e h before =
           (none_free moment (s.even + 2) rest e (PairsFrom-dropped call now (s.even + 2) ss h.3) (omega arith)))
       | false ↦ λ is held. passed moment e (holding_after_drop call now s) rest (ap (λ m. m == e) (dropped_even call now s) ∙ is)
           (rests-dropped call now moment (s.even + 2) ss e h.3 before held)
+    ]) refl
+
+pub rests-others : (call : ℕ) (kept : List Pair) (now moment n : ℕ) (holdings : List Holding) (e : ℕ) → PairsFrom n holdings → moment < now + rest_time
+    → is_call call (holder_of holdings e) ≡ true → is_among kept e ≡ false → is_among (free_pairs moment (others_freed call kept now holdings)) e ≡ false
+rests-others call kept now moment n [] e h before = λ held out. refl
+rests-others call kept now moment n (s ∷ ss) e h before =
+    let rest = others_freed call kept now ss in
+    (elim (s.even == e) as (λ b. (s.even == e) ≡ b → is_call call (option_and_then (λ (t : Holding). t.holder) (cond b (Some s) (find (has_even e) ss))) ≡ true
+    → is_among kept e ≡ false → is_among (free_pairs moment (holding_after_freeing_others call kept now s ∷ rest)) e ≡ false) [
+      | true ↦ λ is held out. let at : s.even ≡ e = eqb-true s.even e is in
+          let unkept : is_among kept s.even ≡ false = ap (is_among kept) at ∙ out in
+          rw (held, unkept) (gone moment e (freed_at now s) rest (still_resting moment now s before)
+          (none_free moment (s.even + 2) rest e (PairsFrom-others call kept now (s.even + 2) ss h.3) (omega arith)))
+      | false ↦ λ is held out. passed moment e (holding_after_freeing_others call kept now s) rest (ap (λ m. m == e) (others_even call kept now s) ∙ is)
+          (rests-others call kept now moment (s.even + 2) ss e h.3 before held out)
     ]) refl

@@ -1,5 +1,5 @@
 -- Lemmas on the pool: what each change keeps, and what it leaves.
-use Rattle.std.proofs.Common.{◌≡◌, ◌≢◌, ◌⊎◌, inl, inr, ◌==◌, ◌+◌, ◌*◌, ◌-◌, ◌%◌, ◌≤◌, ◌∙◌, ℕ, true, false, cond, List, [], ◌∷◌, All, get_or, Option, Some, None, is_some, refl, sym, ap, arith}
+use Rattle.std.proofs.Common.{◌≡◌, ◌≢◌, ◌⊎◌, inl, inr, ◌==◌, ◌+◌, ◌*◌, ◌-◌, ◌%◌, ◌≤◌, ◌∙◌, ℕ, Bool, true, false, not, ◌&&◌, cond, List, [], ◌∷◌, All, get_or, Option, Some, None, is_some, refl, sym, ap, arith}
 use Prim.Native.Nat.{zero, suc}
 use Rattle.std.specs.List.{list_any}
 use Rattle.std.specs.Ordering.{nat_cmp}
@@ -16,8 +16,8 @@ use Rattle.port_pool.specs.declared.holdings.Holding.{Holding}
 use Rattle.port_pool.specs.RelayTable.{Rows, changed, changed_by}
 use Rattle.port_pool.specs.Changes.{port_of, change_to, changes_between, LeadFrom}
 use Rattle.port_pool.specs.Holdings.{is_call, even_of, is_among, holder_of, holder_at, dropped}
-use Rattle.port_pool.specs.Pool.{Contents, new_pool, AreFree, with_pairs, freed, is_port_of, HasNoRow, AreOwn, StandOnce, hop_of, row_after, ports_of, changes_of, changes_of_port, AreHeld, with_changes, committed, without_call, IsPool, IsPortOfPair, NeverMeet}
-use Rattle.port_pool.proofs.HoldingLaws.{PairsFrom-unheld, PairsFrom-taken, PairsFrom-released, PairsFrom-dropped, holder_of-held, holder_of-released, holder_of-dropped, held_leads}
+use Rattle.port_pool.specs.Pool.{Contents, new_pool, AreFree, with_pairs, freed, is_port_of, HasNoRow, AreBareBut, AreOwn, StandOnce, hop_of, row_after, ports_of, changes_of, changes_of_port, AreHeld, with_changes, committed, without_others, without_call, IsPool, IsPortOfPair, NeverMeet}
+use Rattle.port_pool.proofs.HoldingLaws.{PairsFrom-unheld, PairsFrom-taken, PairsFrom-released, PairsFrom-dropped, PairsFrom-others, holder_of-held, holder_of-released, holder_of-dropped, holder_of-others, held_leads}
 use Rattle.port_pool.proofs.PortLaws.{PortsFrom-pairs, port_in, ports_own}
 use Rattle.port_pool.proofs.ChangeLaws.{own, between_own, get-change_to, get_after, changes_each, changes_rise, changes_within}
 
@@ -65,6 +65,19 @@ IsPool-freed pool pair now is none = record {
         | true ↦ λ at. cc (sym (ap is_some (no_row pool pair port none (port_of_pair port pair.even (eqb-true (even_of port) pair.even at)))) ∙ some)
         | false ↦ λ at. is.held port some
       ]) refl);
+}
+
+no_other : (a b : Bool) (o : Option ℕ) → (a ≡ true → b ≡ false → ⊥) → cond (a && not b) None o ≡ o
+no_other true true o h = refl
+no_other true false o h = absurd (h refl refl)
+no_other false b o h = refl
+
+pub IsPool-others : (pool : Contents) (call : ℕ) (kept : List Pair) (now : ℕ) → IsPool pool → AreBareBut pool call kept → IsPool (without_others pool call kept now)
+IsPool-others pool call kept now is bare = record {
+  pairs = PairsFrom-others call kept now least_port pool.holdings is.pairs;
+  held = λ port some. rw (holder_of-others call kept now pool.holdings (even_of port))
+      (rw (no_other (is_port_of pool call port) (is_among kept (even_of port)) (holder_at pool.holdings port) (λ own out. cc (sym (ap is_some (bare port own out)) ∙ some)))
+      (is.held port some));
 }
 
 -- ---- rows

@@ -87,6 +87,17 @@ holding_after_drop call now holding = if holds call holding then freed_at now ho
 abbrev pub dropped : ℕ → ℕ → List Holding → List Holding
 dropped call now holdings = map (holding_after_drop call now) holdings
 
+-- a pair of the call that is none of these
+abbrev pub is_other : ℕ → List Pair → Holding → Bool
+is_other call kept holding = holds call holding && not (is_among kept holding.even)
+
+abbrev pub holding_after_freeing_others : ℕ → List Pair → ℕ → Holding → Holding
+holding_after_freeing_others call kept now holding = if is_other call kept holding then freed_at now holding else holding
+
+-- each pair of the call but for these is nobody's, and rests from now on
+abbrev pub others_freed : ℕ → List Pair → ℕ → List Holding → List Holding
+others_freed call kept now holdings = map (holding_after_freeing_others call kept now) holdings
+
 -- ---- what holds of the pairs of any pool
 
 -- a port that leads a pair: it is even, not below 1024, and there is a port above it

@@ -13,7 +13,7 @@ use Rattle.port_pool.specs.declared.holdings.Holding.{Holding}
 use Rattle.port_pool.specs.RelayTable.{Rows, coded_rows, changed_by}
 use Rattle.port_pool.specs.Limits.{least_port, rest_time}
 use Rattle.port_pool.specs.Changes.{port_of, changes_between}
-use Rattle.port_pool.specs.Holdings.{unheld_pairs, is_call, is_among, holds, free_pairs, holder_of, holder_at, taken, released, dropped, PairsFrom}
+use Rattle.port_pool.specs.Holdings.{unheld_pairs, is_call, is_among, even_of, holds, free_pairs, holder_of, holder_at, taken, released, dropped, others_freed, PairsFrom}
 
 -- The pairs by rising port, each with the call that holds it, if any, and the moment at which it was last freed; and the
 -- relay table beside them.
@@ -61,6 +61,10 @@ freed pool pair now = record { holdings = released pair now pool.holdings; rows 
 -- the pair serves nobody until the time of rest has gone by since this moment
 abbrev pub RestsFrom : Contents → ℕ → ℕ → Type 0
 RestsFrom pool even now = (moment : ℕ) → moment < now + rest_time → is_among (free_pairs moment pool.holdings) even ≡ false
+
+-- the call holds these pairs alone, if it held them
+abbrev pub without_others : Contents → ℕ → List Pair → ℕ → Contents
+without_others pool call kept now = record { holdings = others_freed call kept now pool.holdings; rows = pool.rows }
 
 -- why a call gets no pairs
 abbrev pub RefusesReserve : Contents → ℕ → ℕ → PoolError → Type 0
@@ -129,6 +133,10 @@ committed pool call lines = with_changes pool (changes_of pool call lines)
 -- the call holds no pair and has no row
 abbrev pub without_call : Contents → ℕ → ℕ → Contents
 without_call pool call now = record { holdings = dropped call now pool.holdings; rows = (committed pool call []).rows }
+
+-- no port of the call has a row but those of these pairs
+abbrev pub AreBareBut : Contents → ℕ → List Pair → Type 0
+AreBareBut pool call kept = (port : ℕ) → is_port_of pool call port ≡ true → is_among kept (even_of port) ≡ false → get pool.rows port ≡ None
 
 -- ---- what holds of any pool
 

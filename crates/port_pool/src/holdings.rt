@@ -3,7 +3,7 @@
 ghost use Rattle.std.specs.Prelude.{◌≡◌, ◌+◌, ◌*◌, ◌≤◌, IfOk, find, take};
 ghost use Rattle.std.specs.Option.{option_copied};
 ghost use Rattle.port_pool.specs.Limits.{last_port};
-ghost use Rattle.port_pool.specs.Holdings.{unheld_pairs, free_pairs, is_call, is_resting, is_free, holds, pair_of, is_among, has_even, holder_of, holding_after_taking, holding_after_release, holding_after_drop, taken, released, dropped};
+ghost use Rattle.port_pool.specs.Holdings.{unheld_pairs, free_pairs, is_call, is_resting, is_free, holds, pair_of, is_among, has_even, holder_of, holding_after_taking, holding_after_release, holding_after_drop, taken, released, dropped, holding_after_freeing_others, others_freed};
 
 use crate::pair::Pair;
 use std::alloc::{AllocError, Global};
@@ -158,6 +158,21 @@ fn holding_after_drop(holding: Holding, call: u64, now: u64) -> Holding
     }
 }
 
+/// The holding after the pairs of a call but for these were freed.
+fn holding_after_freeing_others(holding: Holding, call: u64, kept: &[Pair], now: u64) -> Holding
+    ensures { result ≡ holding_after_freeing_others call kept.now now holding }
+{
+    if holds(call, &holding) && !is_among(kept, holding.even) {
+        Holding {
+            even: holding.even,
+            holder: None,
+            freed: Some(now),
+        }
+    } else {
+        holding
+    }
+}
+
 /// Gives pairs to a call.
 pub(crate) fn take(holdings: &mut Vec<Holding>, call: u64, pairs: &[Pair])
     ensures { holdings.new.items ≡ taken call pairs.now holdings.old.items }
@@ -182,5 +197,14 @@ pub(crate) fn drop_all(holdings: &mut Vec<Holding>, call: u64, now: u64)
 {
     for holding in holdings.iter_mut() {
         *holding = holding_after_drop(*holding, call, now);
+    }
+}
+
+/// Frees the pairs of a call but for these.
+pub(crate) fn free_others(holdings: &mut Vec<Holding>, call: u64, kept: &[Pair], now: u64)
+    ensures { holdings.new.items ≡ others_freed call kept.now now holdings.old.items }
+{
+    for holding in holdings.iter_mut() {
+        *holding = holding_after_freeing_others(*holding, call, kept, now);
     }
 }

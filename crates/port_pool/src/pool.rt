@@ -1,16 +1,16 @@
 //! The pool of pairs.
 
-ghost use Rattle.std.specs.Prelude.{ℕ, ◌≡◌, ◌==◌, ◌≤◌, ◌+◌, ◌*◌, ◌%◌, [], All, true, None, Some, IfErr, IfOk, OnOk, OnErr, is_some, length, if◌then◌else◌};
+ghost use Rattle.std.specs.Prelude.{ℕ, ◌≡◌, ◌==◌, ◌≤◌, ◌+◌, ◌*◌, ◌%◌, ◌&&◌, not, [], All, true, false, None, Some, IfErr, IfOk, OnOk, OnErr, is_some, length, if◌then◌else◌};
 ghost use Rattle.std.specs.FinMap as map;
 ghost use Rattle.port_pool.specs.Limits.{least_port, last_port, most_pairs};
 ghost use Rattle.port_pool.specs.Changes.{LeadFrom};
 ghost use Rattle.port_pool.specs.Holdings.{even_of, is_among, holder_of, holder_at, LeadsPair, AreRising, PairsRise};
-ghost use Rattle.port_pool.specs.Pool.{new_pool, lowest_free, AreLowestFree, AreFree, with_pairs, reserved, freed, RestsFrom, RefusesReserve, RefusesRelease, is_port_of, HasNoRow, AreOwn, StandOnce, row_after, changes_of, AreHeld, with_changes, committed, without_call, RowsAreHeld, NeverMeet};
+ghost use Rattle.port_pool.specs.Pool.{new_pool, lowest_free, AreLowestFree, AreFree, with_pairs, reserved, freed, RestsFrom, RefusesReserve, RefusesRelease, is_port_of, HasNoRow, AreOwn, StandOnce, row_after, changes_of, AreHeld, AreBareBut, with_changes, without_others, committed, without_call, RowsAreHeld, NeverMeet};
 
 use crate::changes::{Change, changes_of};
 use crate::error::PoolError;
 use crate::holdings::{
-    Holding, drop_all, holder_of, is_held_by, lowest_free, release, take, unheld_pairs,
+    Holding, drop_all, free_others, holder_of, is_held_by, lowest_free, release, take, unheld_pairs,
 };
 use crate::hop::Hop;
 use crate::pair::Pair;
@@ -147,6 +147,20 @@ impl Pool {
         }
         self.free(pair, now);
         Ok(())
+    }
+
+    /// Frees the pairs of a call but for these, at whose ports alone the call has rows; from the moment `now` they rest. Takes
+    /// no memory.
+    pub fn free_others(&mut self, call: u64, kept: &[Pair], now: u64)
+        requires { AreBareBut self.old call kept.now }
+        ensures pool { self.new ≡ without_others self.old call kept.now now }
+        ensures holder { (port : ℕ) → holder_at self.new.holdings port
+            ≡ (if is_port_of self.old call port && not (is_among kept.now (even_of port)) then None
+            else holder_at self.old.holdings port) }
+        ensures rests { (port : ℕ) → is_port_of self.old call port ≡ true → is_among kept.now (even_of port) ≡ false →
+            RestsFrom self.new (even_of port) now }
+    {
+        free_others(&mut self.holdings, call, kept, now);
     }
 
     /// What leads to these rows of a call in place of its former ones, by rising port: what `commit` answers.

@@ -1,5 +1,5 @@
 pub mod PresentLaws
-pub mod LineLaws
+pub mod EntryLaws
 pub mod Standing
 pub mod RefreshLaws
 pub mod OrderLaws

@@ -1,10 +1,9 @@
--- The order of refresh outlasts the numbering anew.
-use Rattle.std.proofs.Common.{◌≡◌, ◌&&◌, ◌∙◌, ◌⊎◌, inl, inr, ℕ, ◌+◌, ◌<◌, ◌≤◌, Bool, true, false, cond, List, [], ◌∷◌, length, filter, find, map, count_by, Option, Some, None, option_map, nat_lt, nat_le, refl, ap, arith}
+-- The order of refresh outlasts the numbering by it.
+use Rattle.std.proofs.Common.{◌≡◌, ◌&&◌, ◌∙◌, ◌⊎◌, inl, inr, ℕ, ◌+◌, ◌<◌, ◌≤◌, Bool, true, false, cond, List, [], ◌∷◌, find, map, count_by, Option, Some, None, option_map, nat_lt, nat_le, refl, ap, arith}
 use Rattle.std.proofs.lemmas.Bool.{lt-leb, le-leb, lt-ltb, le-ltb, ltb-true, leb-true, leb-false}
-use Rattle.std.proofs.lemmas.List.Sums.{count_by-le-length, sum_by-cons}
-use Rattle.registrar.specs.Limits.{most_bindings}
+use Rattle.std.proofs.lemmas.List.Sums.{sum_by-cons}
 use Rattle.registrar.specs.declared.binding.Binding.{Binding}
-use Rattle.registrar.specs.Registering.{present, refreshed_before, numbered, renumbered}
+use Rattle.registrar.specs.Registering.{rank, with_number, with_ranks}
 use Rattle.registrar.specs.Bound.{is_latest, latest, target_of}
 
 -- ---- counts
@@ -14,7 +13,7 @@ head_le false b imp = omega arith
 head_le true true imp = omega arith
 head_le true false imp = cc (imp refl)
 
-count-cons : (p : Binding → Bool) (x : Binding) (xs : List Binding) → count_by p (x ∷ xs) ≡ cond (p x) 1 0 + count_by p xs
+count-cons : {X : Type 0} (p : X → Bool) (x : X) (xs : List X) → count_by p (x ∷ xs) ≡ cond (p x) 1 0 + count_by p xs
 count-cons p x xs = sum_by-cons (λ y. cond (p y) 1 0) x xs
 
 count_le : (p q : Binding → Bool) (xs : List Binding) → ((x : Binding) → p x ≡ true → q x ≡ true) → count_by p xs ≤ count_by q xs
@@ -45,18 +44,17 @@ less_passes : (m n : ℕ) → m ≤ n → (x : Binding) → nat_lt x.refreshed m
 less_passes m n le x e = let less = ltb-true x.refreshed m e in lt-ltb x.refreshed n (omega arith)
 
 -- of two bindings of the list, the same one was refreshed later by the new numbers
-same_order : (bs : List Binding) (b c : Binding) → IsIn b bs → length bs ≤ most_bindings → nat_le (refreshed_before bs c) (refreshed_before bs b) ≡ nat_le c.refreshed b.refreshed
-same_order bs b c here few =
-    elim (nat_le c.refreshed b.refreshed) as (λ v. nat_le c.refreshed b.refreshed ≡ v → nat_le (refreshed_before bs c) (refreshed_before bs b) ≡ v) [
+same_order : (bs : List Binding) (b c : Binding) → IsIn b bs → nat_le (rank bs c) (rank bs b) ≡ nat_le c.refreshed b.refreshed
+same_order bs b c here =
+    elim (nat_le c.refreshed b.refreshed) as (λ v. nat_le c.refreshed b.refreshed ≡ v → nat_le (rank bs c) (rank bs b) ≡ v) [
       | true ↦ λ e.
           let le = leb-true c.refreshed b.refreshed e in
           let counts = count_le (λ x. nat_lt x.refreshed c.refreshed) (λ x. nat_lt x.refreshed b.refreshed) bs (less_passes c.refreshed b.refreshed le) in
-          le-leb (refreshed_before bs c) (refreshed_before bs b) (omega arith)
+          le-leb (rank bs c) (rank bs b) (omega arith)
       | false ↦ λ e.
           let less = leb-false c.refreshed b.refreshed e in
           let counts = count_less (λ x. nat_lt x.refreshed b.refreshed) (λ x. nat_lt x.refreshed c.refreshed) bs b (less_passes b.refreshed c.refreshed (omega arith)) here (le-ltb b.refreshed b.refreshed (omega arith)) (lt-ltb b.refreshed c.refreshed less) in
-          let small = count_by-le-length (λ x. nat_lt x.refreshed b.refreshed) bs in
-          lt-leb (refreshed_before bs c) (refreshed_before bs b) (omega arith)
+          lt-leb (rank bs c) (rank bs b) (omega arith)
     ] refl
 
 -- ---- the latest
@@ -73,36 +71,20 @@ in_itself : (bs : List Binding) → AllIn bs bs
 in_itself [] = tt
 in_itself (b ∷ bs) = (inl refl, in_longer bs b bs (in_itself bs))
 
-in_filter : (p : Binding → Bool) (bs xs : List Binding) → AllIn bs xs → AllIn bs (filter p xs)
-in_filter p bs [] h = tt
-in_filter p bs (x ∷ xs) h =
-    elim (p x) as (λ v. AllIn bs (cond v (x ∷ filter p xs) (filter p xs))) [
-      | true ↦ (h.0, in_filter p bs xs h.1)
-      | false ↦ in_filter p bs xs h.1
-    ]
-
 abbrev anew : List Binding → Binding → Binding
-anew bs b = numbered (refreshed_before bs b) b
+anew bs b = with_number (rank bs b) b
 
-present-anew : (now : ℕ) (bs xs : List Binding) → present now (map (anew bs) xs) ≡ map (anew bs) (present now xs)
-present-anew now bs [] = refl
-present-anew now bs (x ∷ xs) =
-    elim (nat_lt now x.expires_at) as (λ v. cond v (anew bs x ∷ present now (map (anew bs) xs)) (present now (map (anew bs) xs)) ≡ map (anew bs) (cond v (x ∷ present now xs) (present now xs))) [
-      | true ↦ ap (λ l. anew bs x ∷ l) (present-anew now bs xs)
-      | false ↦ present-anew now bs xs
-    ]
+same_latest : (bs : List Binding) (x : Binding) (cs : List Binding) → IsIn x bs → is_latest (map (anew bs) cs) (anew bs x) ≡ is_latest cs x
+same_latest bs x [] here = refl
+same_latest bs x (c ∷ cs) here = rw (same_order bs x c here) (ap (λ b. nat_le c.refreshed x.refreshed && b) (same_latest bs x cs here))
 
-same_latest : (bs : List Binding) (x : Binding) (cs : List Binding) → length bs ≤ most_bindings → IsIn x bs → is_latest (map (anew bs) cs) (anew bs x) ≡ is_latest cs x
-same_latest bs x [] few here = refl
-same_latest bs x (c ∷ cs) few here = rw (same_order bs x c here few) (ap (λ b. nat_le c.refreshed x.refreshed && b) (same_latest bs x cs few here))
-
-find-anew : (bs ps xs : List Binding) → length bs ≤ most_bindings → AllIn bs xs → find (is_latest (map (anew bs) ps)) (map (anew bs) xs) ≡ option_map (anew bs) (find (is_latest ps) xs)
-find-anew bs ps [] few h = refl
-find-anew bs ps (x ∷ xs) few h =
-    rw (same_latest bs x ps few h.0)
+find-anew : (bs ps xs : List Binding) → AllIn bs xs → find (is_latest (map (anew bs) ps)) (map (anew bs) xs) ≡ option_map (anew bs) (find (is_latest ps) xs)
+find-anew bs ps [] h = refl
+find-anew bs ps (x ∷ xs) h =
+    rw (same_latest bs x ps h.0)
     (elim (is_latest ps x) as (λ v. cond v (Some (anew bs x)) (find (is_latest (map (anew bs) ps)) (map (anew bs) xs)) ≡ option_map (anew bs) (cond v (Some x) (find (is_latest ps) xs))) [
       | true ↦ refl
-      | false ↦ find-anew bs ps xs few h.1
+      | false ↦ find-anew bs ps xs h.1
     ])
 
 same_uri : (bs : List Binding) (o : Option Binding) → option_map (λ b. b.uri) (option_map (anew bs) o) ≡ option_map (λ b. b.uri) o
@@ -110,9 +92,8 @@ same_uri bs None = refl
 same_uri bs (Some b) = refl
 
 -- calls go where they went
-pub target-renumbered : (now : ℕ) (bs : List Binding) → length bs ≤ most_bindings → target_of (present now (renumbered bs)) ≡ target_of (present now bs)
+pub target-with_ranks : (bs : List Binding) → target_of (with_ranks bs) ≡ target_of bs
 unfolding target_of
-target-renumbered now bs few =
-    ap (λ l. option_map (λ b. b.uri) (latest l)) (present-anew now bs bs)
-    ∙ ap (option_map (λ b. b.uri)) (find-anew bs (present now bs) (present now bs) few (in_filter (λ b. nat_lt now b.expires_at) bs bs (in_itself bs)))
-    ∙ same_uri bs (latest (present now bs))
+target-with_ranks bs =
+    ap (option_map (λ b. b.uri)) (find-anew bs bs bs (in_itself bs))
+    ∙ same_uri bs (latest bs)

@@ -2,20 +2,16 @@
 use Rattle.std.proofs.Common.{◌≡◌, ◌&&◌, ◌||◌, not, find, Some, ℕ, ◌<◌, ◌+◌, ◌∙◌, Bool, true, false, cond, List, [], ◌∷◌, ◌++◌, length, get_or, take, map, filter, nat_lt, ap, sym, refl, arith}
 use Prim.Native.Nat.{zero, suc}
 use Rattle.std.proofs.lemmas.List.Elements.{filter_more}
-use Rattle.std.specs.List.{list_all}
+use Rattle.std.specs.List.{list_all, list_any}
 use Rattle.registrar.specs.declared.binding.Binding.{Binding}
 use Rattle.registrar.specs.Registering.{present}
 
--- one more that passes a test, behind a change
-pub kept_more : {X Y : Type 0} (p : Y → Bool) (f : X → Y) (xs : List X) (i : ℕ) (x : X) → i < length xs → x ≡ get_or xs i x → p (f x) ≡ true
-    → filter p (map f (take (suc i) xs)) ≡ filter p (map f (take i xs)) ++ f x ∷ []
-kept_more p f [] i x within at passes = absurd (omega arith)
-kept_more p f (y ∷ ys) zero x within at passes = rw (sym at) (rw passes refl)
-kept_more p f (y ∷ ys) (suc i) x within at passes =
-    elim (p (f y)) as (λ b. cond b (f y ∷ filter p (map f (take (suc i) ys))) (filter p (map f (take (suc i) ys))) ≡ cond b (f y ∷ filter p (map f (take i ys))) (filter p (map f (take i ys))) ++ f x ∷ []) [
-      | true ↦ ap (λ zs. f y ∷ zs) (kept_more p f ys i x (omega arith) at passes)
-      | false ↦ kept_more p f ys i x (omega arith) at passes
-    ]
+-- one more, behind a change
+pub map_more : {X Y : Type 0} (f : X → Y) (xs : List X) (i : ℕ) (x : X) → i < length xs → x ≡ get_or xs i x
+    → map f (take (suc i) xs) ≡ map f (take i xs) ++ f x ∷ []
+map_more f [] i x within at = absurd (omega arith)
+map_more f (y ∷ ys) zero x within at = rw (sym at) refl
+map_more f (y ∷ ys) (suc i) x within at = ap (λ zs. f y ∷ zs) (map_more f ys i x (omega arith) at)
 
 -- one more binding that is not over
 pub present_more : (now : ℕ) (bs : List Binding) (i : ℕ) (b : Binding) → i < length bs → b ≡ get_or bs i b → nat_lt now b.expires_at ≡ true
@@ -39,4 +35,13 @@ find-filter p q (x ∷ xs) =
     elim (q x) as (λ b. find p (cond b (x ∷ filter q xs) (filter q xs)) ≡ cond (b && p x) (Some x) (find (λ y. q y && p y) xs)) [
       | true ↦ ap (λ o. cond (p x) (Some x) o) (find-filter p q xs)
       | false ↦ find-filter p q xs
+    ]
+
+-- whether any that passes a test passes another
+pub list_any-filter : {X : Type 0} (p q : X → Bool) (xs : List X) → list_any p (filter q xs) ≡ list_any (λ x. q x && p x) xs
+list_any-filter p q [] = refl
+list_any-filter p q (x ∷ xs) =
+    elim (q x) as (λ b. list_any p (cond b (x ∷ filter q xs) (filter q xs)) ≡ ((b && p x) || list_any (λ y. q y && p y) xs)) [
+      | true ↦ ap (λ b. p x || b) (list_any-filter p q xs)
+      | false ↦ list_any-filter p q xs
     ]

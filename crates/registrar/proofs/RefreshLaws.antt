@@ -8,15 +8,15 @@ use Rattle.std.proofs.lemmas.List.Sums.{length-filter}
 use Rattle.std.proofs.Math.Dec.{eqb-suc-zero}
 use Rattle.std.proofs.lemmas.List.Quantifiers.{position-Some}
 use Rattle.sip_uri.specs.declared.uri.Uri.{Uri}
-use Rattle.registrar.specs.Limits.{most_bindings, last_number}
+use Rattle.registrar.specs.Limits.{max_bindings}
 use Rattle.registrar.specs.declared.binding.Binding.{Binding}
 use Rattle.registrar.specs.declared.register.Contact.{Contact}
 use Rattle.registrar.specs.declared.register.Register.{Register}
 use Rattle.registrar.specs.declared.refusal.Refusal.{Refusal}
 use Rattle.registrar.specs.declared.refusal.Refusal.TheVariants.{UnknownUser, StarMisused, TooBrief, OutOfOrder, TooManyBindings, BadContact}
-use Rattle.registrar.specs.Registering.{Rules, applied, present, next_number, first_number, refreshed_before, numbered, renumbered, lifetime, is_of, is_too_brief, is_stale, bound_by, put, put_at, without, with_contact, with_contact_at, with_contacts, and_then, within_limit, is_star_misused, is_bindable, is_zero, is_older_than, cleared}
-use Rattle.registrar.specs.Bound.{Event, is_latest, latest, target_of, names, is_known, or_as_before, step, fold_from, bindings_after, bound, answer_to, answer_after, LastContactIsTarget, QueryKeepsTarget, FewBound}
-use Rattle.registrar.proofs.OrderLaws.{target-renumbered}
+use Rattle.registrar.specs.Registering.{Rules, bindings_after_one, bindings_by, whole_refusal, unless_refused, present, first_number, rank, with_number, with_ranks, lifetime, is_of, is_too_brief, is_stale, binding_by, put, put_at, without, uri_refusal, with_uri, with_contact, with_contact_at, with_contacts, and_then, within_limit, is_star_misused, is_star_stale, is_bindable, is_zero, is_known, answer_for, answer_by}
+use Rattle.registrar.specs.Bound.{Event, is_latest, latest, target_of, names, or_as_before, step, fold_from, bindings_after, bound, answer_after, LastContactIsTarget, QueryKeepsTarget, FewBound}
+use Rattle.registrar.proofs.OrderLaws.{target-with_ranks}
 
 -- each was refreshed before this number
 abbrev AllBelow : ℕ → List Binding → Type 0
@@ -85,13 +85,13 @@ latest_at bs new p (Some place) found h =
 
 -- ---- one contact
 
-one_of_three : (brief stale none : Bool) (gone kept after : List Binding) (P : List Binding → Type 0) → cond brief (Err TooBrief) (cond stale (Err OutOfOrder) (cond none (Ok gone) (Ok kept))) ≡ Ok after → P gone → P kept → P after
+one_of_three : (brief stale none : Bool) (gone kept after : List Binding) (P : List Binding → Type 0) → unless_refused (cond brief (Some TooBrief) (cond stale (Some OutOfOrder) None)) (Ok (cond none gone kept)) ≡ Ok after → P gone → P kept → P after
 one_of_three true stale none gone kept after P e g k = cc
 one_of_three false true none gone kept after P e g k = cc
 one_of_three false false true gone kept after P e g k = let same : gone ≡ after = cc in subst P same g
 one_of_three false false false gone kept after P e g k = let same : kept ≡ after = cc in subst P same k
 
-is_kept : (brief stale none : Bool) (gone kept after : List Binding) → none ≡ false → cond brief (Err TooBrief) (cond stale (Err OutOfOrder) (cond none (Ok gone) (Ok kept))) ≡ Ok after → kept ≡ after
+is_kept : (brief stale none : Bool) (gone kept after : List Binding) → none ≡ false → unless_refused (cond brief (Some TooBrief) (cond stale (Some OutOfOrder) None)) (Ok (cond none gone kept)) ≡ Ok after → kept ≡ after
 is_kept true stale none gone kept after z e = cc
 is_kept false true none gone kept after z e = cc
 is_kept false false true gone kept after z e = cc
@@ -101,7 +101,7 @@ below_at : (least : ℕ) (g : Register) (now : ℕ) (bs : List Binding) (n : ℕ
 below_at least g now bs n c None after h e = cc
 below_at least g now bs n c (Some uri) after h e =
     let more : AllBelow (n + 1) bs = below_more n (n + 1) bs (omega arith) h in
-    let new = bound_by g uri (lifetime g c) n now in
+    let new = binding_by g uri (lifetime g c) n now in
     one_of_three (is_too_brief least (lifetime g c)) (is_stale g (find (is_of uri) bs)) (lifetime g c == 0) (without bs uri) (put bs new) after (AllBelow (n + 1)) e
     (below_filter (λ b. not (is_of uri b)) (n + 1) bs more)
     (below_put_at (n + 1) bs new (position (is_of uri) bs) more (omega arith))
@@ -110,7 +110,7 @@ latest_at_last : (least : ℕ) (g : Register) (now : ℕ) (bs : List Binding) (n
 unfolding target_of
 latest_at_last least g now bs n c uri None after is lasts h e = cc
 latest_at_last least g now bs n c uri (Some u) after is lasts h e =
-    let new = bound_by g u (lifetime g c) n now in
+    let new = binding_by g u (lifetime g c) n now in
     let same : u ≡ uri = cc in
     let kept : put bs new ≡ after = is_kept (is_too_brief least (lifetime g c)) (is_stale g (find (is_of u) bs)) (lifetime g c == 0) (without bs u) (put bs new) after lasts e in
     ap (λ l. option_map (λ b. b.uri) (latest l)) (sym kept) ∙ ap (option_map (λ b. b.uri)) (latest_at bs new (is_of u) (position (is_of u) bs) refl h) ∙ ap Some same
@@ -123,29 +123,38 @@ record LastStep (least : ℕ) (g : Register) (now : ℕ) (c : Contact) (after : 
   below : AllBelow number bindings
   gives : with_contact least g now bindings number c ≡ Ok after
 
-next_is : (n : ℕ) → n + 1 ≤ last_number → next_number n ≡ n + 1
-next_is n room = omega arith
-
-to_last : (least : ℕ) (g : Register) (now : ℕ) (c : Contact) (after : List Binding) (others : List Contact) (n : ℕ) (bs : List Binding) → n + length others ≤ last_number → AllBelow n bs
+to_last : (least : ℕ) (g : Register) (now : ℕ) (c : Contact) (after : List Binding) (others : List Contact) (n : ℕ) (bs : List Binding) → AllBelow n bs
     → with_contacts least g now n (others ++ c ∷ []) bs ≡ Ok after → LastStep least g now c after
-to_last least g now c after [] n bs room h e =
+to_last least g now c after [] n bs h e =
     elim (with_contact least g now bs n c) as (λ r. with_contact least g now bs n c ≡ r → and_then r (λ kept. Ok kept) ≡ Ok after → LastStep least g now c after) [
       | Ok kept ↦ λ is e'. record { bindings = bs; number = n; below = h; gives = is ∙ e' }
       | Err refusal ↦ λ is e'. cc
     ] refl e
-to_last least g now c after (o ∷ os) n bs room h e =
-    elim (with_contact least g now bs n o) as (λ r. with_contact least g now bs n o ≡ r → and_then r (λ kept. with_contacts least g now (next_number n) (os ++ c ∷ []) kept) ≡ Ok after → LastStep least g now c after) [
-      | Ok kept ↦ λ is e'.
-          let next = next_is n (omega arith) in
-          to_last least g now c after os (n + 1) kept (omega arith) (below_at least g now bs n o o.uri kept h is) (subst (λ m. with_contacts least g now m (os ++ c ∷ []) kept ≡ Ok after) next e')
+to_last least g now c after (o ∷ os) n bs h e =
+    elim (with_contact least g now bs n o) as (λ r. with_contact least g now bs n o ≡ r → and_then r (λ kept. with_contacts least g now (n + 1) (os ++ c ∷ []) kept) ≡ Ok after → LastStep least g now c after) [
+      | Ok kept ↦ λ is e'. to_last least g now c after os (n + 1) kept (below_at least g now bs n o o.uri kept h is) e'
       | Err refusal ↦ λ is e'. cc
     ] refl e
 
-below_renumbered : (all bs : List Binding) → length all < last_number → AllBelow (first_number all) (map (λ b. numbered (refreshed_before all b) b) bs)
-below_renumbered all [] small = tt
-below_renumbered all (b ∷ bs) small =
+-- what a user is bound to is few, and numbered from 0
+record Sound (bs : List Binding) : Type 0 where
+  few : length bs ≤ max_bindings
+  below : AllBelow (first_number bs) bs
+
+below_ranks : (all bs : List Binding) → AllBelow (first_number all) (map (λ b. with_number (rank all b) b) bs)
+below_ranks all [] = tt
+below_ranks all (b ∷ bs) =
     let count = count_by-le-length (λ c. nat_lt c.refreshed b.refreshed) all in
-    (omega arith, below_renumbered all bs small)
+    (omega arith, below_ranks all bs)
+
+same_length : {X Y : Type 0} (f : X → Y) (xs : List X) → length (map f xs) ≡ length xs
+same_length f [] = refl
+same_length f (x ∷ xs) = ap suc (same_length f xs)
+
+sound_ranks : (bs : List Binding) → length bs ≤ max_bindings → Sound (with_ranks bs)
+sound_ranks bs few =
+    let same = same_length (λ b. with_number (rank bs b) b) bs in
+    record { few = rw same few; below = rw same (below_ranks bs bs) }
 
 -- ---- a REGISTER
 
@@ -153,16 +162,34 @@ not_zero : (n : ℕ) → n ≢ 0 → (n == 0) ≡ false
 not_zero zero some = absurd (some refl)
 not_zero (suc n) some = eqb-suc-zero n
 
-is_limited : (bs after : List Binding) → within_limit bs ≡ Ok after → bs ≡ after
-is_limited bs after e = elim (nat_lt most_bindings (length bs)) as (λ v. cond v (Err TooManyBindings) (Ok bs) ≡ Ok after → bs ≡ after) [ true ↦ λ f. cc | false ↦ λ f. cc ] e
+record Limited (bs after : List Binding) : Type 0 where
+  few : length bs ≤ max_bindings
+  ranked : with_ranks bs ≡ after
 
-by_contacts : (star empty zero_seconds bindable : Bool) (gone r : Result (List Binding) Refusal) (after : List Binding) → (star && empty) ≡ false
-    → cond (star && not (empty && zero_seconds)) (Err StarMisused) (cond bindable (cond star gone (and_then r within_limit)) (Err BadContact)) ≡ Ok after → r ≡ Ok after
-by_contacts true true zero_seconds bindable gone r after some e = cc
-by_contacts true false zero_seconds bindable gone r after some e = cc
-by_contacts false empty zero_seconds false gone r after some e = cc
-by_contacts false empty zero_seconds true gone (Err refusal) after some e = e
-by_contacts false empty zero_seconds true gone (Ok bs) after some e = ap (λ l. Ok l) (is_limited bs after e)
+is_limited : (bs after : List Binding) → within_limit bs ≡ Ok after → Limited bs after
+is_limited bs after e =
+    elim (nat_lt max_bindings (length bs)) as (λ v. nat_lt max_bindings (length bs) ≡ v → cond v (Err TooManyBindings) (Ok (with_ranks bs)) ≡ Ok after → Limited bs after) [
+      | true ↦ λ t f. cc
+      | false ↦ λ t f. record { few = ltb-false max_bindings (length bs) t; ranked = cc }
+    ] refl e
+
+-- what the contacts of a REGISTER left
+record ByContacts (r : Result (List Binding) Refusal) (after : List Binding) : Type 0 where
+  kept : List Binding
+  gives : r ≡ Ok kept
+  limited : Limited kept after
+
+by_limit : (r : Result (List Binding) Refusal) (after : List Binding) → and_then r within_limit ≡ Ok after → ByContacts r after
+by_limit (Ok bs) after e = record { kept = bs; gives = refl; limited = is_limited bs after e }
+by_limit (Err refusal) after e = cc
+
+by_contacts : (star empty zero_seconds bindable stale : Bool) (r : Result (List Binding) Refusal) (after : List Binding) → (star && empty) ≡ false
+    → unless_refused (cond (star && not (empty && zero_seconds)) (Some StarMisused) (cond (not bindable) (Some BadContact) (cond stale (Some OutOfOrder) None))) (cond star (Ok []) (and_then r within_limit)) ≡ Ok after → ByContacts r after
+by_contacts true true zero_seconds bindable stale r after some e = cc
+by_contacts true false zero_seconds bindable stale r after some e = cc
+by_contacts false empty zero_seconds false stale r after some e = cc
+by_contacts false empty zero_seconds true true r after some e = cc
+by_contacts false empty zero_seconds true false r after some e = by_limit r after e
 
 is_some_contact : (others : List Contact) (c : Contact) → (length (others ++ c ∷ []) == 0) ≡ false
 is_some_contact [] c = eqb-suc-zero 0
@@ -176,72 +203,67 @@ none_and : (a b : Bool) → a ≡ false → (a && b) ≡ false
 none_and true b e = cc
 none_and false b e = refl
 
+-- what its contacts left, where it has some or no star
+steps_of : (rules : Rules) (g : Register) (now : ℕ) (bs after : List Binding) → (g.star && (length g.contacts == 0)) ≡ false → bindings_after_one rules g now bs ≡ Ok after
+    → ByContacts (with_contacts rules.min_expires g now (first_number bs) g.contacts (present now bs)) after
+unfolding bindings_after_one whole_refusal
+steps_of rules g now bs after plain e =
+    by_contacts g.star (length g.contacts == 0) (is_zero g.expires) (list_all (is_bindable rules.ip rules.sip_port) g.contacts) (is_star_stale g (present now bs)) (with_contacts rules.min_expires g now (first_number bs) g.contacts (present now bs)) after plain e
+
 -- a REGISTER that asks only, without contacts
-query_keeps : (rules : Rules) (g : Register) (now : ℕ) (bs after : List Binding) → length bs ≤ most_bindings
-    → g.contacts ≡ [] → g.star ≡ false → applied rules g now bs ≡ Ok after → target_of after ≡ target_of (present now bs)
-unfolding applied
-query_keeps rules g now bs after few none plain e =
-    let begun = present now (renumbered bs) in
-    let steps : with_contacts rules.min_expires g now (first_number bs) g.contacts begun ≡ Ok after =
-    by_contacts g.star (length g.contacts == 0) (is_zero g.expires) (list_all (is_bindable rules.ip rules.sip_port) g.contacts) (cleared g (present now bs)) (with_contacts rules.min_expires g now (first_number bs) g.contacts begun) after (none_and g.star (length g.contacts == 0) plain) e in
-    let kept : Ok begun ≡ Ok after = subst (λ cs. with_contacts rules.min_expires g now (first_number bs) cs begun ≡ Ok after) none steps in
-    let same : begun ≡ after = cc in
-    ap target_of (sym same) ∙ target-renumbered now bs few
+query_keeps : (rules : Rules) (g : Register) (now : ℕ) (bs after : List Binding)
+    → g.contacts ≡ [] → g.star ≡ false → bindings_after_one rules g now bs ≡ Ok after → target_of after ≡ target_of (present now bs)
+query_keeps rules g now bs after none plain e =
+    let steps = steps_of rules g now bs after (none_and g.star (length g.contacts == 0) plain) e in
+    let begun : Ok (present now bs) ≡ Ok steps.kept = subst (λ cs. with_contacts rules.min_expires g now (first_number bs) cs (present now bs) ≡ Ok steps.kept) none steps.gives in
+    let same : present now bs ≡ steps.kept = cc in
+    ap target_of (sym steps.limited.ranked) ∙ target-with_ranks steps.kept ∙ ap target_of (sym same)
 
-last_is_target : (rules : Rules) (g : Register) (now : ℕ) (bs : List Binding) (others : List Contact) (c : Contact) (uri : Uri) (after : List Binding) → length bs ≤ most_bindings
-    → g.contacts ≡ others ++ c ∷ [] → length g.contacts < 2 ^ 31 → c.uri ≡ Some uri → lifetime g c ≢ 0 → applied rules g now bs ≡ Ok after → target_of after ≡ Some uri
-unfolding applied
-last_is_target rules g now bs others c uri after few are small is lasts e =
+last_is_target : (rules : Rules) (g : Register) (now : ℕ) (bs : List Binding) (others : List Contact) (c : Contact) (uri : Uri) (after : List Binding) → Sound bs
+    → g.contacts ≡ others ++ c ∷ [] → c.uri ≡ Some uri → lifetime g c ≢ 0 → bindings_after_one rules g now bs ≡ Ok after → target_of after ≡ Some uri
+last_is_target rules g now bs others c uri after sound are is lasts e =
     let least = rules.min_expires in
-    let begun = present now (renumbered bs) in
-    let below : AllBelow (first_number bs) begun = below_filter (λ b. nat_lt now b.expires_at) (first_number bs) (renumbered bs) (below_renumbered bs bs (omega arith)) in
+    let below : AllBelow (first_number bs) (present now bs) = below_filter (λ b. nat_lt now b.expires_at) (first_number bs) bs sound.below in
     let some : (length g.contacts == 0) ≡ false = subst (λ cs. (length cs == 0) ≡ false) (sym are) (is_some_contact others c) in
-    let steps : with_contacts least g now (first_number bs) g.contacts begun ≡ Ok after =
-    by_contacts g.star (length g.contacts == 0) (is_zero g.expires) (list_all (is_bindable rules.ip rules.sip_port) g.contacts) (cleared g (present now bs)) (with_contacts least g now (first_number bs) g.contacts begun) after (some_and g.star (length g.contacts == 0) some) e in
-    let count : length g.contacts ≡ length others + 1 = ap length are ∙ length-append others (c ∷ []) in
-    let s = to_last least g now c after others (first_number bs) begun (omega arith) below (subst (λ cs. with_contacts least g now (first_number bs) cs begun ≡ Ok after) are steps) in
-    latest_at_last least g now s.bindings s.number c uri c.uri after is (not_zero (lifetime g c) lasts) s.below s.gives
+    let steps = steps_of rules g now bs after (some_and g.star (length g.contacts == 0) some) e in
+    let s = to_last least g now c steps.kept others (first_number bs) (present now bs) below (subst (λ cs. with_contacts least g now (first_number bs) cs (present now bs) ≡ Ok steps.kept) are steps.gives) in
+    ap target_of (sym steps.limited.ranked) ∙ target-with_ranks steps.kept
+    ∙ latest_at_last least g now s.bindings s.number c uri c.uri steps.kept is (not_zero (lifetime g c) lasts) s.below s.gives
 
--- ---- no more than the limit at any time
+-- ---- few, and numbered from 0, at any time
 
-is_within : (bs after : List Binding) → within_limit bs ≡ Ok after → length after ≤ most_bindings
-is_within bs after e =
-    elim (nat_lt most_bindings (length bs)) as (λ v. nat_lt most_bindings (length bs) ≡ v → cond v (Err TooManyBindings) (Ok bs) ≡ Ok after → length after ≤ most_bindings) [
-      | true ↦ λ t f. cc
-      | false ↦ λ t f. let same : bs ≡ after = cc in subst (λ l. length l ≤ most_bindings) same (ltb-false most_bindings (length bs) t)
-    ] refl e
+sound_none : Sound []
+sound_none = record { few = omega arith; below = tt }
 
-few_cleared : (older : Bool) (after : List Binding) → cond older (Err OutOfOrder) (Ok []) ≡ Ok after → length after ≤ most_bindings
-few_cleared true after e = cc
-few_cleared false after e = let same : [] ≡ after = cc in subst (λ l. length l ≤ most_bindings) same (omega arith)
+sound_by : (misused bindable star stale : Bool) (r : Result (List Binding) Refusal) (after : List Binding)
+    → unless_refused (cond misused (Some StarMisused) (cond (not bindable) (Some BadContact) (cond stale (Some OutOfOrder) None))) (cond star (Ok []) (and_then r within_limit)) ≡ Ok after → Sound after
+sound_by true bindable star stale r after e = cc
+sound_by false false star stale r after e = cc
+sound_by false true star true r after e = cc
+sound_by false true true false r after e = let same : [] ≡ after = cc in subst Sound same sound_none
+sound_by false true false false r after e =
+    let steps = by_limit r after e in
+    subst Sound steps.limited.ranked (sound_ranks steps.kept steps.limited.few)
 
-few_by : (misused bindable star older : Bool) (r : Result (List Binding) Refusal) (after : List Binding)
-    → cond misused (Err StarMisused) (cond bindable (cond star (cond older (Err OutOfOrder) (Ok [])) (and_then r within_limit)) (Err BadContact)) ≡ Ok after → length after ≤ most_bindings
-few_by true bindable star older r after e = cc
-few_by false false star older r after e = cc
-few_by false true true older r after e = few_cleared older after e
-few_by false true false older (Err refusal) after e = cc
-few_by false true false older (Ok bs) after e = is_within bs after e
+sound_after_one : (rules : Rules) (g : Register) (now : ℕ) (bs after : List Binding) → bindings_after_one rules g now bs ≡ Ok after → Sound after
+unfolding bindings_after_one whole_refusal
+sound_after_one rules g now bs after e =
+    sound_by (is_star_misused g) (list_all (is_bindable rules.ip rules.sip_port) g.contacts) g.star (is_star_stale g (present now bs)) (with_contacts rules.min_expires g now (first_number bs) g.contacts (present now bs)) after e
 
-few_applied : (rules : Rules) (g : Register) (now : ℕ) (bs after : List Binding) → applied rules g now bs ≡ Ok after → length after ≤ most_bindings
-unfolding applied
-few_applied rules g now bs after e =
-    few_by (is_star_misused g) (list_all (is_bindable rules.ip rules.sip_port) g.contacts) g.star (list_any (is_older_than g) (present now bs)) (with_contacts rules.min_expires g now (first_number bs) g.contacts (present now (renumbered bs))) after e
+sound_or_before : (bs : List Binding) (r : Result (List Binding) Refusal) → Sound bs → ((after : List Binding) → r ≡ Ok after → Sound after) → Sound (or_as_before bs r)
+sound_or_before bs (Ok after) sound each = each after refl
+sound_or_before bs (Err refusal) sound each = sound
 
-few_or_before : (bs : List Binding) (r : Result (List Binding) Refusal) → length bs ≤ most_bindings → ((after : List Binding) → r ≡ Ok after → length after ≤ most_bindings) → length (or_as_before bs r) ≤ most_bindings
-few_or_before bs (Ok after) few each = each after refl
-few_or_before bs (Err refusal) few each = few
-
-few_step : (rules : Rules) (user : List ℕ) (bs : List Binding) (e : Event) → length bs ≤ most_bindings → length (step rules user bs e) ≤ most_bindings
-few_step rules user bs e few =
-    elim (names e.register.user user && is_known rules user) as (λ v. length (cond v (or_as_before bs (applied rules e.register e.now bs)) bs) ≤ most_bindings) [
-      | true ↦ few_or_before bs (applied rules e.register e.now bs) few (λ after is. few_applied rules e.register e.now bs after is)
-      | false ↦ few
+sound_step : (rules : Rules) (user : List ℕ) (bs : List Binding) (e : Event) → Sound bs → Sound (step rules user bs e)
+sound_step rules user bs e sound =
+    elim (names e.register.user user && is_known rules user) as (λ v. Sound (cond v (or_as_before bs (bindings_after_one rules e.register e.now bs)) bs)) [
+      | true ↦ sound_or_before bs (bindings_after_one rules e.register e.now bs) sound (λ after is. sound_after_one rules e.register e.now bs after is)
+      | false ↦ sound
     ]
 
-few_from : (rules : Rules) (user : List ℕ) (bs : List Binding) (es : List Event) → length bs ≤ most_bindings → length (fold_from rules user bs es) ≤ most_bindings
-few_from rules user bs [] few = few
-few_from rules user bs (e ∷ es) few = few_from rules user (step rules user bs e) es (few_step rules user bs e few)
+sound_from : (rules : Rules) (user : List ℕ) (bs : List Binding) (es : List Event) → Sound bs → Sound (fold_from rules user bs es)
+sound_from rules user bs [] sound = sound
+sound_from rules user bs (e ∷ es) sound = sound_from rules user (step rules user bs e) es (sound_step rules user bs e sound)
 
 -- ---- over all REGISTERs
 
@@ -249,34 +271,38 @@ to_known : (known : Bool) (r : Result (List Binding) Refusal) (after : List Bind
 to_known true r after e = e
 to_known false r after e = cc
 
+-- the bindings of each user after these REGISTERs
+abbrev all_after : Rules → List Event → List ℕ → List Binding
+all_after rules history user = bindings_after rules user history
+
 last_to : (rules : Rules) (history : List Event) (g : Register) (now : ℕ) (others : List Contact) (c : Contact) (uri : Uri) (after : List Binding) (o : Option (List ℕ))
-    → g.contacts ≡ others ++ c ∷ [] → length g.contacts < 2 ^ 31 → c.uri ≡ Some uri → lifetime g c ≢ 0 → answer_to rules history g now o ≡ Ok after → target_of after ≡ Some uri
-last_to rules history g now others c uri after None are small is lasts e = cc
-last_to rules history g now others c uri after (Some user) are small is lasts e =
-    last_is_target rules g now (bindings_after rules user history) others c uri after (few_from rules user [] history (omega arith)) are small is lasts
-    (to_known (is_known rules user) (applied rules g now (bindings_after rules user history)) after e)
+    → g.contacts ≡ others ++ c ∷ [] → c.uri ≡ Some uri → lifetime g c ≢ 0 → answer_for rules (all_after rules history) g now o ≡ Ok after → target_of after ≡ Some uri
+last_to rules history g now others c uri after None are is lasts e = cc
+last_to rules history g now others c uri after (Some user) are is lasts e =
+    last_is_target rules g now (bindings_after rules user history) others c uri after (sound_from rules user [] history sound_none) are is lasts
+    (to_known (is_known rules user) (bindings_after_one rules g now (bindings_after rules user history)) after e)
 
 pub last_contact_is_target : LastContactIsTarget
-unfolding answer_after
-last_contact_is_target rules history g now others c uri after are small is lasts e = last_to rules history g now others c uri after g.user are small is lasts e
+unfolding answer_after answer_by
+last_contact_is_target rules history g now others c uri after are is lasts e = last_to rules history g now others c uri after g.user are is lasts e
 
 query_to : (rules : Rules) (history : List Event) (g : Register) (now : ℕ) (user : List ℕ) (after : List Binding) (o : Option (List ℕ)) → o ≡ Some user
-    → g.contacts ≡ [] → g.star ≡ false → answer_to rules history g now o ≡ Ok after → target_of after ≡ target_of (present now (bindings_after rules user history))
+    → g.contacts ≡ [] → g.star ≡ false → answer_for rules (all_after rules history) g now o ≡ Ok after → target_of after ≡ target_of (present now (bindings_after rules user history))
 query_to rules history g now user after None is none plain e = cc
 query_to rules history g now user after (Some u) is none plain e =
     let same : u ≡ user = cc in
-    query_keeps rules g now (bindings_after rules u history) after (few_from rules u [] history (omega arith)) none plain
-    (to_known (is_known rules u) (applied rules g now (bindings_after rules u history)) after e)
+    query_keeps rules g now (bindings_after rules u history) after none plain
+    (to_known (is_known rules u) (bindings_after_one rules g now (bindings_after rules u history)) after e)
     ∙ ap (λ v. target_of (present now (bindings_after rules v history))) same
 
 pub query_keeps_target : QueryKeepsTarget
-unfolding answer_after bound
+unfolding answer_after answer_by bound
 query_keeps_target rules history g now user after is none plain e = query_to rules history g now user after g.user is none plain e
 
-few_for : (rules : Rules) (history : List Event) (user : List ℕ) (now : ℕ) → length (bound rules user history now) ≤ most_bindings
+few_for : (rules : Rules) (history : List Event) (user : List ℕ) (now : ℕ) → length (bound rules user history now) ≤ max_bindings
 unfolding bound
 few_for rules history user now =
-    let few = few_from rules user [] history (omega arith) in
+    let few = (sound_from rules user [] history sound_none).few in
     let count = length-filter (λ b. nat_lt now b.expires_at) (bindings_after rules user history) in
     let fewer = count_by-le-length (λ b. nat_lt now b.expires_at) (bindings_after rules user history) in
     omega arith

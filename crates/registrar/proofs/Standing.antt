@@ -10,10 +10,10 @@ use Rattle.registrar.specs.declared.binding.Binding.{Binding}
 use Rattle.registrar.specs.declared.register.Register.{Register}
 use Rattle.registrar.specs.declared.refusal.Refusal.{Refusal}
 use Rattle.registrar.specs.declared.refusal.Refusal.TheVariants.{UnknownUser}
-use Rattle.registrar.specs.Registering.{Rules, applied, present, AllLast}
-use Rattle.registrar.specs.Bound.{Event, bindings_after, bound, fold_from, step, names, is_known, or_as_before, answer_after, answer_to}
-use Rattle.registrar.specs.Registrar.{Contents, StandsAfter, rules_of, rules_given, is_for, bindings_of, event, answer_of, answer_for, answer_at, registered, registered_for, registered_at, Gives, made_of}
-use Rattle.registrar.proofs.LineLaws.{known, own_line, other_line, same_users, users-without_bindings, none-without_bindings}
+use Rattle.registrar.specs.Registering.{Rules, is_known, answer_for, answer_by, bindings_after_one, present, AllLast}
+use Rattle.registrar.specs.Bound.{Event, bindings_after, bound, fold_from, step, names, or_as_before, answer_after}
+use Rattle.registrar.specs.Registrar.{Contents, StandsAfter, rules_of, rules_given, is_for, bindings_of, event, answer_of, registered, registered_for, registered_at, Gives, made_of}
+use Rattle.registrar.proofs.EntryLaws.{known, own_entry, other_entry, same_users, users-without_bindings, none-without_bindings}
 
 -- one more REGISTER is one more step
 fold_from-append : (rules : Rules) (user : List ℕ) (bs : List Binding) (es : List Event) (e : Event) → fold_from rules user bs (es ++ e ∷ []) ≡ step rules user (fold_from rules user bs es) e
@@ -28,54 +28,54 @@ stands_new users ip sip_port domain min_expires = record {
   each = λ user. none-without_bindings users user;
 }
 
--- ---- the line of the user that registers, and every other
+-- ---- the entry of the user that registers, and every other
 
-has_line : (r : Contents) (user : List ℕ) (place : ℕ) → position (is_for user) r.lines ≡ Some place → list_any (is_for user) r.lines ≡ true
-has_line r user place found = sym (is_some-position (is_for user) r.lines) ∙ ap is_some found
+has_entry : (r : Contents) (user : List ℕ) → is_known (rules_of r) user ≡ true → list_any (is_for user) r.entries ≡ true
+has_entry r user is = sym (is_some-position (is_for user) r.entries) ∙ sym (known r user) ∙ is
 
-own_step : (r : Contents) (user : List ℕ) (place : ℕ) (answer : Result (List Binding) Refusal) → position (is_for user) r.lines ≡ Some place
-    → bindings_of (registered_at r user answer).lines user ≡ or_as_before (bindings_of r.lines user) answer
-own_step r user place (Ok bs) found = own_line r.lines user bs (has_line r user place found)
-own_step r user place (Err refusal) found = refl
+own_step : (r : Contents) (user : List ℕ) (answer : Result (List Binding) Refusal) → is_known (rules_of r) user ≡ true
+    → bindings_of (registered_at r user answer).entries user ≡ or_as_before (bindings_of r.entries user) answer
+own_step r user (Ok bs) is = own_entry r.entries user bs (has_entry r user is)
+own_step r user (Err refusal) is = refl
 
 other_step : (r : Contents) (user other : List ℕ) (answer : Result (List Binding) Refusal) → pointwise nat_eq user other ≡ false
-    → bindings_of (registered_at r user answer).lines other ≡ bindings_of r.lines other
-other_step r user other (Ok bs) differ = other_line r.lines user other bs differ
+    → bindings_of (registered_at r user answer).entries other ≡ bindings_of r.entries other
+other_step r user other (Ok bs) differ = other_entry r.entries user other bs differ
 other_step r user other (Err refusal) differ = refl
 
-known_step : (r : Contents) (g : Register) (now : ℕ) (user : List ℕ) (place : ℕ) → position (is_for user) r.lines ≡ Some place
-    → bindings_of (registered_at r user (applied (rules_of r) g now (bindings_of r.lines user))).lines user
-    ≡ cond (is_known (rules_of r) user) (or_as_before (bindings_of r.lines user) (applied (rules_of r) g now (bindings_of r.lines user))) (bindings_of r.lines user)
-known_step r g now user place found =
-    own_step r user place (applied (rules_of r) g now (bindings_of r.lines user)) found
-    ∙ ap (λ b. cond b (or_as_before (bindings_of r.lines user) (applied (rules_of r) g now (bindings_of r.lines user))) (bindings_of r.lines user)) (sym (known r user ∙ ap is_some found))
-
-each_at : (r : Contents) (g : Register) (now : ℕ) (user v : List ℕ) (o : Option ℕ) → position (is_for user) r.lines ≡ o
-    → bindings_of (registered_at r user (answer_at r g now user o)).lines v
-    ≡ cond (pointwise nat_eq user v && is_known (rules_of r) v) (or_as_before (bindings_of r.lines v) (applied (rules_of r) g now (bindings_of r.lines v))) (bindings_of r.lines v)
-each_at r g now user v None found =
-    elim (pointwise nat_eq user v) as (λ b. pointwise nat_eq user v ≡ b → bindings_of r.lines v ≡ cond (b && is_known (rules_of r) v) (or_as_before (bindings_of r.lines v) (applied (rules_of r) g now (bindings_of r.lines v))) (bindings_of r.lines v)) [
+unknown_user : (r : Contents) (user v : List ℕ) (answer : Result (List Binding) Refusal) → is_known (rules_of r) user ≡ false
+    → bindings_of r.entries v ≡ cond (pointwise nat_eq user v && is_known (rules_of r) v) (or_as_before (bindings_of r.entries v) answer) (bindings_of r.entries v)
+unknown_user r user v answer is =
+    elim (pointwise nat_eq user v) as (λ b. pointwise nat_eq user v ≡ b → bindings_of r.entries v ≡ cond (b && is_known (rules_of r) v) (or_as_before (bindings_of r.entries v) answer) (bindings_of r.entries v)) [
       | true ↦ λ e.
-          let unknown : is_known (rules_of r) v ≡ false = subst (λ w. is_known (rules_of r) w ≡ false) ((bytes_decides user v).0 e) (known r user ∙ ap is_some found) in
-          ap (λ b. cond b (or_as_before (bindings_of r.lines v) (applied (rules_of r) g now (bindings_of r.lines v))) (bindings_of r.lines v)) (sym unknown)
+          let unknown : is_known (rules_of r) v ≡ false = subst (λ w. is_known (rules_of r) w ≡ false) ((bytes_decides user v).0 e) is in
+          ap (λ b. cond b (or_as_before (bindings_of r.entries v) answer) (bindings_of r.entries v)) (sym unknown)
       | false ↦ λ e. refl
     ] refl
-each_at r g now user v (Some place) found =
-    elim (pointwise nat_eq user v) as (λ b. pointwise nat_eq user v ≡ b → bindings_of (registered_at r user (applied (rules_of r) g now (bindings_of r.lines user))).lines v ≡ cond (b && is_known (rules_of r) v) (or_as_before (bindings_of r.lines v) (applied (rules_of r) g now (bindings_of r.lines v))) (bindings_of r.lines v)) [
-      | true ↦ λ e. subst (λ w. bindings_of (registered_at r user (applied (rules_of r) g now (bindings_of r.lines user))).lines w ≡ cond (is_known (rules_of r) w) (or_as_before (bindings_of r.lines w) (applied (rules_of r) g now (bindings_of r.lines w))) (bindings_of r.lines w)) ((bytes_decides user v).0 e) (known_step r g now user place found)
-      | false ↦ λ e. other_step r user v (applied (rules_of r) g now (bindings_of r.lines user)) e
+
+-- what the REGISTER of this user leaves another or the same
+own_or_other : (r : Contents) (g : Register) (now : ℕ) (user v : List ℕ) (known : Bool) → is_known (rules_of r) user ≡ known
+    → bindings_of (registered_at r user (cond known (bindings_after_one (rules_of r) g now (bindings_of r.entries user)) (Err UnknownUser))).entries v
+    ≡ cond (pointwise nat_eq user v && is_known (rules_of r) v) (or_as_before (bindings_of r.entries v) (bindings_after_one (rules_of r) g now (bindings_of r.entries v))) (bindings_of r.entries v)
+own_or_other r g now user v false is = unknown_user r user v (bindings_after_one (rules_of r) g now (bindings_of r.entries v)) is
+own_or_other r g now user v true is =
+    elim (pointwise nat_eq user v) as (λ b. pointwise nat_eq user v ≡ b → bindings_of (registered_at r user (bindings_after_one (rules_of r) g now (bindings_of r.entries user))).entries v ≡ cond (b && is_known (rules_of r) v) (or_as_before (bindings_of r.entries v) (bindings_after_one (rules_of r) g now (bindings_of r.entries v))) (bindings_of r.entries v)) [
+      | true ↦ λ e. subst (λ w. bindings_of (registered_at r user (bindings_after_one (rules_of r) g now (bindings_of r.entries user))).entries w ≡ cond (is_known (rules_of r) w) (or_as_before (bindings_of r.entries w) (bindings_after_one (rules_of r) g now (bindings_of r.entries w))) (bindings_of r.entries w)) ((bytes_decides user v).0 e)
+          (own_step r user (bindings_after_one (rules_of r) g now (bindings_of r.entries user)) is
+          ∙ ap (λ b. cond b (or_as_before (bindings_of r.entries user) (bindings_after_one (rules_of r) g now (bindings_of r.entries user))) (bindings_of r.entries user)) (sym is))
+      | false ↦ λ e. other_step r user v (bindings_after_one (rules_of r) g now (bindings_of r.entries user)) e
     ] refl
 
 each_for : (r : Contents) (g : Register) (now : ℕ) (v : List ℕ) (named : Option (List ℕ))
-    → bindings_of (registered_for r named (answer_for r g now named)).lines v
-    ≡ cond (names named v && is_known (rules_of r) v) (or_as_before (bindings_of r.lines v) (applied (rules_of r) g now (bindings_of r.lines v))) (bindings_of r.lines v)
+    → bindings_of (registered_for r named (answer_for (rules_of r) (bindings_of r.entries) g now named)).entries v
+    ≡ cond (names named v && is_known (rules_of r) v) (or_as_before (bindings_of r.entries v) (bindings_after_one (rules_of r) g now (bindings_of r.entries v))) (bindings_of r.entries v)
 each_for r g now v None = refl
-each_for r g now v (Some user) = each_at r g now user v (position (is_for user) r.lines) refl
+each_for r g now v (Some user) = own_or_other r g now user v (is_known (rules_of r) user) refl
 
 -- ---- the rules stay
 
 rules_at : (r : Contents) (user : List ℕ) (answer : Result (List Binding) Refusal) → rules_of (registered_at r user answer) ≡ rules_of r
-rules_at r user (Ok bs) = ap (λ us. rules_given us r.ip r.sip_port r.domain r.min_expires) (same_users r.lines user bs)
+rules_at r user (Ok bs) = ap (λ us. rules_given us r.ip r.sip_port r.domain r.min_expires) (same_users r.entries user bs)
 rules_at r user (Err refusal) = refl
 
 rules_for : (r : Contents) (named : Option (List ℕ)) (answer : Result (List Binding) Refusal) → rules_of (registered_for r named answer) ≡ rules_of r
@@ -84,7 +84,7 @@ rules_for r (Some user) answer = rules_at r user answer
 
 -- one more REGISTER
 pub stands_more : (r : Contents) (g : Register) (now : ℕ) (rules : Rules) (history : List Event) → StandsAfter r rules history → StandsAfter (registered r g (answer_of r g now)) rules (history ++ event g now ∷ [])
-unfolding answer_of registered
+unfolding answer_of answer_by registered
 stands_more r g now rules history s = record {
   rules_are = rules_for r g.user (answer_of r g now) ∙ s.rules_are;
   each = λ v.
@@ -96,37 +96,32 @@ stands_more r g now rules history s = record {
 
 -- ---- the answer
 
-answer_known : (r : Contents) (g : Register) (now : ℕ) (user : List ℕ) (o : Option ℕ) → position (is_for user) r.lines ≡ o
-    → answer_at r g now user o ≡ cond (is_known (rules_of r) user) (applied (rules_of r) g now (bindings_of r.lines user)) (Err UnknownUser)
-answer_known r g now user None found = ap (λ b. cond b (applied (rules_of r) g now (bindings_of r.lines user)) (Err UnknownUser)) (sym (known r user ∙ ap is_some found))
-answer_known r g now user (Some place) found = ap (λ b. cond b (applied (rules_of r) g now (bindings_of r.lines user)) (Err UnknownUser)) (sym (known r user ∙ ap is_some found))
-
 answer_standing : (r : Contents) (g : Register) (now : ℕ) (rules : Rules) (history : List Event) → StandsAfter r rules history → (named : Option (List ℕ))
-    → answer_for r g now named ≡ answer_to rules history g now named
+    → answer_for (rules_of r) (bindings_of r.entries) g now named ≡ answer_for rules (λ user. bindings_after rules user history) g now named
 answer_standing r g now rules history s None = refl
 answer_standing r g now rules history s (Some user) =
-    answer_known r g now user (position (is_for user) r.lines) refl
-    ∙ ap (λ bs. cond (is_known (rules_of r) user) (applied (rules_of r) g now bs) (Err UnknownUser)) (s.each user)
-    ∙ ap (λ rs. cond (is_known rs user) (applied rs g now (bindings_after rules user history)) (Err UnknownUser)) s.rules_are
+    ap (λ bs. cond (is_known (rules_of r) user) (bindings_after_one (rules_of r) g now bs) (Err UnknownUser)) (s.each user)
+    ∙ ap (λ rs. cond (is_known rs user) (bindings_after_one rs g now (bindings_after rules user history)) (Err UnknownUser)) s.rules_are
 
 -- the answer is the one that these REGISTERs lead to
 pub answer_stands : (r : Contents) (g : Register) (now : ℕ) (result : Result (Vec Binding Global) Refusal) → Gives result (answer_of r g now)
     → (rules : Rules) (history : List Event) → StandsAfter r rules history → Gives result (answer_after rules history g now)
-unfolding answer_of answer_after
+unfolding answer_of answer_after answer_by
 answer_stands r g now result gives rules history s = subst (λ a. Gives result a) (answer_standing r g now rules history s g.user) gives
 
-answered_at : (r : Contents) (g : Register) (now : ℕ) (user : List ℕ) (bs : List Binding) (o : Option ℕ) → position (is_for user) r.lines ≡ o → answer_at r g now user o ≡ Ok bs
-    → bindings_of (registered_at r user (answer_at r g now user o)).lines user ≡ bs
-answered_at r g now user bs None found e = cc
-answered_at r g now user bs (Some place) found e = rw e (own_line r.lines user bs (has_line r user place found))
+answered_at : (r : Contents) (g : Register) (now : ℕ) (user : List ℕ) (bs : List Binding) (known : Bool) → is_known (rules_of r) user ≡ known
+    → cond known (bindings_after_one (rules_of r) g now (bindings_of r.entries user)) (Err UnknownUser) ≡ Ok bs
+    → bindings_of (registered_at r user (cond known (bindings_after_one (rules_of r) g now (bindings_of r.entries user)) (Err UnknownUser))).entries user ≡ bs
+answered_at r g now user bs false is e = cc
+answered_at r g now user bs true is e = rw e (own_entry r.entries user bs (has_entry r user is))
 
 -- whoever is answered has the bindings of the answer
-answered_for : (r : Contents) (g : Register) (now : ℕ) (user : List ℕ) (bs : List Binding) (named : Option (List ℕ)) → named ≡ Some user → answer_for r g now named ≡ Ok bs
-    → bindings_of (registered_for r named (answer_for r g now named)).lines user ≡ bs
+answered_for : (r : Contents) (g : Register) (now : ℕ) (user : List ℕ) (bs : List Binding) (named : Option (List ℕ)) → named ≡ Some user → answer_for (rules_of r) (bindings_of r.entries) g now named ≡ Ok bs
+    → bindings_of (registered_for r named (answer_for (rules_of r) (bindings_of r.entries) g now named)).entries user ≡ bs
 answered_for r g now user bs None is e = cc
 answered_for r g now user bs (Some u) is e =
     let same : u ≡ user = cc in
-    subst (λ v. bindings_of (registered_at r u (answer_at r g now u (position (is_for u) r.lines))).lines v ≡ bs) same (answered_at r g now u bs (position (is_for u) r.lines) refl e)
+    subst (λ v. bindings_of (registered_at r u (answer_for (rules_of r) (bindings_of r.entries) g now (Some u))).entries v ≡ bs) same (answered_at r g now u bs (is_known (rules_of r) u) refl e)
 
 filter_all : {X : Type 0} (p : X → Bool) (xs : List X) → All (λ x. p x ≡ true) xs → filter p xs ≡ xs
 filter_all p [] h = refl
@@ -135,7 +130,7 @@ filter_all p (x ∷ xs) h = rw (All-head (λ y. p y ≡ true) x xs h) (ap (λ ys
 -- what is answered is what the user is bound to
 pub answer_bound : (r : Contents) (g : Register) (now : ℕ) (result : Result (Vec Binding Global) Refusal) → Gives result (answer_of r g now) → IfOk result (λ bs. AllLast now bs.items)
     → IfOk result (λ bs. (user : List ℕ) (rules : Rules) (history : List Event) → g.user ≡ Some user → StandsAfter r rules history → bs.items ≡ bound rules user (history ++ event g now ∷ []) now)
-unfolding answer_of registered bound
+unfolding answer_of answer_by registered bound
 answer_bound r g now (Err refusal) gives last = search rules
 answer_bound r g now (Ok bs) gives last = λ user rules history is s.
     sym (ap (present now) (sym ((stands_more r g now rules history s).each user) ∙ answered_for r g now user bs.items g.user is gives)

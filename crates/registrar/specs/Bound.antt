@@ -1,27 +1,19 @@
 -- Which contacts a user is bound to (RFC 3261 section 10.3), from the plain list of all REGISTERs so far.
-use Rattle.std.specs.Prelude.{◌&&◌, ℕ, Bool, false, List, [], ◌∷◌, find, nat_eq, nat_le, Option, Some, None, option_map, Result, Ok, Err, if◌then◌else◌, ◌≡◌, ◌≢◌, ◌<◌, ◌≤◌, ◌^◌, length, ◌++◌}
+use Rattle.std.specs.Prelude.{◌&&◌, ℕ, Bool, false, List, [], ◌∷◌, find, nat_eq, nat_le, Option, Some, None, option_map, Result, Ok, Err, if◌then◌else◌, ◌≡◌, ◌≢◌, ◌≤◌, length, ◌++◌}
 use Rattle.std.specs.List.{list_any, list_all}
 use Rattle.std.specs.Cmp.Lexicographic.{pointwise}
 use Rattle.sip_uri.specs.declared.uri.Uri.{Uri}
-use Rattle.registrar.specs.Registering.{Rules, applied, present, lifetime}
-use Rattle.registrar.specs.Limits.{most_bindings}
+use Rattle.registrar.specs.Registering.{Rules, is_known, bindings_after_one, answer_by, present, lifetime}
+use Rattle.registrar.specs.Limits.{max_bindings}
 use Rattle.registrar.specs.declared.register.Contact.{Contact}
 use Rattle.registrar.specs.declared.binding.Binding.{Binding}
 use Rattle.registrar.specs.declared.register.Register.{Register}
 use Rattle.registrar.specs.declared.refusal.Refusal.{Refusal}
-use Rattle.registrar.specs.declared.refusal.Refusal.TheVariants.{UnknownUser}
 
 -- a REGISTER and its moment
 pub record Event : Type 0 where
   pub register : Register
   pub now : ℕ
-
-abbrev pub is_one_of : List (List ℕ) → List ℕ → Bool
-is_one_of users user = list_any (λ u. pointwise nat_eq u user) users
-
--- a user of the office
-abbrev pub is_known : Rules → List ℕ → Bool
-is_known rules user = is_one_of rules.users user
 
 -- the REGISTER names this user
 abbrev pub names : Option (List ℕ) → List ℕ → Bool
@@ -35,7 +27,7 @@ or_as_before before (Err refusal) = before
 -- one more REGISTER: all of it counts, or nothing (section 10.3, step 7)
 abbrev pub step : Rules → List ℕ → List Binding → Event → List Binding
 step rules user bindings e =
-    if names e.register.user user && is_known rules user then or_as_before bindings (applied rules e.register e.now bindings) else bindings
+    if names e.register.user user && is_known rules user then or_as_before bindings (bindings_after_one rules e.register e.now bindings) else bindings
 
 -- one REGISTER after the other
 abbrev pub fold_from : Rules → List ℕ → List Binding → List Event → List Binding
@@ -46,14 +38,9 @@ fold_from rules user bindings (e ∷ es) = fold_from rules user (step rules user
 abbrev pub bindings_after : Rules → List ℕ → List Event → List Binding
 bindings_after rules user history = fold_from rules user [] history
 
-abbrev pub answer_to : Rules → List Event → Register → ℕ → Option (List ℕ) → Result (List Binding) Refusal
-answer_to rules history register now None = Err UnknownUser
-answer_to rules history register now (Some user) =
-    if is_known rules user then applied rules register now (bindings_after rules user history) else Err UnknownUser
-
 -- what a REGISTER is answered after these
 unfoldable pub answer_after : Rules → List Event → Register → ℕ → Result (List Binding) Refusal
-answer_after rules history register now = answer_to rules history register now register.user
+answer_after rules history register now = answer_by rules (λ user. bindings_after rules user history) register now
 
 -- what a user is bound to at a moment, oldest first
 unfoldable pub bound : Rules → List ℕ → List Event → ℕ → List Binding
@@ -75,12 +62,12 @@ target_of bindings = option_map (λ b. b.uri) (latest bindings)
 
 -- a user has no more bindings than the limit at any moment
 abbrev pub FewBound : Type 0
-FewBound = (rules : Rules) (history : List Event) (user : List ℕ) (now : ℕ) → length (bound rules user history now) ≤ most_bindings
+FewBound = (rules : Rules) (history : List Event) (user : List ℕ) (now : ℕ) → length (bound rules user history now) ≤ max_bindings
 
 -- where the last contact of a REGISTER is bound by it, that is where calls go then
 abbrev pub LastContactIsTarget : Type 0
 LastContactIsTarget = (rules : Rules) (history : List Event) (register : Register) (now : ℕ) (others : List Contact) (contact : Contact) (uri : Uri) (after : List Binding)
-    → register.contacts ≡ others ++ contact ∷ [] → length register.contacts < 2 ^ 31 → contact.uri ≡ Some uri → lifetime register contact ≢ 0
+    → register.contacts ≡ others ++ contact ∷ [] → contact.uri ≡ Some uri → lifetime register contact ≢ 0
     → answer_after rules history register now ≡ Ok after → target_of after ≡ Some uri
 
 -- a REGISTER without contacts leaves the target as it was

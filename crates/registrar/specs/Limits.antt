@@ -1,25 +1,21 @@
 -- The numbers of the registrar.
-use Rattle.std.specs.Prelude.{ℕ, ◌^◌, ◌-◌}
+use Rattle.std.specs.Prelude.{ℕ}
 
 -- the bindings that a user has at most
-abbrev pub most_bindings : ℕ
-most_bindings = 8
+abbrev pub max_bindings : ℕ
+max_bindings = 8
 
-abbrev pub most_users : ℕ
-most_users = 1000
+abbrev pub max_users : ℕ
+max_users = 1000
 
 -- the seconds that a binding lasts where the REGISTER names none
 abbrev pub default_expires : ℕ
 default_expires = 3600
 
 -- the greatest number of seconds that may be the least lifetime
-abbrev pub most_min_expires : ℕ
-most_min_expires = 3600
+abbrev pub max_min_expires : ℕ
+max_min_expires = 3600
 
 -- the port of a URI that has none (RFC 3261 section 19.1.2)
 abbrev pub default_port : ℕ
 default_port = 5060
-
--- the greatest number of a refresh
-abbrev pub last_number : ℕ
-last_number = 2 ^ 32 - 1

@@ -1,5 +1,5 @@
 -- What one REGISTER does to the bindings of its user (RFC 3261 section 10.3).
-use Rattle.std.specs.Prelude.{All, ◌≡◌, ◌==◌, ◌&&◌, ℕ, ◌+◌, ◌*◌, Bool, true, false, not, List, [], ◌∷◌, ◌++◌, length, position, slice_set, filter, find, map, count_by, min, nat_eq, nat_lt, nat_le, Option, Some, None, unwrap_or, Result, Ok, Err, if◌then◌else◌}
+use Rattle.std.specs.Prelude.{All, ◌≡◌, ◌==◌, ◌&&◌, ℕ, ◌+◌, ◌*◌, Bool, true, false, not, List, [], ◌∷◌, ◌++◌, length, position, slice_set, filter, find, map, count_by, nat_eq, nat_lt, nat_le, Option, Some, None, unwrap_or, Result, Ok, Err, if◌then◌else◌}
 use Rattle.std.specs.List.{list_any, list_all}
 use Rattle.std.specs.Cmp.Lexicographic.{pointwise}
 use Rattle.std.specs.Str.{str_eq_ignore_ascii_case}
@@ -7,12 +7,12 @@ use Rattle.sip_uri.specs.Binding.{same_binding}
 use Rattle.sip_uri.specs.declared.uri.Uri.{Uri}
 use Rattle.sip_uri.specs.declared.uri.Host.{Host}
 use Rattle.sip_uri.specs.declared.uri.Host.TheVariants.{Ip4, Name}
-use Rattle.registrar.specs.Limits.{most_bindings, default_expires, default_port, last_number}
+use Rattle.registrar.specs.Limits.{max_bindings, default_expires, default_port}
 use Rattle.registrar.specs.declared.binding.Binding.{Binding}
 use Rattle.registrar.specs.declared.register.Contact.{Contact}
 use Rattle.registrar.specs.declared.register.Register.{Register}
 use Rattle.registrar.specs.declared.refusal.Refusal.{Refusal}
-use Rattle.registrar.specs.declared.refusal.Refusal.TheVariants.{StarMisused, TooBrief, OutOfOrder, TooManyBindings, BadContact}
+use Rattle.registrar.specs.declared.refusal.Refusal.TheVariants.{UnknownUser, StarMisused, TooBrief, OutOfOrder, TooManyBindings, BadContact}
 
 -- who may register, where the server is, its domain, and the seconds that a binding lasts at least
 pub record Rules : Type 0 where
@@ -39,21 +39,17 @@ AllLast now bindings = All (λ b. nat_lt now b.expires_at ≡ true) bindings
 
 -- ---- the order of refresh
 
--- a number below 2 ^ 32: no list that is kept comes near it
-abbrev pub capped : ℕ → ℕ
-capped number = min number last_number
-
 -- how many of these bindings were refreshed before it
-abbrev pub refreshed_before : List Binding → Binding → ℕ
-refreshed_before bindings b = capped (count_by (λ c. nat_lt c.refreshed b.refreshed) bindings)
+abbrev pub rank : List Binding → Binding → ℕ
+rank bindings b = count_by (λ c. nat_lt c.refreshed b.refreshed) bindings
 
 -- the same binding, with this number
-abbrev pub numbered : ℕ → Binding → Binding
-numbered number b = record { uri = b.uri; expires_at = b.expires_at; call_id = b.call_id; cseq = b.cseq; refreshed = number }
+abbrev pub with_number : ℕ → Binding → Binding
+with_number number b = record { uri = b.uri; expires_at = b.expires_at; call_id = b.call_id; cseq = b.cseq; refreshed = number }
 
--- numbered anew, from 0 in the order of refresh
-abbrev pub renumbered : List Binding → List Binding
-renumbered bindings = map (λ b. numbered (refreshed_before bindings b) b) bindings
+-- numbered by their order
+abbrev pub with_ranks : List Binding → List Binding
+with_ranks bindings = map (λ b. with_number (rank bindings b) b) bindings
 
 -- ---- one contact (section 10.3, step 7)
 
@@ -74,8 +70,8 @@ is_stale register None = false
 is_stale register (Some b) = is_older_than register b
 
 -- what a contact is bound as, at a moment in milliseconds
-abbrev pub bound_by : Register → Uri → ℕ → ℕ → ℕ → Binding
-bound_by register uri seconds number now =
+abbrev pub binding_by : Register → Uri → ℕ → ℕ → ℕ → Binding
+binding_by register uri seconds number now =
     record { uri = uri; expires_at = now + seconds * 1000; call_id = register.call_id; cseq = register.cseq; refreshed = number }
 
 -- a binding that stands keeps its place, and a new one goes last
@@ -93,16 +89,33 @@ without bindings uri = filter (λ b. not (is_of uri b)) bindings
 abbrev pub is_too_brief : ℕ → ℕ → Bool
 is_too_brief least seconds = nat_lt 0 seconds && nat_lt seconds least
 
--- the contact is too brief, or the request is too old, or its binding goes, or it is bound
-abbrev pub with_uri : ℕ → Register → ℕ → List Binding → ℕ → Uri → ℕ → Result (List Binding) Refusal
-with_uri least register now bindings number uri seconds =
-    if is_too_brief least seconds then Err TooBrief
-    else (if is_stale register (find (is_of uri) bindings) then Err OutOfOrder
-    else (if seconds == 0 then Ok (without bindings uri) else Ok (put bindings (bound_by register uri seconds number now))))
+-- why a contact of this URI, for these seconds, is refused
+abbrev pub uri_refusal : ℕ → Register → List Binding → Uri → ℕ → Option Refusal
+uri_refusal least register bindings uri seconds =
+    if is_too_brief least seconds then Some TooBrief
+    else (if is_stale register (find (is_of uri) bindings) then Some OutOfOrder else None)
+
+-- its binding goes, or it is bound
+abbrev pub with_uri : Register → ℕ → List Binding → ℕ → Uri → ℕ → List Binding
+with_uri register now bindings number uri seconds =
+    if seconds == 0 then without bindings uri else put bindings (binding_by register uri seconds number now)
+
+abbrev pub unless_refused : Option Refusal → Result (List Binding) Refusal → Result (List Binding) Refusal
+unless_refused None after = after
+unless_refused (Some refusal) after = Err refusal
+
+abbrev pub refusal_of_uri : ℕ → Register → List Binding → Contact → Option Uri → Option Refusal
+refusal_of_uri least register bindings contact None = Some BadContact
+refusal_of_uri least register bindings contact (Some uri) = uri_refusal least register bindings uri (lifetime register contact)
+
+-- why a contact is refused
+abbrev pub contact_refusal : ℕ → Register → List Binding → Contact → Option Refusal
+contact_refusal least register bindings contact = refusal_of_uri least register bindings contact contact.uri
 
 abbrev pub with_contact_at : ℕ → Register → ℕ → List Binding → ℕ → Contact → Option Uri → Result (List Binding) Refusal
 with_contact_at least register now bindings number contact None = Err BadContact
-with_contact_at least register now bindings number contact (Some uri) = with_uri least register now bindings number uri (lifetime register contact)
+with_contact_at least register now bindings number contact (Some uri) =
+    unless_refused (uri_refusal least register bindings uri (lifetime register contact)) (Ok (with_uri register now bindings number uri (lifetime register contact)))
 
 abbrev pub with_contact : ℕ → Register → ℕ → List Binding → ℕ → Contact → Result (List Binding) Refusal
 with_contact least register now bindings number contact = with_contact_at least register now bindings number contact contact.uri
@@ -113,23 +126,19 @@ abbrev pub and_then : Result (List Binding) Refusal → (List Binding → Result
 and_then (Ok bindings) next = next bindings
 and_then (Err refusal) next = Err refusal
 
--- the number of the refresh after this one
-abbrev pub next_number : ℕ → ℕ
-next_number number = min (number + 1) last_number
-
--- a number after all of these, once they are numbered anew
+-- a number after all of these, which were numbered by their order
 abbrev pub first_number : List Binding → ℕ
-first_number bindings = next_number (capped (length bindings))
+first_number bindings = length bindings + 1
 
 -- contact by contact, each refresh numbered after all before it
 abbrev pub with_contacts : ℕ → Register → ℕ → ℕ → List Contact → List Binding → Result (List Binding) Refusal
 with_contacts least register now number [] bindings = Ok bindings
 with_contacts least register now number (c ∷ cs) bindings =
-    and_then (with_contact least register now bindings number c) (λ kept. with_contacts least register now (next_number number) cs kept)
+    and_then (with_contact least register now bindings number c) (λ kept. with_contacts least register now (number + 1) cs kept)
 
--- no more bindings than a user may have
+-- no more bindings than a user may have, numbered by the order of their refresh
 abbrev pub within_limit : List Binding → Result (List Binding) Refusal
-within_limit bindings = if nat_lt most_bindings (length bindings) then Err TooManyBindings else Ok bindings
+within_limit bindings = if nat_lt max_bindings (length bindings) then Err TooManyBindings else Ok (with_ranks bindings)
 
 -- ---- a star (section 10.3, step 6)
 
@@ -141,9 +150,9 @@ is_zero (Some seconds) = seconds == 0
 abbrev pub is_star_misused : Register → Bool
 is_star_misused register = register.star && not (length register.contacts == 0 && is_zero register.expires)
 
--- all bindings go, unless the request is an older one for one of them
-abbrev pub cleared : Register → List Binding → Result (List Binding) Refusal
-cleared register bindings = if list_any (is_older_than register) bindings then Err OutOfOrder else Ok []
+-- all bindings go with a star, unless the request is no newer than one of them
+abbrev pub is_star_stale : Register → List Binding → Bool
+is_star_stale register bindings = register.star && list_any (is_older_than register) bindings
 
 -- ---- a contact that may be bound: an IPv4 address and a port that are not the server's own
 
@@ -160,19 +169,25 @@ is_bindable ip sip_port contact = is_bindable_uri ip sip_port contact.uri
 
 -- ---- a REGISTER of a known user
 
--- the changes of a REGISTER that is well formed: those of its star, or those of its contacts
-abbrev pub changed : Rules → Register → ℕ → List Binding → Result (List Binding) Refusal
-changed rules register now bindings =
-    if register.star then cleared register (present now bindings)
+-- what it is refused for as a whole, before any of its contacts counts
+unfoldable pub whole_refusal : Rules → Register → ℕ → List Binding → Option Refusal
+whole_refusal rules register now bindings =
+    if is_star_misused register then Some StarMisused
+    else (if not (list_all (is_bindable rules.ip rules.sip_port) register.contacts) then Some BadContact
+    else (if is_star_stale register (present now bindings) then Some OutOfOrder else None))
+
+-- the changes of a REGISTER that is not refused as a whole: those of its star, or those of its contacts
+abbrev pub bindings_by : Rules → Register → ℕ → List Binding → Result (List Binding) Refusal
+bindings_by rules register now bindings =
+    if register.star then Ok []
     else and_then
-    (with_contacts rules.min_expires register now (first_number bindings) register.contacts (present now (renumbered bindings)))
+    (with_contacts rules.min_expires register now (first_number bindings) register.contacts (present now bindings))
     within_limit
 
 -- a user's bindings after a REGISTER, or why it is refused
-unfoldable pub applied : Rules → Register → ℕ → List Binding → Result (List Binding) Refusal
-applied rules register now bindings =
-    if is_star_misused register then Err StarMisused
-    else (if list_all (is_bindable rules.ip rules.sip_port) register.contacts then changed rules register now bindings else Err BadContact)
+unfoldable pub bindings_after_one : Rules → Register → ℕ → List Binding → Result (List Binding) Refusal
+bindings_after_one rules register now bindings =
+    unless_refused (whole_refusal rules register now bindings) (bindings_by rules register now bindings)
 
 -- ---- the user
 
@@ -184,3 +199,27 @@ is_own_host rules (Name name) = str_eq_ignore_ascii_case name rules.domain
 -- the user that the To of a REGISTER names (section 10.3, steps 1 and 5)
 unfoldable pub user_of : Rules → Uri → Option (List ℕ)
 user_of rules to = if is_own_host rules to.host then to.user else None
+
+-- a user of the office
+abbrev pub is_known : Rules → List ℕ → Bool
+is_known rules user = list_any (λ u. pointwise nat_eq u user) rules.users
+
+-- ---- the answer
+
+abbrev pub answer_for : Rules → (List ℕ → List Binding) → Register → ℕ → Option (List ℕ) → Result (List Binding) Refusal
+answer_for rules bindings register now None = Err UnknownUser
+answer_for rules bindings register now (Some user) =
+    if is_known rules user then bindings_after_one rules register now (bindings user) else Err UnknownUser
+
+-- what a REGISTER is answered where these are the bindings of each user: what its user has then, or why it is refused
+unfoldable pub answer_by : Rules → (List ℕ → List Binding) → Register → ℕ → Result (List Binding) Refusal
+answer_by rules bindings register now = answer_for rules bindings register now register.user
+
+abbrev pub refusal_for : Rules → (List ℕ → List Binding) → Register → ℕ → Option (List ℕ) → Option Refusal
+refusal_for rules bindings register now None = Some UnknownUser
+refusal_for rules bindings register now (Some user) =
+    if is_known rules user then whole_refusal rules register now (bindings user) else Some UnknownUser
+
+-- what a REGISTER is refused for as a whole: nobody has to be asked for memory to see it
+unfoldable pub early_refusal : Rules → (List ℕ → List Binding) → Register → ℕ → Option Refusal
+early_refusal rules bindings register now = refusal_for rules bindings register now register.user

@@ -1,6 +1,7 @@
 //! The bindings of a user.
 
 use sip_uri::Uri;
+use std::alloc::{AllocError, Global};
 use std::marker::Model;
 use text::Text;
 
@@ -17,8 +18,21 @@ pub struct Binding {
 }
 
 impl Binding {
-    ghost use Rattle.std.specs.Prelude.{◌≡◌, ◌+◌, ◌-◌, ◌*◌, ◌<◌, ◌≤◌, nat_lt};
+    ghost use Rattle.std.specs.Prelude.{◌≡◌, ◌+◌, ◌-◌, ◌*◌, ◌<◌, ◌≤◌, nat_lt, IfOk};
     ghost use Rattle.std.specs.Int.{div_ceil};
+
+    /// The same binding. Takes memory for its texts alone.
+    pub fn copy(&self, alloc: Global) -> Result<Binding, AllocError>
+        ensures { IfOk result (λ copy. copy ≡ self.now) }
+    {
+        Ok(Binding {
+            uri: self.uri.keep(alloc)?,
+            expires_at: self.expires_at,
+            call_id: self.call_id.keep(alloc)?,
+            cseq: self.cseq,
+            refreshed: self.refreshed,
+        })
+    }
 
     /// Whether it is not over: it is over at its very moment of expiry.
     pub fn is_present(&self, now: u64) -> bool

@@ -1,16 +1,21 @@
-//! What one contact of a REGISTER does to the bindings of its user.
+//! What the contacts of a REGISTER do to the bindings of its user.
 
-ghost use Rattle.std.specs.Prelude.{◌≡◌, ◌≢◌, ℕ, true, nat_lt, List, ◌^◌, ◌<◌, IfOk, IfSome, OnOk, position, length, find, option_copied};
-ghost use Rattle.registrar.specs.Registering.{AllLast, lifetime, is_of, is_older_than, is_stale, bound_by, put, without, is_too_brief, with_contact};
+ghost use Rattle.std.specs.Prelude.{◌≡◌, ◌≢◌, ℕ, true, nat_lt, List, ◌^◌, ◌<◌, ◌≤◌, None, Err, IfOk, IfSome, OnOk, position, length, find, option_copied};
+ghost use Rattle.registrar.specs.Limits.{max_bindings};
+ghost use Rattle.registrar.specs.Registering.{AllLast, lifetime, is_of, is_older_than, is_stale, binding_by, put, without, is_too_brief, uri_refusal, contact_refusal, with_uri, with_contact, with_contacts, within_limit};
 ghost use Rattle.registrar.specs.Registrar.{Gives};
+ghost use Rattle.registrar.specs.declared.refusal.Refusal.TheVariants as Refusal;
 
 use crate::binding::Binding;
+use crate::draft::{Draft, with_ranks};
 use crate::refusal::Refusal;
 use crate::register::{Contact, Register};
 use sip_uri::{Uri, same_binding};
 use std::alloc::{AllocError, Global};
 
 const DEFAULT_EXPIRES: u32 = 3600;
+
+const MAX_BINDINGS: usize = 8;
 
 // The seconds that a binding of this contact is to last.
 fn lifetime(register: &Register<'_>, contact: &Contact<'_>) -> u32
@@ -29,10 +34,10 @@ fn is_too_brief(min_expires: u32, seconds: u32) -> bool
     0 < seconds && seconds < min_expires
 }
 
-fn binding_of<'a>(bindings: &'a [Binding], uri: &Uri<'_>) -> Option<&'a Binding>
+fn draft_of<'a>(bindings: &'a [Draft], uri: &Uri<'_>) -> Option<&'a Draft>
     ensures { option_copied result ≡ find (is_of uri.now) bindings.now }
 {
-    bindings.iter().find(|b| same_binding(&b.uri, uri))
+    bindings.iter().find(|b| same_binding(&b.binding.uri, uri))
 }
 
 /// Whether the request is of the Call-ID that bound it last, and no newer.
@@ -42,95 +47,167 @@ pub(crate) fn is_older_than(register: &Register<'_>, binding: &Binding) -> bool
     binding.call_id.as_bytes() == register.call_id.as_bytes() && register.cseq <= binding.cseq
 }
 
-fn is_stale(register: &Register<'_>, binding: Option<&Binding>) -> bool
+fn is_stale(register: &Register<'_>, binding: Option<&Draft>) -> bool
     ensures { result ≡ is_stale register.now (option_copied binding.entry) }
 {
     match binding {
-        Some(binding) => is_older_than(register, binding),
+        Some(draft) => is_older_than(register, &draft.binding),
         None => false,
     }
 }
 
-fn bound_by(
+fn binding_by(
     alloc: Global,
     register: &Register<'_>,
     uri: &Uri<'_>,
     seconds: u32,
-    number: u32,
+    number: u64,
     now: u64,
-) -> Result<Binding, AllocError>
+) -> Result<Draft, AllocError>
     requires moment { now < 2 ^ 60 }
     requires lasts { seconds ≢ 0 }
-    ensures binding { IfOk result (λ b. b ≡ bound_by register.now uri.now seconds number now) }
+    ensures binding { IfOk result (λ b. b ≡ binding_by register.now uri.now seconds number now) }
     ensures last { IfOk result (λ b. nat_lt now b.expires_at ≡ true) }
 {
-    Ok(Binding {
+    let binding = Binding {
         uri: uri.keep(alloc)?,
         expires_at: now + u64::from(seconds) * 1000,
         call_id: register.call_id.keep(alloc)?,
         cseq: register.cseq,
-        refreshed: number,
-    })
+        refreshed: 0,
+    };
+    Ok(Draft { binding, number })
 }
 
-fn remove(bindings: &mut Vec<Binding>, uri: &Uri<'_>)
+fn remove(bindings: &mut Vec<Draft>, uri: &Uri<'_>)
     ensures others { bindings.new.items ≡ without bindings.old.items uri.now }
     ensures last { (now : ℕ) → AllLast now bindings.old.items → AllLast now bindings.new.items }
 {
-    bindings.retain(|b| !same_binding(&b.uri, uri));
+    bindings.retain(|b| !same_binding(&b.binding.uri, uri));
 }
 
-fn place_of(bindings: &[Binding], uri: &Uri<'_>) -> Option<usize>
+fn place_of(bindings: &[Draft], uri: &Uri<'_>) -> Option<usize>
     ensures place { result ≡ position (is_of uri.now) bindings.now }
     ensures bound { IfSome result (λ place. place < length bindings.now) }
 {
-    bindings.iter().position(|b| same_binding(&b.uri, uri))
+    bindings
+        .iter()
+        .position(|b| same_binding(&b.binding.uri, uri))
 }
 
 // A binding that stands keeps its place, and a new one goes last.
-fn put(bindings: &mut Vec<Binding>, binding: Binding) -> Result<(), AllocError>
+fn put(bindings: &mut Vec<Draft>, binding: Draft) -> Result<(), AllocError>
     ensures put { OnOk result (bindings.new.items ≡ put bindings.old.items binding) }
     ensures last { OnOk result ((now : ℕ) → nat_lt now binding.expires_at ≡ true → AllLast now bindings.old.items → AllLast now bindings.new.items) }
 {
-    match place_of(bindings, &binding.uri) {
+    match place_of(bindings, &binding.binding.uri) {
         Some(place) => bindings[place] = binding,
         None => bindings.push(binding)?,
     }
     Ok(())
 }
 
-/// Takes one contact of a REGISTER; `number` is that of its refresh (RFC 3261 section 10.3, step 7).
-pub(crate) fn with_contact(
-    alloc: Global,
-    kept: Vec<Binding>,
+// Why a contact of this URI, for these seconds, is refused.
+fn uri_refusal(
+    kept: &[Draft],
     min_expires: u32,
     register: &Register<'_>,
-    contact: &Contact<'_>,
-    number: u32,
+    uri: &Uri<'_>,
+    seconds: u32,
+) -> Option<Refusal>
+    ensures { result ≡ uri_refusal min_expires register.now kept.now uri.now seconds }
+{
+    if is_too_brief(min_expires, seconds) {
+        return Some(Refusal::TooBrief);
+    }
+    if is_stale(register, draft_of(kept, uri)) {
+        return Some(Refusal::OutOfOrder);
+    }
+    None
+}
+
+// The bindings with this URI bound for these seconds, or without its binding.
+fn with_uri(
+    alloc: Global,
+    kept: Vec<Draft>,
+    register: &Register<'_>,
+    uri: &Uri<'_>,
+    seconds: u32,
+    number: u64,
     now: u64,
-) -> Result<Vec<Binding>, Refusal>
+) -> Result<Vec<Draft>, AllocError>
     requires { now < 2 ^ 60 }
-    ensures answer { Gives result (with_contact min_expires register.now now kept.items number contact.now) }
+    ensures bindings { IfOk result (λ after. after.items ≡ with_uri register.now now kept.items number uri.now seconds) }
     ensures last { IfOk result (λ after. AllLast now kept.items → AllLast now after.items) }
 {
     let mut kept = kept;
-    let Some(uri) = &contact.uri else {
-        return Err(Refusal::BadContact);
-    };
-    let seconds = lifetime(register, contact);
-    if is_too_brief(min_expires, seconds) {
-        return Err(Refusal::TooBrief);
-    }
-    if is_stale(register, binding_of(&kept, uri)) {
-        return Err(Refusal::OutOfOrder);
-    }
     if seconds == 0 {
         remove(&mut kept, uri);
         return Ok(kept);
     }
     put(
         &mut kept,
-        bound_by(alloc, register, uri, seconds, number, now)?,
+        binding_by(alloc, register, uri, seconds, number, now)?,
     )?;
     Ok(kept)
+}
+
+/// Takes one contact of a REGISTER; `number` is that of its refresh (RFC 3261 section 10.3, step 7).
+fn with_contact(
+    alloc: Global,
+    kept: Vec<Draft>,
+    min_expires: u32,
+    register: &Register<'_>,
+    contact: &Contact<'_>,
+    number: u64,
+    now: u64,
+) -> Result<Vec<Draft>, Refusal>
+    requires { now < 2 ^ 60 }
+    ensures answer { Gives result (with_contact min_expires register.now now kept.items number contact.now) }
+    ensures memory { result ≡ Err Refusal.OutOfMemory → contact_refusal min_expires register.now kept.items contact.now ≡ None }
+    ensures last { IfOk result (λ after. AllLast now kept.items → AllLast now after.items) }
+{
+    let Some(uri) = &contact.uri else {
+        return Err(Refusal::BadContact);
+    };
+    let seconds = lifetime(register, contact);
+    if let Some(refusal) = uri_refusal(&kept, min_expires, register, uri, seconds) {
+        return Err(refusal);
+    }
+    Ok(with_uri(alloc, kept, register, uri, seconds, number, now)?)
+}
+
+/// The contacts of a REGISTER, one by one.
+pub(crate) fn with_contacts(
+    alloc: Global,
+    bindings: Vec<Draft>,
+    min_expires: u32,
+    register: &Register<'_>,
+    first_number: u64,
+    now: u64,
+) -> Result<Vec<Draft>, Refusal>
+    requires moment { now < 2 ^ 60 }
+    requires numbers { first_number ≤ 2 ^ 63 }
+    ensures answer { Gives result (with_contacts min_expires register.now now first_number register.now.contacts bindings.items) }
+    ensures last { IfOk result (λ after. AllLast now bindings.items → AllLast now after.items) }
+{
+    let mut kept = bindings;
+    let mut number = first_number;
+    for contact in register.contacts.as_slice() {
+        kept = with_contact(alloc, kept, min_expires, register, contact, number, now)?;
+        number += 1;
+    }
+    Ok(kept)
+}
+
+/// The bindings, numbered by the order of their refresh, if they are no more than a user may have.
+pub(crate) fn within_limit(alloc: Global, kept: &[Draft]) -> Result<Vec<Binding>, Refusal>
+    ensures answer { Gives result (within_limit kept.now) }
+    ensures memory { result ≡ Err Refusal.OutOfMemory → length kept.now ≤ max_bindings }
+    ensures last { IfOk result (λ after. (now : ℕ) → AllLast now kept.now → AllLast now after.items) }
+{
+    if kept.len() > MAX_BINDINGS {
+        return Err(Refusal::TooManyBindings);
+    }
+    Ok(with_ranks(alloc, kept)?)
 }

@@ -3,18 +3,22 @@
 //! A user has a list of bindings. A REGISTER changes it by all of its contacts, or not at all.
 #![tactic(auto)]
 
-mod applying;
 mod binding;
 mod contact_rules;
 mod copies;
+mod draft;
 mod laws;
+mod plan;
 mod refusal;
 mod register;
+mod register_rules;
 mod registrar;
 mod targets;
+mod user_bindings;
 
 pub use binding::Binding;
 pub use laws::laws_of_bindings;
+pub use plan::Plan;
 pub use refusal::Refusal;
 pub use register::{Contact, Contacts, Register};
 pub use registrar::Registrar;

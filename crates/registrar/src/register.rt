@@ -53,7 +53,7 @@ impl<'a> Contacts<'a> {
 }
 
 /// A REGISTER (RFC 3261 section 10.2): the user that its To names, whether `*` stands among its contacts, the other
-/// contacts, the seconds of its header Expires, and its Call-ID and number.
+/// contacts, a further `*` being one without a URI, the seconds of its header Expires, and its Call-ID and number.
 #[derive(Clone, Debug, Drop)]
 pub struct Register<'a> {
     pub user: Option<Text<'a>>,

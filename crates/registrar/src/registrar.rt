@@ -1,35 +1,33 @@
 //! The registrar.
 
-ghost use Rattle.std.specs.Prelude.{◌≡◌, ◌≢◌, ℕ, List, [], ◌∷◌, ◌++◌, ◌≤◌, ◌<◌, ◌^◌, length, map, position, Some, OnErr, IfOk, IfSome, OnOk, IsTrue};
+ghost use Rattle.std.specs.Prelude.{◌≡◌, ◌≢◌, ℕ, List, [], ◌∷◌, ◌++◌, ◌≤◌, ◌<◌, ◌^◌, length, None, Some, Err, OnErr, IfOk, IsTrue};
 ghost use Rattle.std.specs.Option.{option_copied};
-ghost use Rattle.registrar.specs.Limits.{most_users, most_min_expires};
-ghost use Rattle.registrar.specs.Registering.{Rules, AllLast, applied, changed, is_own_host, user_of, are_distinct};
-ghost use Rattle.registrar.specs.Bound.{Event, is_one_of, is_known, bound, target_of, answer_after};
-ghost use Rattle.registrar.specs.Registrar.{is_for, bindings_of, lines_with, without_bindings, Gives, Counts};
+ghost use Rattle.registrar.specs.Limits.{max_users, max_min_expires};
+ghost use Rattle.registrar.specs.Registering.{Rules, AllLast, bindings_by, bindings_after_one, is_own_host, user_of, are_distinct, is_known, whole_refusal};
+ghost use Rattle.registrar.specs.Bound.{Event, bound, target_of, answer_after};
+ghost use Rattle.registrar.specs.Registrar.{Gives, Counts, Plans};
+ghost use Rattle.registrar.specs.declared.refusal.Refusal.TheVariants as Refusal;
 
-use crate::applying::{all_bindable, cleared, is_star_misused, with_contacts, within_limit};
-use crate::binding::{Binding, Bindings};
-use crate::copies::{copied, first_number, present, renumbered};
+use crate::binding::Binding;
+use crate::contact_rules::{with_contacts, within_limit};
+use crate::copies::{copy_all, present};
+use crate::draft::{drafts_of, first_number};
+use crate::plan::Plan;
 use crate::refusal::Refusal;
 use crate::register::Register;
+use crate::register_rules::{all_bindable, is_star_misused, is_star_stale};
 use crate::targets::target;
+use crate::user_bindings::{UserBindings, bindings_of, has_user, put_bindings, without_bindings};
 use sip_uri::{Host, Uri};
 use std::alloc::{AllocError, Global};
 use std::marker::Model;
 use text::{Text, Texts};
 
-/// A user and its bindings.
-#[derive(Debug, Drop)]
-pub(crate) struct Line {
-    pub user: Text<'static>,
-    pub bindings: Bindings,
-}
-
 /// The bindings of each user of the office (RFC 3261 section 10.3).
 #[derive(Drop)]
 pub struct Registrar {
     alloc: Global,
-    lines: Vec<Line>,
+    entries: Vec<UserBindings>,
     ip: [u8; 4],
     sip_port: u16,
     domain: Text<'static>,
@@ -41,11 +39,11 @@ impl Model for Registrar {
 
     ghost Value = { Contents };
 
-    ghost view = { λ r. record { lines = r.lines.items; ip = r.ip; sip_port = r.sip_port; domain = r.domain; min_expires = r.min_expires } };
+    ghost view = { λ r. record { entries = r.entries.items; ip = r.ip; sip_port = r.sip_port; domain = r.domain; min_expires = r.min_expires } };
 }
 
 impl Registrar {
-    ghost use Rattle.registrar.specs.Registrar.{StandsAfter, Contents, rules_of, answer_of, bindings_at, event, registered, rules_given};
+    ghost use Rattle.registrar.specs.Registrar.{StandsAfter, Contents, rules_of, answer_of, refusal_of, after_plan, bindings_at, event, registered, rules_given};
 
     /// A registrar without bindings for these users of a server at this address, port and domain, which binds for
     /// this number of seconds at least.
@@ -58,16 +56,16 @@ impl Registrar {
         min_expires: u32,
     ) -> Result<Registrar, AllocError>
         requires some { 1 ≤ length users }
-        requires room { length users ≤ most_users }
+        requires room { length users ≤ max_users }
         requires distinct { IsTrue (are_distinct users) }
         requires least { 1 ≤ min_expires }
-        requires bounded { min_expires ≤ most_min_expires }
+        requires bounded { min_expires ≤ max_min_expires }
         ensures { IfOk result (λ r. StandsAfter r (rules_given users.entry ip sip_port domain.entry min_expires) []) }
     {
-        let lines = without_bindings(alloc, users)?;
+        let entries = without_bindings(alloc, users)?;
         Ok(Registrar {
             alloc,
-            lines,
+            entries,
             ip,
             sip_port,
             domain,
@@ -92,11 +90,41 @@ impl Registrar {
     pub fn knows(&self, user: &Text<'_>) -> bool
         ensures { result ≡ is_known (rules_of self.now) user.now }
     {
-        has_line(&self.lines, user)
+        has_user(&self.entries, user)
     }
 
-    /// Takes a REGISTER, and answers the bindings that its user then has, oldest first (RFC 3261 section 10.3). The
-    /// refusals are met in the order B1, B2, B6, then contact by contact B3 and B4, then B5.
+    /// What `apply` answers to a REGISTER, and the change that it would make. Changes nothing.
+    #[tactic(auto, unfolding(crate::specs::Registrar::answer_of, crate::specs::Registrar::refusal_of, crate::specs::Registering::answer_by, crate::specs::Registering::early_refusal))]
+    pub fn plan(&self, register: &Register<'_>, now: u64) -> Result<Plan, Refusal>
+        requires { now < 2 ^ 60 }
+        ensures answer { Plans result register.now.user (answer_of self.now register.now now) }
+        ensures last { IfOk result (λ plan. AllLast now plan.bindings) }
+
+        // No memory is asked for before it is seen whether the REGISTER is refused as a whole.
+        ensures memory { result ≡ Err Refusal.OutOfMemory → refusal_of self.now register.now now ≡ None }
+        ensures passes { IfOk result (λ plan. refusal_of self.now register.now now ≡ None) }
+    {
+        let Some(user) = &register.user else {
+            return Err(Refusal::UnknownUser);
+        };
+        if !self.knows(user) {
+            return Err(Refusal::UnknownUser);
+        }
+        let after = self.after_one(bindings_of(&self.entries, user), register, now)?;
+        Ok(Plan::new(user.keep(self.alloc)?, after))
+    }
+
+    /// Makes the change of a plan. Takes no memory.
+    #[tactic(auto, unfolding(crate::specs::Registrar::after_plan))]
+    pub fn carry_out(&mut self, plan: Plan)
+        ensures { self.new ≡ after_plan self.old plan }
+    {
+        let (user, bindings) = plan.into_parts();
+        put_bindings(&mut self.entries, &user, bindings);
+    }
+
+    /// Takes a REGISTER, and answers the bindings that its user then has, oldest first (RFC 3261 section 10.3): `plan` and
+    /// `carry_out` together. The refusals are met in the order B1, B2, B6, then contact by contact B3 and B4, then B5.
     pub fn apply(&mut self, register: &Register<'_>, now: u64) -> Result<Vec<Binding>, Refusal>
         requires { now < 2 ^ 60 }
         ensures answer { (rules : Rules) (history : List Event) → StandsAfter self.old rules history
@@ -109,6 +137,7 @@ impl Registrar {
         ensures err { OnErr result (self.new ≡ self.old) }
         ensures exact { Gives result (answer_of self.old register.now now) }
         ensures table { Counts result → self.new ≡ registered self.old register.now (answer_of self.old register.now now) }
+        ensures memory { result ≡ Err Refusal.OutOfMemory → refusal_of self.old register.now now ≡ None }
     {
         self.take(register, now)
     }
@@ -118,9 +147,10 @@ impl Registrar {
     pub fn bindings(&self, user: &Text<'_>, now: u64) -> Result<Vec<Binding>, AllocError>
         ensures bound { IfOk result (λ bindings. (rules : Rules) (history : List Event) → StandsAfter self.now rules history
             → bindings.items ≡ bound rules user.now history now) }
+        ensures last { IfOk result (λ bindings. AllLast now bindings.items) }
         ensures exact { IfOk result (λ bindings. bindings.items ≡ bindings_at self.now user.now now) }
     {
-        present(self.alloc, bindings_of(&self.lines, user), now)
+        present(self.alloc, bindings_of(&self.entries, user), now)
     }
 
     /// Where a call to a user goes: the URI of the binding that was refreshed last, of those that are not over (RFC 3261
@@ -131,7 +161,7 @@ impl Registrar {
             → option_copied result ≡ target_of (bound rules user.now history now) }
         ensures exact { option_copied result ≡ target_of (bindings_at self.now user.now now) }
     {
-        target(bindings_of(&self.lines, user), now)
+        target(bindings_of(&self.entries, user), now)
     }
 
     fn is_own_host(&self, host: &Host<'_>) -> bool
@@ -143,35 +173,32 @@ impl Registrar {
         }
     }
 
-    #[tactic(auto, unfolding(crate::specs::Registrar::answer_of, crate::specs::Registrar::registered))]
+    #[tactic(auto, unfolding(crate::specs::Registrar::registered))]
     fn take(&mut self, register: &Register<'_>, now: u64) -> Result<Vec<Binding>, Refusal>
         requires { now < 2 ^ 60 }
         ensures answer { Gives result (answer_of self.old register.now now) }
         ensures table { Counts result → self.new ≡ registered self.old register.now (answer_of self.old register.now now) }
         ensures last { IfOk result (λ bindings. AllLast now bindings.items) }
         ensures err { OnErr result (self.new ≡ self.old) }
+        ensures memory { result ≡ Err Refusal.OutOfMemory → refusal_of self.old register.now now ≡ None }
     {
-        let Some(user) = &register.user else {
-            return Err(Refusal::UnknownUser);
-        };
-        let Some(place) = line_of(&self.lines, user) else {
-            return Err(Refusal::UnknownUser);
-        };
-        let bindings = self.applied(bindings_of(&self.lines, user), register, now)?;
-        let answer = copied(self.alloc, &bindings)?;
-        put_bindings(&mut self.lines, user, place, Bindings::from_vec(bindings));
+        let plan = self.plan(register, now)?;
+        let answer = copy_all(self.alloc, plan.bindings())?;
+        self.carry_out(plan);
         Ok(answer)
     }
 
-    #[tactic(auto, unfolding(crate::specs::Registering::applied))]
-    fn applied(
+    #[tactic(auto, unfolding(crate::specs::Registering::bindings_after_one, crate::specs::Registering::whole_refusal))]
+    fn after_one(
         &self,
         bindings: &[Binding],
         register: &Register<'_>,
         now: u64,
     ) -> Result<Vec<Binding>, Refusal>
         requires { now < 2 ^ 60 }
-        ensures answer { Gives result (applied (rules_of self.now) register.now now bindings.now) }
+        ensures answer { Gives result (bindings_after_one (rules_of self.now) register.now now bindings.now) }
+        ensures memory { result ≡ Err Refusal.OutOfMemory → whole_refusal (rules_of self.now) register.now now bindings.now ≡ None }
+        ensures passes { IfOk result (λ after. whole_refusal (rules_of self.now) register.now now bindings.now ≡ None) }
         ensures last { IfOk result (λ after. AllLast now after.items) }
     {
         if is_star_misused(register) {
@@ -180,78 +207,35 @@ impl Registrar {
         if !all_bindable(self.ip, self.sip_port, register.contacts.as_slice()) {
             return Err(Refusal::BadContact);
         }
-        self.changed(bindings, register, now)
+        if is_star_stale(register, bindings, now) {
+            return Err(Refusal::OutOfOrder);
+        }
+        self.bindings_by(bindings, register, now)
     }
 
-    fn changed(
+    fn bindings_by(
         &self,
         bindings: &[Binding],
         register: &Register<'_>,
         now: u64,
     ) -> Result<Vec<Binding>, Refusal>
         requires { now < 2 ^ 60 }
-        ensures answer { Gives result (changed (rules_of self.now) register.now now bindings.now) }
+        ensures answer { Gives result (bindings_by (rules_of self.now) register.now now bindings.now) }
         ensures last { IfOk result (λ after. AllLast now after.items) }
     {
         if register.star {
-            let kept = present(self.alloc, bindings, now)?;
-            return cleared(self.alloc, register, &kept);
+            return Ok(Vec::new(self.alloc));
         }
-        let kept = renumbered(self.alloc, bindings, now)?;
-        let contacts = register.contacts.as_slice();
-        within_limit(with_contacts(
+        let first_number = first_number(bindings);
+        let kept = drafts_of(self.alloc, bindings, now)?;
+        let kept = with_contacts(
             self.alloc,
             kept,
             self.min_expires,
             register,
-            contacts,
-            first_number(bindings),
+            first_number,
             now,
-        )?)
+        )?;
+        within_limit(self.alloc, &kept)
     }
-}
-
-fn without_bindings(alloc: Global, users: Texts<'static>) -> Result<Vec<Line>, AllocError>
-    ensures { IfOk result (λ lines. lines.items ≡ map without_bindings users.entry) }
-{
-    let mut lines = Vec::new(alloc);
-    for user in users.into_vec() {
-        let bindings = Bindings::from_vec(Vec::new(alloc));
-        lines.push(Line { user, bindings })?;
-    }
-    Ok(lines)
-}
-
-fn bindings_of<'a>(lines: &'a [Line], user: &Text<'_>) -> &'a [Binding]
-    ensures { result.now ≡ bindings_of lines.now user.now }
-{
-    match lines
-        .iter()
-        .find(|line| line.user.as_bytes() == user.as_bytes())
-    {
-        Some(line) => line.bindings.as_slice(),
-        None => &[],
-    }
-}
-
-fn line_of(lines: &[Line], user: &Text<'_>) -> Option<usize>
-    ensures place { result ≡ position (is_for user.now) lines.now }
-    ensures bound { IfSome result (λ place. place < length lines.now) }
-{
-    lines
-        .iter()
-        .position(|line| line.user.as_bytes() == user.as_bytes())
-}
-
-fn has_line(lines: &[Line], user: &Text<'_>) -> bool
-    ensures { result ≡ is_one_of (map (λ l. l.user) lines.now) user.now }
-{
-    line_of(lines, user).is_some()
-}
-
-fn put_bindings(lines: &mut [Line], user: &Text<'_>, place: usize, bindings: Bindings)
-    requires { position (is_for user.now) lines.old ≡ Some place }
-    ensures { lines.new ≡ lines_with user.now bindings lines.old }
-{
-    lines[place].bindings = bindings;
 }

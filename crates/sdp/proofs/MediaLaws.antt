@@ -56,7 +56,7 @@ medium_found : (l : List ℕ) (under : List (List ℕ)) → begins (codes "m") l
 unfolding media_of
 medium_found l under m h =
     let form = medium_form l m h in
-    record { raw = raw_medium_of (value_on l); whole = raw_found (value_on l) form; form = form; kind = refl; port = refl; count = refl; protocol = refl; formats = refl }
+    record { raw = raw_medium_of (value_on l); whole = raw_found (value_on l) form; form = form; kind = refl; port = refl; count = refl; proto = refl; formats = refl }
 
 info_found : (o : Option (List ℕ)) → ((l : List ℕ) → o ≡ Some l → (begins (codes "i") l ≡ true) × (is_formed l ≡ true)) → if_there o ≡ info_lines (option_map value_on o)
 info_found None h = refl

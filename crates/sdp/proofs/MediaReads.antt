@@ -83,7 +83,7 @@ group l under = record { medium = l; under = under }
 media_is : (value : List ℕ) (under : List (List ℕ)) (m : Media) → SaysMedium value m → UnderIs under m → media_of (group (109 ∷ 61 ∷ value) under) ≡ m
 unfolding media_of
 media_is value under m s u =
-    rw (raw_read value s.raw s.whole s.form, u.info, u.connection, u.after, sym s.kind, sym s.port, sym s.count, sym s.protocol, sym s.formats) refl
+    rw (raw_read value s.raw s.whole s.form, u.info, u.connection, u.after, sym s.kind, sym s.port, sym s.count, sym s.proto, sym s.formats) refl
 
 one_more : (value : List ℕ) (under more : List (List ℕ)) (m : Media) (ms : List Media) → SaysMedium value m → UnderIs under m → MediaAre more ms → MediaAre ((109 ∷ 61 ∷ value) ∷ (under ++ more)) (m ∷ ms)
 one_more value under more m ms s u h =

@@ -19,7 +19,7 @@ use Rattle.sdp.specs.declared.address.Address.TheVariants.{Ip4, Multicast, Ip6, 
 use Rattle.sdp.specs.declared.description.Description.{Description}
 use Rattle.sdp.specs.declared.description.Media.{Media}
 use Rattle.sdp.specs.Addresses.{IsAddress, ip4_of, is_dotted_byte}
-use Rattle.sdp.specs.Classes.{begins, is_text_byte, is_token_char, is_token, is_number, is_integer, is_protocol}
+use Rattle.sdp.specs.Classes.{begins, is_text_byte, is_token_char, is_token, is_number, is_integer, is_proto}
 use Rattle.sdp.specs.Grammar.{SaysConnection, SaysMedium, SaysUnder, SaysMedia, SaysDescription, ReadsDescription}
 use Rattle.sdp.specs.Lines.{IsLines, is_formed}
 use Rattle.sdp.specs.MediumLines.{RawMedium, raw_medium_text, greatest_port, is_port, is_count, formats_of, is_raw_medium}
@@ -155,24 +155,24 @@ formats_written text =
 -- ---- m=
 
 abbrev written_raw : Media → List ℕ → RawMedium
-written_raw m formats = record { kind = m.kind; port = decimal m.port; count = option_map decimal m.count; protocol = m.protocol; formats = formats }
+written_raw m formats = record { kind = m.kind; port = decimal m.port; count = option_map decimal m.count; proto = m.proto; formats = formats }
 
 count_lacks : (c : ℕ) → is_ascii_digit c ≡ false → (t : List ℕ) → is_count t ≡ true → Lacks c t
 unfolding is_integer
 count_lacks c out t h = run_lacks is_ascii_digit c out t (and_parts (is_run_of is_ascii_digit t) _ (and_parts (is_integer t) _ h).0).0
 
-protocol_lacks : (c : ℕ) → is_token_char c ≡ false → eqb 47 c ≡ false → (t : List ℕ) → is_protocol t ≡ true → Lacks c t
-unfolding is_protocol
-protocol_lacks c out apart t h = tokens_lack c 47 out apart t h
+proto_lacks : (c : ℕ) → is_token_char c ≡ false → eqb 47 c ≡ false → (t : List ℕ) → is_proto t ≡ true → Lacks c t
+unfolding is_proto
+proto_lacks c out apart t h = tokens_lack c 47 out apart t h
 
 raw_lacks : (c : ℕ) → is_token_char c ≡ false → is_ascii_digit c ≡ false → eqb 32 c ≡ false → eqb 47 c ≡ false → (r : RawMedium) → IsForm r → Lacks c (raw_medium_text r)
 raw_lacks c token digit space slash r f =
     let kind = run_lacks is_token_char c token r.kind f.kind in
     let port = run_lacks is_ascii_digit c digit r.port f.port in
     let count = Lacks-led_by c 47 slash r.count is_count (count_lacks c digit) f.count in
-    let protocol = protocol_lacks c token slash r.protocol f.protocol in
+    let proto = proto_lacks c token slash r.proto f.proto in
     let formats = tokens_lack c 32 token space r.formats f.formats in
-    Lacks-append c r.kind _ kind (space, Lacks-append c r.port _ port (Lacks-append c (led_by 47 r.count) _ count (space, Lacks-append c r.protocol _ protocol (space, formats))))
+    Lacks-append c r.kind _ kind (space, Lacks-append c r.port _ port (Lacks-append c (led_by 47 r.count) _ count (space, Lacks-append c r.proto _ proto (space, formats))))
 
 pub record MediumAgain (m : Media) : Type 0 where
   pub value : List ℕ
@@ -180,10 +180,10 @@ pub record MediumAgain (m : Media) : Type 0 where
   pub said : SaysMedium value m
   pub formed : is_formed (medium_line m) ≡ true
 
-raw_form : (m : Media) (raw : RawMedium) → IsForm raw → m.kind ≡ raw.kind → m.port ≤ greatest_port → CountAgain m.count → m.protocol ≡ raw.protocol → is_raw_medium (written_raw m raw.formats) ≡ true
+raw_form : (m : Media) (raw : RawMedium) → IsForm raw → m.kind ≡ raw.kind → m.port ≤ greatest_port → CountAgain m.count → m.proto ≡ raw.proto → is_raw_medium (written_raw m raw.formats) ≡ true
 unfolding is_raw_medium is_token
-raw_form m raw f kind small count protocol =
-    and_from _ _ (and_from _ _ (and_from _ _ (and_from _ _ (ap is_token kind ∙ f.kind) (is_port_written m.port small)) count.form) (ap is_protocol protocol ∙ f.protocol)) f.formats
+raw_form m raw f kind small count proto =
+    and_from _ _ (and_from _ _ (and_from _ _ (and_from _ _ (ap is_token kind ∙ f.kind) (is_port_written m.port small)) count.form) (ap is_proto proto ∙ f.proto)) f.formats
 
 medium_written : (value : List ℕ) (m : Media) → SaysMedium value m → MediumAgain m
 medium_written value m s =
@@ -191,11 +191,11 @@ medium_written value m s =
     let raw = written_raw m s.raw.formats in
     let small : m.port ≤ greatest_port = subst (λ (n : ℕ). n ≤ greatest_port) (sym s.port) (port_small (number_upto greatest_port s.raw.port) s.raw.port refl) in
     let count : CountAgain m.count = subst (λ (c : Option ℕ). CountAgain c) (sym s.count) (count_again s.raw.count f.count) in
-    let form = raw_form m s.raw f s.kind small count s.protocol in
+    let form = raw_form m s.raw f s.kind small count s.proto in
     let formats : formats_text m.formats ≡ 32 ∷ s.raw.formats = ap formats_text s.formats ∙ formats_written s.raw.formats in
     let text : medium_line m ≡ 109 ∷ 61 ∷ raw_medium_text raw =
-    ap (λ (x : List ℕ). 109 ∷ 61 ∷ (m.kind ++ 32 ∷ (decimal m.port ++ (x ++ 32 ∷ (m.protocol ++ formats_text m.formats))))) count.text
-    ∙ ap (λ (x : List ℕ). 109 ∷ 61 ∷ (m.kind ++ 32 ∷ (decimal m.port ++ (led_by 47 (option_map decimal m.count) ++ 32 ∷ (m.protocol ++ x))))) formats in
+    ap (λ (x : List ℕ). 109 ∷ 61 ∷ (m.kind ++ 32 ∷ (decimal m.port ++ (x ++ 32 ∷ (m.proto ++ formats_text m.formats))))) count.text
+    ∙ ap (λ (x : List ℕ). 109 ∷ 61 ∷ (m.kind ++ 32 ∷ (decimal m.port ++ (led_by 47 (option_map decimal m.count) ++ 32 ∷ (m.proto ++ x))))) formats in
     let again = form_of raw form in
     let bytes : list_all is_text_byte (raw_medium_text raw) ≡ true = text_from_lacks (raw_medium_text raw) (raw_lacks 13 refl refl refl refl raw again) (raw_lacks 10 refl refl refl refl raw again) (raw_lacks 0 refl refl refl refl raw again) in
     record {
@@ -208,7 +208,7 @@ medium_written value m s =
         kind = refl;
         port = sym (ap (λ (o : Option ℕ). unwrap_or o 0) (port_again m.port small));
         count = count.value;
-        protocol = refl;
+        proto = refl;
         formats = s.formats;
       };
       formed = ap is_formed text ∙ bytes;

@@ -37,5 +37,5 @@ unfoldable pub is_integer : List ℕ → Bool
 is_integer text = is_run_of is_ascii_digit text && not (begins (codes "0") text)
 
 -- tokens with slashes between them (proto)
-unfoldable pub is_protocol : List ℕ → Bool
-is_protocol text = list_all is_token (slice_split (λ b. b == 47) text)
+unfoldable pub is_proto : List ℕ → Bool
+is_proto text = list_all is_token (slice_split (λ b. b == 47) text)

@@ -31,7 +31,7 @@ pub record SaysMedium (value : List ℕ) (m : Media) : Type 0 where
   pub kind : m.kind ≡ raw.kind
   pub port : m.port ≡ port_of raw
   pub count : m.count ≡ count_of raw
-  pub protocol : m.protocol ≡ raw.protocol
+  pub proto : m.proto ≡ raw.proto
   pub formats : m.formats ≡ formats_of raw.formats
 
 -- lines under m=: i=, c=, and b k a

@@ -2,9 +2,9 @@
 use Rattle.std.specs.Prelude.{ℕ}
 
 -- media in a description
-abbrev pub greatest_media : ℕ
-greatest_media = 4
+abbrev pub max_media : ℕ
+max_media = 8
 
 -- formats in a medium
-abbrev pub greatest_formats : ℕ
-greatest_formats = 32
+abbrev pub max_formats : ℕ
+max_formats = 32

@@ -4,25 +4,25 @@ use Rattle.std.specs.List.{list_all, slice_split}
 use Rattle.text.specs.Class.{passes_if_there}
 use Rattle.text.specs.Cut.{before, after, led_by}
 use Rattle.text.specs.Number.{number_upto}
-use Rattle.sdp.specs.Classes.{is_token, is_number, is_integer, is_protocol}
+use Rattle.sdp.specs.Classes.{is_token, is_number, is_integer, is_proto}
 use Rattle.sdp.specs.Origins.{behind_space}
 
 pub record RawMedium : Type 0 where
   pub kind : List ℕ
   pub port : List ℕ
   pub count : Option (List ℕ)
-  pub protocol : List ℕ
+  pub proto : List ℕ
   pub formats : List ℕ
 
 abbrev pub raw_medium_text : RawMedium → List ℕ
-raw_medium_text r = r.kind ++ 32 ∷ (r.port ++ (led_by 47 r.count ++ 32 ∷ (r.protocol ++ 32 ∷ r.formats)))
+raw_medium_text r = r.kind ++ 32 ∷ (r.port ++ (led_by 47 r.count ++ 32 ∷ (r.proto ++ 32 ∷ r.formats)))
 
 -- kind, port and protocol end where the next space stands
 unfoldable pub raw_medium_of : List ℕ → RawMedium
 raw_medium_of text =
     let ports = before 32 (behind_space text) in
     let behind = behind_space (behind_space text) in
-    record { kind = before 32 text; port = before 47 ports; count = after 47 ports; protocol = before 32 behind; formats = behind_space behind }
+    record { kind = before 32 text; port = before 47 ports; count = after 47 ports; proto = before 32 behind; formats = behind_space behind }
 
 -- ---- the parts
 
@@ -43,7 +43,7 @@ formats_of text = slice_split (λ b. b == 32) text
 
 unfoldable pub is_raw_medium : RawMedium → Bool
 is_raw_medium r =
-    is_token r.kind && is_port r.port && passes_if_there is_count r.count && is_protocol r.protocol && list_all is_token (formats_of r.formats)
+    is_token r.kind && is_port r.port && passes_if_there is_count r.count && is_proto r.proto && list_all is_token (formats_of r.formats)
 
 -- ---- what they mean
 

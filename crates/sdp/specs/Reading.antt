@@ -9,7 +9,7 @@ use Rattle.sdp.specs.declared.error.DescriptionError.{DescriptionError}
 use Rattle.sdp.specs.declared.error.DescriptionError.TheVariants as Faults
 use Rattle.sdp.specs.Addresses.{address_of}
 use Rattle.sdp.specs.Classes.{begins}
-use Rattle.sdp.specs.Limits.{greatest_media, greatest_formats}
+use Rattle.sdp.specs.Limits.{max_media, max_formats}
 use Rattle.sdp.specs.Lines.{lines_of, is_formed, value_on, line_of}
 use Rattle.sdp.specs.MediumLines.{raw_medium_of, is_raw_medium, port_of, count_of, formats_of}
 use Rattle.sdp.specs.Order.{Group, upto_medium, groups, before_lines, connection_in, after_lines, info_under, connection_under, after_under, is_ordered}
@@ -49,7 +49,7 @@ media_of group =
       kind = raw.kind;
       port = port_of raw;
       count = count_of raw;
-      protocol = raw.protocol;
+      proto = raw.proto;
       formats = formats_of raw.formats;
       info = option_map value_on (info_under group.under);
       connection = connection_of (connection_under group.under);
@@ -83,10 +83,10 @@ abbrev pub has_places : Description → Bool
 has_places d = list_all (is_placed d) d.media
 
 abbrev pub has_few_media : Description → Bool
-has_few_media d = nat_le (length d.media) greatest_media
+has_few_media d = nat_le (length d.media) max_media
 
 abbrev pub has_few_formats : Description → Bool
-has_few_formats d = list_all (λ m. nat_le (length m.formats) greatest_formats) d.media
+has_few_formats d = list_all (λ m. nat_le (length m.formats) max_formats) d.media
 
 unfoldable pub judged : Description → Result Description DescriptionError
 judged d =

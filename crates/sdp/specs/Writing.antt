@@ -57,7 +57,7 @@ formats_text formats = flat_map (λ format. 32 ∷ format) formats
 
 -- `m=kind port/count protocol format format`
 abbrev pub medium_line : Media → List ℕ
-medium_line m = codes "m=" ++ (m.kind ++ 32 ∷ (decimal m.port ++ (count_text m.count ++ 32 ∷ (m.protocol ++ formats_text m.formats))))
+medium_line m = codes "m=" ++ (m.kind ++ 32 ∷ (decimal m.port ++ (count_text m.count ++ 32 ∷ (m.proto ++ formats_text m.formats))))
 
 abbrev pub info_lines : Option (List ℕ) → List (List ℕ)
 info_lines None = []

@@ -3,7 +3,7 @@
 ghost use Rattle.std.specs.Prelude.{◌≡◌, ◌==◌};
 ghost use Rattle.std.specs.List.{list_all, slice_split};
 ghost use Rattle.text.specs.Class.{is_run_of};
-ghost use Rattle.sdp.specs.Classes.{is_token_char, is_token, is_visible, is_word, begins, is_number, is_integer, is_protocol};
+ghost use Rattle.sdp.specs.Classes.{is_token_char, is_token, is_visible, is_word, begins, is_number, is_integer, is_proto};
 ghost use Rattle.sdp.specs.Lines.{has_mark};
 
 use text::is_run_of_digits;
@@ -94,9 +94,9 @@ pub(crate) fn is_integer(text: &[u8]) -> bool
 }
 
 /// Whether the text is tokens with slashes between them.
-#[tactic(auto, unfolding(crate::specs::Classes::is_protocol))]
-pub(crate) fn is_protocol(text: &[u8]) -> bool
-    ensures { result ≡ is_protocol text.now }
+#[tactic(auto, unfolding(crate::specs::Classes::is_proto))]
+pub(crate) fn is_proto(text: &[u8]) -> bool
+    ensures { result ≡ is_proto text.now }
 {
     text.split(|b| *b == b'/').all(|part| is_token(part))
 }

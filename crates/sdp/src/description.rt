@@ -26,7 +26,7 @@ pub struct Media<'a> {
     /// How many ports, where a number is written behind the port: 1 or more.
     pub count: Option<u16>,
     /// The transport protocol, as `RTP/AVP`.
-    pub protocol: Text<'a>,
+    pub proto: Text<'a>,
     /// One or more, in order of preference.
     pub formats: Texts<'a>,
     /// The value of the `i=` line.

@@ -32,7 +32,7 @@ pub enum DescriptionError {
     /// A medium with a port that is not 0 has no address, nor has the session.
     #[error("S7: no connection for a medium")]
     NoConnection,
-    /// There are more than 4 media.
+    /// There are more than 8 media.
     #[error("S8: too many media")]
     TooManyMedia,
     /// A medium has more than 32 formats.

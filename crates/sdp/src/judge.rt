@@ -4,7 +4,7 @@ ghost use Rattle.std.specs.Prelude.{◌≡◌, ◌==◌, nat_le, length};
 ghost use Rattle.std.specs.List.{list_all};
 ghost use Rattle.sdp.specs.Faults.{Gives};
 ghost use Rattle.sdp.specs.Lines.{texts, has_mark, is_clean, is_formed};
-ghost use Rattle.sdp.specs.Limits.{greatest_formats};
+ghost use Rattle.sdp.specs.Limits.{max_formats};
 ghost use Rattle.sdp.specs.Reading.{is_version, has_origin, is_good_connection, is_good_medium, is_placed, has_places, has_few_media, has_few_formats, judged};
 
 use crate::class::{begins, has_mark};
@@ -16,10 +16,10 @@ use crate::origin_line::OriginParts;
 use crate::value::value_on;
 
 /// Media in a description.
-const GREATEST_MEDIA: usize = 4;
+const MAX_MEDIA: usize = 8;
 
 /// Formats in a medium.
-const GREATEST_FORMATS: usize = 32;
+const MAX_FORMATS: usize = 32;
 
 /// Whether in each line the byte behind the type is `=`.
 fn have_marks(lines: &[&[u8]]) -> bool
@@ -114,13 +114,13 @@ fn has_places(description: &Description<'_>) -> bool
 fn has_few_media(description: &Description<'_>) -> bool
     ensures { result ≡ has_few_media description.now }
 {
-    description.media.as_slice().len() <= GREATEST_MEDIA
+    description.media.as_slice().len() <= MAX_MEDIA
 }
 
 fn are_few_formats(medium: &Media<'_>) -> bool
-    ensures { result ≡ nat_le (length medium.now.formats) greatest_formats }
+    ensures { result ≡ nat_le (length medium.now.formats) max_formats }
 {
-    medium.formats.as_slice().len() <= GREATEST_FORMATS
+    medium.formats.as_slice().len() <= MAX_FORMATS
 }
 
 fn has_few_formats(description: &Description<'_>) -> bool

@@ -106,7 +106,7 @@ impl<'a> Media<'a> {
             kind: self.kind.keep(alloc)?,
             port: self.port,
             count: self.count,
-            protocol: self.protocol.keep(alloc)?,
+            proto: self.proto.keep(alloc)?,
             formats: keep_formats(alloc, &self.formats)?,
             info: keep_info(alloc, &self.info)?,
             connection: keep_connection(alloc, &self.connection)?,

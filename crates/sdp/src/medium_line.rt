@@ -6,7 +6,7 @@ ghost use Rattle.std.specs.Option.{option_copied};
 ghost use Rattle.text.specs.Class.{passes_if_there};
 ghost use Rattle.sdp.specs.MediumLines.{is_port, is_count, formats_of};
 
-use crate::class::{are_tokens, is_integer, is_number, is_protocol, is_token};
+use crate::class::{are_tokens, is_integer, is_number, is_proto, is_token};
 use crate::origin_line::cut_space;
 use std::alloc::{AllocError, Global};
 use std::marker::Model;
@@ -18,7 +18,7 @@ pub(crate) struct MediumParts<'a> {
     pub kind: &'a [u8],
     pub port: &'a [u8],
     pub count: Option<&'a [u8]>,
-    pub protocol: &'a [u8],
+    pub proto: &'a [u8],
     pub formats: &'a [u8],
 }
 
@@ -32,7 +32,7 @@ impl<'a> Model for MediumParts<'a> {
       kind = m.kind.now;
       port = m.port.now;
       count = option_copied m.count;
-      protocol = m.protocol.now;
+      proto = m.proto.now;
       formats = m.formats.now;
     } };
 }
@@ -63,13 +63,13 @@ impl<'a> MediumParts<'a> {
     {
         let (kind, rest) = cut_space(text);
         let (ports, rest) = cut_space(rest);
-        let (protocol, formats) = cut_space(rest);
+        let (proto, formats) = cut_space(rest);
         let (port, count) = cut(ports, b'/');
         MediumParts {
             kind,
             port,
             count,
-            protocol,
+            proto,
             formats,
         }
     }
@@ -82,7 +82,7 @@ impl<'a> MediumParts<'a> {
         is_token(self.kind)
             && is_port(self.port)
             && is_count(self.count)
-            && is_protocol(self.protocol)
+            && is_proto(self.proto)
             && are_tokens(self.formats)
     }
 

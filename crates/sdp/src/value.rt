@@ -87,7 +87,7 @@ fn media_of<'a>(alloc: Global, first: &'a [u8], under: &[&'a [u8]]) -> Result<Me
         kind: Text::lent(parts.kind),
         port: parts.port(),
         count: parts.count(),
-        protocol: Text::lent(parts.protocol),
+        proto: Text::lent(parts.proto),
         formats,
         info: info(info_line),
         connection: connection(connection_line),

@@ -157,7 +157,7 @@ fn put_medium(out: &mut Vec<u8>, medium: &Media<'_>) -> Result<(), AllocError>
     put_behind(out, b"m=", &medium.kind)?;
     out.push(b' ')?;
     put_port(out, medium)?;
-    put_format(out, &medium.protocol)?;
+    put_format(out, &medium.proto)?;
     put_formats(out, medium.formats.as_slice())?;
     out.extend_from_slice(b"\r\n")
 }

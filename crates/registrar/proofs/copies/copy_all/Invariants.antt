@@ -1,5 +1,5 @@
 use Rattle.std.proofs.Common.{◌≡◌, ◌++◌, drop}
-use Rattle.registrar.proofs.copies.copied.Given as goal
+use Rattle.registrar.proofs.copies.copy_all.Given as goal
 
 -- the copies so far, and the bindings that are left, are all
 abbrev pub invariant-loop-binding : goal.invariant-loop-binding
