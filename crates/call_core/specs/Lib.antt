@@ -1,0 +1,13 @@
+pub mod Ends
+pub mod Stages
+pub mod Rows
+pub mod Passing
+pub mod Asked
+pub mod Cancelling
+pub mod Answered
+pub mod Settled
+pub mod Reasked
+pub mod Updating
+pub mod Ending
+pub mod Clashes
+pub mod Table

@@ -1,0 +1,23 @@
+//! The two ends of a call.
+
+/// An end of a call: who called, or who was called.
+#[derive(Clone, Copy, Debug, PartialEq, Eq)]
+pub enum End {
+    Caller,
+    Callee,
+}
+
+impl End {
+    ghost use Rattle.std.specs.Prelude.{◌≡◌};
+    ghost use Rattle.call_core.specs.Ends.{other};
+
+    /// The end across. Takes no memory.
+    pub fn other(self) -> End
+        ensures { result ≡ other self }
+    {
+        match self {
+            End::Caller => End::Callee,
+            End::Callee => End::Caller,
+        }
+    }
+}

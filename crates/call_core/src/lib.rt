@@ -1,0 +1,29 @@
+//! The call: two legs and one session (RFC 3261 sections 9, 13, 14 and 15, RFC 3264, RFC 3311). Each end's requests and
+//! responses, and the timers of the call, are signals; for a phase and a signal the table says what is done, in order, and
+//! what comes next. Nothing here knows of bytes, transactions or sockets.
+#![tactic(auto)]
+
+mod action;
+mod answered;
+mod asked;
+mod cancelling;
+mod clash;
+mod end;
+mod ending;
+mod passing;
+mod reasked;
+mod row;
+mod settled;
+mod signal;
+mod stage;
+mod table;
+mod updating;
+
+pub use action::{Action, Actions, CallTimer};
+pub use clash::{Clash, clash_at, clash_without_offer};
+pub use end::End;
+pub use passing::status_passed_on;
+pub use row::Row;
+pub use signal::{OfferMethod, Signal};
+pub use stage::{Cancelled, Phase, Stage, Standing};
+pub use table::{first_row, row_at};

@@ -1,0 +1,65 @@
+//! A row of the table of calls.
+
+ghost use Rattle.std.specs.Prelude.{◌≡◌, ◌∷◌, [], IfOk, Some};
+ghost use Rattle.call_core.specs.Rows.{row, gone, first_interval, twice_to_t2};
+
+use crate::action::{Action, Actions};
+use crate::end::End;
+use crate::stage::{Stage, Standing};
+use std::alloc::{AllocError, Global};
+
+/// The first interval between two copies of a 2xx, in milliseconds: T1 (RFC 3261 section 13.3.1.4).
+pub(crate) const T1: u64 = 500;
+
+/// The longest one, in milliseconds: T2.
+const T2: u64 = 4000;
+
+/// How long the ACK of a 2xx may take, in milliseconds: 64 times T1.
+pub(crate) const WAIT: u64 = 32_000;
+
+/// How long a callee may ring after its first provisional response, in milliseconds.
+pub(crate) const RINGING: u64 = 180_000;
+
+/// How long the end across may take after its first provisional response to an offer inside a call, or after a CANCEL, in
+/// milliseconds.
+pub(crate) const SHORT: u64 = 32_000;
+
+/// What is done for a signal, in order, and where the call stands then: none where it is gone. A call that is gone frees
+/// its pairs, which rest, has no row, and its timers stop.
+#[derive(Debug, Drop)]
+pub struct Row {
+    pub actions: Actions,
+    pub next: Option<Standing>,
+}
+
+/// These actions, and the stage that comes next.
+pub(crate) fn leads(
+    alloc: Global,
+    actions: &[Action],
+    offerer: End,
+    stage: Stage,
+) -> Result<Option<Row>, AllocError>
+    ensures { IfOk result (λ r. r ≡ Some (row actions.now offerer stage)) }
+{
+    let actions = Actions::of(alloc, actions)?;
+    let next = Some(Standing { offerer, stage });
+    Ok(Some(Row { actions, next }))
+}
+
+/// These actions, and the call is gone.
+pub(crate) fn ends(alloc: Global, actions: &[Action]) -> Result<Option<Row>, AllocError>
+    ensures { IfOk result (λ r. r ≡ Some (gone actions.now)) }
+{
+    let actions = Actions::of(alloc, actions)?;
+    Ok(Some(Row {
+        actions,
+        next: None,
+    }))
+}
+
+/// Twice the interval, at most T2.
+pub(crate) fn twice_to_t2(interval: u64) -> u64
+    ensures { result ≡ twice_to_t2 interval }
+{
+    if interval > T2 / 2 { T2 } else { 2 * interval }
+}

@@ -1,0 +1,98 @@
+//! Rows of calls of `call_core`, and those of `call_media`.
+
+use crate::call_media_rows;
+use crate::call_words::{end_of, signal_of, standing_of};
+use call_core::{
+    Action, Clash, Row, Standing, clash_at, clash_without_offer, first_row, row_at,
+    status_passed_on,
+};
+use rows::{Rows, said, u16_of};
+use std::alloc::{AllocError, Global};
+
+/// The rows: no call leaves anything for the rows behind it.
+#[derive(Drop)]
+pub(crate) struct CallCoreRows;
+
+/// Where the call stands, its phase first; or that it is gone.
+fn next_words(alloc: Global, next: Option<Standing>) -> Result<String, AllocError> {
+    match next {
+        None => said(alloc, "gone"),
+        Some(next) => {
+            let phase = next.stage.phase();
+            format!(in alloc; "{phase:?}: {:?} {:?}", next.offerer, next.stage)
+        }
+    }
+}
+
+fn put_actions(alloc: Global, out: &mut String, actions: &[Action]) -> Result<(), AllocError> {
+    for action in actions {
+        let word = format!(in alloc; "{action:?}, ")?;
+        out.push_str(word.as_str())?;
+    }
+    Ok(())
+}
+
+fn row_words(alloc: Global, row: &Row) -> Result<String, AllocError> {
+    let mut out = String::new(alloc);
+    put_actions(alloc, &mut out, row.actions.as_slice())?;
+    let next = next_words(alloc, row.next)?;
+    out.push_str(next.as_str())?;
+    Ok(out)
+}
+
+/// A row, or that the signal has no line.
+fn line_words(alloc: Global, row: Option<Row>) -> Result<String, AllocError> {
+    match row {
+        None => said(alloc, "no line"),
+        Some(row) => row_words(alloc, &row),
+    }
+}
+
+fn clash_words(alloc: Global, clash: Option<Clash>) -> Result<String, AllocError> {
+    match clash {
+        None => said(alloc, "none"),
+        Some(clash) => clash.to_string(alloc),
+    }
+}
+
+/// What a call of the table answers where a call stands so.
+fn answer_at(
+    alloc: Global,
+    standing: Standing,
+    call: &str,
+    word: &[u8],
+) -> Result<Option<String>, AllocError> {
+    let words = match (call, signal_of(word)) {
+        ("row_at", Some(signal)) => line_words(alloc, row_at(alloc, standing, signal)?),
+        ("clash_at", None) => clash_words(alloc, clash_at(standing, end_of(word))),
+        ("clash_without_offer", None) => {
+            clash_words(alloc, clash_without_offer(standing, end_of(word)))
+        }
+        _ => return Ok(None),
+    };
+    Ok(Some(words?))
+}
+
+impl Rows for CallCoreRows {
+    fn answer(
+        &mut self,
+        alloc: Global,
+        crate_name: &str,
+        call: &str,
+        args: &[&[u8]],
+    ) -> Result<Option<String>, AllocError> {
+        match (crate_name, call, args) {
+            ("call_core", "first_row", []) => { Ok(Some(line_words(alloc, first_row(alloc)?)?)) }
+            ("call_core", "status_passed_on", [status]) => {
+                let status = status_passed_on(u16_of(status));
+                Ok(Some(format!(in alloc; "{status}")?))
+            }
+            ("call_media", call, args) => call_media_rows::answer(alloc, call, args),
+            ("call_core", call, [offerer, stage, word]) => match standing_of(offerer, stage) {
+                Some(standing) => answer_at(alloc, standing, call, word),
+                None => Ok(None),
+            },
+            _ => Ok(None),
+        }
+    }
+}
