@@ -10,13 +10,12 @@ use Rattle.sip_message.specs.declared.headers.Header.{Header}
 use Rattle.sip_message.specs.declared.message.Message.TheVariants as Kinds
 use Rattle.sip_message.specs.declared.message.Request.{Request}
 use Rattle.sip_message.specs.declared.message.Response.{Response}
-use Rattle.sip_message.specs.declared.needs.ContactNeed.{ContactNeed}
-use Rattle.sip_message.specs.declared.needs.ContactNeed.TheVariants.{One, AtMostOne, Unlooked}
-use Rattle.sip_message.specs.Contacts.{contact_of, contacts_of}
+use Rattle.sip_message.specs.declared.contact.ContactNeed.{ContactNeed}
+use Rattle.sip_message.specs.declared.contact.ContactNeed.TheVariants.{One, AtMostOne, Unlooked}
+use Rattle.sip_message.specs.Contact.{contact_of, contacts_of, need_by_method, is_one_address, is_success}
 use Rattle.sip_message.specs.Grammar.{SaysContact, ReadsMessage}
 use Rattle.sip_message.specs.Lookup.{is_named, values_named}
-use Rattle.sip_message.specs.Needs.{need_by_method, is_one_address, is_success}
-use Rattle.sip_message.specs.Values.{without_length}
+use Rattle.sip_message.specs.ContentLength.{without_length}
 use Rattle.dialogs.specs.Making.{is_invite}
 
 -- a Contact is no Content-Length

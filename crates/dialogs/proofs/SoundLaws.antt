@@ -18,10 +18,10 @@ use Rattle.sip_message.specs.declared.message.Message.TheVariants as Kinds
 use Rattle.sip_message.specs.declared.message.Parts.{Parts}
 use Rattle.sip_message.specs.declared.message.Request.{Request}
 use Rattle.sip_message.specs.declared.message.Response.{Response}
-use Rattle.sip_message.specs.Contacts.{is_star, address_or_not, contact_of, contact_texts, contacts_of}
+use Rattle.sip_message.specs.Contact.{is_star, address_or_not, contact_of, contact_texts, contacts_of}
 use Rattle.sip_message.specs.Grammar.{ReadsMessage}
 use Rattle.sip_message.specs.Lookup.{named, is_named, values_named}
-use Rattle.sip_message.specs.LongNames.{long_name}
+use Rattle.sip_message.specs.HeaderNames.{long_name}
 use Rattle.sip_message.specs.Party.{has_fit_tag, party_from, party_of}
 use Rattle.sip_message.specs.Repeatable.{IsValue}
 use Rattle.sip_message.specs.Written.{is_written}

@@ -8,12 +8,11 @@ use Rattle.sip_message.specs.declared.message.Parts.{Parts}
 use Rattle.sip_message.specs.declared.message.Request.{Request}
 use Rattle.sip_message.specs.declared.start.Start.TheVariants.{Asking}
 use Rattle.sip_message.specs.declared.via.Via.{Via}
-use Rattle.sip_message.specs.Contacts.{contacts_of}
+use Rattle.sip_message.specs.Contact.{contacts_of, contact_need}
 use Rattle.sip_message.specs.CSeq.{greatest_number}
 use Rattle.sip_message.specs.Grammar.{SaysContact, SaysType}
 use Rattle.sip_message.specs.Lookup.{values_named}
-use Rattle.sip_message.specs.Needs.{contact_need}
-use Rattle.sip_message.specs.Values.{greatest_length}
+use Rattle.sip_message.specs.ContentLength.{greatest_length}
 use Rattle.sip_message.specs.Written.{is_written}
 use Rattle.sip_writing.specs.Requests.{name_with_tag, cseq_text, headers_with, IsReadVia, is_further}
 use Rattle.dialogs.specs.declared.state.Dialog.{Dialog}

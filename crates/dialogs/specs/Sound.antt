@@ -6,7 +6,7 @@ use Rattle.sip_uri.specs.declared.uri.Param.{Param}
 use Rattle.sip_uri.specs.declared.uri.Uri.{Uri}
 use Rattle.sip_uri.specs.Grammar.{ReadsUri}
 use Rattle.sip_uri.specs.NameAddr.{ReadsNameAddr}
-use Rattle.sip_message.specs.Form.{is_call_id}
+use Rattle.sip_message.specs.CallId.{is_call_id}
 use Rattle.sip_message.specs.Lines.{is_clean}
 use Rattle.sip_message.specs.Repeatable.{IsValue}
 use Rattle.dialogs.specs.declared.state.Dialog.{Dialog}

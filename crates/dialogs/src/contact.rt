@@ -1,8 +1,7 @@
 //! Where the sender of a message is reached (RFC 3261 sections 12.1.1 and 12.1.2).
 
 ghost use Rattle.std.specs.Prelude.{◌≡◌, Some, IfOk, IsTrue};
-ghost use Rattle.sip_message.specs.Contacts.{contacts_of};
-ghost use Rattle.sip_message.specs.Needs.{is_one_address};
+ghost use Rattle.sip_message.specs.Contact.{contacts_of, is_one_address};
 ghost use Rattle.dialogs.specs.Making.{reached_at};
 
 use sip_message::{ContactValue, Header, contact_values};

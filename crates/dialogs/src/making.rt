@@ -2,9 +2,8 @@
 
 ghost use Rattle.std.specs.Prelude.{◌≡◌, ℕ, List, Some, IfOk, IsTrue};
 ghost use Rattle.text.specs.Class.{is_run_of, is_token_byte};
-ghost use Rattle.sip_message.specs.Contacts.{contacts_of};
+ghost use Rattle.sip_message.specs.Contact.{contacts_of, is_one_address, is_success};
 ghost use Rattle.sip_message.specs.Grammar.{ReadsMessage};
-ghost use Rattle.sip_message.specs.Needs.{is_one_address, is_success};
 ghost use Rattle.sip_message.specs.declared.message.Message.TheVariants as Kinds;
 ghost use Rattle.dialogs.specs.Making.{is_invite, reached_at, own_tag, party_named, callees_dialog, callers_dialog};
 

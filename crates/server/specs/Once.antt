@@ -13,9 +13,9 @@ use Rattle.sip_message.specs.declared.message.Message.TheVariants as Kinds
 use Rattle.sip_message.specs.declared.message.Parts.{Parts}
 use Rattle.sip_message.specs.declared.message.Request.{Request}
 use Rattle.sip_message.specs.declared.via.Via.{Via}
-use Rattle.sip_message.specs.Answerable.{answerable_of}
+use Rattle.sip_message.specs.AnswerableParts.{answerable_of}
 use Rattle.sip_message.specs.Lookup.{named, value_named}
-use Rattle.sip_message.specs.Reading.{message_of}
+use Rattle.sip_message.specs.Read.{message_of}
 use Rattle.server.specs.Answers.{answered, registered}
 use Rattle.server.specs.Example.{token, stateless}
 use Rattle.server.specs.Input.{Reads}

@@ -9,7 +9,7 @@ use Rattle.sip_uri.specs.Binding.{param_named}
 use Rattle.sip_message.specs.declared.contact.ContactValue.{ContactValue}
 use Rattle.sip_message.specs.declared.contact.ContactValue.TheVariants.{Star, Address, Unreadable}
 use Rattle.sip_message.specs.declared.message.Request.{Request}
-use Rattle.sip_message.specs.Contacts.{contacts_of}
+use Rattle.sip_message.specs.Contact.{contacts_of}
 use Rattle.sip_message.specs.Lookup.{value_named}
 use Rattle.registrar.specs.declared.register.Contact.{Contact}
 use Rattle.registrar.specs.declared.register.Register.{Register}

@@ -2,10 +2,10 @@
 
 ghost use Rattle.std.specs.Prelude.{◌≡◌, ◌∷◌, [], codes, IfOk};
 ghost use Rattle.std.specs.Option.{option_copied};
-ghost use Rattle.sip_message.specs.Answerable.{answerable_of};
+ghost use Rattle.sip_message.specs.AnswerableParts.{answerable_of};
 ghost use Rattle.sip_message.specs.Faults.{Fails};
 ghost use Rattle.sip_message.specs.Lookup.{named};
-ghost use Rattle.sip_message.specs.Reading.{message_of};
+ghost use Rattle.sip_message.specs.Read.{message_of};
 ghost use Rattle.server.specs.Tags.{required_tags, joined_tags};
 ghost use Rattle.server.specs.Once.{stateless_answer, begins_with_cookie, is_fit_branch, has_fit_branch, is_method, has_header, extension_refused, without_route, without_extension, with_branch, without_branch, request_answer, read_answer, once_of};
 

@@ -4,9 +4,9 @@ use Rattle.std.specs.Prelude.{filter}
 use Rattle.std.specs.Borrow.{Bor}
 use Rattle.std.specs.List.{onto_first}
 use Rattle.std.proofs.lemmas.List.{length-append}
-use Rattle.sip_message.specs.Answerable.{between_ends, upto_empty, ended_pieces, ended_lines, readable_headers}
+use Rattle.sip_message.specs.Lines.{between_ends, upto_empty, ended_pieces, ended_lines, texts, begins_line_end, before_line_end, after_line_end}
+use Rattle.sip_message.specs.AnswerableParts.{readable_headers}
 use Rattle.sip_message.specs.Fields.{RawField, begins_blank, fields_of, is_raw_field, field_of, readable_of}
-use Rattle.sip_message.specs.Lines.{texts, begins_line_end, before_line_end, after_line_end}
 use Rattle.sip_message.specs.declared.headers.Header.{Header}
 use Rattle.sip_message.proofs.FieldLoop.{field_at, fields_at}
 use Rattle.sip_message.proofs.LineLaws.{first_line_joined}

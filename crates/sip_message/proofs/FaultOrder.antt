@@ -6,24 +6,26 @@ use Rattle.text.specs.Number.{number_upto}
 use Rattle.sip_uri.specs.declared.uri.NameAddr.{NameAddr}
 use Rattle.sip_message.specs.declared.contact.ContactValue.{ContactValue}
 use Rattle.sip_message.specs.declared.cseq.CSeq.{CSeq}
-use Rattle.sip_message.specs.declared.error.HeaderName.{HeaderName}
-use Rattle.sip_message.specs.declared.error.HeaderName.TheVariants as Names
+use Rattle.sip_message.specs.declared.header_names.HeaderName.{HeaderName}
+use Rattle.sip_message.specs.declared.header_names.HeaderName.TheVariants as Names
 use Rattle.sip_message.specs.declared.error.MessageError.{MessageError}
 use Rattle.sip_message.specs.declared.error.MessageError.TheVariants.{OutOfMemory, StartLine, Version, HeaderLine, Missing, Unreadable, Short, TooLong}
 use Rattle.sip_message.specs.declared.headers.Header.{Header}
-use Rattle.sip_message.specs.declared.needs.ContactNeed.{ContactNeed}
-use Rattle.sip_message.specs.declared.needs.ContactNeed.TheVariants.{One, AtMostOne, Unlooked}
+use Rattle.sip_message.specs.declared.contact.ContactNeed.{ContactNeed}
+use Rattle.sip_message.specs.declared.contact.ContactNeed.TheVariants.{One, AtMostOne, Unlooked}
 use Rattle.sip_message.specs.declared.start.Start.{Start}
-use Rattle.sip_message.specs.Contacts.{contacts_of}
+use Rattle.sip_message.specs.Contact.{contacts_of, contact_need, is_one_address, is_one_address_at_most}
 use Rattle.sip_message.specs.CSeq.{cseq_of}
 use Rattle.sip_message.specs.Faults.{and_then, readable}
-use Rattle.sip_message.specs.Form.{is_call_id, is_media_type, max_forwards_of}
-use Rattle.sip_message.specs.Lookup.{values_named}
-use Rattle.sip_message.specs.Named.{at_most_one, exactly_one}
-use Rattle.sip_message.specs.Needs.{contact_need, is_one_address, is_one_address_at_most}
+use Rattle.sip_message.specs.CallId.{is_call_id}
+use Rattle.sip_message.specs.MediaType.{is_media_type}
+use Rattle.sip_message.specs.MaxForwards.{max_forwards_of}
+use Rattle.sip_message.specs.Lookup.{values_named, at_most_one, exactly_one}
 use Rattle.sip_message.specs.Party.{party_of}
-use Rattle.sip_message.specs.Reading.{contents_of}
-use Rattle.sip_message.specs.Values.{each_via, via_texts, some_vias, if_tagged, with_text, from_for, to_of, call_id_of, of_method, with_number, cseq_for, one_address, contacts_for, contact_for, hops_by, hops_of, type_by, type_of, ends_for, parts_of, hops_behind, values_of, greatest_length, long_enough, body_by, body_of}
+use Rattle.sip_message.specs.Read.{contents_of}
+use Rattle.sip_message.specs.Via.{each_via, via_texts, some_vias}
+use Rattle.sip_message.specs.Values.{if_tagged, with_text, from_for, to_of, call_id_of, of_method, with_number, cseq_for, one_address, contacts_for, contact_for, hops_by, hops_of, type_by, type_of, ends_for, parts_of, hops_behind, values_of}
+use Rattle.sip_message.specs.ContentLength.{greatest_length, long_enough, body_by, body_of}
 
 -- a fault of header fields or body
 abbrev pub IsContentsFault : MessageError → Type 0

@@ -4,7 +4,7 @@ use Rattle.std.specs.List.{list_all}
 use Rattle.std.proofs.lemmas.Bool.{and_parts, and_from, ne_eqb}
 use Rattle.sip_message.specs.Lines.{is_clean, is_line}
 use Rattle.sip_message.specs.Fields.{RawField, begins_blank, is_continuing, is_named_line, is_raw_field, continued, fields_of, begins_a_field, has_name}
-use Rattle.sip_message.specs.Heads.{all_lines}
+use Rattle.sip_message.specs.Head.{all_lines}
 
 -- ---- what a raw field is
 

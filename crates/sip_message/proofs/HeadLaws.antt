@@ -6,7 +6,7 @@ use Rattle.std.specs.List.{list_all}
 use Rattle.std.proofs.lemmas.Bool.{and_parts}
 use Rattle.sip_message.specs.Lines.{IsHead, lines_text, lines_within}
 use Rattle.sip_message.specs.Fields.{RawField, is_raw_field, field_of, fields_of, begins_a_field, has_name, headers_of}
-use Rattle.sip_message.specs.Heads.{all_lines, ReadsHead, line_count, head_of, GivesHead, RefusesHead}
+use Rattle.sip_message.specs.Head.{all_lines, ReadsHead, line_count, head_of, GivesHead, RefusesHead}
 use Rattle.sip_message.specs.declared.headers.Header.{Header}
 use Rattle.sip_message.specs.declared.head.HeadError.{HeadError}
 use Rattle.sip_message.specs.declared.head.HeadError.TheVariants.{OutOfMemory, Line}

@@ -11,12 +11,12 @@ use Rattle.text.specs.Class.{is_token_byte, is_run_of}
 use Rattle.text.specs.Cut.{before, after, led_by}
 use Rattle.text.proofs.CutLaws.{joined}
 use Rattle.sip_message.specs.Glue.{glue, unfolded}
-use Rattle.sip_message.specs.LongNames.{long_name}
+use Rattle.sip_message.specs.HeaderNames.{long_name}
 use Rattle.sip_message.specs.Lines.{is_text_byte, is_clean, line_of, with_lines, next_lines, lines_within}
 use Rattle.sip_message.specs.Fields.{RawField, begins_blank, name_of, begun_value, is_named_line, name_and_value, field_of, header_of, has_name, continued, fields_of, headers_of}
-use Rattle.sip_message.specs.Heads.{head_of}
+use Rattle.sip_message.specs.Head.{head_of}
 use Rattle.sip_message.specs.Steps.{gone_on, with_line, last_value, OpenAt, IsOpen, GivesLine}
-use Rattle.sip_message.specs.Unfold.{unfolded_text}
+use Rattle.sip_message.specs.Folded.{unfolded_text}
 use Rattle.sip_message.specs.declared.headers.Header.{Header}
 use Rattle.sip_message.proofs.RawLaws.{glue_nothing, glue_assoc, one_more, only_line}
 

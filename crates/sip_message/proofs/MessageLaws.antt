@@ -15,11 +15,11 @@ use Rattle.sip_message.specs.declared.start.Start.{Start}
 use Rattle.sip_message.specs.declared.start.Start.TheVariants.{Asking, Answering}
 use Rattle.sip_message.specs.Faults.{Gives, and_then}
 use Rattle.sip_message.specs.Grammar.{IsStartLine, Opens, lines_of, start_of_request, start_of_response, ReadsRequest, ReadsResponse, ReadsMessage, header_lines, IsShort, IsWithin, RefusesContents, Refuses}
-use Rattle.sip_message.specs.Heads.{ReadsHead, head_of}
+use Rattle.sip_message.specs.Head.{ReadsHead, head_of}
 use Rattle.sip_message.specs.Lines.{before_line_end, after_line_end, is_clean}
-use Rattle.sip_message.specs.Reading.{greatest_datagram, greatest_lines, contents_of, message_with, message_by, with_fields, behind_start, clean_start, message_of}
+use Rattle.sip_message.specs.Read.{greatest_datagram, greatest_lines, contents_of, message_with, message_by, with_fields, behind_start, clean_start, message_of}
 use Rattle.sip_message.specs.Start.{start_of}
-use Rattle.sip_message.specs.Values.{without_length}
+use Rattle.sip_message.specs.ContentLength.{without_length}
 use Rattle.sip_message.proofs.FaultOrder.{IsContentsFault, FaultFits, contents_fit}
 use Rattle.sip_message.proofs.HeaderLineLaws.{before_again, after_again}
 use Rattle.sip_message.proofs.HeadLaws.{head_again, head_is, one_head}

@@ -6,13 +6,13 @@ use Rattle.sip_message.specs.declared.headers.Header.{Header}
 use Rattle.sip_message.specs.declared.message.Message.{Message}
 use Rattle.sip_message.specs.declared.message.Message.TheVariants as Kinds
 use Rattle.sip_message.specs.declared.start.Start.{Start}
-use Rattle.sip_message.specs.Contacts.{headers_in}
+use Rattle.sip_message.specs.Contact.{headers_in}
 use Rattle.sip_message.specs.Fields.{RawField, field_lines, field_of}
 use Rattle.sip_message.specs.Grammar.{Opens, ReadsMessage, IsWithin}
-use Rattle.sip_message.specs.Heads.{all_lines}
+use Rattle.sip_message.specs.Head.{all_lines}
 use Rattle.sip_message.specs.Lines.{lines_text}
 use Rattle.sip_message.specs.Places.{field_text, ArePlaced, IsPlaced}
-use Rattle.sip_message.specs.Values.{without_length}
+use Rattle.sip_message.specs.ContentLength.{without_length}
 
 lines_joined : (a b : List (List ℕ)) → lines_text (a ++ b) ≡ lines_text a ++ lines_text b
 lines_joined [] b = refl

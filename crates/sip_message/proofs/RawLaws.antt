@@ -4,7 +4,7 @@ use Rattle.std.proofs.lemmas.Bool.{eqb-true, eqb-false, ne_eqb, and_parts}
 use Rattle.text.specs.Trim.{trimmed}
 use Rattle.sip_message.specs.Glue.{glue, unfolded}
 use Rattle.sip_message.specs.Lines.{begins_line_end, before_line_end, after_line_end, is_text_byte, is_clean}
-use Rattle.sip_message.specs.Unfold.{in_front, behind_first, raw_lines, lines_in, unfolded_text}
+use Rattle.sip_message.specs.Folded.{in_front, behind_first, raw_lines, lines_in, unfolded_text}
 
 -- ---- glue
 

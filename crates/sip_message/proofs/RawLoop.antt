@@ -7,7 +7,7 @@ use Rattle.std.proofs.lemmas.List.{append-nil}
 use Rattle.text.specs.Trim.{trimmed}
 use Rattle.sip_message.specs.Glue.{glue, unfolded}
 use Rattle.sip_message.specs.Lines.{before_line_end, after_line_end}
-use Rattle.sip_message.specs.Unfold.{raw_lines, lines_in, behind_piece, behind_next, begun_by, glued, unfolded_text}
+use Rattle.sip_message.specs.Folded.{raw_lines, lines_in, behind_piece, behind_next, begun_by, glued, unfolded_text}
 use Rattle.sip_message.proofs.LineLaws.{first_line_joined}
 use Rattle.sip_message.proofs.RawLaws.{glue_assoc, first_and_rest}
 

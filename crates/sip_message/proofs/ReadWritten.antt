@@ -10,9 +10,9 @@ use Rattle.text.specs.Class.{is_token_byte, is_run_of}
 use Rattle.text.specs.Cut.{after}
 use Rattle.text.specs.Trim.{trimmed}
 use Rattle.sip_message.specs.Lines.{is_clean}
-use Rattle.sip_message.specs.LongNames.{compact_names, long_of, long_name}
+use Rattle.sip_message.specs.HeaderNames.{compact_names, long_of, long_name}
 use Rattle.sip_message.specs.Fields.{RawField, name_of, begun_value, is_continuing, begins_blank, is_raw_field, value_of, field_of}
-use Rattle.sip_message.specs.Heads.{ReadsHead, head_of, GivesHead}
+use Rattle.sip_message.specs.Head.{ReadsHead, head_of, GivesHead}
 use Rattle.sip_message.specs.Written.{is_written}
 use Rattle.sip_message.specs.declared.headers.Header.{Header}
 use Rattle.sip_message.specs.declared.head.HeadError.{HeadError}

@@ -19,17 +19,17 @@ use Rattle.sip_message.specs.declared.party.Ends.{Ends}
 use Rattle.sip_message.specs.declared.party.Party.{Party}
 use Rattle.sip_message.specs.declared.start.Start.{Start}
 use Rattle.sip_message.specs.declared.via.Via.{Via}
-use Rattle.sip_message.specs.Answerable.{readable_headers, vias_there, party_at, first_party, if_call_id, first_call_id, sequence_at, first_sequence, first_ends, parts_among, ended_lines}
+use Rattle.sip_message.specs.AnswerableParts.{readable_headers, vias_there, party_at, first_party, if_call_id, first_call_id, sequence_at, first_sequence, first_ends, parts_among}
+use Rattle.sip_message.specs.Lines.{ended_lines, is_clean}
 use Rattle.sip_message.specs.CSeq.{cseq_of}
 use Rattle.sip_message.specs.Fields.{RawField, fields_of, is_raw_field, field_of}
-use Rattle.sip_message.specs.Form.{is_call_id}
+use Rattle.sip_message.specs.CallId.{is_call_id}
 use Rattle.sip_message.specs.Grammar.{SaysParts, ReadsMessage, IsWithin}
-use Rattle.sip_message.specs.Lines.{is_clean}
 use Rattle.sip_message.specs.Lookup.{is_named, first_named, value_named, values_named}
 use Rattle.sip_message.specs.Party.{party_of}
 use Rattle.sip_message.specs.Repeatable.{IsValue, CanBeRepeated, IfRepeatable, parts_in}
-use Rattle.sip_message.specs.Values.{via_texts, parts_with}
-use Rattle.sip_message.specs.Via.{via_of}
+use Rattle.sip_message.specs.Via.{via_texts, via_of}
+use Rattle.sip_message.specs.Values.{parts_with}
 use Rattle.sip_message.specs.Written.{is_written}
 use Rattle.sip_message.proofs.CleanLaws.{clean_pieces}
 use Rattle.sip_message.proofs.WrittenLaws.{written_is}

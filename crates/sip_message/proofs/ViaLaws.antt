@@ -8,16 +8,15 @@ use Rattle.std.proofs.lemmas.List.{append-nil, at_drop_more}
 use Rattle.text.specs.Pieces.{pieces, pieces_behind}
 use Rattle.text.specs.declared.splitting.Within.TheVariants.{Nothing}
 use Rattle.text.proofs.PieceSteps.{pieces_left, next_here}
-use Rattle.sip_message.specs.declared.error.HeaderName.TheVariants as Names
+use Rattle.sip_message.specs.declared.header_names.HeaderName.TheVariants as Names
 use Rattle.sip_message.specs.declared.error.MessageError.TheVariants.{Missing, Unreadable}
 use Rattle.sip_message.specs.declared.via.Via.{Via}
-use Rattle.sip_message.specs.Answerable.{vias_there}
+use Rattle.sip_message.specs.AnswerableParts.{vias_there}
 use Rattle.text.specs.Cut.{before, after, led_by}
 use Rattle.text.proofs.CutLaws.{joined}
 use Rattle.sip_message.specs.declared.headers.Header.{Header}
 use Rattle.sip_message.specs.Lookup.{is_named}
-use Rattle.sip_message.specs.Values.{with_via, each_via, via_texts, some_vias, put_before}
-use Rattle.sip_message.specs.Via.{via_of}
+use Rattle.sip_message.specs.Via.{with_via, each_via, via_texts, some_vias, put_before, via_of}
 
 -- ---- one value more
 

@@ -6,7 +6,7 @@ use Rattle.std.proofs.lemmas.Bool.{and_parts, and_from}
 use Rattle.text.specs.Class.{is_token_byte, is_run_of}
 use Rattle.text.specs.Trim.{trimmed}
 use Rattle.sip_message.specs.Lines.{is_clean}
-use Rattle.sip_message.specs.LongNames.{long_name}
+use Rattle.sip_message.specs.HeaderNames.{long_name}
 use Rattle.sip_message.specs.Written.{is_written}
 use Rattle.sip_message.specs.declared.headers.Header.{Header}
 use Rattle.sip_message.proofs.ValueLaws.{text_same}

@@ -1,6 +1,6 @@
 -- Steps that may fail, and what a call answers of them.
 use Rattle.std.specs.Prelude.{◌≡◌, Option, Some, None, Result, Ok, Err}
-use Rattle.sip_message.specs.declared.error.HeaderName.{HeaderName}
+use Rattle.sip_message.specs.declared.header_names.HeaderName.{HeaderName}
 use Rattle.sip_message.specs.declared.error.MessageError.{MessageError}
 use Rattle.sip_message.specs.declared.error.MessageError.TheVariants.{OutOfMemory, StartLine, Version, HeaderLine, Missing, Unreadable, Short, TooLong}
 

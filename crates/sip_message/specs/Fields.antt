@@ -6,7 +6,7 @@ use Rattle.text.specs.Cut.{before, after}
 use Rattle.text.specs.Trim.{trimmed}
 use Rattle.sip_message.specs.Lines.{is_clean}
 use Rattle.sip_message.specs.Glue.{unfolded}
-use Rattle.sip_message.specs.LongNames.{long_name}
+use Rattle.sip_message.specs.HeaderNames.{long_name}
 use Rattle.sip_message.specs.declared.headers.Header.{Header}
 
 -- a first line, and the lines that continue it

@@ -7,8 +7,8 @@ use Rattle.text.specs.Number.{number_upto}
 use Rattle.sip_uri.specs.Grammar.{ReadsUri}
 use Rattle.sip_message.specs.declared.contact.ContactValue.{ContactValue}
 use Rattle.sip_message.specs.declared.error.MessageError.{MessageError}
-use Rattle.sip_message.specs.declared.needs.ContactNeed.{ContactNeed}
-use Rattle.sip_message.specs.declared.needs.ContactNeed.TheVariants.{One, AtMostOne, Unlooked}
+use Rattle.sip_message.specs.declared.contact.ContactNeed.{ContactNeed}
+use Rattle.sip_message.specs.declared.contact.ContactNeed.TheVariants.{One, AtMostOne, Unlooked}
 use Rattle.sip_message.specs.declared.error.MessageError.TheVariants.{OutOfMemory, StartLine, Version, HeaderLine, Missing, Unreadable, Short, TooLong}
 use Rattle.sip_message.specs.declared.headers.Header.{Header}
 use Rattle.sip_message.specs.declared.message.Message.{Message}
@@ -20,18 +20,19 @@ use Rattle.sip_message.specs.declared.start.RequestLine.{RequestLine}
 use Rattle.sip_message.specs.declared.start.Start.{Start}
 use Rattle.sip_message.specs.declared.start.Start.TheVariants.{Asking, Answering}
 use Rattle.sip_message.specs.declared.start.StatusLine.{StatusLine}
-use Rattle.sip_message.specs.Contacts.{contacts_of}
-use Rattle.sip_message.specs.CSeq.{cseq_of}
-use Rattle.sip_message.specs.Form.{is_call_id, is_media_type, max_forwards_of}
-use Rattle.sip_message.specs.Heads.{ReadsHead, line_count}
+use Rattle.sip_message.specs.Contact.{contacts_of, contact_need, is_one_address, is_one_address_at_most}
+use Rattle.sip_message.specs.CSeq.{cseq_of, is_method_for}
+use Rattle.sip_message.specs.CallId.{is_call_id}
+use Rattle.sip_message.specs.MediaType.{is_media_type}
+use Rattle.sip_message.specs.MaxForwards.{max_forwards_of}
+use Rattle.sip_message.specs.Head.{ReadsHead, line_count}
 use Rattle.sip_message.specs.Lines.{before_line_end, is_clean}
 use Rattle.sip_message.specs.Lookup.{values_named}
-use Rattle.sip_message.specs.Needs.{is_tagged_for, is_method_for, contact_need, is_one_address, is_one_address_at_most}
-use Rattle.sip_message.specs.Party.{party_of}
-use Rattle.sip_message.specs.Reading.{contents_of, greatest_datagram, greatest_lines}
+use Rattle.sip_message.specs.Party.{is_tagged_for, party_of}
+use Rattle.sip_message.specs.Read.{contents_of, greatest_datagram, greatest_lines}
 use Rattle.sip_message.specs.Start.{begins_sip, has_no_space, is_part, is_version, status_read}
-use Rattle.sip_message.specs.Values.{via_texts, without_length, greatest_length}
-use Rattle.sip_message.specs.Via.{via_of}
+use Rattle.sip_message.specs.Via.{via_texts, via_of}
+use Rattle.sip_message.specs.ContentLength.{without_length, greatest_length}
 
 -- ---- the start line
 

@@ -1,6 +1,9 @@
 -- Headers that are looked up by their names, without case (RFC 3261 section 7.3.1).
-use Rattle.std.specs.Prelude.{ℕ, Bool, List, map, filter, find, Option, option_map}
+use Rattle.std.specs.Prelude.{ℕ, Bool, List, [], ◌∷◌, map, filter, find, Option, Some, None, option_map, Result, Ok, Err}
 use Rattle.std.specs.Str.{str_eq_ignore_ascii_case}
+use Rattle.sip_message.specs.declared.header_names.HeaderName.{HeaderName}
+use Rattle.sip_message.specs.declared.error.MessageError.{MessageError}
+use Rattle.sip_message.specs.declared.error.MessageError.TheVariants.{Missing, Unreadable}
 use Rattle.sip_message.specs.declared.headers.Header.{Header}
 
 -- a header field of this name and value
@@ -21,3 +24,17 @@ value_named name headers = option_map (λ h. h.value) (first_named name headers)
 -- the values of all headers of this name, in order
 abbrev pub values_named : List ℕ → List Header → List (List ℕ)
 values_named name headers = map (λ h. h.value) (filter (is_named name) headers)
+
+-- ---- header fields of which one may stand at most
+
+-- a header field that stands once at most: twice is a fault of its value
+abbrev pub at_most_one : HeaderName → List (List ℕ) → Result (Option (List ℕ)) MessageError
+at_most_one which [] = Ok None
+at_most_one which (v ∷ []) = Ok (Some v)
+at_most_one which (v ∷ w ∷ vs) = Err (Unreadable which)
+
+-- a header field that stands once
+abbrev pub exactly_one : HeaderName → List (List ℕ) → Result (List ℕ) MessageError
+exactly_one which [] = Err (Missing which)
+exactly_one which (v ∷ []) = Ok v
+exactly_one which (v ∷ w ∷ vs) = Err (Unreadable which)

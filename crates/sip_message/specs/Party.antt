@@ -6,6 +6,8 @@ use Rattle.sip_uri.specs.declared.uri.NameAddr.{NameAddr}
 use Rattle.sip_uri.specs.declared.uri.Param.{Param}
 use Rattle.sip_uri.specs.Binding.{param_named}
 use Rattle.sip_uri.specs.NameAddr.{name_addr_of}
+use Rattle.sip_message.specs.declared.start.Start.{Start}
+use Rattle.sip_message.specs.declared.start.Start.TheVariants.{Asking, Answering}
 
 -- a tag has a value, which is a token (section 19.3)
 abbrev pub value_fits : Option (List ℕ) → Bool
@@ -29,3 +31,8 @@ party_from (Err e) = None
 -- the name and URI of From or To
 unfoldable pub party_of : List ℕ → Option NameAddr
 party_of text = party_from (name_addr_of text)
+
+-- the From of a request has a tag (section 8.1.1.3)
+abbrev pub is_tagged_for : Start → List Param → Bool
+is_tagged_for (Asking line) params = has_tag params
+is_tagged_for (Answering line) params = true

@@ -3,7 +3,7 @@ use Rattle.std.specs.Prelude.{◌≡◌, ℕ, ◌+◌, List, [], ◌∷◌, ◌+
 use Rattle.sip_message.specs.declared.headers.Header.{Header}
 use Rattle.sip_message.specs.Fields.{RawField, field_lines, field_of}
 use Rattle.sip_message.specs.Lines.{lines_text}
-use Rattle.sip_message.specs.Values.{without_length}
+use Rattle.sip_message.specs.ContentLength.{without_length}
 
 -- the raw text of a field: its lines, each with its end
 abbrev pub field_text : RawField → List ℕ

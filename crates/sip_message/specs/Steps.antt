@@ -4,7 +4,7 @@ use Rattle.std.specs.Borrow.{Bor}
 use Rattle.text.specs.Trim.{trimmed}
 use Rattle.sip_message.specs.Glue.{glue}
 use Rattle.sip_message.specs.Fields.{begins_blank, header_of}
-use Rattle.sip_message.specs.Unfold.{unfolded_text}
+use Rattle.sip_message.specs.Folded.{unfolded_text}
 use Rattle.sip_message.specs.declared.headers.Header.{Header}
 use Rattle.sip_message.specs.declared.head.HeadError.{HeadError}
 use Rattle.sip_message.specs.declared.head.HeadError.TheVariants.{OutOfMemory, Line}

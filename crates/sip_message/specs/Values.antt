@@ -1,18 +1,12 @@
 -- What the header fields of a message say (RFC 3261 sections 8.1.1 and 20), and the first fault of those that say nothing.
-use Rattle.std.specs.Prelude.{ℕ, not, nat_le, List, [], ◌∷◌, ◌++◌, length, take, filter, codes, Option, Some, None, option_map, Result, Ok, Err, if◌then◌else◌}
-use Rattle.std.specs.List.{flat_map}
-use Rattle.std.specs.Char.{is_ascii_digit}
-use Rattle.text.specs.Class.{is_run_of}
-use Rattle.text.specs.Number.{number_upto}
-use Rattle.text.specs.Pieces.{pieces}
-use Rattle.text.specs.declared.splitting.Within.TheVariants.{Nothing}
+use Rattle.std.specs.Prelude.{ℕ, List, [], ◌∷◌, codes, Option, Some, None, Result, Ok, Err, if◌then◌else◌}
 use Rattle.sip_uri.specs.declared.uri.NameAddr.{NameAddr}
-use Rattle.sip_message.specs.declared.error.HeaderName.TheVariants as Names
+use Rattle.sip_message.specs.declared.header_names.HeaderName.TheVariants as Names
 use Rattle.sip_message.specs.declared.error.MessageError.{MessageError}
-use Rattle.sip_message.specs.declared.error.MessageError.TheVariants.{Missing, Unreadable, Short}
+use Rattle.sip_message.specs.declared.error.MessageError.TheVariants.{Missing, Unreadable}
 use Rattle.sip_message.specs.declared.headers.Header.{Header}
-use Rattle.sip_message.specs.declared.needs.ContactNeed.{ContactNeed}
-use Rattle.sip_message.specs.declared.needs.ContactNeed.TheVariants.{One, AtMostOne, Unlooked}
+use Rattle.sip_message.specs.declared.contact.ContactNeed.{ContactNeed}
+use Rattle.sip_message.specs.declared.contact.ContactNeed.TheVariants.{One, AtMostOne, Unlooked}
 use Rattle.sip_message.specs.declared.cseq.CSeq.{CSeq}
 use Rattle.sip_message.specs.declared.via.Via.{Via}
 use Rattle.sip_message.specs.declared.message.Parts.{Parts}
@@ -22,41 +16,17 @@ use Rattle.sip_message.specs.declared.cseq.Sequence.{Sequence}
 use Rattle.sip_message.specs.declared.values.Values.{Values}
 use Rattle.sip_message.specs.declared.contact.ContactValue.{ContactValue}
 use Rattle.sip_message.specs.declared.start.Start.{Start}
-use Rattle.sip_message.specs.Contacts.{contacts_of}
-use Rattle.sip_message.specs.CSeq.{cseq_of}
+use Rattle.sip_message.specs.Contact.{contacts_of, contact_need, is_one_address, is_one_address_at_most}
+use Rattle.sip_message.specs.CSeq.{cseq_of, is_method_for}
 use Rattle.sip_message.specs.Faults.{and_then, readable}
-use Rattle.sip_message.specs.Form.{is_call_id, is_media_type, max_forwards_of}
-use Rattle.sip_message.specs.Lookup.{is_named, values_named}
-use Rattle.sip_message.specs.Named.{at_most_one, exactly_one}
-use Rattle.sip_message.specs.Needs.{is_tagged_for, is_method_for, contact_need, is_one_address, is_one_address_at_most}
-use Rattle.sip_message.specs.Party.{party_of}
-use Rattle.sip_message.specs.Via.{via_of}
+use Rattle.sip_message.specs.CallId.{is_call_id}
+use Rattle.sip_message.specs.MediaType.{is_media_type}
+use Rattle.sip_message.specs.MaxForwards.{max_forwards_of}
+use Rattle.sip_message.specs.Lookup.{values_named, at_most_one, exactly_one}
+use Rattle.sip_message.specs.Party.{is_tagged_for, party_of}
+use Rattle.sip_message.specs.Via.{via_texts, some_vias}
 
--- ---- Via
-
-abbrev pub with_via : Option Via → Option (List Via) → Option (List Via)
-with_via None vias = None
-with_via (Some via) vias = option_map (λ vs. via ∷ vs) vias
-
--- each text is a Via
-abbrev pub each_via : List (List ℕ) → Option (List Via)
-each_via [] = Some []
-each_via (text ∷ texts) = with_via (via_of text) (each_via texts)
-
--- the values of all Via header fields, of which one may have several with commas between them (section 7.3.1)
-abbrev pub via_texts : List Header → List (List ℕ)
-via_texts headers = flat_map (λ value. pieces 44 Nothing value) (values_named (codes "Via") headers)
-
--- values in front of others, if those are there
-abbrev pub put_before : List Via → Option (List Via) → Option (List Via)
-put_before front None = None
-put_before front (Some vias) = Some (front ++ vias)
-
-abbrev pub some_vias : List (List ℕ) → Result (List Via) MessageError
-some_vias [] = Err (Missing Names.Via)
-some_vias (text ∷ texts) = readable Names.Via (each_via (text ∷ texts))
-
--- ---- the others
+-- ---- each header field
 
 abbrev pub tagged : Start → NameAddr → Option NameAddr
 tagged start name = if is_tagged_for start name.params then Some name else None
@@ -159,27 +129,3 @@ values_of start headers =
     and_then (parts_of start headers) (λ parts.
     and_then (hops_behind start parts.cseq.method headers) (λ hops.
     Ok (record { parts = parts; max_forwards = hops })))
-
--- ---- the body
-
--- every header field but Content-Length
-abbrev pub without_length : List Header → List Header
-without_length headers = filter (λ h. not (is_named (codes "Content-Length") h)) headers
-
--- no datagram is longer
-abbrev pub greatest_length : ℕ
-greatest_length = 4294967295
-
-abbrev pub long_enough : Option ℕ → List ℕ → Result (List ℕ) MessageError
-long_enough None rest = Err Short
-long_enough (Some n) rest = if nat_le n (length rest) then Ok (take n rest) else Err Short
-
-abbrev pub body_by : List ℕ → Option (List ℕ) → Result (List ℕ) MessageError
-body_by rest None = Ok rest
-body_by rest (Some text) =
-    if is_run_of is_ascii_digit text then long_enough (number_upto greatest_length text) rest else Err (Unreadable Names.ContentLength)
-
--- Content-Length stands once at most. As many bytes are the body as it says, or all where it does not stand; more bytes are left
--- out, and fewer are a fault (section 18.3).
-unfoldable pub body_of : List Header → List ℕ → Result (List ℕ) MessageError
-body_of headers rest = and_then (at_most_one Names.ContentLength (values_named (codes "Content-Length") headers)) (body_by rest)

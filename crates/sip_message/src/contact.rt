@@ -3,15 +3,16 @@
 ghost use Rattle.std.specs.Prelude.{◌≡◌, ◌++◌, map, IfOk, OnOk};
 ghost use Rattle.text.specs.Pieces.{pieces};
 ghost use Rattle.text.specs.declared.splitting.Within.TheVariants.{Nothing};
-ghost use Rattle.sip_message.specs.Contacts.{is_star, contact_of, contacts_of, headers_in};
+ghost use Rattle.sip_message.specs.Contact.{is_star, contact_of, contacts_of, headers_in, is_success, may_need_contact, need_by_method, contact_need};
 
 use crate::field_value::FieldValue;
 use crate::headers::Header;
 use crate::lookup::is_named;
 use crate::message::Message;
+use crate::start::Start;
 use sip_uri::{NameAddr, UriError, read_name_addr};
 use std::alloc::{AllocError, Global};
-use text::{cut_piece, trimmed};
+use text::{Text, cut_piece, trimmed};
 
 /// One value of a Contact header field.
 #[derive(Debug, Drop)]
@@ -36,13 +37,22 @@ impl<'a> ContactValue<'a> {
     }
 }
 
+/// How many Contact values, each an address, a message has.
+#[derive(Clone, Copy, Debug, PartialEq, Eq)]
+pub enum ContactNeed {
+    One,
+    AtMostOne,
+    /// They are not looked at.
+    Unlooked,
+}
+
 fn is_star(text: &[u8]) -> bool
     ensures { result ≡ is_star text.now }
 {
     trimmed(text) == b"*".as_slice()
 }
 
-#[tactic(auto, unfolding(crate::specs::Contacts::contact_of))]
+#[tactic(auto, unfolding(crate::specs::Contact::contact_of))]
 fn read_contact(alloc: Global, text: &[u8]) -> Result<ContactValue<'_>, AllocError>
     ensures { IfOk result (λ c. c ≡ contact_of text.now) }
 {
@@ -137,4 +147,43 @@ pub fn contacts<'a>(
     ensures { IfOk result (λ v. v.items ≡ contacts_of (headers_in message.now)) }
 {
     contact_values(alloc, headers_in(message))
+}
+
+fn is_success(status: u16) -> bool
+    ensures { result ≡ is_success status }
+{
+    200 <= status && status <= 299
+}
+
+fn may_need_contact(start: &Start<'_>) -> bool
+    ensures { result ≡ may_need_contact start.now }
+{
+    match start {
+        Start::Asking(_) => true,
+        Start::Answering(line) => is_success(line.status),
+    }
+}
+
+fn need_by_method(method: &[u8]) -> ContactNeed
+    ensures { result ≡ need_by_method method.now }
+{
+    if method == b"INVITE".as_slice() {
+        ContactNeed::One
+    } else if method == b"UPDATE".as_slice() {
+        ContactNeed::AtMostOne
+    } else {
+        ContactNeed::Unlooked
+    }
+}
+
+/// How many Contacts the message needs: an INVITE and a 2xx to one say where their sender is reached, and an UPDATE and a
+/// 2xx to one may say so.
+pub(crate) fn contact_need(start: &Start<'_>, method: &Text<'_>) -> ContactNeed
+    ensures { result ≡ contact_need start.now method.now }
+{
+    if may_need_contact(start) {
+        need_by_method(method.as_bytes())
+    } else {
+        ContactNeed::Unlooked
+    }
 }

@@ -1,8 +1,9 @@
 //! The value of a CSeq header field (RFC 3261 section 20.16).
 
 ghost use Rattle.std.specs.Prelude.{◌≡◌, IfOk};
-ghost use Rattle.sip_message.specs.CSeq.{cseq_of};
+ghost use Rattle.sip_message.specs.CSeq.{cseq_of, is_method_for};
 
+use crate::start::Start;
 use std::alloc::{AllocError, Global};
 use text::{Text, cut_word, is_run_of_digits, is_run_of_token, number_upto, without_blanks};
 
@@ -50,5 +51,15 @@ pub(crate) fn read_cseq<'a>(alloc: Global, text: &Text<'a>) -> Result<Option<CSe
     match cseq_in(text.as_bytes()) {
         Some(cseq) => Ok(Some(cseq.keep(alloc)?)),
         None => Ok(None),
+    }
+}
+
+/// Whether a CSeq may have this method: in a request only the request's.
+pub(crate) fn is_method_for(start: &Start<'_>, method: &Text<'_>) -> bool
+    ensures { result ≡ is_method_for start.now method.now }
+{
+    match start {
+        Start::Asking(line) => method.as_bytes() == line.method.as_bytes(),
+        Start::Answering(_) => true,
     }
 }

@@ -3,45 +3,9 @@
 ghost use Rattle.std.specs.Prelude.{◌≡◌};
 ghost use Rattle.sip_message.specs.declared.error.MessageError.TheVariants.{OutOfMemory};
 
+use crate::header_names::HeaderName;
 use std::alloc::{AllocError, AllocFailed};
-use std::fmt;
 use thiserror::Error;
-
-/// The header fields that the server reads in every message, in the order in which they are looked at.
-#[derive(Clone, Copy, Debug, PartialEq, Eq)]
-pub enum HeaderName {
-    Via,
-    From,
-    To,
-    CallId,
-    CSeq,
-    Contact,
-    MaxForwards,
-    ContentType,
-    ContentLength,
-}
-
-impl fmt::Display for HeaderName {
-    ghost use Rattle.std.specs.Prelude.{Some};
-    ghost use Rattle.sip_message.specs.HeaderNames.{name_text};
-
-    ghost output = { λ name. Some (name_text name) };
-
-    fn fmt<W: fmt::Write>(&self, f: &mut fmt::Formatter<W>) -> fmt::Result {
-        let name = match self {
-            HeaderName::Via => "Via",
-            HeaderName::From => "From",
-            HeaderName::To => "To",
-            HeaderName::CallId => "Call-ID",
-            HeaderName::CSeq => "CSeq",
-            HeaderName::Contact => "Contact",
-            HeaderName::MaxForwards => "Max-Forwards",
-            HeaderName::ContentType => "Content-Type",
-            HeaderName::ContentLength => "Content-Length",
-        };
-        write!(f, "{name}")
-    }
-}
 
 /// The first fault of a datagram, or want of memory. The faults are looked for in this order: `TooLong`, `StartLine`,
 /// `Version`, `HeaderLine`, then header by header in the order of `HeaderName` first `Missing` and then `Unreadable`,

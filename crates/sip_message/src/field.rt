@@ -2,11 +2,11 @@
 
 ghost use Rattle.std.specs.Prelude.{◌≡◌, option_map};
 ghost use Rattle.text.specs.Trim.{trimmed};
-ghost use Rattle.sip_message.specs.LongNames.{long_name};
+ghost use Rattle.sip_message.specs.HeaderNames.{long_name};
 ghost use Rattle.sip_message.specs.Fields.{begins_blank, name_and_value};
 
-use crate::compact::long_name;
 use crate::field_value::FieldValue;
+use crate::header_names::long_name;
 use crate::headers::Header;
 use text::{Text, cut, is_blank, is_run_of_token, trimmed};
 

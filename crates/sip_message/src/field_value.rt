@@ -2,8 +2,8 @@
 
 ghost use Rattle.std.specs.Prelude.{◌≡◌, ◌++◌, ℕ, List, IfOk, IfSome, OnOk};
 ghost use Rattle.std.specs.Str.{str_eq_ignore_ascii_case};
-ghost use Rattle.sip_message.specs.FieldValues.{said};
-ghost use Rattle.sip_message.specs.Unfold.{unfolded_text};
+ghost use Rattle.sip_message.specs.FieldValue.{said};
+ghost use Rattle.sip_message.specs.Folded.{unfolded_text};
 
 use crate::folded::{is_unfolded_without_case, put_unfolded};
 use std::alloc::{AllocError, Global};

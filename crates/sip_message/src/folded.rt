@@ -3,7 +3,7 @@
 ghost use Rattle.std.specs.Prelude.{◌≡◌, ◌++◌, OnOk};
 ghost use Rattle.std.specs.Option.{option_copied};
 ghost use Rattle.std.specs.Str.{str_eq_ignore_ascii_case};
-ghost use Rattle.sip_message.specs.Unfold.{unfolded_text, behind_piece, behind_next, begun_by, glued};
+ghost use Rattle.sip_message.specs.Folded.{unfolded_text, behind_piece, behind_next, begun_by, glued};
 
 use crate::lines::first_line;
 use std::alloc::AllocError;

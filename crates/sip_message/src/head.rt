@@ -1,10 +1,10 @@
 //! The header fields of a datagram.
 
 ghost use Rattle.std.specs.Prelude.{◌≡◌, ◌+◌, ◌-◌, ◌<◌, ◌≤◌, ◌++◌, ◌∷◌, ℕ, List, Some, length, take, drop, true, IfOk, IfErr};
-ghost use Rattle.sip_message.specs.Heads.{ReadsHead, line_count, head_of, GivesHead, RefusesHead};
+ghost use Rattle.sip_message.specs.Head.{ReadsHead, line_count, head_of, GivesHead, RefusesHead};
 ghost use Rattle.sip_message.specs.Lines.{is_clean};
 ghost use Rattle.sip_message.specs.Steps.{with_line, IsOpen, GivesLast, GivesLine};
-ghost use Rattle.sip_message.specs.Unfold.{unfolded_text};
+ghost use Rattle.sip_message.specs.Folded.{unfolded_text};
 ghost use Rattle.sip_message.specs.declared.headers.Header.{Header};
 
 use crate::field::{begins_blank, header, name_and_value};
@@ -12,19 +12,16 @@ use crate::field_value::FieldValue;
 use crate::headers::{Header, Headers};
 use crate::lines::next_line;
 use std::alloc::{AllocError, AllocFailed, Global};
-use thiserror::Error;
 
 /// Room for header fields that is asked for at once: most messages have fewer, and the allocator gives so much back without
 /// joining it with what lies beside it.
 const FIELDS_AT_FIRST: usize = 14;
 
 /// Why the header fields cannot be read.
-#[derive(Clone, Copy, Debug, PartialEq, Eq, Error)]
+#[derive(Clone, Copy, Debug, PartialEq, Eq)]
 pub(crate) enum HeadError {
-    #[error("out of memory")]
     OutOfMemory,
     /// A line is not of its form, there is no empty line, or there are too many lines.
-    #[error("M3: bad header line")]
     Line,
 }
 

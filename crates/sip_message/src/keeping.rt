@@ -3,9 +3,9 @@
 ghost use Rattle.std.specs.Prelude.{◌≡◌, IfOk};
 
 use crate::cseq::{CSeq, Sequence};
-use crate::message::{Message, Parts, Request, Response, Vias, parts_with};
+use crate::message::{Message, Parts, Request, Response, parts_with};
 use crate::party::{Ends, Party};
-use crate::via::Via;
+use crate::via::{Via, Vias};
 use sip_uri::NameAddr;
 use std::alloc::{AllocError, Global};
 use text::Text;

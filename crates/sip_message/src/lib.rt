@@ -3,46 +3,44 @@
 //! fault. Nothing here knows of writing, sockets, time, transactions or users.
 #![tactic(auto)]
 
-mod body;
-mod compact;
+mod answerable_parts;
+mod call_id;
 mod contact;
+mod content_length;
 mod cseq;
 mod error;
 mod field;
 mod field_value;
 mod folded;
-mod form;
 mod head;
+mod header_names;
 mod headers;
 mod keeping;
 mod laws;
 mod lines;
 mod lookup;
+mod max_forwards;
+mod media_type;
 mod message;
-mod named;
-mod needs;
 mod party;
 mod read;
-mod readable;
 mod start;
-mod unread;
 mod values;
 mod via;
-mod vias;
 mod words;
 
-pub use contact::{ContactValue, contact_values, contacts};
+pub use answerable_parts::answerable;
+pub use contact::{ContactNeed, ContactValue, contact_values, contacts};
 pub use cseq::{CSeq, Sequence};
-pub use error::{HeaderName, MessageError};
+pub use error::MessageError;
 pub use field_value::FieldValue;
+pub use header_names::HeaderName;
 pub use headers::{Header, Headers};
 pub use laws::one_message;
 pub use lookup::{first_value, values_named};
-pub use message::{Message, Parts, Request, Response, Vias, parts_with};
-pub use needs::ContactNeed;
+pub use message::{Message, Parts, Request, Response, parts_with};
 pub use party::{Ends, Party, has_tag};
 pub use read::read_message;
 pub use start::{RequestLine, Start, StatusLine};
-pub use unread::answerable;
-pub use via::Via;
+pub use via::{Via, Vias};
 pub use words::{Class, class_of, content_type, is_method, tag_text, tag_value, top_branch};

@@ -3,8 +3,7 @@
 ghost use Rattle.std.specs.Prelude.{◌≡◌, ◌+◌, ◌≤◌, ◌<◌, [], length, map, option_map, IfSome, IfNone, IfOk};
 ghost use Rattle.std.specs.List.{list_all};
 ghost use Rattle.std.specs.Option.{option_copied};
-ghost use Rattle.sip_message.specs.Answerable.{upto_empty, ended_lines};
-ghost use Rattle.sip_message.specs.Lines.{texts, begins_line_end, line_end, before_line_end, after_line_end, is_clean, is_text_byte, line_of};
+ghost use Rattle.sip_message.specs.Lines.{upto_empty, ended_lines, texts, begins_line_end, line_end, before_line_end, after_line_end, is_clean, is_text_byte, line_of};
 
 use memchr::memchr3;
 use std::alloc::{AllocError, Global};

@@ -1,10 +1,12 @@
 //! Headers that are looked up by their names, without case (RFC 3261 section 7.3.1).
 
-ghost use Rattle.std.specs.Prelude.{◌≡◌, map, IfOk};
+ghost use Rattle.std.specs.Prelude.{◌≡◌, Ok, Err, map, IfOk, IfErr};
 ghost use Rattle.std.specs.Option.{option_copied};
-ghost use Rattle.sip_message.specs.Lookup.{is_named, first_named, value_named, values_named};
+ghost use Rattle.sip_message.specs.Lookup.{is_named, first_named, value_named, values_named, at_most_one, exactly_one};
 
+use crate::error::MessageError;
 use crate::field_value::FieldValue;
+use crate::header_names::HeaderName;
 use crate::headers::Header;
 use std::alloc::{AllocError, Global};
 
@@ -45,4 +47,41 @@ pub fn values_named<'m, 'a>(
         }
     }
     Ok(values)
+}
+
+/// The value of a header field that stands once at most. Takes no memory.
+pub(crate) fn at_most_one<'m, 'a>(
+    headers: &'m [Header<'a>],
+    name: &[u8],
+    which: HeaderName,
+) -> Result<Option<&'m FieldValue<'a>>, MessageError>
+    ensures found { IfOk result (λ v. at_most_one which (values_named name.now headers.now) ≡ Ok (option_copied v)) }
+    ensures refused { IfErr result (λ e. at_most_one which (values_named name.now headers.now) ≡ Err e) }
+{
+    let mut found = None;
+    for header in headers {
+        if !is_named(header, name) {
+            continue;
+        }
+        if found.is_some() {
+            return Err(MessageError::Unreadable(which));
+        }
+        found = Some(&header.value);
+    }
+    Ok(found)
+}
+
+/// The value of a header field that stands once. Takes no memory.
+pub(crate) fn exactly_one<'m, 'a>(
+    headers: &'m [Header<'a>],
+    name: &[u8],
+    which: HeaderName,
+) -> Result<&'m FieldValue<'a>, MessageError>
+    ensures found { IfOk result (λ v. exactly_one which (values_named name.now headers.now) ≡ Ok v.now) }
+    ensures refused { IfErr result (λ e. exactly_one which (values_named name.now headers.now) ≡ Err e) }
+{
+    match at_most_one(headers, name, which)? {
+        Some(value) => Ok(value),
+        None => Err(MessageError::Missing(which)),
+    }
 }

@@ -6,50 +6,9 @@ ghost use Rattle.sip_message.specs.Values.{parts_with};
 use crate::cseq::{CSeq, Sequence};
 use crate::headers::Headers;
 use crate::party::Ends;
-use crate::via::Via;
+use crate::via::Vias;
 use sip_uri::{NameAddr, Uri};
-use std::marker::Model;
 use text::Text;
-
-/// Via values, the top one first.
-#[derive(Debug, Drop)]
-pub struct Vias<'a> {
-    vias: Vec<Via<'a>>,
-}
-
-impl<'a> Model for Vias<'a> {
-    ghost use Rattle.std.specs.Prelude.{List};
-    ghost use Rattle.sip_message.specs.declared.via.Via.{Via};
-
-    ghost Value = { List Via };
-
-    ghost view = { λ v. v.vias.items };
-}
-
-impl<'a> Vias<'a> {
-    ghost use Rattle.std.specs.Prelude.{◌≡◌};
-
-    /// The list of these values. Takes no memory.
-    pub fn from_vec(vias: Vec<Via<'a>>) -> Vias<'a>
-        ensures { result ≡ vias.entry.items }
-    {
-        Vias { vias }
-    }
-
-    /// The values. Takes no memory.
-    pub fn into_vec(self) -> Vec<Via<'a>>
-        ensures { result.items ≡ self.entry }
-    {
-        self.vias
-    }
-
-    /// The values, lent.
-    pub fn as_slice(&self) -> &[Via<'a>]
-        ensures { result.now ≡ self.now }
-    {
-        &self.vias
-    }
-}
 
 /// What an answer repeats of its request: the values of these header fields, and beside them the texts of From, To
 /// and CSeq as received, unfolded and trimmed (RFC 3261 section 8.2.6.2).

@@ -2,8 +2,9 @@
 
 ghost use Rattle.std.specs.Prelude.{◌≡◌, IfOk};
 ghost use Rattle.std.specs.Option.{option_copied};
-ghost use Rattle.sip_message.specs.Party.{tag_fits, has_fit_tag, has_tag, party_of};
+ghost use Rattle.sip_message.specs.Party.{tag_fits, has_fit_tag, has_tag, is_tagged_for, party_of};
 
+use crate::start::Start;
 use sip_uri::{NameAddr, Param, UriError, param_named, read_name_addr};
 use std::alloc::{AllocError, Global};
 use text::{Text, is_run_of_token};
@@ -45,6 +46,16 @@ pub fn has_tag(params: &[Param]) -> bool
     ensures { result ≡ has_tag params.now }
 {
     param_named(params, b"tag").is_some()
+}
+
+/// Whether a From with these parameters has the tag that it needs: in a request it needs one.
+pub(crate) fn is_tagged_for(start: &Start<'_>, params: &[Param<'_>]) -> bool
+    ensures { result ≡ is_tagged_for start.now params.now }
+{
+    match start {
+        Start::Asking(_) => has_tag(params),
+        Start::Answering(_) => true,
+    }
 }
 
 /// The name and URI that the bytes are, if they are one and its tag, if any, has a value that is a token.

@@ -3,20 +3,18 @@
 ghost use Rattle.std.specs.Prelude.{◌≡◌, ℕ, Ok, IfOk, IfErr};
 ghost use Rattle.std.specs.Option.{option_copied};
 ghost use Rattle.sip_message.specs.Repeatable.{CanBeRepeated, parts_in};
-ghost use Rattle.sip_message.specs.Contacts.{headers_in};
+ghost use Rattle.sip_message.specs.Contact.{headers_in};
 ghost use Rattle.sip_message.specs.Faults.{Gives};
 ghost use Rattle.sip_message.specs.Places.{IsPlaced};
 ghost use Rattle.sip_message.specs.Grammar.{ReadsMessage, IsWithin, Refuses};
-ghost use Rattle.sip_message.specs.Reading.{contents_of, message_with, behind_start, message_of};
-ghost use Rattle.sip_message.specs.Values.{without_length};
+ghost use Rattle.sip_message.specs.Read.{contents_of, message_with, behind_start, message_of};
 ghost use Rattle.sip_message.specs.declared.message.Message.{Message};
 
-use crate::body::read_body;
+use crate::content_length::{read_body, without_length};
 use crate::error::MessageError;
 use crate::head::{HeadError, read_head};
 use crate::headers::{Header, Headers};
 use crate::lines::{first_line, is_clean};
-use crate::lookup::is_named;
 use crate::message::{Message, Request, Response};
 use crate::start::{Start, read_start};
 use crate::values::{Values, read_values};
@@ -36,7 +34,7 @@ pub(crate) struct Contents<'a> {
     pub body: Text<'a>,
 }
 
-#[tactic(auto, unfolding(crate::specs::Reading::contents_of), using(crate::proofs::FaultLaws::failed_then))]
+#[tactic(auto, unfolding(crate::specs::Read::contents_of), using(crate::proofs::FaultLaws::failed_then))]
 fn read_contents<'a>(
     alloc: Global,
     start: &Start<'_>,
@@ -48,20 +46,6 @@ fn read_contents<'a>(
     let values = read_values(alloc, start, headers)?;
     let body = read_body(alloc, headers, rest)?;
     Ok(Contents { values, body })
-}
-
-fn drop_length(headers: &mut Vec<Header<'_>>)
-    ensures { headers.new.items ≡ without_length headers.old.items }
-{
-    headers.retain(|header| !is_named(header, b"Content-Length"));
-}
-
-fn without_length(headers: Headers<'_>) -> Headers<'_>
-    ensures { result ≡ without_length headers.entry }
-{
-    let mut kept = headers.into_vec();
-    drop_length(&mut kept);
-    Headers::from_vec(kept)
 }
 
 fn message<'a>(start: Start<'a>, headers: Headers<'a>, contents: Contents<'a>) -> Message<'a>
@@ -108,7 +92,7 @@ fn behind_start<'a>(
     Ok(message(start, headers, contents))
 }
 
-#[tactic(auto, unfolding(crate::specs::Reading::message_of), using(crate::proofs::FaultLaws::failed_then))]
+#[tactic(auto, unfolding(crate::specs::Read::message_of), using(crate::proofs::FaultLaws::failed_then))]
 fn read(alloc: Global, bytes: &[u8]) -> Result<Message<'_>, MessageError>
     ensures { Gives result (message_of bytes.now) }
 {

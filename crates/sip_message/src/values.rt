@@ -1,20 +1,22 @@
 //! What the header fields of a message say.
 
 ghost use Rattle.sip_message.specs.Faults.{Gives};
-ghost use Rattle.sip_message.specs.declared.needs.ContactNeed.TheVariants.{AtMostOne};
+ghost use Rattle.sip_message.specs.declared.contact.ContactNeed.TheVariants.{AtMostOne};
 ghost use Rattle.sip_message.specs.Values.{from_for, to_of, call_id_of, cseq_for, one_address, contacts_for, contact_for, hops_of, type_of, ends_for, parts_of, hops_behind, values_of};
 
-use crate::contact::{ContactValue, contact_values};
-use crate::cseq::{Sequence, read_cseq};
-use crate::error::{HeaderName, MessageError};
-use crate::form::{is_call_id, is_media_type, read_max_forwards};
+use crate::call_id::is_call_id;
+use crate::contact::{ContactNeed, ContactValue, contact_need, contact_values};
+use crate::cseq::{Sequence, is_method_for, read_cseq};
+use crate::error::MessageError;
+use crate::header_names::HeaderName;
 use crate::headers::Header;
+use crate::lookup::{at_most_one, exactly_one};
+use crate::max_forwards::read_max_forwards;
+use crate::media_type::is_media_type;
 use crate::message::{Parts, parts_with};
-use crate::named::{at_most_one, exactly_one};
-use crate::needs::{ContactNeed, contact_need, is_method_for, is_tagged_for};
-use crate::party::{Ends, Party, read_party};
+use crate::party::{Ends, Party, is_tagged_for, read_party};
 use crate::start::Start;
-use crate::vias::read_vias;
+use crate::via::read_vias;
 use std::alloc::Global;
 use text::Text;
 

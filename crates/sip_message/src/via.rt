@@ -1,16 +1,25 @@
-//! One value of a Via header field (RFC 3261 section 20.42).
+//! The Via header fields of a message (RFC 3261 section 20.42).
 
-ghost use Rattle.std.specs.Prelude.{◌≡◌, ◌++◌, ◌∷◌, true, nat_eq, IfOk, option_map};
+ghost use Rattle.std.specs.Prelude.{◌≡◌, ◌++◌, ◌∷◌, true, nat_eq, Some, None, option_map, IfOk, OnOk, if◌then◌else◌};
 ghost use Rattle.std.specs.Cmp.Lexicographic.{pointwise};
 ghost use Rattle.std.specs.Option.{option_copied};
+ghost use Rattle.text.specs.Pieces.{pieces};
 ghost use Rattle.text.specs.Trim.{trimmed};
-ghost use Rattle.sip_message.specs.RawVia.{raw_via_of, is_raw_via, is_port};
-ghost use Rattle.sip_message.specs.Via.{sent_by_of, port_of, via_of};
+ghost use Rattle.text.specs.declared.splitting.Within.TheVariants.{Nothing};
+ghost use Rattle.sip_message.specs.Faults.{Gives};
+ghost use Rattle.sip_message.specs.Via.{raw_via_of, is_raw_via, is_port, sent_by_of, port_of, via_of, each_via, via_texts, some_vias, put_before};
 
+use crate::error::MessageError;
+use crate::field_value::FieldValue;
+use crate::header_names::HeaderName;
+use crate::headers::Header;
+use crate::lookup::is_named;
 use sip_uri::{Host, Params, read_field_params, read_host};
 use std::alloc::{AllocError, Global};
 use std::marker::Model;
-use text::{Text, cut, cut_word, is_run_of_digits, number_upto, trimmed, without_blanks};
+use text::{
+    Text, cut, cut_piece, cut_word, is_run_of_digits, number_upto, trimmed, without_blanks,
+};
 
 /// Where an answer goes (RFC 3261 section 18.2.2). `sent_by` is host and port as received, without blanks.
 #[derive(Debug, Drop)]
@@ -19,6 +28,46 @@ pub struct Via<'a> {
     pub host: Host<'a>,
     pub port: Option<u16>,
     pub params: Params<'a>,
+}
+
+/// Via values, the top one first.
+#[derive(Debug, Drop)]
+pub struct Vias<'a> {
+    vias: Vec<Via<'a>>,
+}
+
+impl<'a> Model for Vias<'a> {
+    ghost use Rattle.std.specs.Prelude.{List};
+    ghost use Rattle.sip_message.specs.declared.via.Via.{Via};
+
+    ghost Value = { List Via };
+
+    ghost view = { λ v. v.vias.items };
+}
+
+impl<'a> Vias<'a> {
+    ghost use Rattle.std.specs.Prelude.{◌≡◌};
+
+    /// The list of these values. Takes no memory.
+    pub fn from_vec(vias: Vec<Via<'a>>) -> Vias<'a>
+        ensures { result ≡ vias.entry.items }
+    {
+        Vias { vias }
+    }
+
+    /// The values. Takes no memory.
+    pub fn into_vec(self) -> Vec<Via<'a>>
+        ensures { result.items ≡ self.entry }
+    {
+        self.vias
+    }
+
+    /// The values, lent.
+    pub fn as_slice(&self) -> &[Via<'a>]
+        ensures { result.now ≡ self.now }
+    {
+        &self.vias
+    }
 }
 
 /// `SIP/2.0/UDP host:port;params` in its parts.
@@ -35,7 +84,7 @@ struct ViaText<'a> {
 impl<'a> Model for ViaText<'a> {
     ghost use Rattle.std.specs.Cmp.Lexicographic.{pointwise};
     ghost use Rattle.std.specs.Option.{option_copied};
-    ghost use Rattle.sip_message.specs.RawVia.{RawVia};
+    ghost use Rattle.sip_message.specs.Via.{RawVia};
 
     ghost Value = { RawVia };
 
@@ -59,7 +108,7 @@ fn port_text(text: Option<&[u8]>) -> Option<&[u8]>
 }
 
 /// The parts, and where host and port stand.
-#[tactic(auto, unfolding(crate::specs::RawVia::raw_via_of))]
+#[tactic(auto, unfolding(crate::specs::Via::raw_via_of))]
 fn via_text(text: &[u8]) -> (ViaText<'_>, &[u8])
     ensures { result.0 ≡ raw_via_of text.now }
 {
@@ -86,7 +135,7 @@ fn is_port(text: &[u8]) -> bool
 }
 
 /// Whether protocol and port are of their form.
-#[tactic(auto, unfolding(crate::specs::RawVia::is_raw_via))]
+#[tactic(auto, unfolding(crate::specs::Via::is_raw_via))]
 fn is_well_formed(via: &ViaText<'_>) -> bool
     ensures { result ≡ is_raw_via via.now }
 {
@@ -166,4 +215,85 @@ pub(crate) fn read_via(alloc: Global, text: &[u8]) -> Result<Option<Via<'_>>, Al
         port,
         params,
     }))
+}
+
+/// Puts the values of a text behind those that are there, and tells whether each could be read.
+fn put_lent<'a>(alloc: Global, vias: &mut Vec<Via<'a>>, text: &'a [u8]) -> Result<bool, AllocError>
+    ensures { IfOk result (λ all. put_before vias.old.items (each_via (pieces 44 Nothing text.now)) ≡ (if all then Some vias.new.items else None)) }
+{
+    let mut left = Some(text);
+    while let Some(text) = left {
+        let (piece, behind) = cut_piece(text, b',');
+        let Some(via) = read_via(alloc, piece)? else {
+            return Ok(false);
+        };
+        vias.push(via)?;
+        left = behind;
+    }
+    Ok(true)
+}
+
+/// Puts these values, which borrow nothing, behind those that are there.
+fn put_kept<'a>(alloc: Global, vias: &mut Vec<Via<'a>>, more: &[Via<'_>]) -> Result<(), AllocError>
+    ensures { OnOk result (vias.new.items ≡ vias.old.items ++ more.now) }
+{
+    for via in more {
+        vias.push(via.keep(alloc)?)?;
+    }
+    Ok(())
+}
+
+/// Puts the values of a header field behind those that are there, and tells whether each could be read.
+fn put_vias<'a>(
+    alloc: Global,
+    vias: &mut Vec<Via<'a>>,
+    value: &FieldValue<'a>,
+) -> Result<bool, AllocError>
+    ensures { IfOk result (λ all. put_before vias.old.items (each_via (pieces 44 Nothing value.now)) ≡ (if all then Some vias.new.items else None)) }
+{
+    if let Some(bytes) = value.in_place() {
+        return put_lent(alloc, vias, bytes);
+    }
+    let text = value.text(alloc)?;
+    let mut found = Vec::new(alloc);
+    let all = put_lent(alloc, &mut found, text.as_bytes())?;
+    if !all {
+        return Ok(false);
+    }
+    put_kept(alloc, vias, &found)?;
+    Ok(true)
+}
+
+/// The Via values, the top one first, if each can be read.
+pub(crate) fn read_each<'a>(
+    alloc: Global,
+    headers: &[Header<'a>],
+) -> Result<Option<Vec<Via<'a>>>, AllocError>
+    ensures { IfOk result (λ o. option_map (λ v. v.items) o ≡ each_via (via_texts headers.now)) }
+{
+    let mut vias = Vec::new(alloc);
+    for header in headers {
+        if !is_named(header, b"Via") {
+            continue;
+        }
+        let all = put_vias(alloc, &mut vias, &header.value)?;
+        if !all {
+            return Ok(None);
+        }
+    }
+    Ok(Some(vias))
+}
+
+/// The Via values, the top one first: one at least.
+#[tactic(auto, using(crate::proofs::ViaLaws::none_there, crate::proofs::ViaLaws::some_unreadable, crate::proofs::ViaLaws::some_there))]
+pub(crate) fn read_vias<'a>(alloc: Global, headers: &[Header<'a>]) -> Result<Vias<'a>, MessageError>
+    ensures { Gives result (some_vias (via_texts headers.now)) }
+{
+    let Some(vias) = read_each(alloc, headers)? else {
+        return Err(MessageError::Unreadable(HeaderName::Via));
+    };
+    if vias.is_empty() {
+        return Err(MessageError::Missing(HeaderName::Via));
+    }
+    Ok(Vias::from_vec(vias))
 }

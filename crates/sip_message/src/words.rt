@@ -7,7 +7,8 @@ ghost use Rattle.sip_message.specs.Words.{param_value, top_branch, tag_value, ta
 
 use crate::headers::Header;
 use crate::lookup::first_value;
-use crate::message::{Parts, Vias};
+use crate::message::Parts;
+use crate::via::Vias;
 use sip_uri::{Param, param_named};
 use std::alloc::{AllocError, Global};
 use text::{Text, cut, trimmed};

@@ -15,16 +15,15 @@ use Rattle.sip_message.specs.declared.headers.Header.{Header}
 use Rattle.sip_message.specs.declared.message.Parts.{Parts}
 use Rattle.sip_message.specs.declared.message.Response.{Response}
 use Rattle.sip_message.specs.declared.via.Via.{Via}
-use Rattle.sip_message.specs.Contacts.{contact_of, contacts_of}
+use Rattle.sip_message.specs.Contact.{contact_of, contacts_of, contact_need}
 use Rattle.sip_message.specs.Grammar.{SaysParts, SaysContact, SaysHops, SaysType, start_of_response}
 use Rattle.sip_message.specs.Lines.{is_clean}
-use Rattle.sip_message.specs.LongNames.{long_name}
+use Rattle.sip_message.specs.HeaderNames.{long_name}
 use Rattle.sip_message.specs.Lookup.{named, is_named, values_named}
-use Rattle.sip_message.specs.Needs.{contact_need}
 use Rattle.sip_writing.specs.Reasons.{Reason, reasons, reason_in, reason_of}
 use Rattle.sip_message.specs.Repeatable.{IsValue, CanBeRepeated}
 use Rattle.sip_writing.specs.Reply.{via_text, marked_top, tagged_to, tagged_text, replied, reply_headers, reply_of}
-use Rattle.sip_message.specs.Values.{greatest_length}
+use Rattle.sip_message.specs.ContentLength.{greatest_length}
 use Rattle.sip_message.specs.Via.{via_of}
 use Rattle.sip_message.specs.Written.{is_written}
 use Rattle.sip_writing.specs.WritingMessage.{tells_no_length, IsWrittenRest, IsWrittenResponse, IsWrittenMessage}

@@ -9,10 +9,10 @@ use Rattle.text.specs.Cut.{before, after}
 use Rattle.text.specs.Trim.{trimmed}
 use Rattle.text.proofs.CutLaws.{Lacks, Lacks-from_class, before_at, after_at}
 use Rattle.sip_message.specs.Lines.{is_clean, lines_text}
-use Rattle.sip_message.specs.LongNames.{long_name}
+use Rattle.sip_message.specs.HeaderNames.{long_name}
 use Rattle.sip_message.specs.Fields.{RawField, begins_blank, name_of, begun_value, is_named_line, is_raw_field, value_of, field_of}
 use Rattle.sip_message.specs.Glue.{glue}
-use Rattle.sip_message.specs.Heads.{all_lines, ReadsHead, line_count, head_of}
+use Rattle.sip_message.specs.Head.{all_lines, ReadsHead, line_count, head_of}
 use Rattle.sip_message.specs.Written.{is_written}
 use Rattle.sip_writing.specs.Writing.{header_text, headers_text}
 use Rattle.sip_message.specs.declared.headers.Header.{Header}

@@ -20,13 +20,12 @@ use Rattle.sip_message.specs.declared.message.Parts.{Parts}
 use Rattle.sip_message.specs.declared.message.Request.{Request}
 use Rattle.sip_message.specs.declared.message.Response.{Response}
 use Rattle.sip_message.specs.declared.start.Start.{Start}
-use Rattle.sip_message.specs.Contacts.{contact_of, contacts_of}
+use Rattle.sip_message.specs.Contact.{contact_of, contacts_of, contact_need}
 use Rattle.sip_message.specs.Grammar.{IsStartLine, Opens, SaysParts, SaysContact, SaysHops, SaysType, SaysBody, Says, start_of_request, start_of_response, ReadsRequest, ReadsResponse, ReadsMessage}
 use Rattle.sip_message.specs.Lines.{is_clean}
 use Rattle.sip_message.specs.Lookup.{is_named, values_named}
-use Rattle.sip_message.specs.LongNames.{long_name}
-use Rattle.sip_message.specs.Needs.{contact_need}
-use Rattle.sip_message.specs.Values.{without_length}
+use Rattle.sip_message.specs.HeaderNames.{long_name}
+use Rattle.sip_message.specs.ContentLength.{without_length}
 use Rattle.sip_message.specs.Via.{via_of}
 use Rattle.sip_writing.specs.Writing.{status_line, header_text, headers_text, length_text, message_text}
 use Rattle.sip_message.specs.Written.{is_written}

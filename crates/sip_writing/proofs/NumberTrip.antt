@@ -11,7 +11,7 @@ use Rattle.text.specs.Trim.{without_blanks, without_end}
 use Rattle.text.proofs.Numbers.{decimal_digits, decimal_run, number_again}
 use Rattle.sip_message.specs.CSeq.{cseq_of, greatest_number}
 use Rattle.sip_message.specs.Fields.{begins_blank}
-use Rattle.sip_message.specs.Form.{max_forwards_of}
+use Rattle.sip_message.specs.MaxForwards.{max_forwards_of}
 use Rattle.sip_message.specs.Lines.{is_clean}
 use Rattle.sip_message.specs.Repeatable.{IsValue}
 use Rattle.sip_writing.proofs.MessageRoundTrip.{digits_token}

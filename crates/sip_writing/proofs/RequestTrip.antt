@@ -15,7 +15,7 @@ use Rattle.sip_message.specs.declared.message.Request.{Request}
 use Rattle.sip_message.specs.declared.via.Via.{Via}
 use Rattle.sip_message.specs.Grammar.{SaysParts, SaysHops, start_of_request}
 use Rattle.sip_message.specs.Lookup.{named, is_named, values_named}
-use Rattle.sip_message.specs.LongNames.{long_name}
+use Rattle.sip_message.specs.HeaderNames.{long_name}
 use Rattle.sip_message.specs.Party.{party_of, has_tag}
 use Rattle.sip_message.specs.Repeatable.{IsValue}
 use Rattle.sip_message.specs.Via.{via_of}

@@ -11,7 +11,7 @@ use Rattle.sip_uri.specs.Reading.{host_read}
 use Rattle.sip_uri.specs.Writing.{ip4_text}
 use Rattle.sip_uri.proofs.HostLaws.{ip4_again}
 use Rattle.sip_message.specs.declared.via.Via.{Via}
-use Rattle.sip_message.specs.RawVia.{is_port}
+use Rattle.sip_message.specs.Via.{is_port}
 use Rattle.sip_writing.specs.Requests.{branch_text, server_via, IsReadVia}
 use Rattle.sip_writing.specs.Reply.{via_text}
 use Rattle.sip_writing.proofs.MarkedTrip.{IsNumbered, number_token, run_append, address_token}

@@ -24,10 +24,9 @@ use Rattle.sip_uri.proofs.HostLaws.{host_lacks}
 use Rattle.sip_uri.proofs.NameLaws.{field_params_again}
 use Rattle.sip_message.specs.declared.via.Via.{Via}
 use Rattle.sip_message.specs.Lines.{is_clean}
-use Rattle.sip_message.specs.RawVia.{RawVia, behind, raw_via_of, is_port, is_raw_via}
+use Rattle.sip_message.specs.Via.{RawVia, behind, raw_via_of, is_port, is_raw_via, sent_by_of, port_of, made, with_host, via_of}
 use Rattle.sip_message.specs.Repeatable.{IsValue}
 use Rattle.sip_writing.specs.Reply.{via_text}
-use Rattle.sip_message.specs.Via.{sent_by_of, port_of, made, with_host, via_of}
 use Rattle.sip_message.proofs.CleanLaws.{clean_after, clean_led_by, Ends, ends_trimmed, ends_behind}
 use Rattle.sip_writing.proofs.MessageRoundTrip.{digits_token}
 use Rattle.sip_writing.proofs.ParamTrip.{IsParam, params_sound, params_again, behind_semicolons, params_clean, params_closed, params_end}

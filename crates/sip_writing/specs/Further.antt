@@ -5,11 +5,10 @@ use Rattle.sip_message.specs.declared.headers.Header.{Header}
 use Rattle.sip_message.specs.declared.message.Message.TheVariants as Kinds
 use Rattle.sip_message.specs.declared.message.Response.{Response}
 use Rattle.sip_message.specs.declared.start.Start.{Start}
-use Rattle.sip_message.specs.Contacts.{contacts_of}
+use Rattle.sip_message.specs.Contact.{contacts_of, contact_need}
 use Rattle.sip_message.specs.Grammar.{SaysContact, SaysHops, SaysType, start_of_response}
 use Rattle.sip_message.specs.Lookup.{is_named, values_named}
-use Rattle.sip_message.specs.Needs.{contact_need}
-use Rattle.sip_message.specs.Values.{greatest_length}
+use Rattle.sip_message.specs.ContentLength.{greatest_length}
 use Rattle.sip_message.specs.Written.{is_written}
 use Rattle.sip_writing.specs.WritingMessage.{tells_no_length, IsWrittenMessage}
 

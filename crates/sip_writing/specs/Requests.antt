@@ -16,16 +16,15 @@ use Rattle.sip_message.specs.declared.message.Parts.{Parts}
 use Rattle.sip_message.specs.declared.message.Request.{Request}
 use Rattle.sip_message.specs.declared.start.Start.TheVariants.{Asking}
 use Rattle.sip_message.specs.declared.via.Via.{Via}
-use Rattle.sip_message.specs.Contacts.{contacts_of}
+use Rattle.sip_message.specs.Contact.{contacts_of, contact_need}
 use Rattle.sip_message.specs.CSeq.{greatest_number}
-use Rattle.sip_message.specs.Form.{is_call_id}
+use Rattle.sip_message.specs.CallId.{is_call_id}
 use Rattle.sip_message.specs.Grammar.{SaysContact, SaysType}
 use Rattle.sip_message.specs.Lines.{is_clean}
 use Rattle.sip_message.specs.Lookup.{named, is_named, values_named}
-use Rattle.sip_message.specs.Needs.{contact_need}
 use Rattle.sip_message.specs.Party.{has_tag}
 use Rattle.sip_message.specs.Repeatable.{IsValue}
-use Rattle.sip_message.specs.Values.{greatest_length}
+use Rattle.sip_message.specs.ContentLength.{greatest_length}
 use Rattle.sip_message.specs.Via.{via_of}
 use Rattle.sip_message.specs.Written.{is_written}
 use Rattle.sip_writing.specs.declared.requests.Draft.{Draft}

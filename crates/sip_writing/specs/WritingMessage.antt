@@ -10,12 +10,11 @@ use Rattle.sip_message.specs.declared.message.Parts.{Parts}
 use Rattle.sip_message.specs.declared.message.Request.{Request}
 use Rattle.sip_message.specs.declared.message.Response.{Response}
 use Rattle.sip_message.specs.declared.start.Start.{Start}
-use Rattle.sip_message.specs.Contacts.{contacts_of}
+use Rattle.sip_message.specs.Contact.{contacts_of, contact_need}
 use Rattle.sip_message.specs.Grammar.{SaysParts, SaysContact, SaysHops, SaysType, start_of_request, start_of_response}
 use Rattle.sip_message.specs.Lines.{is_clean}
 use Rattle.sip_message.specs.Lookup.{is_named, values_named}
-use Rattle.sip_message.specs.Needs.{contact_need}
-use Rattle.sip_message.specs.Values.{greatest_length}
+use Rattle.sip_message.specs.ContentLength.{greatest_length}
 use Rattle.sip_message.specs.Written.{is_written}
 
 -- Content-Length is written by itself, of the body

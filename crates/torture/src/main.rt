@@ -4,7 +4,7 @@
 
 ghost use Rattle.std.specs.Prelude.{◌≡◌, Ok, IfSome, IfNone};
 ghost use Rattle.sip_message.specs.Faults.{Fails};
-ghost use Rattle.sip_message.specs.Reading.{message_of};
+ghost use Rattle.sip_message.specs.Read.{message_of};
 ghost use Rattle.sip_message.specs.declared.message.Message.{Message};
 
 use sip_message::{MessageError, read_message};

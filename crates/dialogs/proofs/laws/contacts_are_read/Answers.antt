@@ -1,4 +1,4 @@
-use Rattle.sip_message.specs.Contacts.{contact_texts}
+use Rattle.sip_message.specs.Contact.{contact_texts}
 use Rattle.dialogs.proofs.SoundLaws.{target_of}
 use Rattle.dialogs.proofs.laws.contacts_are_read.Goals as goal
 

@@ -1,5 +1,5 @@
 use Rattle.std.proofs.Common.{◌≡◌, ◌++◌, drop}
-use Rattle.sip_message.specs.Contacts.{contacts_of}
+use Rattle.sip_message.specs.Contact.{contacts_of}
 use Rattle.sip_message.proofs.contact.contact_values.Given as goal
 
 -- the values so far and those of what is left are all

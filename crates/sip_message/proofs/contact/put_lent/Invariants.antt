@@ -3,7 +3,7 @@ use Rattle.std.specs.Option.{option_copied}
 use Rattle.text.specs.Pieces.{pieces}
 use Rattle.text.specs.declared.splitting.Within.TheVariants.{Nothing}
 use Rattle.text.proofs.PieceSteps.{pieces_left, left_length}
-use Rattle.sip_message.specs.Contacts.{contact_of}
+use Rattle.sip_message.specs.Contact.{contact_of}
 use Rattle.sip_message.proofs.contact.put_lent.Given as goal
 
 -- the values so far and those of what is left are all

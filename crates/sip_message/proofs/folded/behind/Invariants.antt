@@ -1,5 +1,5 @@
 use Rattle.std.proofs.Common.{◌≡◌, length}
-use Rattle.sip_message.specs.Unfold.{behind_piece}
+use Rattle.sip_message.specs.Folded.{behind_piece}
 use Rattle.sip_message.proofs.folded.behind.Given as goal
 
 abbrev pub invariant-loop-wanted : goal.invariant-loop-wanted

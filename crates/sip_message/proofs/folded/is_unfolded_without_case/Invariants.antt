@@ -3,7 +3,7 @@ use Rattle.std.specs.Option.{option_copied}
 use Rattle.std.specs.Str.{str_eq_ignore_ascii_case}
 use Rattle.text.specs.Trim.{trimmed}
 use Rattle.sip_message.specs.Glue.{unfolded}
-use Rattle.sip_message.specs.Unfold.{lines_in, unfolded_text}
+use Rattle.sip_message.specs.Folded.{lines_in, unfolded_text}
 use Rattle.sip_message.proofs.RawLoop.{bytes_left, tail}
 use Rattle.sip_message.proofs.folded.is_unfolded_without_case.Given as goal
 

@@ -2,7 +2,7 @@ use Rattle.std.proofs.Common.{◌≡◌, ℕ, List, ◌++◌, false, map}
 use Rattle.std.specs.Option.{option_copied}
 use Rattle.text.specs.Trim.{trimmed}
 use Rattle.sip_message.specs.Glue.{glue, unfolded}
-use Rattle.sip_message.specs.Unfold.{lines_in, begun_by, unfolded_text}
+use Rattle.sip_message.specs.Folded.{lines_in, begun_by, unfolded_text}
 use Rattle.sip_message.proofs.RawLoop.{bytes_left}
 use Rattle.sip_message.proofs.folded.put_unfolded.Given as goal
 

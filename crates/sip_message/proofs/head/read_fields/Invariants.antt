@@ -1,5 +1,5 @@
 use Rattle.std.proofs.Common.{◌≡◌, ◌-◌}
-use Rattle.sip_message.specs.Heads.{head_of}
+use Rattle.sip_message.specs.Head.{head_of}
 use Rattle.sip_message.specs.Lines.{lines_within}
 use Rattle.sip_message.specs.Steps.{IsOpen}
 use Rattle.sip_message.proofs.HeadSteps.{resumed}

@@ -1,6 +1,5 @@
 use Rattle.std.proofs.Common.{◌≡◌, ◌++◌, length}
-use Rattle.sip_message.specs.Answerable.{ended_lines}
-use Rattle.sip_message.specs.Lines.{texts}
+use Rattle.sip_message.specs.Lines.{ended_lines, texts}
 use Rattle.sip_message.proofs.lines.ended_lines.Given as goal
 
 -- the lines so far and those of what is left are all

@@ -1,4 +1,4 @@
-use Rattle.sip_message.specs.Reading.{contents_of}
+use Rattle.sip_message.specs.Read.{contents_of}
 use Rattle.sip_message.proofs.FaultLaws.{failed_then, handed_out}
 use Rattle.sip_message.proofs.read.read_contents.Goals as goal
 
