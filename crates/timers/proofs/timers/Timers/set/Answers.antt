@@ -1,0 +1,5 @@
+use Rattle.timers.proofs.Standing.{queue_set}
+use Rattle.timers.proofs.timers.Timers.set.Goals as goal
+
+pub invariant_of-self-2 : goal.invariant_of-self-2
+invariant_of-self-2 g c = rw (c.put.ensures.put, c.remove_key.ensures.others, c.make_room.ensures.items) (queue_set g.K.PartialEq.eq g.met.K.Eq.laws c.self.inside.timers.items c.args.key c.args.at c.self.invariant)
