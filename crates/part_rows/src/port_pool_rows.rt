@@ -1,14 +1,15 @@
 //! Rows of calls of `port_pool`.
 
-ghost use Rattle.std.specs.Prelude.{◌≢◌, IsTrue, All};
-ghost use Rattle.port_pool.specs.Pool.{AreOwn, StandOnce};
+ghost use Rattle.std.specs.Prelude.{ℕ, ◌≡◌, ◌≢◌, false, None, IsTrue, All};
+ghost use Rattle.port_pool.specs.Holdings.{even_of, is_among};
+ghost use Rattle.port_pool.specs.Pool.{AreOwn, StandOnce, hop_of};
 
 use crate::port_pool_words::{changes_words, hop_words, pairs_words};
 use port_pool::{Change, Hop, Pair, Pool, PoolError, RelayLine, RelayTable};
 use rows::{number, number_or_none, said, u16_of};
 use sip_uri::{Addr, ip4};
 use std::alloc::{AllocError, Global};
-use text::cut_word;
+use text::{cut_word, pieces};
 
 /// The pool that earlier rows left, if any made one.
 #[derive(Drop)]
@@ -96,6 +97,34 @@ fn stand_once(lines: &[RelayLine]) -> bool
     }
 }
 
+/// Whether a port is one of these pairs'.
+fn is_kept(port: u16, kept: &[Pair]) -> bool
+    ensures { result ≡ is_among kept.now (even_of port) }
+{
+    let even = port - port % 2;
+    kept.iter().any(|pair| pair.even == even)
+}
+
+/// Whether the lines are all of ports of these pairs: they have no row for another port.
+#[tactic(auto, using(crate::proofs::RelayLines::bare_cons))]
+fn are_kept(lines: &[RelayLine], kept: &[Pair]) -> bool
+    ensures { IsTrue result → (port : ℕ) → is_among kept.now (even_of port) ≡ false → hop_of lines.now port ≡ None }
+{
+    match lines.split_first() {
+        Some((line, rest)) => is_kept(line.port, kept) && are_kept(rest, kept),
+        None => true,
+    }
+}
+
+/// Pairs by their even ports, as `40000,40004`.
+fn pairs_of(alloc: Global, word: &[u8]) -> Result<Vec<Pair>, AllocError> {
+    let mut pairs = Vec::new(alloc);
+    for even in pieces(alloc, word, b',')? {
+        pairs.push(Pair { even: u16_of(even) })?;
+    }
+    Ok(pairs)
+}
+
 /// A pool as wide as the row says, where there can be one.
 fn pool_of(alloc: Global, first: u16, pairs: u16) -> Result<Option<Pool>, AllocError> {
     let end = u32::from(first) + 2 * u32::from(pairs);
@@ -130,6 +159,26 @@ fn free(alloc: Global, pool: &mut Pool, even: u16, now: u64) -> Result<String, A
     }
     pool.free(Pair { even }, now);
     said(alloc, "free")
+}
+
+/// Puts the rows of a call, where the lines are all of ports of the pairs that it keeps, each port once, and frees its
+/// other pairs.
+fn free_others(
+    alloc: Global,
+    pool: &mut Pool,
+    call: u64,
+    kept: &[u8],
+    words: &[&[u8]],
+    now: u64,
+) -> Result<String, AllocError> {
+    let lines = lines_of(alloc, words)?;
+    let kept = pairs_of(alloc, kept)?;
+    if !are_own(pool, call, &lines) || !stand_once(&lines) || !are_kept(&lines, &kept) {
+        return said(alloc, "no lines of what the call keeps");
+    }
+    let changes = pool.commit(call, &lines, now)?;
+    pool.free_others(call, &kept, now);
+    changes_words(alloc, &changes)
 }
 
 /// What the rows of a call would change, where the lines are all of its ports, each port once.
@@ -234,6 +283,9 @@ fn plan_answer(
             )
         }
         ("free", [now, even]) => free(alloc, pool, u16_of(even), number(now)),
+        ("free_others", [now, owner, kept, lines @ ..]) => {
+            free_others(alloc, pool, number(owner), kept, lines, number(now))
+        }
         ("plan_commit", [owner, lines @ ..]) => plan_commit(alloc, pool, number(owner), lines),
         ("put", [owner, lines @ ..]) => put(alloc, pool, number(owner), lines),
         ("plan_drop", [owner]) => changes_words(alloc, &pool.plan_drop(number(owner))?),

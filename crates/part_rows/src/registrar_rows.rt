@@ -63,12 +63,15 @@ fn seconds_of(word: &[u8]) -> Option<u32> {
     }
 }
 
-/// The contacts of a row, each a URI and perhaps its own seconds, without a `*` among them.
+/// The contacts of a row, each a URI and perhaps its own seconds, without the first `*` among them; a further one has no URI.
 fn contacts_of<'a>(alloc: Global, words: &[&'a [u8]]) -> Result<Contacts<'a>, AllocError> {
     let mut contacts = Vec::new(alloc);
+    let mut starred = false;
     for word in words {
         let (uri, expires) = cut_word(word);
-        if uri != b"*".as_slice() {
+        if uri == b"*".as_slice() && !starred {
+            starred = true;
+        } else {
             let uri = uri_of(alloc, uri)?;
             let expires = seconds_of(expires);
             contacts.push(Contact { uri, expires })?;
