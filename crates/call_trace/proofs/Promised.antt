@@ -28,9 +28,9 @@ relayed_meets law methods server table t dx dy r =
       r.3,
       r.4,
       record {
-        joined = law server table s.offer_taken s.answer_sent s.offer_sent s.answer_taken relayed.offers relayed.answers relayed.answer_place relayed.offer_place relayed.rows;
-        offers = relayed.offers;
-        answers = relayed.answers;
+        joined = law server table s.offer_taken s.answer_sent s.offer_sent s.answer_taken relayed.told.offers relayed.told.answers relayed.told.answer_place relayed.told.offer_place relayed.rows;
+        offers = relayed.told.offers;
+        answers = relayed.told.answers;
       },
     )
 

@@ -1,8 +1,11 @@
 -- The relay table is the union of the live calls' rows, and no port serves two calls.
-use Rattle.std.proofs.Common.{◌≡◌, ℕ, List, Bool, true, false, not, Option, Some, inl, inr, sym, ◌∙◌, ap, subst}
-use Rattle.std.specs.Prelude.{slice_get}
+use Rattle.std.proofs.Common.{◌≡◌, ℕ, List, [], ◌∷◌, Bool, true, false, not, Option, Some, None, inl, inr, refl, sym, ◌∙◌, ap, subst}
+use Rattle.std.specs.Prelude.{slice_get, option_map, All}
+use Rattle.std.specs.List.{filter_map}
+use Rattle.std.proofs.lemmas.List.Elements.{All-weaker, All-head, All-tail}
+use Rattle.sip_uri.specs.declared.uri.Addr.{Addr}
 use Rattle.sdp.specs.declared.description.Description.{Description}
-use Rattle.offer_answer.specs.Rows.{Row}
+use Rattle.offer_answer.specs.Rows.{Named, Row, ports_named, row_to, HasRows}
 use Rattle.call_trace.specs.declared.datagram.Direction.TheVariants.{Taken, Sent}
 use Rattle.call_trace.specs.declared.datagram.Datagram.{Datagram}
 use Rattle.call_trace.specs.declared.datagram.Dialog.{Dialog}
@@ -12,8 +15,10 @@ use Rattle.call_trace.specs.declared.call.Stage.TheVariants.{Answered}
 use Rattle.call_trace.specs.declared.call.Call.{Call}
 use Rattle.call_trace.specs.Exchanges.{Exchange}
 use Rattle.call_trace.specs.Calls.{CallOf, CallFrom, Live}
+use Rattle.call_trace.specs.Listed.{AllOf, AnyOf}
 use Rattle.call_trace.specs.Promise.{AreSaid}
-use Rattle.call_trace.specs.Serving.{Hop, IsRowOf, IsPairOf, LastSaid, LastBetween, IsLiveSession, TablePromise, PortsPromise, IsTableOf, AreHeld}
+use Rattle.call_trace.specs.Promised.{AreReaddressed, AreRelayed}
+use Rattle.call_trace.specs.Serving.{Hop, places_of, IsRowOf, IsPairOf, LastSaid, LastBetween, IsLiveSession, TablePromise, PortsPromise, hop_of, LeadsSession, IsTableOf, AreHeld}
 use Rattle.call_trace.specs.Stands.{leg}
 use Rattle.call_trace.specs.Lives.{Stands, IsOneCall, IsAnsweredCall, LivesExactly}
 use Rattle.call_trace.proofs.Growing.{call_of_called}
@@ -86,6 +91,39 @@ live_session methods calls n t caller callee s h live =
     let Q : Dialog → Type 0 = λ v. LastBetween methods t caller v z.session in
     (l.0, c, z, l.2, is.answered.1, between_same methods t caller callee s z.session live.said (subst Q is.callee (subst P is.caller mine)), is.caller)
 
+-- ---- a session that the table leads
+
+place_led : (table : ℕ → Option Hop) (n : Named) → table n.port ≡ hop_of n → places_of table n.port ≡ n.to
+place_led table n e = ap (λ (o : Option Hop). option_map (λ h. h.to) o) e ∙ back n.to where
+  back : (o : Option Addr) → option_map (λ (h : Hop). h.to) (option_map (λ (a : Addr). record { to = a; from = n.from }) o) ≡ o
+  back None = refl
+  back (Some a) = refl
+
+rows_led : (table : ℕ → Option Hop) (s : Session) → LeadsSession table s → HasRows (places_of table) s.offer_taken s.answer_sent s.offer_sent s.answer_taken
+rows_led table s leads = All-weaker (λ n. table n.port ≡ hop_of n) (λ n. places_of table n.port ≡ n.to) (place_led table) (ports_named s.offer_taken s.answer_sent s.offer_sent s.answer_taken) leads
+
+-- what a server owes has the rows of each session
+pub served_relayed : (server : List ℕ) (table : ℕ → Option Hop) (calls : List Call) → AreReaddressed server calls → IsTableOf table calls → AreRelayed server (places_of table) calls
+served_relayed server table calls told rows = both calls told rows.leads where
+  both : (cs : List Call) → AreReaddressed server cs → AllOf (λ c. (z : Settled) → c.stage ≡ Answered z → LeadsSession table z.session) cs → AreRelayed server (places_of table) cs
+  both [] a b = tt
+  both (c ∷ cs) a b = (λ z stage. record { told = a.0 z stage; rows = rows_led table z.session (b.0 z stage) }, both cs a.1 b.1)
+
+abbrev rows_at : List Named → List Row
+rows_at ns = filter_map (λ n. row_to n.port n.to n.from) ns
+
+row_led : (table : ℕ → Option Hop) (ns : List Named) (r : Row) → All (λ n. table n.port ≡ hop_of n) ns → AnyOf (λ q. q ≡ r) (rows_at ns) → table r.port ≡ Some (record { to = r.to; from = r.from })
+row_led table [] r all any = absurd any
+row_led table (n ∷ ns) r all any =
+    step n.to (All-head (λ m. table m.port ≡ hop_of m) n ns all) (row_led table ns r (All-tail (λ m. table m.port ≡ hop_of m) n ns all)) any where
+      step : (to : Option Addr) → table n.port ≡ option_map (λ (a : Addr). record { to = a; from = n.from }) to → (AnyOf (λ q. q ≡ r) (rows_at ns) → table r.port ≡ Some (record { to = r.to; from = r.from }))
+          → AnyOf (λ q. q ≡ r) (rows_at (record { port = n.port; to = to; from = n.from } ∷ ns)) → table r.port ≡ Some (record { to = r.to; from = r.from })
+      step None e more here = more here
+      step (Some a) e more here = elim here [
+        | inl same ↦ subst (λ (q : Row). table q.port ≡ Some (record { to = q.to; from = q.from })) same e
+        | inr rest ↦ more rest
+      ]
+
 -- ---- the promise
 
 pub table_promised : (methods : List (List ℕ)) (table : ℕ → Option Hop) (calls : List Call) (n : ℕ) (t : List Datagram) → Stands methods calls n t → IsTableOf table calls → TablePromise methods table t
@@ -94,8 +132,10 @@ table_promised methods table calls n t h rows = record {
       let f = any_at (λ c. (z : Settled) × (c.stage ≡ Answered z) × IsRowOf row z.session) calls (rows.had port hop e) in
       (f.1.caller, f.1.callee, f.3.0.session, listed_session methods calls n t f.0 f.1 f.3.0 h f.2 f.3.1, f.3.2));
   all = λ r live. (let f = live_session methods calls n t live.0 live.1 live.2 h live.3 in
+      let z : Settled = f.2 in
       let P : Session → Type 0 = λ v. IsRowOf r v in
-      all_at (λ c. (z : Settled) → c.stage ≡ Answered z → (q : Row) → IsRowOf q z.session → table q.port ≡ Some (record { to = q.to; from = q.from })) calls f.0 f.1 rows.all f.3 f.2 f.4 r (subst P f.5 live.4));
+      let leads : LeadsSession table z.session = all_at (λ c. (y : Settled) → c.stage ≡ Answered y → LeadsSession table y.session) calls f.0 f.1 rows.leads f.3 z f.4 in
+      row_led table (ports_named z.session.offer_taken z.session.answer_sent z.session.offer_sent z.session.answer_taken) r leads (subst P f.5 live.4));
 }
 
 pub ports_promised : (methods : List (List ℕ)) (holder : ℕ → Option Dialog) (calls : List Call) (n : ℕ) (t : List Datagram) → Stands methods calls n t → AreHeld holder calls → PortsPromise methods holder t
@@ -113,4 +153,4 @@ ports_promised methods holder calls n t h held = record {
     holds caller callee s port live pair =
         let f = live_session methods calls n t caller callee s h live in
         let P : Session → Type 0 = λ v. IsPairOf port v in
-        all_at (λ c. (z : Settled) → c.stage ≡ Answered z → (q : ℕ) → IsPairOf q z.session → holder q ≡ Some c.caller) calls f.0 f.1 held f.3 f.2 f.4 port (subst P f.5 pair) ∙ ap (λ v. Some v) f.6
+        all_at (λ c. (z : Settled) → c.stage ≡ Answered z → (q : ℕ) → IsPairOf q z.session → holder q ≡ Some c.caller) calls f.0 f.1 held.pairs f.3 f.2 f.4 port (subst P f.5 pair) ∙ ap (λ v. Some v) f.6

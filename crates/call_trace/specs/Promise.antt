@@ -50,12 +50,16 @@ EachMeets methods server table t =
 
 -- ---- what gives it
 
--- each end was told what is alike to what the other said, with places at the server; and the table has the session's rows
-pub record IsRelayed (server : List ℕ) (table : ℕ → Option Addr) (s : Session) : Type 0 where
+-- each end was told what is alike to what the other said, with places at the server
+pub record IsReaddressed (server : List ℕ) (s : Session) : Type 0 where
   pub offers : Alike s.offer_taken s.offer_sent
   pub answers : Alike s.answer_taken s.answer_sent
   pub answer_place : IsTrue (is_at_server server s.answer_sent)
   pub offer_place : IsTrue (is_at_server server s.offer_sent)
+
+-- and the table has the session's rows
+pub record IsRelayed (server : List ℕ) (table : ℕ → Option Addr) (s : Session) : Type 0 where
+  pub told : IsReaddressed server s
   pub rows : HasRows table s.offer_taken s.answer_sent s.offer_sent s.answer_taken
 
 -- the last exchanges of two dialogs are a session that the table relays

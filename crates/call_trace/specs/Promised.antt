@@ -6,19 +6,20 @@ use Rattle.call_trace.specs.declared.datagram.Dialog.{Dialog}
 use Rattle.call_trace.specs.declared.call.Settled.{Settled}
 use Rattle.call_trace.specs.declared.call.Stage.TheVariants.{Answered}
 use Rattle.call_trace.specs.declared.call.Call.{Call}
-use Rattle.call_trace.specs.Promise.{IsRelayed, Meets, MediaPromise, EachMeets}
-use Rattle.call_trace.specs.Serving.{Hop, places_of, TablePromise, PortsPromise, IsTableOf, AreHeld}
+use Rattle.call_trace.specs.Promise.{IsReaddressed, IsRelayed, Meets, MediaPromise, EachMeets}
+use Rattle.call_trace.specs.Serving.{Hop, places_of, TablePromise, PortsPromise, HoldersPromise, IsTableOf, AreHeld}
 use Rattle.call_trace.specs.Lives.{LivesExactly}
 use Rattle.call_trace.specs.Listed.{AllOf}
 use Rattle.call_trace.specs.Stands.{leg}
 
 -- The calls meet the media promise, and each of them also while an offer is open; the table is the union of their rows; no port serves two of
--- them; and those listed are exactly the live ones.
+-- them, and each that is held is held by a listed one; and those listed are exactly the live ones.
 pub record Promised (methods : List (List ℕ)) (server : List ℕ) (table : ℕ → Option Hop) (holder : ℕ → Option Dialog) (calls : List Call) (t : List Datagram) : Type 0 where
   pub media : MediaPromise methods server (places_of table) t
   pub each : EachMeets methods server (places_of table) t
   pub rows : TablePromise methods table t
   pub ports : PortsPromise methods holder t
+  pub holders : HoldersPromise holder calls
   pub lives : LivesExactly methods calls t
 
 -- ---- what gives it
@@ -27,9 +28,13 @@ pub record Promised (methods : List (List ℕ)) (server : List ℕ) (table : ℕ
 abbrev pub AreRelayed : List ℕ → (ℕ → Option Addr) → List Call → Type 0
 AreRelayed server table calls = AllOf (λ c. (z : Settled) → c.stage ≡ Answered z → IsRelayed server table z.session) calls
 
--- what a server owes for it beside the moves: it relays the calls' sessions, its table is the union of their rows, and their pairs are held
+-- in each answered call each end was told what is alike to what the other said, with places at the server
+abbrev pub AreReaddressed : List ℕ → List Call → Type 0
+AreReaddressed server calls = AllOf (λ c. (z : Settled) → c.stage ≡ Answered z → IsReaddressed server z.session) calls
+
+-- what a server owes for it beside the moves: what it told each end, the table as the sessions ask, and who holds their pairs
 pub record AreServed (server : List ℕ) (table : ℕ → Option Hop) (holder : ℕ → Option Dialog) (calls : List Call) : Type 0 where
-  pub relayed : AreRelayed server (places_of table) calls
+  pub told : AreReaddressed server calls
   pub rows : IsTableOf table calls
   pub held : AreHeld holder calls
 

@@ -1,7 +1,7 @@
 -- The promise about the relay table and its ports, of a trace: the table is the union of the live calls' rows, and no port serves two calls.
-use Rattle.std.specs.Prelude.{◌≡◌, ℕ, List, Option, Some, option_map, ◌⊎◌}
+use Rattle.std.specs.Prelude.{◌≡◌, ℕ, List, All, Option, Some, option_map, ◌⊎◌}
 use Rattle.sip_uri.specs.declared.uri.Addr.{Addr}
-use Rattle.offer_answer.specs.Rows.{Row, rows_of, pairs_named}
+use Rattle.offer_answer.specs.Rows.{Named, Row, ports_named, rows_of, pairs_named}
 use Rattle.call_trace.specs.declared.datagram.Datagram.{Datagram}
 use Rattle.call_trace.specs.declared.datagram.Dialog.{Dialog}
 use Rattle.call_trace.specs.declared.call.Session.{Session}
@@ -62,13 +62,26 @@ pub record PortsPromise (methods : List (List ℕ)) (holder : ℕ → Option Dia
   pub held : (caller callee : Dialog) (s : Session) (port : ℕ) → IsLiveSession methods t caller callee s → IsPairOf port s → holder port ≡ Some caller
   pub one_call : (a b c d : Dialog) (s r : Session) (port : ℕ) → IsLiveSession methods t a b s → IsLiveSession methods t c d r → IsPairOf port s → IsPairOf port r → (a ≡ c) × (b ≡ d)
 
+-- A port is held by a listed call alone, by the name of its caller's dialog; so no port is kept for a call that is gone.
+abbrev pub HoldersPromise : (ℕ → Option Dialog) → List Call → Type 0
+HoldersPromise holder calls = (port : ℕ) (d : Dialog) → holder port ≡ Some d → AnyOf (λ c. c.caller ≡ d) calls
+
 -- ---- what gives it
 
--- the table is the union of the rows of the answered calls' sessions
+-- where a port is asked to lead, from the port that is asked; or nowhere
+abbrev pub hop_of : Named → Option Hop
+hop_of n = option_map (λ a. record { to = a; from = n.from }) n.to
+
+-- the table leads each port that the session names as the session asks
+abbrev pub LeadsSession : (ℕ → Option Hop) → Session → Type 0
+LeadsSession table s = All (λ n. table n.port ≡ hop_of n) (ports_named s.offer_taken s.answer_sent s.offer_sent s.answer_taken)
+
+-- the table leads the ports of the answered calls' sessions as they ask, and each of its rows is a row of theirs
 pub record IsTableOf (table : ℕ → Option Hop) (calls : List Call) : Type 0 where
   pub had : (port : ℕ) (hop : Hop) → table port ≡ Some hop → AnyOf (λ c. (z : Settled) × (c.stage ≡ Answered z) × IsRowOf (record { port = port; to = hop.to; from = hop.from }) z.session) calls
-  pub all : AllOf (λ c. (z : Settled) → c.stage ≡ Answered z → (r : Row) → IsRowOf r z.session → table r.port ≡ Some (record { to = r.to; from = r.from })) calls
+  pub leads : AllOf (λ c. (z : Settled) → c.stage ≡ Answered z → LeadsSession table z.session) calls
 
--- each pair that an answered call's session names is held by the call
-abbrev pub AreHeld : (ℕ → Option Dialog) → List Call → Type 0
-AreHeld holder calls = AllOf (λ c. (z : Settled) → c.stage ≡ Answered z → (port : ℕ) → IsPairOf port z.session → holder port ≡ Some c.caller) calls
+-- each pair that an answered call's session names is held by the call, and no port by what is no call
+pub record AreHeld (holder : ℕ → Option Dialog) (calls : List Call) : Type 0 where
+  pub pairs : AllOf (λ c. (z : Settled) → c.stage ≡ Answered z → (port : ℕ) → IsPairOf port z.session → holder port ≡ Some c.caller) calls
+  pub holders : HoldersPromise holder calls
