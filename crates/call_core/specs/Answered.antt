@@ -1,14 +1,14 @@
 -- X was sent a 200 with the answer, whose ACK has not come.
 use Rattle.std.specs.Prelude.{ℕ, Bool, true, false, [], ◌∷◌, Option, Some, None, if◌then◌else◌}
 use Rattle.call_core.specs.declared.action.Action.TheVariants.{AnswerAgain, Bye, Okay, RemoveRows, Set, Stop}
-use Rattle.call_core.specs.declared.end.End.{End}
+use Rattle.call_media.specs.declared.end.End.{End}
 use Rattle.call_core.specs.declared.row.Row.{Row}
 use Rattle.call_core.specs.declared.signal.Signal.{Signal}
 use Rattle.call_core.specs.declared.signal.Signal.TheVariants as signals
 use Rattle.call_core.specs.declared.action.CallTimer.TheVariants as timers
 use Rattle.call_core.specs.declared.stage.Stage.{Stage}
 use Rattle.call_core.specs.declared.stage.Stage.TheVariants.{Answered, Settled, Reanswered, Ending}
-use Rattle.call_core.specs.Ends.{other, is_same}
+use Rattle.call_media.specs.Ends.{other, is_same}
 use Rattle.call_core.specs.Rows.{row, gone, twice_to_t2}
 
 -- of the first INVITE, or of one inside the call

@@ -2,13 +2,13 @@
 use Rattle.std.specs.Prelude.{ℕ, ◌==◌, Bool, true, false, List, [], ◌∷◌, Option, Some, None, if◌then◌else◌}
 use Rattle.call_core.specs.declared.action.Action.{Action}
 use Rattle.call_core.specs.declared.action.Action.TheVariants.{Ack, Answer, Bye, Cancel, Okay, Provisional, PutRows, Refusal, Release, Set, Stop}
-use Rattle.call_core.specs.declared.end.End.{End}
+use Rattle.call_media.specs.declared.end.End.{End}
 use Rattle.call_core.specs.declared.row.Row.{Row}
 use Rattle.call_core.specs.declared.signal.Signal.{Signal}
 use Rattle.call_core.specs.declared.signal.Signal.TheVariants as signals
 use Rattle.call_core.specs.declared.action.CallTimer.TheVariants as timers
 use Rattle.call_core.specs.declared.stage.Stage.TheVariants.{Asked, Cancelling, Answered}
-use Rattle.call_core.specs.Ends.{other, is_same}
+use Rattle.call_media.specs.Ends.{other, is_same}
 use Rattle.call_core.specs.Passing.{status_passed_on}
 use Rattle.call_core.specs.Rows.{row, gone, first_interval, wait_time, ringing_time, short_time}
 

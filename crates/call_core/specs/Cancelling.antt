@@ -1,13 +1,13 @@
 -- The first INVITE was given up, and has no final response. X is the caller, Y the callee.
 use Rattle.std.specs.Prelude.{Bool, true, false, [], ◌∷◌, Option, Some, None}
 use Rattle.call_core.specs.declared.action.Action.TheVariants.{Abandon, Ack, Bye, Cancel, Set}
-use Rattle.call_core.specs.declared.end.End.{End}
+use Rattle.call_media.specs.declared.end.End.{End}
 use Rattle.call_core.specs.declared.row.Row.{Row}
 use Rattle.call_core.specs.declared.signal.Signal.{Signal}
 use Rattle.call_core.specs.declared.signal.Signal.TheVariants as signals
 use Rattle.call_core.specs.declared.action.CallTimer.TheVariants as timers
 use Rattle.call_core.specs.declared.stage.Stage.TheVariants.{Cancelling}
-use Rattle.call_core.specs.Ends.{other}
+use Rattle.call_media.specs.Ends.{other}
 use Rattle.call_core.specs.Rows.{row, gone, short_time}
 
 unfoldable pub cancelling_row : Bool → End → Signal → Option Row

@@ -2,10 +2,10 @@
 use Rattle.std.specs.Prelude.{Bool, Option, Some, None, if◌then◌else◌}
 use Rattle.call_core.specs.declared.clash.Clash.{Clash}
 use Rattle.call_core.specs.declared.clash.Clash.TheVariants.{Glare, SecondOffer}
-use Rattle.call_core.specs.declared.end.End.{End}
+use Rattle.call_media.specs.declared.end.End.{End}
 use Rattle.call_core.specs.declared.stage.Stage.{Stage}
 use Rattle.call_core.specs.declared.stage.Stage.TheVariants.{Asked, Cancelling, Answered, Settled, Reasked, Reanswered, Updating, Ending}
-use Rattle.call_core.specs.Ends.{is_same}
+use Rattle.call_media.specs.Ends.{is_same}
 
 -- an offer of the end whose offer is open is a second one; one of the end across crosses it
 abbrev pub crossing : End → End → Option Clash

@@ -1,13 +1,13 @@
 -- Y left while the ACK of the 200 to X had not come: X is sent BYE behind its ACK (RFC 3261 section 15).
 use Rattle.std.specs.Prelude.{ℕ, [], ◌∷◌, Option, Some, None, if◌then◌else◌}
 use Rattle.call_core.specs.declared.action.Action.TheVariants.{AnswerAgain, Bye, Okay, Set}
-use Rattle.call_core.specs.declared.end.End.{End}
+use Rattle.call_media.specs.declared.end.End.{End}
 use Rattle.call_core.specs.declared.row.Row.{Row}
 use Rattle.call_core.specs.declared.signal.Signal.{Signal}
 use Rattle.call_core.specs.declared.signal.Signal.TheVariants as signals
 use Rattle.call_core.specs.declared.action.CallTimer.TheVariants as timers
 use Rattle.call_core.specs.declared.stage.Stage.TheVariants.{Ending}
-use Rattle.call_core.specs.Ends.{is_same}
+use Rattle.call_media.specs.Ends.{is_same}
 use Rattle.call_core.specs.Rows.{row, gone, twice_to_t2}
 
 unfoldable pub ending_row : ℕ → End → Signal → Option Row

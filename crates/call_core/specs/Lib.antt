@@ -1,4 +1,3 @@
-pub mod Ends
 pub mod Stages
 pub mod Rows
 pub mod Passing

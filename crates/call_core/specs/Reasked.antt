@@ -1,7 +1,7 @@
 -- An INVITE inside the call was passed on, and has no final response. X is the offerer, Y the end across.
 use Rattle.std.specs.Prelude.{ℕ, ◌==◌, ◌||◌, Bool, true, false, [], ◌∷◌, ◌++◌, Option, Some, None, if◌then◌else◌}
 use Rattle.call_core.specs.declared.action.Action.TheVariants.{Abandon, Ack, Answer, Bye, Cancel, Okay, PutRows, Refusal, Release, Set, Stop}
-use Rattle.call_core.specs.declared.end.End.{End}
+use Rattle.call_media.specs.declared.end.End.{End}
 use Rattle.call_core.specs.declared.row.Row.{Row}
 use Rattle.call_core.specs.declared.signal.Signal.{Signal}
 use Rattle.call_core.specs.declared.signal.Signal.TheVariants as signals
@@ -10,7 +10,7 @@ use Rattle.call_core.specs.declared.stage.Cancelled.{Cancelled}
 use Rattle.call_core.specs.declared.stage.Cancelled.TheVariants.{Never, Waits, PassedOn}
 use Rattle.call_core.specs.declared.stage.Stage.TheVariants.{Settled, Reasked, Reanswered}
 use Rattle.call_core.specs.Asked.{rings}
-use Rattle.call_core.specs.Ends.{other, is_same}
+use Rattle.call_media.specs.Ends.{other, is_same}
 use Rattle.call_core.specs.Passing.{status_passed_on}
 use Rattle.call_core.specs.Rows.{row, gone, first_interval, wait_time, short_time}
 

@@ -1,7 +1,7 @@
 -- A row of the table of calls: what is done, and what comes next.
 use Rattle.std.specs.Prelude.{ℕ, ◌*◌, min, List, Some, None}
 use Rattle.call_core.specs.declared.action.Action.{Action}
-use Rattle.call_core.specs.declared.end.End.{End}
+use Rattle.call_media.specs.declared.end.End.{End}
 use Rattle.call_core.specs.declared.row.Row.{Row}
 use Rattle.call_core.specs.declared.stage.Stage.{Stage}
 

@@ -1,14 +1,14 @@
 -- No offer is open, and each was answered. X is either end.
 use Rattle.std.specs.Prelude.{Bool, true, false, [], ◌∷◌, Option, Some, None}
 use Rattle.call_core.specs.declared.action.Action.TheVariants.{Bye, Offer, Okay, Trying}
-use Rattle.call_core.specs.declared.end.End.{End}
+use Rattle.call_media.specs.declared.end.End.{End}
 use Rattle.call_core.specs.declared.row.Row.{Row}
 use Rattle.call_core.specs.declared.signal.Signal.{Signal}
 use Rattle.call_core.specs.declared.signal.Signal.TheVariants as signals
 use Rattle.call_core.specs.declared.signal.OfferMethod.TheVariants.{Invite, Update}
 use Rattle.call_core.specs.declared.stage.Cancelled.TheVariants.{Never}
 use Rattle.call_core.specs.declared.stage.Stage.TheVariants.{Reasked, Updating}
-use Rattle.call_core.specs.Ends.{other}
+use Rattle.call_media.specs.Ends.{other}
 use Rattle.call_core.specs.Rows.{row, gone}
 
 unfoldable pub settled_row : Signal → Option Row

@@ -1,14 +1,14 @@
 -- The table of calls: what is done for a signal where a call stands, and what comes next; none where the signal has no line.
 use Rattle.std.specs.Prelude.{[], ◌∷◌, Bool, true, false, Option, Some}
 use Rattle.call_core.specs.declared.action.Action.TheVariants.{Offer, Trying}
-use Rattle.call_core.specs.declared.end.End.TheVariants.{Caller, Callee}
+use Rattle.call_media.specs.declared.end.End.TheVariants.{Caller, Callee}
 use Rattle.call_core.specs.declared.row.Row.{Row}
 use Rattle.call_core.specs.declared.signal.OfferMethod.TheVariants.{Invite}
 use Rattle.call_core.specs.declared.signal.Signal.{Signal}
 use Rattle.call_core.specs.declared.stage.Stage.{Stage}
 use Rattle.call_core.specs.declared.stage.Stage.TheVariants as stages
 use Rattle.call_core.specs.declared.stage.Standing.{Standing}
-use Rattle.call_core.specs.declared.end.End.{End}
+use Rattle.call_media.specs.declared.end.End.{End}
 use Rattle.call_core.specs.Answered.{answered_row}
 use Rattle.call_core.specs.Asked.{asked_row}
 use Rattle.call_core.specs.Cancelling.{cancelling_row}

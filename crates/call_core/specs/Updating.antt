@@ -1,12 +1,12 @@
 -- An UPDATE was passed on, and has no final response (RFC 3311). X is the offerer, Y the end across.
 use Rattle.std.specs.Prelude.{ℕ, [], ◌∷◌, Option, Some, None, if◌then◌else◌}
 use Rattle.call_core.specs.declared.action.Action.TheVariants.{Answer, Bye, Okay, PutRows, Refusal, Release}
-use Rattle.call_core.specs.declared.end.End.{End}
+use Rattle.call_media.specs.declared.end.End.{End}
 use Rattle.call_core.specs.declared.row.Row.{Row}
 use Rattle.call_core.specs.declared.signal.Signal.{Signal}
 use Rattle.call_core.specs.declared.signal.Signal.TheVariants as signals
 use Rattle.call_core.specs.declared.stage.Stage.TheVariants.{Settled}
-use Rattle.call_core.specs.Ends.{other}
+use Rattle.call_media.specs.Ends.{other}
 use Rattle.call_core.specs.Passing.{status_passed_on}
 use Rattle.call_core.specs.Reasked.{has_lost_the_call}
 use Rattle.call_core.specs.Rows.{row, gone}

@@ -1,7 +1,7 @@
 //! What a call does.
 
-use crate::end::End;
 use crate::signal::OfferMethod;
+use call_media::End;
 use std::alloc::{AllocError, Global};
 use std::marker::Model;
 

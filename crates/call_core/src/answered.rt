@@ -4,10 +4,10 @@ ghost use Rattle.std.specs.Prelude.{◌≡◌, IfOk};
 ghost use Rattle.call_core.specs.Answered.{answered_row, waiting};
 
 use crate::action::{Action, CallTimer};
-use crate::end::End;
 use crate::row::{Row, ends, leads, twice_to_t2};
 use crate::signal::Signal;
 use crate::stage::Stage;
+use call_media::End;
 use std::alloc::{AllocError, Global};
 
 /// The stage of the first INVITE, or of one inside the call.

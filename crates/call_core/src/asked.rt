@@ -5,11 +5,11 @@ ghost use Rattle.call_core.specs.Asked.{asked_row, given_up, rings};
 ghost use Rattle.call_core.specs.Rows.{row};
 
 use crate::action::{Action, CallTimer};
-use crate::end::End;
 use crate::passing::status_passed_on;
 use crate::row::{RINGING, Row, SHORT, T1, WAIT, ends, leads};
 use crate::signal::Signal;
 use crate::stage::Stage;
+use call_media::End;
 use std::alloc::{AllocError, Global};
 
 /// A provisional response: 100 is not passed on, and the first one sets the limit.

@@ -4,10 +4,10 @@ ghost use Rattle.std.specs.Prelude.{◌≡◌, IfOk};
 ghost use Rattle.call_core.specs.Cancelling.{cancelling_row};
 
 use crate::action::{Action, CallTimer};
-use crate::end::End;
 use crate::row::{Row, SHORT, ends, leads};
 use crate::signal::Signal;
 use crate::stage::Stage;
+use call_media::End;
 use std::alloc::{AllocError, Global};
 
 /// The CANCEL that waits for a provisional response goes out behind the first one.

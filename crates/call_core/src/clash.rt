@@ -4,8 +4,8 @@ ghost use Rattle.std.specs.Prelude.{◌≡◌};
 ghost use Rattle.call_core.specs.Clashes as clashes;
 ghost use Rattle.call_core.specs.Clashes.{crossing, of_offerer};
 
-use crate::end::End;
 use crate::stage::{Stage, Standing};
+use call_media::End;
 use thiserror::Error;
 
 /// Why an offer is not passed on, since another is open (RFC 3261 section 14.2, RFC 3311 section 5.2).

@@ -8,7 +8,6 @@ mod answered;
 mod asked;
 mod cancelling;
 mod clash;
-mod end;
 mod ending;
 mod passing;
 mod reasked;
@@ -20,8 +19,8 @@ mod table;
 mod updating;
 
 pub use action::{Action, Actions, CallTimer};
+pub use call_media::End;
 pub use clash::{Clash, clash_at, clash_without_offer};
-pub use end::End;
 pub use passing::status_passed_on;
 pub use row::Row;
 pub use signal::{OfferMethod, Signal};

@@ -5,11 +5,11 @@ ghost use Rattle.call_core.specs.Reasked.{cancelled_inside, has_lost_the_call, l
 
 use crate::action::{Action, CallTimer};
 use crate::asked::rings;
-use crate::end::End;
 use crate::passing::status_passed_on;
 use crate::row::{Row, SHORT, T1, WAIT, ends, leads};
 use crate::signal::Signal;
 use crate::stage::{Cancelled, Stage};
+use call_media::End;
 use std::alloc::{AllocError, Global};
 
 /// Whether the end across knows of no such call any more, or doesn't answer (RFC 3261 section 12.2.1.2).

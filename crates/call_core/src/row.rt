@@ -4,8 +4,8 @@ ghost use Rattle.std.specs.Prelude.{◌≡◌, ◌∷◌, [], IfOk, Some};
 ghost use Rattle.call_core.specs.Rows.{row, gone, first_interval, twice_to_t2};
 
 use crate::action::{Action, Actions};
-use crate::end::End;
 use crate::stage::{Stage, Standing};
+use call_media::End;
 use std::alloc::{AllocError, Global};
 
 /// The first interval between two copies of a 2xx, in milliseconds: T1 (RFC 3261 section 13.3.1.4).

@@ -4,10 +4,10 @@ ghost use Rattle.std.specs.Prelude.{◌≡◌, IfOk};
 ghost use Rattle.call_core.specs.Settled.{settled_row};
 
 use crate::action::Action;
-use crate::end::End;
 use crate::row::{Row, ends, leads};
 use crate::signal::{OfferMethod, Signal};
 use crate::stage::{Cancelled, Stage};
+use call_media::End;
 use std::alloc::{AllocError, Global};
 
 #[tactic(auto, unfolding(crate::specs::Settled::settled_row))]

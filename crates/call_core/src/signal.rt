@@ -1,6 +1,6 @@
 //! What reaches a call.
 
-use crate::end::End;
+use call_media::End;
 
 /// The method of a request that carries an offer (RFC 3264 section 5, RFC 3311).
 #[derive(Clone, Copy, Debug, PartialEq, Eq)]

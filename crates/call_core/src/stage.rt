@@ -1,6 +1,6 @@
 //! Where a call stands.
 
-use crate::end::End;
+use call_media::End;
 
 /// The phase of a call.
 #[derive(Clone, Copy, Debug, PartialEq, Eq)]

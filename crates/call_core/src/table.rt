@@ -7,7 +7,6 @@ use crate::action::Action;
 use crate::answered::answered_row;
 use crate::asked::asked_row;
 use crate::cancelling::cancelling_row;
-use crate::end::End;
 use crate::ending::ending_row;
 use crate::reasked::reasked_row;
 use crate::row::{Row, leads};
@@ -15,6 +14,7 @@ use crate::settled::settled_row;
 use crate::signal::{OfferMethod, Signal};
 use crate::stage::{Stage, Standing};
 use crate::updating::updating_row;
+use call_media::End;
 use std::alloc::{AllocError, Global};
 
 /// The row of the first offer, which the caller makes.

@@ -4,12 +4,12 @@ ghost use Rattle.std.specs.Prelude.{◌≡◌, IfOk, Some};
 ghost use Rattle.call_core.specs.Updating.{fails, update_refused, updating_row};
 
 use crate::action::Action;
-use crate::end::End;
 use crate::passing::status_passed_on;
 use crate::reasked::has_lost_the_call;
 use crate::row::{Row, ends, leads};
 use crate::signal::Signal;
 use crate::stage::Stage;
+use call_media::End;
 use std::alloc::{AllocError, Global};
 
 /// Both ends are left, and the offerer's UPDATE is refused.

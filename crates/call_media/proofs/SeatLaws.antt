@@ -1,29 +1,29 @@
 -- The pairs of an offer: whose they are, that each serves one medium and one end, and that each medium has them.
-use Rattle.std.proofs.Common.{◌≡◌, ◌+◌, ◌==◌, ◌||◌, ◌&&◌, ◌≤◌, ◌∙◌, ℕ, Bool, true, false, not, cond, eqb, List, [], ◌∷◌, ◌++◌, length, map, Option, Some, None, refl, sym, ap, arith}
+use Rattle.std.proofs.Common.{◌≡◌, ◌+◌, ◌==◌, ◌||◌, ◌&&◌, ◌≤◌, ◌∙◌, ℕ, Bool, true, false, not, cond, List, [], ◌∷◌, length, Option, Some, None, refl, sym, arith}
 use Rattle.std.specs.Prelude.{is_some, is_none}
-use Rattle.std.specs.List.{list_all, list_any, flat_map}
+use Rattle.std.specs.List.{list_all, list_any}
 use Rattle.std.proofs.lemmas.Bool.{and_parts, and_from, eqb-true, eq-eqb}
 use Rattle.port_pool.specs.declared.pair.Pair.{Pair}
 use Rattle.sdp.specs.declared.description.Media.{Media}
 use Rattle.offer_answer.specs.Rows.{are_distinct}
 use Rattle.call_media.specs.declared.seat.Seat.{Seat}
-use Rattle.call_media.specs.Seats.{across, first, rest, needs_pairs, pairs_needed, fresh_seat, seat_of, behind_two, pairs_left, seated, pairs_of_seat, pairs_of, evens, stands_in, are_apart, are_seated}
+use Rattle.call_media.specs.Seats.{first, rest, needs_pairs, pairs_needed, fresh_seat, seat_of, behind_two, pairs_left, seated, pairs_of_seat, pairs_of, evens, stands_in, are_apart, are_seated}
 
 -- ---- of the first medium, and of those behind it
 
 -- both passes, of which the front and the back do
-record Both (p : ℕ → Bool) (s : Option Seat) (ss : List (Option Seat)) : Type 0 where
-  front : list_all p (pairs_of_seat s) ≡ true
-  back : list_all p (pairs_of ss) ≡ true
+pub record Both (p : ℕ → Bool) (s : Option Seat) (ss : List (Option Seat)) : Type 0 where
+  pub front : list_all p (pairs_of_seat s) ≡ true
+  pub back : list_all p (pairs_of ss) ≡ true
 
-both : (p : ℕ → Bool) (s : Option Seat) (ss : List (Option Seat)) → list_all p (pairs_of (s ∷ ss)) ≡ true → Both p s ss
+pub both : (p : ℕ → Bool) (s : Option Seat) (ss : List (Option Seat)) → list_all p (pairs_of (s ∷ ss)) ≡ true → Both p s ss
 both p None ss h = record { front = refl; back = h }
 both p (Some s) ss h =
     let a = and_parts (p s.offerer) (p s.answerer && list_all p (pairs_of ss)) h in
     let b = and_parts (p s.answerer) (list_all p (pairs_of ss)) a.1 in
     record { front = and_from _ _ a.0 (and_from _ _ b.0 refl); back = b.1 }
 
-joined : (p : ℕ → Bool) (s : Option Seat) (ss : List (Option Seat)) → list_all p (pairs_of_seat s) ≡ true → list_all p (pairs_of ss) ≡ true → list_all p (pairs_of (s ∷ ss)) ≡ true
+pub joined : (p : ℕ → Bool) (s : Option Seat) (ss : List (Option Seat)) → list_all p (pairs_of_seat s) ≡ true → list_all p (pairs_of ss) ≡ true → list_all p (pairs_of (s ∷ ss)) ≡ true
 joined p None ss h k = k
 joined p (Some s) ss h k =
     let a = and_parts (p s.offerer) (p s.answerer && true) h in
@@ -115,7 +115,7 @@ each_seated caller (m ∷ ms) kept fresh h = step (m.port == 0) (first kept) (ea
 
 -- ---- each serves one medium and one end
 
-not_true : (b : Bool) → not b ≡ true → b ≡ false
+pub not_true : (b : Bool) → not b ≡ true → b ≡ false
 not_true true h = absurd cc
 not_true false h = refl
 
@@ -125,7 +125,7 @@ none_in (m ∷ ms) n h =
     let parts = and_parts (not (m == n)) (list_all (λ q. not (q == n)) ms) h in
     rw (not_true (m == n) parts.0) (none_in ms n parts.1)
 
-false_or : (a b : Bool) → (a || b) ≡ false → (a ≡ false) × (b ≡ false)
+pub false_or : (a b : Bool) → (a || b) ≡ false → (a ≡ false) × (b ≡ false)
 false_or true b h = absurd cc
 false_or false b h = (refl, h)
 
@@ -135,13 +135,13 @@ all_out (m ∷ ms) n h =
     let parts = false_or (m == n) (list_any (λ q. q == n) ms) h in
     rw parts.0 (all_out ms n parts.1)
 
-turned : (a b : ℕ) → (a == b) ≡ false → (b == a) ≡ false
+pub turned : (a b : ℕ) → (a == b) ≡ false → (b == a) ≡ false
 turned a b h = step (b == a) refl where
   step : (c : Bool) → (b == a) ≡ c → c ≡ false
   step true e = let wrong : (a == b) ≡ true = eq-eqb a b (sym (eqb-true b a e)) in cc (sym wrong ∙ h)
   step false e = refl
 
-imply : (p q : ℕ → Bool) → ((n : ℕ) → p n ≡ true → q n ≡ true) → (ns : List ℕ) → list_all p ns ≡ true → list_all q ns ≡ true
+pub imply : (p q : ℕ → Bool) → ((n : ℕ) → p n ≡ true → q n ≡ true) → (ns : List ℕ) → list_all p ns ≡ true → list_all q ns ≡ true
 imply p q weaker [] h = refl
 imply p q weaker (n ∷ ns) h = let parts = and_parts (p n) (list_all p ns) h in and_from _ _ (weaker n parts.0) (imply p q weaker ns parts.1)
 
@@ -152,7 +152,7 @@ not_first x xs n h = rw (turned x n (false_or (x == n) (stands_in xs n) (not_tru
 not_later : (x : ℕ) (xs : List ℕ) (n : ℕ) → not (stands_in (x ∷ xs) n) ≡ true → not (stands_in xs n) ≡ true
 not_later x xs n h = rw (false_or (x == n) (stands_in xs n) (not_true (stands_in (x ∷ xs) n) h)).1 refl
 
-rest_distinct : (kept : List (Option Seat)) → are_distinct (pairs_of kept) ≡ true → are_distinct (pairs_of (rest kept)) ≡ true
+pub rest_distinct : (kept : List (Option Seat)) → are_distinct (pairs_of kept) ≡ true → are_distinct (pairs_of (rest kept)) ≡ true
 rest_distinct [] h = refl
 rest_distinct (None ∷ ss) h = h
 rest_distinct (Some s ∷ ss) h =
@@ -165,14 +165,14 @@ pub seat_joins : (s : Seat) (ss : List (Option Seat)) → (s.answerer == s.offer
     → list_all (λ q. not (q == s.answerer)) (pairs_of ss) ≡ true → are_distinct (pairs_of ss) ≡ true → are_distinct (pairs_of (Some s ∷ ss)) ≡ true
 seat_joins s ss differ offerer answerer h = rw (differ, none_in (pairs_of ss) s.offerer offerer, none_in (pairs_of ss) s.answerer answerer) h
 
-record Kept (s : Seat) (ss : List (Option Seat)) (fs : List ℕ) : Type 0 where
-  differ : (s.answerer == s.offerer) ≡ false
-  offerer : list_all (λ q. not (q == s.offerer)) (pairs_of ss) ≡ true
-  answerer : list_all (λ q. not (q == s.answerer)) (pairs_of ss) ≡ true
-  fresh_offerer : list_all (λ q. not (q == s.offerer)) fs ≡ true
-  fresh_answerer : list_all (λ q. not (q == s.answerer)) fs ≡ true
+pub record Kept (s : Seat) (ss : List (Option Seat)) (fs : List ℕ) : Type 0 where
+  pub differ : (s.answerer == s.offerer) ≡ false
+  pub offerer : list_all (λ q. not (q == s.offerer)) (pairs_of ss) ≡ true
+  pub answerer : list_all (λ q. not (q == s.answerer)) (pairs_of ss) ≡ true
+  pub fresh_offerer : list_all (λ q. not (q == s.offerer)) fs ≡ true
+  pub fresh_answerer : list_all (λ q. not (q == s.answerer)) fs ≡ true
 
-kept_is : (s : Seat) (ss : List (Option Seat)) (fs : List ℕ) → are_distinct (pairs_of (Some s ∷ ss)) ≡ true → are_apart (pairs_of (Some s ∷ ss)) fs ≡ true → Kept s ss fs
+pub kept_is : (s : Seat) (ss : List (Option Seat)) (fs : List ℕ) → are_distinct (pairs_of (Some s ∷ ss)) ≡ true → are_apart (pairs_of (Some s ∷ ss)) fs ≡ true → Kept s ss fs
 kept_is s ss fs h k =
     let ps = pairs_of ss in
     let out = λ (n : ℕ). not (stands_in fs n) in
@@ -189,7 +189,7 @@ kept_is s ss fs h k =
       fresh_answerer = all_out fs s.answerer (not_true (stands_in fs s.answerer) e.0);
     }
 
-record Fresh (a b : Pair) (more : List Pair) (ps : List ℕ) : Type 0 where
+pub record Fresh (a b : Pair) (more : List Pair) (ps : List ℕ) : Type 0 where
   differ : (b.even == a.even) ≡ false
   first_kept : list_all (λ q. not (q == a.even)) ps ≡ true
   second_kept : list_all (λ q. not (q == b.even)) ps ≡ true
@@ -215,7 +215,7 @@ fresh_is a b more ps h k =
       apart = imply (λ n. not (stands_in (b.even ∷ later) n)) (λ n. not (stands_in later n)) (not_later b.even later) ps without_a;
     }
 
-none_left : (caller : Bool) (ms : List Media) (kept : List (Option Seat)) → are_apart (pairs_of kept) [] ≡ true
+pub none_left : (caller : Bool) (ms : List Media) (kept : List (Option Seat)) → are_apart (pairs_of kept) [] ≡ true
 none_left caller ms kept = all_true (pairs_of kept) where
   all_true : (ns : List ℕ) → list_all (λ p. not (stands_in [] p)) ns ≡ true
   all_true [] = refl

@@ -1,1 +1,6 @@
+pub mod Ends
 pub mod Seats
+pub mod Versions
+pub mod Sessions
+pub mod Offers
+pub mod Serving

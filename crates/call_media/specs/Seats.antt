@@ -1,5 +1,5 @@
 -- The pairs that serve the media of a call: for each medium that is in use one faces the offerer and one the answerer.
-use Rattle.std.specs.Prelude.{ℕ, ◌+◌, ◌==◌, ◌||◌, ◌&&◌, Bool, true, false, not, is_some, is_none, List, [], ◌∷◌, ◌++◌, map, Option, Some, None, if◌then◌else◌}
+use Rattle.std.specs.Prelude.{ℕ, ◌+◌, ◌==◌, ◌||◌, ◌&&◌, Bool, true, false, not, is_some, is_none, List, [], ◌∷◌, map, Option, Some, None, if◌then◌else◌}
 use Rattle.std.specs.List.{list_all, list_any, flat_map}
 use Rattle.port_pool.specs.declared.pair.Pair.{Pair}
 use Rattle.sdp.specs.declared.description.Description.{Description}
@@ -92,6 +92,10 @@ pairs_of seats = flat_map pairs_of_seat seats
 
 abbrev pub evens : List Pair → List ℕ
 evens pairs = map (λ p. p.even) pairs
+
+-- the pairs with these even ports
+abbrev pub pairs_at : List ℕ → List Pair
+pairs_at ports = map (λ e. record { even = e }) ports
 
 abbrev pub stands_in : List ℕ → ℕ → Bool
 stands_in ports port = list_any (λ q. q == port) ports

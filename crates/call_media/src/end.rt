@@ -9,7 +9,17 @@ pub enum End {
 
 impl End {
     ghost use Rattle.std.specs.Prelude.{◌≡◌};
-    ghost use Rattle.call_core.specs.Ends.{other};
+    ghost use Rattle.call_media.specs.declared.end.End.TheVariants.{Caller};
+    ghost use Rattle.call_media.specs.Ends.{is_same, other};
+
+    pub(crate) fn is_caller(self) -> bool
+        ensures { result ≡ is_same self Caller }
+    {
+        match self {
+            End::Caller => true,
+            End::Callee => false,
+        }
+    }
 
     /// The end across. Takes no memory.
     pub fn other(self) -> End

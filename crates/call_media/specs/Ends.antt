@@ -1,7 +1,7 @@
 -- The two ends of a call.
 use Rattle.std.specs.Prelude.{Bool, true, false}
-use Rattle.call_core.specs.declared.end.End.{End}
-use Rattle.call_core.specs.declared.end.End.TheVariants.{Caller, Callee}
+use Rattle.call_media.specs.declared.end.End.{End}
+use Rattle.call_media.specs.declared.end.End.TheVariants.{Caller, Callee}
 
 abbrev pub other : End → End
 other Caller = Callee

@@ -1,0 +1,29 @@
+//! Why an offer or an answer is not passed on.
+
+use offer_answer::OfferFault;
+use std::alloc::AllocError;
+use thiserror::Error;
+
+/// Why an offer is not passed on. Nothing changes then.
+#[derive(Clone, Copy, Debug, PartialEq, Eq, Error)]
+pub enum OfferRefusal {
+    #[error("out of memory")]
+    OutOfMemory,
+    /// The offer is none that the relay carries: 488.
+    #[error("K3: {0}")]
+    Unfit(OfferFault),
+    /// Too few pairs are free: 503.
+    #[error("K4: no ports")]
+    NoPorts,
+}
+
+impl From<AllocError> for OfferRefusal {
+    ghost use Rattle.std.specs.Prelude.{◌≡◌};
+    ghost use Rattle.call_media.specs.declared.refusal.OfferRefusal.TheVariants.{OutOfMemory};
+
+    ghost from_gives = { λ _ e. e ≡ OutOfMemory };
+
+    fn from(_error: AllocError) -> Self {
+        OfferRefusal::OutOfMemory
+    }
+}

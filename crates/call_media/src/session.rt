@@ -1,0 +1,99 @@
+//! A session and an open offer, as the server has them of both legs.
+
+use crate::end::End;
+use crate::seat::Seat;
+use port_pool::Pair;
+use sdp::Description;
+use std::marker::Model;
+
+/// The pairs of media in order, which contracts see as a list: none for a medium without pairs.
+#[derive(Debug, Drop)]
+pub struct Seats {
+    seats: Vec<Option<Seat>>,
+}
+
+impl Model for Seats {
+    ghost use Rattle.std.specs.Prelude.{List, Option};
+    ghost use Rattle.call_media.specs.declared.seat.Seat.{Seat};
+
+    ghost Value = { List (Option Seat) };
+
+    ghost view = { λ s. s.seats.items };
+}
+
+impl Seats {
+    ghost use Rattle.std.specs.Prelude.{◌≡◌};
+
+    pub(crate) fn from_vec(seats: Vec<Option<Seat>>) -> Seats
+        ensures { result ≡ seats.items }
+    {
+        Seats { seats }
+    }
+
+    /// The pairs, lent. Takes no memory.
+    pub fn as_slice(&self) -> &[Option<Seat>]
+        ensures { result.now ≡ self.now }
+    {
+        &self.seats
+    }
+}
+
+/// Pairs in order, which contracts see as a list.
+#[derive(Debug, Drop)]
+pub struct Pairs {
+    pairs: Vec<Pair>,
+}
+
+impl Model for Pairs {
+    ghost use Rattle.std.specs.Prelude.{List};
+    ghost use Rattle.port_pool.specs.declared.pair.Pair.{Pair};
+
+    ghost Value = { List Pair };
+
+    ghost view = { λ p. p.pairs.items };
+}
+
+impl Pairs {
+    ghost use Rattle.std.specs.Prelude.{◌≡◌};
+
+    pub(crate) fn from_vec(pairs: Vec<Pair>) -> Pairs
+        ensures { result ≡ pairs.items }
+    {
+        Pairs { pairs }
+    }
+
+    /// The pairs, lent. Takes no memory.
+    pub fn as_slice(&self) -> &[Pair]
+        ensures { result.now ≡ self.now }
+    {
+        &self.pairs
+    }
+}
+
+/// An offer that was passed on and has no answer yet.
+#[derive(Debug, Drop)]
+pub struct OpenOffer {
+    /// The end that offers.
+    pub offerer: End,
+    /// The pairs of its media, medium by medium.
+    pub seats: Seats,
+    /// As the offerer gave it.
+    pub offer_taken: Description<'static>,
+    /// As the end across got it.
+    pub offer_sent: Description<'static>,
+}
+
+/// The descriptions of the last exchange, which both ends go by.
+#[derive(Debug, Drop)]
+pub struct Session {
+    /// The end that offered.
+    pub offerer: End,
+    pub offer_taken: Description<'static>,
+    /// The answer, as the offerer got it.
+    pub answer_sent: Description<'static>,
+    /// The offer, as the answerer got it.
+    pub offer_sent: Description<'static>,
+    pub answer_taken: Description<'static>,
+    /// The pairs that its media use.
+    pub pairs: Pairs,
+}
