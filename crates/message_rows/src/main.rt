@@ -1,29 +1,18 @@
-//! Rows of the crates that know messages: `sip_message`, `transactions` and `dialogs`.
+//! Rows of the crates that read and write messages: `sip_message` and `sip_writing`.
 #![tactic(auto)]
 
-mod dialog_calls;
-mod dialog_texts;
-mod dialogs_rows;
 mod header_rows;
-mod machine_rows;
 mod message_texts;
 mod sip_message_rows;
-mod table_texts;
-mod transactions_rows;
 mod words_rows;
 
-use crate::dialogs_rows::DialogsRows;
-use crate::transactions_rows::TransactionsRows;
 use rows::{Notation, Rows, play};
 use std::alloc::{AllocError, Global};
 use std::io;
 
-/// What the calls of a crate leave for the rows behind them.
+/// Calls that leave nothing for the rows behind them.
 #[derive(Drop)]
-struct MessageRows {
-    transactions: TransactionsRows,
-    dialogs: DialogsRows,
-}
+struct MessageRows;
 
 impl Rows for MessageRows {
     fn answer(
@@ -35,8 +24,6 @@ impl Rows for MessageRows {
     ) -> Result<Option<String>, AllocError> {
         match crate_name {
             "sip_message" => sip_message_rows::answer(alloc, call, args),
-            "transactions" => self.transactions.answer(alloc, call, args),
-            "dialogs" => self.dialogs.answer(alloc, call, args),
             _ => Ok(None),
         }
     }
@@ -44,10 +31,7 @@ impl Rows for MessageRows {
 
 fn main(rt: HostRuntime) -> io::Result<()> {
     let mut notation = Notation::new(rt.alloc());
-    let mut rows = MessageRows {
-        transactions: TransactionsRows::new(rt.alloc()),
-        dialogs: DialogsRows::new(rt.alloc()),
-    };
+    let mut rows = MessageRows;
     for line in rt.lines(rt.alloc()) {
         play(&rt, &mut notation, &mut rows, line?.as_str())?;
     }

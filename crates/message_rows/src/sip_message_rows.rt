@@ -3,10 +3,10 @@
 use crate::header_rows::of_headers;
 use crate::message_texts::{contacts_text, headers_text, parts_text, summary, vias_text};
 use crate::words_rows::{built_text, words_text};
+use row_messages::{fault_text, message_of};
 use rows::{address_of, address_words, number, said, shown, u16_of};
 use sip_message::{
     Header, Message, MessageError, Parts, Response, Via, Vias, answerable, contacts, one_message,
-    read_message,
 };
 use sip_uri::Addr;
 use sip_writing::{
@@ -14,20 +14,6 @@ use sip_writing::{
 };
 use std::alloc::{AllocError, Global};
 use text::{Text, is_run_of_token};
-
-/// The message of these bytes, in a list of one, which is dropped as a whole.
-pub(crate) fn message_of(alloc: Global, bytes: &[u8]) -> Result<Vec<Message<'_>>, MessageError> {
-    let messages = vec![in alloc; read_message(alloc, bytes)?]?;
-    Ok(messages)
-}
-
-/// A fault in its words. Want of memory goes up.
-pub(crate) fn fault_text(alloc: Global, fault: MessageError) -> Result<String, AllocError> {
-    match fault {
-        MessageError::OutOfMemory => Err(AllocError),
-        fault => fault.to_string(alloc),
-    }
-}
 
 /// What an answer to the message repeats.
 fn parts_in<'m, 'a>(message: &'m Message<'a>) -> &'m Parts<'a> {

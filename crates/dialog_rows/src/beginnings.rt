@@ -1,20 +1,20 @@
-//! Rows of calls of `dialogs`: histories of one dialog.
+//! How a dialog begins, and what the rows behind ask of it.
 
 ghost use Rattle.std.specs.Prelude.{◌≡◌, IfOk};
 ghost use Rattle.sip_message.specs.Grammar.{ReadsMessage};
 ghost use Rattle.sip_message.specs.declared.message.Message.TheVariants as Kinds;
 ghost use Rattle.dialogs.specs.Making.{is_invite};
 
-use crate::dialog_calls::of_dialog;
-use crate::sip_message_rows::fault_text;
+use crate::calls::of_dialog;
 use dialogs::{Dialog, contacts_are_read, dialogs_are_sound, invites_name_a_contact};
+use row_messages::fault_text;
 use rows::said;
 use sip_message::{Message, MessageError, Parts, Request, Response, read_message};
 use std::alloc::{AllocError, Global};
 
 /// The dialog that the rows before have left, if there is one.
 #[derive(Drop)]
-pub(crate) struct DialogsRows {
+pub(crate) struct History {
     dialogs: Vec<Dialog>,
 }
 
@@ -105,9 +105,9 @@ fn caller(alloc: Global, sent: &[u8], taken: &[u8]) -> Result<Dialog, MessageErr
     caller_by(alloc, &invite, taken)
 }
 
-impl DialogsRows {
-    pub(crate) fn new(alloc: Global) -> DialogsRows {
-        DialogsRows {
+impl History {
+    pub(crate) fn new(alloc: Global) -> History {
+        History {
             dialogs: Vec::new(alloc),
         }
     }
@@ -128,7 +128,7 @@ impl DialogsRows {
     }
 
     /// What the row's call answers, if it is one of `dialogs`.
-    pub(crate) fn answer(
+    pub(crate) fn answer_to(
         &mut self,
         alloc: Global,
         call: &str,

@@ -1,9 +1,9 @@
 //! Calls on a dialog that stands.
 
-use crate::dialog_texts::dialog_text;
-use crate::dialogs_rows::{request_of, response_of};
-use crate::sip_message_rows::fault_text;
+use crate::beginnings::{request_of, response_of};
+use crate::texts::dialog_text;
 use dialogs::{Dialog, DialogError, DialogId, Extras, Method, NextRequest, contact_uri};
+use row_messages::fault_text;
 use rows::{number, said, shown, u32_of};
 use sip_message::{Header, MessageError, Request, Via};
 use sip_uri::{Addr, UriError, read_uri, write_uri};

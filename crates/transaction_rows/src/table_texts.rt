@@ -1,6 +1,6 @@
 //! Answers of a table of transactions as a row writes them, and the filling of one.
 
-use crate::sip_message_rows::message_of;
+use row_messages::message_of;
 use rows::said;
 use sip_message::Message;
 use sip_uri::Addr;

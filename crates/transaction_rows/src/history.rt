@@ -1,12 +1,12 @@
-//! Rows of calls of `transactions`: histories of a table.
+//! Histories of a table of transactions.
 
 ghost use Rattle.std.specs.Prelude.{◌<◌, ◌^◌};
 
-use crate::machine_rows::{advanced, timer_kind};
-use crate::sip_message_rows::{fault_text, message_of};
+use crate::machines::{advanced, timer_kind};
 use crate::table_texts::{
     PLACE, filled, id_text, next_text, refusal_text, timer_text, verdict_text,
 };
+use row_messages::{fault_text, message_of};
 use rows::{address_of, address_words, number, said, shown, u16_of, usize_of};
 use sip_message::{Message, Request, Response};
 use sip_uri::Addr;
@@ -16,7 +16,7 @@ use transactions::{Change, Fired, Outgoing, Reception, Started, Table, TimerId, 
 
 /// The table that the rows before have left, and the bytes that were sent last.
 #[derive(Drop)]
-pub(crate) struct TransactionsRows {
+pub(crate) struct History {
     table: Table,
     sent: Vec<u8>,
 }
@@ -39,9 +39,9 @@ fn laws() {
     replies();
 }
 
-impl TransactionsRows {
-    pub(crate) fn new(alloc: Global) -> TransactionsRows {
-        TransactionsRows {
+impl History {
+    pub(crate) fn new(alloc: Global) -> History {
+        History {
             table: Table::new(alloc),
             sent: Vec::new(alloc),
         }
@@ -227,7 +227,7 @@ impl TransactionsRows {
     }
 
     /// What the row's call answers, if it is one of `transactions`.
-    pub(crate) fn answer(
+    pub(crate) fn answer_to(
         &mut self,
         alloc: Global,
         call: &str,

@@ -1,0 +1,35 @@
+//! Rows of `transactions`: its machines line by line, and histories of a table.
+#![tactic(auto)]
+
+mod history;
+mod machines;
+mod table_texts;
+
+use crate::history::History;
+use rows::{Notation, Rows, play};
+use std::alloc::{AllocError, Global};
+use std::io;
+
+impl Rows for History {
+    fn answer(
+        &mut self,
+        alloc: Global,
+        crate_name: &str,
+        call: &str,
+        args: &[&[u8]],
+    ) -> Result<Option<String>, AllocError> {
+        match crate_name {
+            "transactions" => self.answer_to(alloc, call, args),
+            _ => Ok(None),
+        }
+    }
+}
+
+fn main(rt: HostRuntime) -> io::Result<()> {
+    let mut notation = Notation::new(rt.alloc());
+    let mut rows = History::new(rt.alloc());
+    for line in rt.lines(rt.alloc()) {
+        play(&rt, &mut notation, &mut rows, line?.as_str())?;
+    }
+    Ok(())
+}
