@@ -5,3 +5,4 @@ pub mod HeldLaws
 pub mod SpareLaws
 pub mod AnswerLaws
 pub mod ServeLaws
+pub mod SessionLaws

@@ -4,3 +4,4 @@ pub mod Versions
 pub mod Sessions
 pub mod Offers
 pub mod Serving
+pub mod Answers

@@ -86,6 +86,10 @@ with_offer m o = record { number = m.number; range = m.range; versions = one_mor
 abbrev pub without_offer : CallMedia → CallMedia
 without_offer m = record { number = m.number; range = m.range; versions = m.versions; offer = None; session = m.session }
 
+-- the media after the call ended: nothing is open, and no session stands
+abbrev pub ended : CallMedia → CallMedia
+ended m = record { number = m.number; range = m.range; versions = m.versions; offer = None; session = None }
+
 -- what is known of a planned offer, on the values that it was planned with
 pub record IsReady (m : CallMedia) (pool : Contents) (now : ℕ) (p : PlannedOffer) : Type 0 where
   pub free : AreFree pool now p.fresh.items

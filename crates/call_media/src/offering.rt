@@ -1,21 +1,19 @@
-//! Offers that are passed on, or given up.
+//! What passing an offer on takes.
 
-ghost use Rattle.std.specs.Prelude.{◌≡◌, ◌≢◌, ◌<◌, ℕ, All, IfOk, IfErr, OnOk, IsTrue, Some, None, false, true, length};
-ghost use Rattle.std.specs.Option.{option_copied};
-ghost use Rattle.port_pool.specs.Holdings.{AreRising, LeadsPair, even_of, free_pairs, holder_at, is_among};
-ghost use Rattle.port_pool.specs.Pool.{AreFree, RestsFrom, is_port_of, lowest_free, with_pairs, without_others};
+ghost use Rattle.std.specs.Prelude.{◌≡◌, ◌≢◌, ℕ, All, IfOk, IfErr, OnOk, None, true, length};
+ghost use Rattle.port_pool.specs.Holdings.{AreRising, LeadsPair, even_of, holder_at, is_among};
+ghost use Rattle.port_pool.specs.Pool.{AreFree, lowest_free};
 ghost use Rattle.offer_answer.specs.Checks.{offer_fault};
 ghost use Rattle.offer_answer.specs.Direct.{hold_address};
 ghost use Rattle.call_media.specs.declared.end.End.TheVariants.{Caller};
-ghost use Rattle.call_media.specs.declared.refusal.OfferRefusal.TheVariants.{NoPorts, OutOfMemory, Unfit};
 ghost use Rattle.call_media.specs.Ends.{is_same};
 ghost use Rattle.call_media.specs.Seats.{seated};
-ghost use Rattle.call_media.specs.Sessions.{pairs_listed, previous};
-ghost use Rattle.call_media.specs.Offers.{DoFor, IsPassedOn, IsReady, RefusesOffer, RefusesPairs, fresh_needed, opened, opened_over, with_offer, without_offer};
-ghost use Rattle.call_media.specs.Serving.{Serves, SparesOthers};
+ghost use Rattle.call_media.specs.Sessions.{previous};
+ghost use Rattle.call_media.specs.Offers.{DoFor, IsPassedOn, IsReady, RefusesOffer, RefusesPairs, fresh_needed, opened, opened_over};
+ghost use Rattle.call_media.specs.Serving.{Serves};
 
 use crate::end::End;
-use crate::previous::{pairs_listed, previous, seats_kept};
+use crate::previous::{previous, seats_kept};
 use crate::refusal::OfferRefusal;
 use crate::seat::Seat;
 use crate::seating::{pairs_needed, ports_to_answerer, seated};

@@ -1,6 +1,6 @@
 //! Why an offer or an answer is not passed on.
 
-use offer_answer::OfferFault;
+use offer_answer::{AnswerFault, OfferFault};
 use std::alloc::AllocError;
 use thiserror::Error;
 
@@ -25,5 +25,37 @@ impl From<AllocError> for OfferRefusal {
 
     fn from(_error: AllocError) -> Self {
         OfferRefusal::OutOfMemory
+    }
+}
+
+/// Why an answer is not passed on. Nothing changes then.
+#[derive(Clone, Copy, Debug, PartialEq, Eq, Error)]
+pub enum AnswerRefusal {
+    #[error("out of memory")]
+    OutOfMemory,
+    /// The answer is none to the offer, or none that the relay carries.
+    #[error("{0}")]
+    Unfit(AnswerFault),
+}
+
+impl From<AllocError> for AnswerRefusal {
+    ghost use Rattle.std.specs.Prelude.{◌≡◌};
+    ghost use Rattle.call_media.specs.declared.refusal.AnswerRefusal.TheVariants.{OutOfMemory};
+
+    ghost from_gives = { λ _ e. e ≡ OutOfMemory };
+
+    fn from(_error: AllocError) -> Self {
+        AnswerRefusal::OutOfMemory
+    }
+}
+
+impl From<AnswerFault> for AnswerRefusal {
+    ghost use Rattle.std.specs.Prelude.{◌≡◌};
+    ghost use Rattle.call_media.specs.declared.refusal.AnswerRefusal.TheVariants.{Unfit};
+
+    ghost from_gives = { λ fault e. e ≡ Unfit fault };
+
+    fn from(fault: AnswerFault) -> Self {
+        AnswerRefusal::Unfit(fault)
     }
 }

@@ -2,7 +2,7 @@
 
 use crate::end::End;
 use crate::seat::Seat;
-use port_pool::Pair;
+use port_pool::{Change, Pair};
 use sdp::Description;
 use std::marker::Model;
 
@@ -96,4 +96,11 @@ pub struct Session {
     pub answer_taken: Description<'static>,
     /// The pairs that its media use.
     pub pairs: Pairs,
+}
+
+/// What leads to the rows of a session in place of its call's former ones, and the pairs that they are of.
+#[derive(Debug, Drop)]
+pub struct SessionRows {
+    pub pairs: Pairs,
+    pub changes: Vec<Change>,
 }

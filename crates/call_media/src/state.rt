@@ -1,12 +1,8 @@
 //! The media of one call.
 
-use crate::end::End;
-use crate::seating::seats_in_use;
-use crate::session::{OpenOffer, Seats, Session};
+use crate::session::{OpenOffer, Session};
 use crate::versions::Versions;
 use offer_answer::OwnRange;
-use sdp::Description;
-use std::alloc::{AllocError, Global};
 
 /// The media of one call: its session, and an offer that was passed on, if any.
 #[derive(Debug, Drop)]
@@ -19,16 +15,18 @@ pub struct CallMedia {
 }
 
 impl CallMedia {
-    ghost use Rattle.std.specs.Prelude.{◌≡◌, ◌≢◌, IfOk, Some, None, option_map};
+    ghost use Rattle.std.specs.Prelude.{ℕ, ◌≡◌, ◌≢◌, None, false};
     ghost use Rattle.std.specs.Option.{option_copied};
+    ghost use Rattle.port_pool.specs.Pool.{Contents, is_port_of};
     ghost use Rattle.offer_answer.specs.Direct.{hold_address};
-    ghost use Rattle.call_media.specs.Sessions.{previous, seats_kept};
+    ghost use Rattle.call_media.specs.Serving.{Serves};
     ghost use Rattle.call_media.specs.Versions.{none_sent};
 
     /// The media of a call of this number, which has no offer yet. The server's address is not 0.0.0.0. Takes no memory.
     pub fn new(number: u64, range: OwnRange) -> CallMedia
         requires { range.ip ≢ hold_address }
-        ensures { result ≡ record { number = number; range = range; versions = none_sent; offer = None; session = None } }
+        ensures media { result ≡ record { number = number; range = range; versions = none_sent; offer = None; session = None } }
+        ensures serves { (pool : Contents) → ((port : ℕ) → is_port_of pool number port ≡ false) → Serves result pool }
     {
         CallMedia {
             number,

@@ -2,6 +2,7 @@
 
 ghost use Rattle.std.specs.Prelude.{ℕ, ◌≡◌, ◌==◌, ◌||◌, ◌++◌, [], ◌∷◌, IfOk, OnOk, IsTrue, All, map, if◌then◌else◌};
 ghost use Rattle.std.specs.FinMap as finmap;
+ghost use Rattle.port_pool.specs.Changes.{LeadFrom};
 ghost use Rattle.port_pool.specs.Pool.{AreHeld, changes_of, row_after, with_changes};
 ghost use Rattle.offer_answer.specs.Rows.{HasRows, above, are_distinct, medium_named, media_named, media_pairs, pair_named, pairs_named};
 ghost use Rattle.offer_answer.specs.Session.{HasAbove, HoldsPairs, leads_by, line_of, session_lines};
@@ -239,6 +240,8 @@ pub fn plan_session(
     ensures changes { IfOk result (λ changes. changes.items ≡ changes_of pool.now call
         (session_lines offer_taken.now answer_sent.now offer_sent.now answer_taken.now)) }
     ensures held { IfOk result (λ changes. AreHeld pool.now changes.items) }
+    ensures leads { IfOk result (λ changes.
+        LeadFrom pool.now.rows (with_changes pool.now changes.items).rows changes.items) }
     ensures rows { IfOk result (λ changes. HasRows (leads_by (with_changes pool.now changes.items).rows)
         offer_taken.now answer_sent.now offer_sent.now answer_taken.now) }
     ensures ports { IfOk result (λ changes. (port : ℕ) → finmap.get (with_changes pool.now changes.items).rows port
