@@ -1,5 +1,5 @@
 -- The text that is written for a URI.
-use Rattle.std.specs.Prelude.{ℕ, List, [], ◌∷◌, ◌++◌, codes, Option, Some, None, if◌then◌else◌, decimal, slice_index}
+use Rattle.std.specs.Prelude.{◌≡◌, ℕ, List, [], ◌∷◌, ◌++◌, codes, Option, Some, None, if◌then◌else◌, decimal, slice_index}
 use Rattle.std.specs.List.{flat_map}
 use Rattle.percent_encoding.specs.Percent.{percent_encode_byte}
 use Rattle.sip_uri.specs.declared.uri.Uri.{Uri}
@@ -8,6 +8,10 @@ use Rattle.sip_uri.specs.declared.uri.Host.{Host}
 use Rattle.sip_uri.specs.declared.uri.Host.TheVariants.{Ip4, Name}
 use Rattle.text.specs.Cut.{led_by}
 use Rattle.sip_uri.specs.Classes.{is_plain_user}
+
+-- what stood before is left, and a part may be written behind it
+abbrev pub BeginsWith : List ℕ → List ℕ → Type 0
+BeginsWith old new = (more : List ℕ) × (new ≡ old ++ more)
 
 -- a byte of a user, or its escape
 abbrev pub escaped_byte : ℕ → List ℕ

@@ -1,9 +1,9 @@
 //! Writing of URIs.
 
-ghost use Rattle.std.specs.Prelude.{◌≡◌, ◌++◌, ℕ, List, OnOk, IfOk, decimal};
+ghost use Rattle.std.specs.Prelude.{◌≡◌, ◌++◌, ℕ, List, OnErr, OnOk, IfOk, decimal};
 ghost use Rattle.sip_uri.specs.declared.uri.Uri.{Uri};
 ghost use Rattle.sip_uri.specs.Grammar.{ReadsUri};
-ghost use Rattle.sip_uri.specs.Writing.{escaped_byte, escaped, ip4_text, host_text, param_text, params_text, user_part, port_part, uri_text};
+ghost use Rattle.sip_uri.specs.Writing.{BeginsWith, escaped_byte, escaped, ip4_text, host_text, param_text, params_text, user_part, port_part, uri_text};
 
 use crate::class::is_plain_user;
 use crate::uri::{Host, Param, Uri};
@@ -31,9 +31,10 @@ fn put_escaped(out: &mut Vec<u8>, user: &[u8]) -> Result<(), AllocError>
     Ok(())
 }
 
-/// Writes an IPv4 address in plain decimals behind what is there. Where memory runs out, a part may be written.
+/// Writes an IPv4 address in plain decimals behind what is there. Where memory runs out, a part may be written there.
 pub fn put_ip4(out: &mut Vec<u8>, octets: &[u8; 4]) -> Result<(), AllocError>
-    ensures { OnOk result (out.new.items ≡ out.old.items ++ ip4_text octets.now) }
+    ensures ok { OnOk result (out.new.items ≡ out.old.items ++ ip4_text octets.now) }
+    ensures err { OnErr result (BeginsWith out.old.items out.new.items) }
 {
     put_number(out, u64::from(octets[0]))?;
     out.push(b'.')?;
@@ -46,9 +47,10 @@ pub fn put_ip4(out: &mut Vec<u8>, octets: &[u8; 4]) -> Result<(), AllocError>
 }
 
 /// Writes a host behind what is there: an IPv4 address in plain decimals, or a name as it stands. Where memory runs
-/// out, a part may be written.
+/// out, a part may be written there.
 pub fn put_host(out: &mut Vec<u8>, host: &Host) -> Result<(), AllocError>
-    ensures { OnOk result (out.new.items ≡ out.old.items ++ host_text host.now) }
+    ensures ok { OnOk result (out.new.items ≡ out.old.items ++ host_text host.now) }
+    ensures err { OnErr result (BeginsWith out.old.items out.new.items) }
 {
     match host {
         Host::Ip4(octets) => put_ip4(out, octets)?,
@@ -57,9 +59,10 @@ pub fn put_host(out: &mut Vec<u8>, host: &Host) -> Result<(), AllocError>
     Ok(())
 }
 
-/// Writes `name` or `name=value` behind what is there. Where memory runs out, a part may be written.
+/// Writes `name` or `name=value` behind what is there. Where memory runs out, a part may be written there.
 pub fn put_param(out: &mut Vec<u8>, param: &Param) -> Result<(), AllocError>
-    ensures { OnOk result (out.new.items ≡ out.old.items ++ param_text param.now) }
+    ensures ok { OnOk result (out.new.items ≡ out.old.items ++ param_text param.now) }
+    ensures err { OnErr result (BeginsWith out.old.items out.new.items) }
 {
     out.extend_from_slice(param.name.as_bytes())?;
     if let Some(value) = &param.value {
@@ -70,14 +73,15 @@ pub fn put_param(out: &mut Vec<u8>, param: &Param) -> Result<(), AllocError>
 }
 
 /// Writes parameters behind what is there, the first behind one byte and each other behind another. Where memory runs
-/// out, a part may be written.
+/// out, a part may be written there.
 pub fn put_params(
     out: &mut Vec<u8>,
     params: &[Param],
     first: u8,
     next: u8,
 ) -> Result<(), AllocError>
-    ensures { OnOk result (out.new.items ≡ out.old.items ++ params_text first next params.now) }
+    ensures ok { OnOk result (out.new.items ≡ out.old.items ++ params_text first next params.now) }
+    ensures err { OnErr result (BeginsWith out.old.items out.new.items) }
 {
     let mut mark = first;
     for param in params {
