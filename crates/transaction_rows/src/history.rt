@@ -10,9 +10,13 @@ use row_messages::{fault_text, message_of};
 use rows::{address_of, address_words, number, said, shown, u16_of, usize_of};
 use sip_message::{Message, Request, Response};
 use sip_uri::Addr;
+use sip_writing::write_request;
 use std::alloc::{AllocError, Global};
 use text::cut;
-use transactions::{Change, Fired, Outgoing, Reception, Started, Table, TimerId, once, replies};
+use transactions::{
+    Change, Fired, Outgoing, Reception, Started, Table, TimerId, answers_are_repeated, cancel_of,
+    once, others_are_untouched, replies, servers,
+};
 
 /// The table that the rows before have left, and the bytes that were sent last.
 #[derive(Drop)]
@@ -37,6 +41,15 @@ fn moment(word: &[u8]) -> u64
 fn laws() {
     once();
     replies();
+    servers();
+    others_are_untouched();
+    answers_are_repeated();
+}
+
+/// The bytes of a request.
+fn written(alloc: Global, request: &Request<'_>) -> Result<String, AllocError> {
+    let bytes = write_request(alloc, request)?;
+    shown(alloc, bytes.as_bytes())
 }
 
 impl History {
@@ -134,6 +147,16 @@ impl History {
     fn state_text(&self, alloc: Global, id: usize) -> Result<String, AllocError> {
         match self.table.transaction(id) {
             Some(transaction) => format!(in alloc; "{:?}", transaction.state),
+            None => said(alloc, "none"),
+        }
+    }
+
+    fn cancel_text(&self, alloc: Global, id: usize) -> Result<String, AllocError> {
+        let Some(transaction) = self.table.transaction(id) else {
+            return said(alloc, "none");
+        };
+        match cancel_of(alloc, transaction)? {
+            Some(cancel) => written(alloc, &cancel),
             None => said(alloc, "none"),
         }
     }
@@ -252,6 +275,8 @@ impl History {
                 None => return Ok(None),
             },
             ("transaction", [number]) => self.state_text(alloc, usize_of(number)),
+            ("cancel_of", [number]) => self.cancel_text(alloc, usize_of(number)),
+            ("timer_count", []) => format!(in alloc; "{}", self.table.timer_count()),
             ("may_answer", [number, status]) => {
                 format!(in alloc;
                     "{}",

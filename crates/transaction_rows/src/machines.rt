@@ -1,10 +1,11 @@
-//! Rows of the machines of `transactions`: what an input does in a state.
+//! Rows of the machines of transactions: what an input does in a state.
 
 use rows::{number, said};
+use sip_message::Class;
 use std::alloc::{AllocError, Global};
 use text::cut;
-use transactions::{
-    Class, Input, InviteClient, InviteServer, OtherClient, OtherServer, Start, Starts, State, Step,
+use transaction_machines::{
+    Input, InviteClient, InviteServer, OtherClient, OtherServer, Start, Starts, State, Step,
     TimerKind, advance,
 };
 
@@ -92,10 +93,10 @@ fn input(word: &[u8]) -> Option<Input> {
         b"abandon" => Some(Input::Abandon),
         b"1xx" => Some(Input::Response(Class::Provisional)),
         b"2xx" => Some(Input::Response(Class::Success)),
-        b"300-699" => Some(Input::Response(Class::Refusal)),
+        b"300-699" => Some(Input::Response(Class::Failure)),
         b"core 1xx" => Some(Input::Answer(Class::Provisional)),
         b"core 2xx" => Some(Input::Answer(Class::Success)),
-        b"core 300-699" => Some(Input::Answer(Class::Refusal)),
+        b"core 300-699" => Some(Input::Answer(Class::Failure)),
         _ => Some(Input::Fires(timer_kind(word)?)),
     }
 }

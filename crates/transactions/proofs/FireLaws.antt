@@ -9,31 +9,33 @@ use Rattle.std.proofs.lemmas.List.Sums.{AllPass-from_list_all}
 use Rattle.timers.specs.declared.timers.Timer.{Timer}
 use Rattle.timers.specs.Queue.{put, without, moment}
 use Rattle.sip_uri.specs.declared.uri.Addr.{Addr}
-use Rattle.transactions.specs.declared.input.Input.TheVariants as inputs
-use Rattle.transactions.specs.declared.input.TimerKind.{TimerKind}
-use Rattle.transactions.specs.declared.input.TimerKind.TheVariants.{A, B, D, E, F, G, H, I, J, K, L, M, N}
+use Rattle.transaction_machines.specs.declared.input.Input.TheVariants as inputs
+use Rattle.transaction_machines.specs.declared.input.TimerKind.{TimerKind}
+use Rattle.transaction_machines.specs.declared.input.TimerKind.TheVariants.{A, B, D, E, F, G, H, I, J, K, L, M, N}
 use Rattle.transactions.specs.declared.outcome.Fired.TheVariants as fires
-use Rattle.transactions.specs.declared.state.State.{State}
-use Rattle.transactions.specs.declared.step.Sending.{Sending}
-use Rattle.transactions.specs.declared.step.Sending.TheVariants.{Nothing, Again, Fresh}
-use Rattle.transactions.specs.declared.step.Told.{Told}
-use Rattle.transactions.specs.declared.step.Told.TheVariants.{Silent, Up, TimedOut, Ended}
-use Rattle.transactions.specs.declared.step.Start.{Start}
-use Rattle.transactions.specs.declared.step.Starts.{Starts}
-use Rattle.transactions.specs.declared.step.Starts.TheVariants as starts
-use Rattle.transactions.specs.declared.step.Stops.{Stops}
-use Rattle.transactions.specs.declared.step.Stops.TheVariants as stops
-use Rattle.transactions.specs.declared.step.Step.{Step}
+use Rattle.transaction_machines.specs.declared.state.State.{State}
+use Rattle.transaction_machines.specs.declared.step.Sending.{Sending}
+use Rattle.transaction_machines.specs.declared.step.Sending.TheVariants.{Nothing, Again, Fresh}
+use Rattle.transaction_machines.specs.declared.step.Told.{Told}
+use Rattle.transaction_machines.specs.declared.step.Told.TheVariants.{Silent, Up, TimedOut, Ended}
+use Rattle.transaction_machines.specs.declared.step.Start.{Start}
+use Rattle.transaction_machines.specs.declared.step.Starts.{Starts}
+use Rattle.transaction_machines.specs.declared.step.Starts.TheVariants as starts
+use Rattle.transaction_machines.specs.declared.step.Stops.{Stops}
+use Rattle.transaction_machines.specs.declared.step.Stops.TheVariants as stops
+use Rattle.transaction_machines.specs.declared.step.Step.{Step}
 use Rattle.transactions.specs.declared.transaction.TimerId.{TimerId}
 use Rattle.transactions.specs.declared.transaction.Transaction.{Transaction}
-use Rattle.transactions.specs.Machines.{row_of}
+use Rattle.transaction_machines.specs.Machines.{row_of}
 use Rattle.transactions.specs.Slots.{at, free_number}
-use Rattle.transactions.specs.Timing.{place_of, same_timer, timer_of, stopped_by, start, started}
+use Rattle.transaction_machines.specs.Inputs.{place_of}
+use Rattle.transactions.specs.Timing.{same_timer, timer_of, stopped_by, start, started}
 use Rattle.transactions.specs.Transactions.{went, latest, outgoing, sent}
 use Rattle.transactions.specs.Contents.{Contents, stepped, opened, placed, fired_by, fired_step, fired_of, has_come, is_due}
-use Rattle.transactions.specs.Lines.{has_line, has_line_at, has_sent, repeats, IsFireable, every_kind, is_stopped, runs_on, starts_with_lines, stops_every, starts_none, follows_to, follows}
+use Rattle.transaction_machines.specs.Lines.{has_line, repeats, every_kind, is_stopped, runs_on, starts_with_lines, stops_every, starts_none, follows_to, follows}
+use Rattle.transactions.specs.Fireable.{has_line_at, has_sent, IsFireable}
 use Rattle.transactions.proofs.LastingLaws.{within, placed_other, placed_own}
-use Rattle.transactions.proofs.RowLaws.{row_fires, fires_by}
+use Rattle.transaction_machines.proofs.RowLaws.{row_fires, fires_by}
 
 abbrev HasLine : List (Option Transaction) → Timer TimerId → Type 0
 HasLine slots timer = has_line_at (at slots timer.key.id) timer.key.kind ≡ true

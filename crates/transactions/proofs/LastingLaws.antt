@@ -14,25 +14,26 @@ use Rattle.sip_message.specs.declared.message.Parts.{Parts}
 use Rattle.sip_message.specs.declared.message.Request.{Request}
 use Rattle.sip_message.specs.declared.message.Response.{Response}
 use Rattle.transactions.specs.declared.change.Entry.TheVariants.{Opens, Leaves}
-use Rattle.transactions.specs.declared.input.Input.{Input}
-use Rattle.transactions.specs.declared.input.Input.TheVariants as inputs
+use Rattle.transaction_machines.specs.declared.input.Input.{Input}
+use Rattle.transaction_machines.specs.declared.input.Input.TheVariants as inputs
 use Rattle.transactions.specs.declared.outcome.Verdict.TheVariants as verdicts
-use Rattle.transactions.specs.declared.state.State.{State}
-use Rattle.transactions.specs.declared.step.Starts.{Starts}
-use Rattle.transactions.specs.declared.step.Starts.TheVariants.{NoTimer}
-use Rattle.transactions.specs.declared.step.Step.{Step}
+use Rattle.transaction_machines.specs.declared.state.State.{State}
+use Rattle.transaction_machines.specs.declared.step.Starts.{Starts}
+use Rattle.transaction_machines.specs.declared.step.Starts.TheVariants.{NoTimer}
+use Rattle.transaction_machines.specs.declared.step.Step.{Step}
 use Rattle.transactions.specs.declared.transaction.Transaction.{Transaction}
-use Rattle.transactions.specs.Machines.{row_of, is_server}
-use Rattle.transactions.specs.Matching.{is_copy, is_method}
+use Rattle.transaction_machines.specs.Machines.{row_of, is_server}
+use Rattle.sip_message.specs.Words.{is_method}
+use Rattle.transactions.specs.Matching.{is_copy}
 use Rattle.transactions.specs.Slots.{at, is_asked, is_answered, free_number}
 use Rattle.transactions.specs.Transactions.{went, served, served_state, asking, asking_timers}
 use Rattle.transactions.specs.Contents.{Contents, stepped_by, table_at, opened, placed, stray, reception_of, request_reception, input_of, response_input, answer_input, ack_at, IsNew}
 use Rattle.transactions.specs.Changes.{entered, request_change, response_change, change_of, after_message}
 use Rattle.transactions.specs.Calls.{Call, Receive, Start, Answer, Abandon, Fire, Leave, after, after_all, tells, noticed, is_end, is_ended}
-use Rattle.transactions.specs.Lines.{follows, follows_to, is_answer}
+use Rattle.transaction_machines.specs.Lines.{follows, follows_to, is_answer}
 use Rattle.transactions.specs.Once.{IsLeftBy, IsLeft, Lasts, NewOnce}
 use Rattle.transactions.proofs.OnceLaws.{begins, none_asked, no_ack, by_transaction, served_side}
-use Rattle.transactions.proofs.RowLaws.{row_follows}
+use Rattle.transaction_machines.proofs.RowLaws.{row_follows}
 
 -- ---- a line keeps the side
 
@@ -57,7 +58,7 @@ free_at : (slots : List (Option Transaction)) → free_number slots < length slo
 free_at slots lt = passes_at_first is_none slots None lt
 
 -- a free number is not that of a transaction
-not_free : (slots : List (Option Transaction)) (id : ℕ) (t : Transaction) → at slots id ≡ Some t → id ≢ free_number slots
+pub not_free : (slots : List (Option Transaction)) (id : ℕ) (t : Transaction) → at slots id ≡ Some t → id ≢ free_number slots
 not_free slots id t there e =
     let lt = subst (λ n. n < length slots) e (within slots id t there) in
     let taken = subst (λ n. at slots n ≡ Some t) e there in
@@ -110,7 +111,7 @@ unfolding follows
 by_line table id t given fresh now None b there h e = left_as t b _ e there
 by_line table id t given fresh now (Some step) b there h e = by_next table.slots id t given fresh step step.next b (within table.slots id t there) h e
 
-own_left : (table : Contents) (id : ℕ) (t : Transaction) (o : Option Transaction) (input : Input) (fresh : Option (List ℕ)) (now : ℕ) (b : Bool)
+pub own_left : (table : Contents) (id : ℕ) (t : Transaction) (o : Option Transaction) (input : Input) (fresh : Option (List ℕ)) (now : ℕ) (b : Bool)
     → at table.slots id ≡ Some t → o ≡ Some t → b ≡ is_end (row_of t.state input) → IsLeftBy t b (at (table_at table id o input fresh now).slots id)
 own_left table id t o input fresh now b there h e =
     rw h (by_line table id t (is_answer input) fresh now (row_of t.state input) b there (row_follows t.state input) e)
@@ -121,7 +122,7 @@ stepped_other : (table : Contents) (place id : ℕ) (u : Transaction) (fresh : O
 stepped_other table place id u fresh now None other = refl
 stepped_other table place id u fresh now (Some step) other = get_or-set_other table.slots place id (option_map (went u fresh) step.next) None other
 
-other_left : (table : Contents) (place id : ℕ) (o : Option Transaction) (input : Input) (fresh : Option (List ℕ)) (now : ℕ) → id ≢ place
+pub other_left : (table : Contents) (place id : ℕ) (o : Option Transaction) (input : Input) (fresh : Option (List ℕ)) (now : ℕ) → id ≢ place
     → at (table_at table place o input fresh now).slots id ≡ at table.slots id
 other_left table place id None input fresh now other = refl
 other_left table place id (Some u) input fresh now other = stepped_other table place id u fresh now (row_of u.state input) other

@@ -1,7 +1,11 @@
 pub mod SlotLaws
 pub mod StopLaws
 pub mod OnceLaws
-pub mod RowLaws
 pub mod LastingLaws
 pub mod FireLaws
 pub mod ReplyLaws
+pub mod ServerLaws
+pub mod UntouchedLaws
+pub mod RepeatLaws
+pub mod KeyLaws
+pub mod SameBranchLaws

@@ -18,22 +18,23 @@ use Rattle.sip_message.specs.declared.message.Message.TheVariants as Kinds
 use Rattle.sip_message.specs.declared.message.Parts.{Parts}
 use Rattle.sip_message.specs.declared.message.Request.{Request}
 use Rattle.transactions.specs.declared.change.Entry.TheVariants.{Opens, Leaves}
-use Rattle.transactions.specs.declared.input.Input.{Input}
-use Rattle.transactions.specs.declared.input.Input.TheVariants.{Repeat, Ack, Answer, Response, Abandon, Fires}
+use Rattle.transaction_machines.specs.declared.input.Input.{Input}
+use Rattle.transaction_machines.specs.declared.input.Input.TheVariants.{Repeat, Ack, Answer, Response, Abandon, Fires}
 use Rattle.transactions.specs.declared.outcome.Verdict.{Verdict}
 use Rattle.transactions.specs.declared.outcome.Verdict.TheVariants as verdicts
-use Rattle.transactions.specs.declared.invite_server.InviteServer.TheVariants as invite
-use Rattle.transactions.specs.declared.other_server.OtherServer.TheVariants as other
-use Rattle.transactions.specs.declared.state.State.TheVariants as machine
-use Rattle.transactions.specs.declared.step.Starts.TheVariants as starts
-use Rattle.transactions.specs.declared.step.Sending.{Sending}
-use Rattle.transactions.specs.declared.step.Sending.TheVariants.{Nothing, Again, Fresh}
-use Rattle.transactions.specs.declared.step.Told.{Told}
-use Rattle.transactions.specs.declared.step.Told.TheVariants.{Silent, Up, TimedOut, Ended}
-use Rattle.transactions.specs.declared.step.Step.{Step}
+use Rattle.transaction_machines.specs.declared.invite_server.InviteServer.TheVariants as invite
+use Rattle.transaction_machines.specs.declared.other_server.OtherServer.TheVariants as other
+use Rattle.transaction_machines.specs.declared.state.State.TheVariants as machine
+use Rattle.transaction_machines.specs.declared.step.Starts.TheVariants as starts
+use Rattle.transaction_machines.specs.declared.step.Sending.{Sending}
+use Rattle.transaction_machines.specs.declared.step.Sending.TheVariants.{Nothing, Again, Fresh}
+use Rattle.transaction_machines.specs.declared.step.Told.{Told}
+use Rattle.transaction_machines.specs.declared.step.Told.TheVariants.{Silent, Up, TimedOut, Ended}
+use Rattle.transaction_machines.specs.declared.step.Step.{Step}
 use Rattle.transactions.specs.declared.transaction.Transaction.{Transaction}
-use Rattle.transactions.specs.Machines.{row_of, is_server}
-use Rattle.transactions.specs.Matching.{is_copy, is_method, served_method, same_top, same_sent_by, branch_in, default_port}
+use Rattle.transaction_machines.specs.Machines.{row_of, is_server}
+use Rattle.sip_message.specs.Words.{is_method, top_branch}
+use Rattle.transactions.specs.Matching.{is_copy, served_method, same_top, same_sent_by, default_port}
 use Rattle.transactions.specs.Slots.{at, is_asked, free_number}
 use Rattle.transactions.specs.Transactions.{served, served_state}
 use Rattle.transactions.specs.Contents.{Contents, upward, repeat_by, reception_by, reception_at, request_reception, reception_of, placed, stray, input_of, IsNew}
@@ -102,8 +103,8 @@ own_host (Name name) = own_bytes (str_to_ascii_lowercase name)
 own_top : (vias : List Via) → same_top vias vias ≡ true
 own_top [] = refl
 own_top (via ∷ vias) =
-    both (same_text (branch_in (via ∷ vias)) (branch_in (via ∷ vias))) (same_sent_by via via)
-    (own_text (branch_in (via ∷ vias)))
+    both (same_text (top_branch (via ∷ vias)) (top_branch (via ∷ vias))) (same_sent_by via via)
+    (own_text (top_branch (via ∷ vias)))
     (both (same_host via.host via.host) (nat_eq (unwrap_or via.port default_port) (unwrap_or via.port default_port)) (own_host via.host) (own_number (unwrap_or via.port default_port)))
 
 own_method : (method : List ℕ) (b : Bool) → b ≡ false → pointwise nat_eq method (cond b (codes "INVITE") method) ≡ true

@@ -1,5 +1,5 @@
 -- An answer that is taken replies to a request.
-use Rattle.std.proofs.Common.{◌≡◌, ◌↔◌, ℕ, true, false, not, List, Option, Some, None, position, refl, ap, sym, subst}
+use Rattle.std.proofs.Common.{◌≡◌, ◌↔◌, ℕ, true, false, not, List, [], ◌∷◌, Option, Some, None, position, refl, ap, sym, subst, ◌∙◌}
 use Rattle.std.specs.Prelude.{IsSome}
 use Rattle.std.specs.Cmp.Lexicographic.{bytes_decides}
 use Rattle.std.proofs.lemmas.Bool.{false≢true, and_parts, and_from, not-true, eqb-true, eq-eqb}
@@ -8,17 +8,20 @@ use Rattle.sip_uri.specs.Binding.{same_text}
 use Rattle.sip_message.specs.declared.message.Message.TheVariants as Kinds
 use Rattle.sip_message.specs.declared.message.Parts.{Parts}
 use Rattle.sip_message.specs.declared.message.Response.{Response}
-use Rattle.transactions.specs.declared.input.Class.{Class}
-use Rattle.transactions.specs.declared.input.Input.TheVariants as inputs
+use Rattle.sip_message.specs.declared.words.Class.{Class}
+use Rattle.transaction_machines.specs.declared.input.Input.TheVariants as inputs
 use Rattle.transactions.specs.declared.outcome.Verdict.TheVariants as verdicts
-use Rattle.transactions.specs.declared.step.Sending.{Sending}
-use Rattle.transactions.specs.declared.step.Told.{Told}
-use Rattle.transactions.specs.declared.step.Told.TheVariants.{Silent, Up, TimedOut, Ended}
-use Rattle.transactions.specs.declared.step.Step.{Step}
+use Rattle.transaction_machines.specs.declared.step.Sending.{Sending}
+use Rattle.transaction_machines.specs.declared.step.Told.{Told}
+use Rattle.transaction_machines.specs.declared.step.Told.TheVariants.{Silent, Up, TimedOut, Ended}
+use Rattle.transaction_machines.specs.declared.step.Step.{Step}
 use Rattle.transactions.specs.declared.transaction.Transaction.{Transaction}
-use Rattle.transactions.specs.Inputs.{class_of}
-use Rattle.transactions.specs.Machines.{row_of, is_server}
-use Rattle.transactions.specs.Matching.{branch_in, tag_in, keeps_tag, is_reply, RepliesTo}
+use Rattle.sip_message.specs.declared.via.Via.{Via}
+use Rattle.sip_message.specs.Words.{class_of, top_branch, tag_value, value_found}
+use Rattle.sip_writing.specs.Replies as writing
+use Rattle.sip_uri.specs.declared.uri.Param.{Param}
+use Rattle.transaction_machines.specs.Machines.{row_of, is_server}
+use Rattle.transactions.specs.Matching.{keeps_tag, is_reply, RepliesTo}
 use Rattle.transactions.specs.Slots.{at, is_answered}
 use Rattle.transactions.specs.Contents.{Contents, reception_at, reception_by, reception_of, response_reception, response_input, verdict_by, ack_at}
 use Rattle.transactions.specs.Replies.{RepliesWhereTaken}
@@ -26,7 +29,7 @@ use Rattle.transactions.proofs.OnceLaws.{own_text, own_bytes}
 
 -- ---- the test is the relation
 
-text_is : (a b : Option (List ℕ)) → same_text a b ≡ true → a ≡ b
+pub text_is : (a b : Option (List ℕ)) → same_text a b ≡ true → a ≡ b
 text_is None None h = refl
 text_is (Some a) (Some b) h = ap Some ((bytes_decides a b).0 h)
 text_is None (Some b) h = absurd (false≢true h)
@@ -49,12 +52,12 @@ reply_is answer request h =
     let numbers = and_parts _ _ methods.0 in
     let calls = and_parts _ _ numbers.0 in
     record {
-      branch = text_is (branch_in answer.vias) (branch_in request.vias) starts.0;
+      branch = text_is (top_branch answer.vias) (top_branch request.vias) starts.0;
       call_id = (bytes_decides answer.call_id request.call_id).0 calls.0;
-      from_tag = text_is (tag_in answer.from) (tag_in request.from) calls.1;
+      from_tag = text_is (tag_value answer.from.params) (tag_value request.from.params) calls.1;
       number = eqb-true answer.cseq.number request.cseq.number numbers.1;
       method = (bytes_decides answer.cseq.method request.cseq.method).0 methods.1;
-      to_tag = tag_is (tag_in answer.to) (tag_in request.to) ends.1;
+      to_tag = tag_is (tag_value answer.to.params) (tag_value request.to.params) ends.1;
     }
 
 same_text_from : (a b : Option (List ℕ)) → a ≡ b → same_text a b ≡ true
@@ -64,16 +67,36 @@ reply_from : (answer request : Parts) → RepliesTo answer request → is_reply 
 unfolding is_reply
 reply_from answer request h =
     and_from _ _
-    (and_from _ _ (same_text_from (branch_in answer.vias) (branch_in request.vias) h.branch)
+    (and_from _ _ (same_text_from (top_branch answer.vias) (top_branch request.vias) h.branch)
     (and_from _ _
     (and_from _ _
-    (and_from _ _ ((bytes_decides answer.call_id request.call_id).1 h.call_id) (same_text_from (tag_in answer.from) (tag_in request.from) h.from_tag))
+    (and_from _ _ ((bytes_decides answer.call_id request.call_id).1 h.call_id) (same_text_from (tag_value answer.from.params) (tag_value request.from.params) h.from_tag))
     (eq-eqb answer.cseq.number request.cseq.number h.number))
     ((bytes_decides answer.cseq.method request.cseq.method).1 h.method)))
-    (tag_kept (tag_in answer.to) (tag_in request.to) h.to_tag)
+    (tag_kept (tag_value answer.to.params) (tag_value request.to.params) h.to_tag)
 
 pub reply_decides : (answer request : Parts) → (is_reply answer request ≡ true) ↔ RepliesTo answer request
 reply_decides answer request = (reply_is answer request, reply_from answer request)
+
+-- ---- what is written in answer to a request replies to it
+
+branch_value : (vias : List Via) → top_branch vias ≡ value_found (writing.top_branch vias)
+branch_value [] = refl
+branch_value (via ∷ vias) = refl
+
+to_value : (status : ℕ) (tag : List ℕ) (answer request : Option Param) → answer ≡ writing.answered_tag status request tag → IsSome (value_found request) → value_found answer ≡ value_found request
+to_value status tag answer None e some = absurd (false≢true some)
+to_value status tag answer (Some own) e some = ap value_found e
+
+pub written_replies : (answer request : Parts) (status : ℕ) (tag : List ℕ) → writing.Replies answer request status tag → RepliesTo answer request
+written_replies answer request status tag h = record {
+  branch = branch_value answer.vias ∙ ap value_found h.branch ∙ sym (branch_value request.vias);
+  call_id = h.call_id;
+  from_tag = ap value_found h.from_tag;
+  number = ap (λ c. c.number) h.cseq;
+  method = ap (λ c. c.method) h.cseq;
+  to_tag = to_value status tag (writing.tag_of answer.to.params) (writing.tag_of request.to.params) h.to_tag;
+}
 
 -- ---- who is taken
 

@@ -5,12 +5,12 @@ use Rattle.sip_message.specs.declared.message.Message.{Message}
 use Rattle.sip_message.specs.declared.message.Message.TheVariants as Kinds
 use Rattle.sip_message.specs.declared.message.Request.{Request}
 use Rattle.sip_message.specs.declared.message.Response.{Response}
-use Rattle.transactions.specs.declared.input.Input.{Input}
-use Rattle.transactions.specs.declared.input.Input.TheVariants as inputs
-use Rattle.transactions.specs.declared.step.Step.{Step}
+use Rattle.transaction_machines.specs.declared.input.Input.{Input}
+use Rattle.transaction_machines.specs.declared.input.Input.TheVariants as inputs
+use Rattle.transaction_machines.specs.declared.step.Step.{Step}
 use Rattle.transactions.specs.declared.transaction.TimerId.{TimerId}
 use Rattle.transactions.specs.declared.transaction.Transaction.{Transaction}
-use Rattle.transactions.specs.Machines.{row_of}
+use Rattle.transaction_machines.specs.Machines.{row_of}
 use Rattle.transactions.specs.Slots.{is_asked, is_answered}
 use Rattle.transactions.specs.Contents.{Contents, after_answer, after_abandon, after_fire, input_of, response_input, answer_input}
 use Rattle.transactions.specs.Changes.{after_message, after_start}

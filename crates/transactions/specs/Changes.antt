@@ -1,5 +1,5 @@
 -- Changes of the table for which all is at hand that takes memory, and what they do together.
-use Rattle.std.specs.Prelude.{◌≡◌, ℕ, Bool, true, false, IsTrue, List, [], ◌∷◌, codes, Option, Some, None, option_and_then, position, if◌then◌else◌}
+use Rattle.std.specs.Prelude.{◌≡◌, ℕ, ◌+◌, ◌==◌, Bool, true, false, not, IsTrue, List, [], ◌∷◌, codes, Option, Some, None, option_and_then, position, if◌then◌else◌}
 use Rattle.sip_uri.specs.declared.uri.Addr.{Addr}
 use Rattle.sip_message.specs.declared.message.Message.{Message}
 use Rattle.sip_message.specs.declared.message.Message.TheVariants as Kinds
@@ -9,20 +9,20 @@ use Rattle.sip_message.specs.declared.message.Response.{Response}
 use Rattle.sip_writing.specs.Writing.{message_text}
 use Rattle.transactions.specs.declared.change.Entry.{Entry}
 use Rattle.transactions.specs.declared.change.Entry.TheVariants.{Opens, Tells, Answers, Leaves}
-use Rattle.transactions.specs.declared.input.Input.{Input}
-use Rattle.transactions.specs.declared.input.Input.TheVariants as inputs
-use Rattle.transactions.specs.declared.step.Starts.{Starts}
-use Rattle.transactions.specs.declared.step.Starts.TheVariants.{NoTimer, One, Two}
-use Rattle.transactions.specs.declared.step.Step.{Step}
+use Rattle.transaction_machines.specs.declared.input.Input.{Input}
+use Rattle.transaction_machines.specs.declared.input.Input.TheVariants as inputs
+use Rattle.transaction_machines.specs.declared.step.Starts.{Starts}
+use Rattle.transaction_machines.specs.declared.step.Starts.TheVariants.{NoTimer, One, Two}
+use Rattle.transaction_machines.specs.declared.step.Step.{Step}
 use Rattle.transactions.specs.declared.transaction.TimerId.{TimerId}
 use Rattle.transactions.specs.declared.transaction.Transaction.{Transaction}
 use Rattle.transactions.specs.Contents.{Contents, table_at, opened, input_of, response_input, ack_at}
-use Rattle.transactions.specs.Inputs.{class_of}
-use Rattle.transactions.specs.Lines.{is_answer, starts_with_lines, has_sent}
-use Rattle.transactions.specs.Machines.{row_of}
-use Rattle.transactions.specs.Matching.{is_method}
+use Rattle.sip_message.specs.Words.{class_of, is_method}
+use Rattle.transaction_machines.specs.Lines.{is_answer, starts_with_lines}
+use Rattle.transactions.specs.Fireable.{has_sent}
+use Rattle.transaction_machines.specs.Machines.{row_of}
 use Rattle.transactions.specs.Slots.{at, free_number, is_asked, is_answered}
-use Rattle.transactions.specs.Steps.{IsShort}
+use Rattle.transaction_machines.specs.Steps.{IsShort}
 use Rattle.transactions.specs.Transactions.{served, asking, asking_timers}
 
 -- the table after a change. What a transaction is told is looked up now: where it has no line, nothing is done
@@ -115,3 +115,7 @@ places_of (Opens t starts) = 1
 places_of (Tells id input fresh) = 0
 places_of (Answers id class bytes) = 0
 places_of Leaves = 0
+
+-- the change takes room
+abbrev pub needs_room : List (Option Transaction) → Entry → Bool
+needs_room slots change = not (places_of change + timers_of slots change == 0)

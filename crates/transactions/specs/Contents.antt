@@ -1,5 +1,5 @@
 -- The table of transactions, and what each call does to it.
-use Rattle.std.specs.Prelude.{◌≡◌, ℕ, ◌≤◌, Bool, true, false, not, ◌&&◌, List, [], ◌∷◌, ◌++◌, length, codes, Option, Some, None, option_map, option_and_then, is_some, position, slice_set, nat_lt, nat_le, if◌then◌else◌}
+use Rattle.std.specs.Prelude.{◌≡◌, ℕ, ◌≤◌, Bool, true, false, not, ◌&&◌, ◌||◌, List, [], ◌∷◌, ◌++◌, length, codes, Option, Some, None, option_map, option_and_then, is_some, position, slice_set, nat_lt, nat_le, if◌then◌else◌}
 use Rattle.std.specs.List.{list_any}
 use Rattle.timers.specs.declared.timers.Timer.{Timer}
 use Rattle.timers.specs.Queue.{moment}
@@ -12,34 +12,35 @@ use Rattle.sip_message.specs.declared.message.Response.{Response}
 use Rattle.sip_writing.specs.Writing.{message_text}
 use Rattle.transactions.specs.declared.error.TableError.{TableError}
 use Rattle.transactions.specs.declared.error.TableError.TheVariants.{OutOfMemory, Unknown, AfterFinal, Full}
-use Rattle.transactions.specs.declared.input.Input.{Input}
-use Rattle.transactions.specs.declared.input.Input.TheVariants as inputs
-use Rattle.transactions.specs.declared.input.TimerKind.{TimerKind}
+use Rattle.transaction_machines.specs.declared.input.Input.{Input}
+use Rattle.transaction_machines.specs.declared.input.Input.TheVariants as inputs
+use Rattle.transaction_machines.specs.declared.input.TimerKind.{TimerKind}
 use Rattle.transactions.specs.declared.outcome.Fired.{Fired}
 use Rattle.transactions.specs.declared.outcome.Fired.TheVariants as fires
 use Rattle.transactions.specs.declared.outcome.Outgoing.{Outgoing}
 use Rattle.transactions.specs.declared.outcome.Reception.{Reception}
 use Rattle.transactions.specs.declared.outcome.Verdict.{Verdict}
 use Rattle.transactions.specs.declared.outcome.Verdict.TheVariants as verdicts
-use Rattle.transactions.specs.declared.step.Sending.{Sending}
-use Rattle.transactions.specs.declared.step.Sending.TheVariants.{Nothing, Again, Fresh}
-use Rattle.transactions.specs.declared.step.Starts.{Starts}
-use Rattle.transactions.specs.declared.step.Starts.TheVariants.{NoTimer}
-use Rattle.transactions.specs.declared.step.Told.{Told}
-use Rattle.transactions.specs.declared.step.Told.TheVariants.{Silent, Up, TimedOut, Ended}
-use Rattle.transactions.specs.declared.step.Step.{Step}
+use Rattle.transaction_machines.specs.declared.step.Sending.{Sending}
+use Rattle.transaction_machines.specs.declared.step.Sending.TheVariants.{Nothing, Again, Fresh}
+use Rattle.transaction_machines.specs.declared.step.Starts.{Starts}
+use Rattle.transaction_machines.specs.declared.step.Starts.TheVariants.{NoTimer}
+use Rattle.transaction_machines.specs.declared.step.Told.{Told}
+use Rattle.transaction_machines.specs.declared.step.Told.TheVariants.{Silent, Up, TimedOut, Ended}
+use Rattle.transaction_machines.specs.declared.step.Step.{Step}
 use Rattle.transactions.specs.declared.transaction.TimerId.{TimerId}
 use Rattle.transactions.specs.declared.transaction.Transaction.{Transaction}
-use Rattle.transactions.specs.Ack.{ack_of}
-use Rattle.transactions.specs.Inputs.{class_of}
+use Rattle.transactions.specs.SameBranch.{ack_of}
+use Rattle.sip_message.specs.Words.{class_of, is_method, tag_value}
 use Rattle.transactions.specs.Limits.{most_served}
-use Rattle.transactions.specs.Machines.{row_of}
-use Rattle.transactions.specs.Matching.{is_method, tag_in}
+use Rattle.transaction_machines.specs.Lines.{starts_none}
+use Rattle.transaction_machines.specs.Machines.{row_of}
 use Rattle.transactions.specs.Slots.{at, free_number, is_asked, is_answered, is_merged, is_serving, serving}
 use Rattle.transactions.specs.Timing.{same_timer, stopped_by, started}
 use Rattle.transactions.specs.Transactions.{served, asking, asking_timers, went, sent, outgoing}
 
--- Place i of the slots has the transaction with the number i. The timers stand in the order in which they are due.
+-- Place i of the slots has the transaction with the number i. The timers stand in the order in which they are due, each key once: that
+-- is what `next`, `first_due` and `timer_count` say of every table.
 pub record Contents : Type 0 where
   pub slots : List (Option Transaction)
   pub timers : List (Timer TimerId)
@@ -124,7 +125,7 @@ request_reception table r (Some id) = reception_at id (at table.slots id) (input
 abbrev pub ack_for : Transaction → Response → Sending → Option (List ℕ)
 ack_for t r Nothing = None
 ack_for t r Again = None
-ack_for t r Fresh = Some (message_text (Kinds.Request (ack_of t.uri t.parts r.parts)))
+ack_for t r Fresh = option_map (λ ack. message_text (Kinds.Request ack)) (ack_of t.uri t.parts r.parts)
 
 abbrev pub ack_by : Transaction → Response → Option Step → Option (List ℕ)
 ack_by t r None = None
@@ -224,9 +225,19 @@ has_come now (Some at) = nat_le at now
 abbrev pub is_due : Contents → TimerId → ℕ → Bool
 is_due table timer now = has_come now (moment same_timer table.timers timer)
 
+-- a line that sends something, or starts a timer, takes memory. No other does: so an ending timer is never refused
+abbrev pub sends : Sending → Bool
+sends Nothing = false
+sends Again = true
+sends Fresh = true
+
+abbrev pub takes_memory : Option Step → Bool
+takes_memory None = false
+takes_memory (Some step) = sends step.send || not (starts_none step.starts)
+
 -- which timer is refused, and why
 abbrev pub RefusesFire : Contents → TimerId → ℕ → TableError → Type 0
-RefusesFire table timer now OutOfMemory = Unit {0}
+RefusesFire table timer now OutOfMemory = takes_memory (line_at table timer.id (inputs.Fires timer.kind)) ≡ true
 RefusesFire table timer now Unknown = is_due table timer now ≡ false
 RefusesFire table timer now AfterFinal = ⊥
 RefusesFire table timer now Full = ⊥
@@ -235,4 +246,4 @@ RefusesFire table timer now Full = ⊥
 
 -- another server transaction, in whichever state, has the tag of From, Call-ID, number and method of a request without tag in To
 abbrev pub merged : Contents → Parts → Bool
-merged table parts = not (is_some (tag_in parts.to)) && list_any (is_merged parts) table.slots
+merged table parts = not (is_some (tag_value parts.to.params)) && list_any (is_merged parts) table.slots

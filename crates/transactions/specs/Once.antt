@@ -7,7 +7,7 @@ use Rattle.sip_message.specs.declared.message.Parts.{Parts}
 use Rattle.sip_message.specs.declared.message.Request.{Request}
 use Rattle.transactions.specs.declared.outcome.Verdict.TheVariants as verdicts
 use Rattle.transactions.specs.declared.transaction.Transaction.{Transaction}
-use Rattle.transactions.specs.Machines.{is_server}
+use Rattle.transaction_machines.specs.Machines.{is_server}
 use Rattle.transactions.specs.Matching.{is_copy}
 use Rattle.transactions.specs.Contents.{Contents, reception_of, IsNew}
 use Rattle.transactions.specs.Changes.{after_message}

@@ -5,7 +5,7 @@ use Rattle.transactions.specs.declared.outcome.Reception.{Reception}
 use Rattle.transactions.specs.declared.outcome.Verdict.{Verdict}
 use Rattle.transactions.specs.declared.outcome.Verdict.TheVariants as verdicts
 use Rattle.transactions.specs.declared.transaction.Transaction.{Transaction}
-use Rattle.transactions.specs.Machines.{is_server}
+use Rattle.transaction_machines.specs.Machines.{is_server}
 use Rattle.transactions.specs.Matching.{RepliesTo}
 use Rattle.transactions.specs.Slots.{at}
 use Rattle.transactions.specs.Contents.{Contents}

@@ -2,11 +2,12 @@
 use Rattle.std.specs.Prelude.{ℕ, Bool, true, false, not, ◌&&◌, List, codes, Option, Some, None, position, is_none, count_by}
 use Rattle.std.specs.List.{position_or_len, slice_index_or}
 use Rattle.sip_message.specs.declared.message.Parts.{Parts}
-use Rattle.transactions.specs.declared.state.State.{State}
-use Rattle.transactions.specs.declared.state.State.TheVariants.{InviteClient, InviteServer, OtherClient, OtherServer}
+use Rattle.transaction_machines.specs.declared.state.State.{State}
+use Rattle.transaction_machines.specs.declared.state.State.TheVariants.{InviteClient, InviteServer, OtherClient, OtherServer}
 use Rattle.transactions.specs.declared.transaction.Transaction.{Transaction}
-use Rattle.transactions.specs.Machines.{is_server}
-use Rattle.transactions.specs.Matching.{is_copy, is_reply, is_merged_with, is_method, same_top}
+use Rattle.transaction_machines.specs.Machines.{is_server}
+use Rattle.sip_message.specs.Words.{is_method}
+use Rattle.transactions.specs.Matching.{is_copy, is_reply, is_merged_with, same_top}
 
 -- the transaction of a number
 abbrev pub at : List (Option Transaction) → ℕ → Option Transaction

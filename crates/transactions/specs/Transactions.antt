@@ -4,21 +4,21 @@ use Rattle.sip_uri.specs.declared.uri.Addr.{Addr}
 use Rattle.sip_message.specs.declared.message.Parts.{Parts}
 use Rattle.sip_message.specs.declared.message.Request.{Request}
 use Rattle.sip_writing.specs.Reply.{answer_address}
-use Rattle.transactions.specs.declared.input.TimerKind.TheVariants as letter
-use Rattle.transactions.specs.declared.invite_client.InviteClient.TheVariants.{Calling}
-use Rattle.transactions.specs.declared.invite_server.InviteServer.TheVariants as invite
-use Rattle.transactions.specs.declared.other_client.OtherClient.TheVariants as asked
-use Rattle.transactions.specs.declared.other_server.OtherServer.TheVariants as other
+use Rattle.transaction_machines.specs.declared.input.TimerKind.TheVariants as letter
+use Rattle.transaction_machines.specs.declared.invite_client.InviteClient.TheVariants.{Calling}
+use Rattle.transaction_machines.specs.declared.invite_server.InviteServer.TheVariants as invite
+use Rattle.transaction_machines.specs.declared.other_client.OtherClient.TheVariants as asked
+use Rattle.transaction_machines.specs.declared.other_server.OtherServer.TheVariants as other
 use Rattle.transactions.specs.declared.outcome.Outgoing.{Outgoing}
-use Rattle.transactions.specs.declared.state.State.{State}
-use Rattle.transactions.specs.declared.state.State.TheVariants as machine
-use Rattle.transactions.specs.declared.step.Sending.{Sending}
-use Rattle.transactions.specs.declared.step.Sending.TheVariants.{Nothing, Again, Fresh}
-use Rattle.transactions.specs.declared.step.Starts.{Starts}
-use Rattle.transactions.specs.declared.step.Starts.TheVariants.{Two}
+use Rattle.transaction_machines.specs.declared.state.State.{State}
+use Rattle.transaction_machines.specs.declared.state.State.TheVariants as machine
+use Rattle.transaction_machines.specs.declared.step.Sending.{Sending}
+use Rattle.transaction_machines.specs.declared.step.Sending.TheVariants.{Nothing, Again, Fresh}
+use Rattle.transaction_machines.specs.declared.step.Starts.{Starts}
+use Rattle.transaction_machines.specs.declared.step.Starts.TheVariants.{Two}
 use Rattle.transactions.specs.declared.transaction.Transaction.{Transaction}
-use Rattle.transactions.specs.Matching.{is_method}
-use Rattle.transactions.specs.Steps.{timer, t1}
+use Rattle.sip_message.specs.Words.{is_method}
+use Rattle.transaction_machines.specs.Steps.{timer, t1}
 
 -- ---- a request of another
 

@@ -3,23 +3,22 @@
 ghost use Rattle.std.specs.Prelude.{◌≡◌, ◌+◌, ◌*◌, ◌<◌, ◌≤◌, ◌^◌, OnOk, OnErr, IsTrue, IsSome, Some, None, is_some, true, length, option_map, slice_set, vec_len};
 ghost use Rattle.std.specs.Vec.{vec_capacity};
 ghost use Rattle.transactions.specs.declared.transaction.Transaction.{Transaction};
-ghost use Rattle.transactions.specs.Lines.{IsFireable, follows, is_answer, starts_with_lines, has_sent};
+ghost use Rattle.transaction_machines.specs.Lines.{follows, is_answer, starts_with_lines};
+ghost use Rattle.transactions.specs.Fireable.{IsFireable, has_sent};
 ghost use Rattle.transactions.specs.Slots.{at, free_number};
-ghost use Rattle.transactions.specs.Steps.{IsShort};
+ghost use Rattle.transaction_machines.specs.Steps.{IsShort};
 ghost use Rattle.transactions.specs.Transactions.{went};
 ghost use Rattle.transactions.specs.Contents.{stepped, table_at, placed, opened};
-ghost use Rattle.transactions.specs.Changes.{entered, entered_all, starts_count, line_timers, timers_of, places_of};
+ghost use Rattle.transactions.specs.Changes.{entered, entered_all, starts_count, line_timers, timers_of, places_of, needs_room};
 
 use crate::change::{Change, Entry};
-use crate::input::Input;
 use crate::slots::{free_number, transaction_at};
-use crate::state::{State, advance};
-use crate::step::{Starts, Step};
 use crate::stopping::{set_all, stop};
 use crate::transaction::{TimerId, Transaction, went};
 use std::alloc::AllocError;
 use text::Text;
 use timers::Timers;
+use transaction_machines::{Input, Starts, State, Step, advance};
 
 fn starts_count(starts: Starts) -> usize
     ensures { result ≡ starts_count starts }
@@ -78,6 +77,8 @@ pub(crate) fn make_room_for(
     ensures timers { timers.new.timers ≡ timers.old.timers }
     ensures slots_room { OnOk result (vec_len slots.new + places_of change.now ≤ vec_capacity slots.new) }
     ensures timers_room { OnOk result (timers_of slots.old.items change.now ≤ timers.new.room) }
+    // Nothing is refused that takes no room.
+    ensures needed { OnErr result (needs_room slots.old.items change.now ≡ true) }
 {
     let most = timers_of(slots, change);
     slots.reserve(places_of(change))?;

@@ -4,22 +4,20 @@ ghost use Rattle.std.specs.Prelude.{ℕ, ◌≡◌, ◌+◌, IfOk, IsTrue, Some,
 ghost use Rattle.sip_writing.specs.Writing.{message_text};
 ghost use Rattle.sip_message.specs.declared.message.Message.TheVariants as Kinds;
 ghost use Rattle.transactions.specs.declared.change.Entry.TheVariants.{Opens, Tells};
-ghost use Rattle.transactions.specs.declared.input.Input.TheVariants as inputs;
-ghost use Rattle.transactions.specs.declared.step.Starts.TheVariants.{NoTimer};
+ghost use Rattle.transaction_machines.specs.declared.input.Input.TheVariants as inputs;
+ghost use Rattle.transaction_machines.specs.declared.step.Starts.TheVariants.{NoTimer};
 ghost use Rattle.transactions.specs.Changes.{start_with, start_of, answer_of, fire_of};
-ghost use Rattle.transactions.specs.Lines.{is_answer};
+ghost use Rattle.transaction_machines.specs.Lines.{is_answer};
 ghost use Rattle.transactions.specs.Transactions.{served};
 
-use crate::input::{Class, Input, class_of};
-use crate::matching::is_method;
-use crate::step::Starts;
 use crate::transaction::{TimerId, Transaction, asking, asking_timers, served};
-use sip_message::{Request, Response};
+use sip_message::{Class, Request, Response, class_of, is_method};
 use sip_uri::Addr;
 use sip_writing::{write_request, write_response};
 use std::alloc::{AllocError, Global};
 use std::marker::Model;
 use text::Text;
+use transaction_machines::{Input, Starts};
 
 /// What a change does.
 #[derive(Drop)]

@@ -5,26 +5,24 @@ ghost use Rattle.sip_uri.specs.declared.uri.Addr.{Addr};
 ghost use Rattle.sip_message.specs.declared.message.Message.TheVariants as Kinds;
 ghost use Rattle.transactions.specs.declared.change.Entry.TheVariants.{Tells, Leaves};
 ghost use Rattle.transactions.specs.Limits.{most_served};
-ghost use Rattle.transactions.specs.Lines.{is_answer};
+ghost use Rattle.transaction_machines.specs.Lines.{is_answer};
 ghost use Rattle.transactions.specs.Slots.{at, serving};
 ghost use Rattle.transactions.specs.Contents.{stray, reception_at, reception_of, begun, ack_at, IsNew, RefusesMessage, RefusesBegun, fired_of, is_due, RefusesFire};
 ghost use Rattle.transactions.specs.Changes.{change_of, request_change, fire_of};
 
-use crate::ack::ack_for;
 use crate::change::Change;
 use crate::error::TableError;
-use crate::input::{Input, class_of};
-use crate::matching::is_method;
 use crate::outcome::{Fired, Reception, Verdict};
+use crate::same_branch::ack_for;
 use crate::slots::{answered, asked, free_number, serving, transaction_at};
-use crate::state::advance;
 use crate::table::Table;
 use crate::transaction::{TimerId, Transaction, sent};
 use crate::verdicts::{fired_by, input_of, verdict_by};
-use sip_message::{Message, Request, Response};
+use sip_message::{Message, Request, Response, class_of, is_method};
 use sip_uri::Addr;
 use std::alloc::{AllocError, Global};
 use text::Text;
+use transaction_machines::{Input, advance};
 
 /// Server transactions at most. What the server itself asks is not counted.
 const MOST_SERVED: usize = 4096;

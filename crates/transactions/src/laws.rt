@@ -1,14 +1,23 @@
 //! What holds of the table over its calls.
 
-ghost use Rattle.std.specs.Prelude.{◌≡◌, ◌↔◌, ℕ, List, true, false};
+ghost use Rattle.std.specs.Prelude.{◌≡◌, ◌↔◌, ◌<◌, ℕ, List, [], true, false};
 ghost use Rattle.sip_uri.specs.declared.uri.Addr.{Addr};
+ghost use Rattle.sip_message.specs.declared.message.Message.{Message};
 ghost use Rattle.sip_message.specs.declared.message.Message.TheVariants as Kinds;
 ghost use Rattle.sip_message.specs.declared.message.Parts.{Parts};
 ghost use Rattle.sip_message.specs.declared.message.Request.{Request};
 ghost use Rattle.sip_message.specs.declared.message.Response.{Response};
-ghost use Rattle.transactions.specs.Calls.{Call};
+ghost use Rattle.sip_writing.specs.Replies.{Replies};
+ghost use Rattle.transactions.specs.declared.change.Entry.{Entry};
+ghost use Rattle.transactions.specs.declared.transaction.Transaction.{Transaction};
+ghost use Rattle.transactions.specs.Calls.{Call, after_all};
+ghost use Rattle.transactions.specs.Limits.{most_served};
+ghost use Rattle.transactions.specs.Repeats.{KeepsFinal, LeavesAnswer, KeepsOver, RepeatsAnswer, ResendsAnswer};
+ghost use Rattle.transactions.specs.Servers.{AreServers, MayEnter, WereDone};
+ghost use Rattle.transactions.specs.Slots.{serving};
+ghost use Rattle.transactions.specs.Untouched.{LeavesOthers};
 ghost use Rattle.transactions.specs.Contents.{Contents, reception_of, IsNew};
-ghost use Rattle.transactions.specs.Changes.{after_message};
+ghost use Rattle.transactions.specs.Changes.{after_message, change_of, entered};
 ghost use Rattle.transactions.specs.Matching.{is_reply, RepliesTo};
 ghost use Rattle.transactions.specs.Replies.{RepliesWhereTaken};
 ghost use Rattle.transactions.specs.Once.{stands, IsLeft, NewOnce};
@@ -28,9 +37,40 @@ pub fn once()
 {}
 
 /// An answer goes up or is swallowed only where a client transaction stands whose request it replies to: branch, Call-ID,
-/// tag of From, number and method agree, and the tag of To where the request has one. Its state before is told.
+/// tag of From, number and method agree, and the tag of To where the request has one. Its state before is told. What is
+/// written in answer to a request replies to it.
 pub fn replies()
+    ensures written { (answer request : Parts) (status : ℕ) (tag : List ℕ) → Replies answer request status tag → RepliesTo answer request }
     ensures reply { (answer : Parts) (request : Parts) → (is_reply answer request ≡ true) ↔ RepliesTo answer request }
     ensures taken { (table : Contents) (response : Response) →
         RepliesWhereTaken table response.parts (reception_of table (Kinds.Response response)) }
+{}
+
+/// No two server transactions have one key (method, branch and sent-by), and there are no more than 4,096: of a table
+/// without transactions, and after any calls that were done, since none begins one at the limit; and after any change that
+/// may be entered, as what is foreseen of a message may, where that is entered before other messages come.
+pub fn servers()
+    ensures none { AreServers [] }
+    ensures change { (now : ℕ) (table : Contents) (change : Entry) →
+        AreServers table.slots → MayEnter table.slots change → AreServers (entered now table change).slots }
+    ensures message { (table : Contents) (message : Message) (source : Addr) →
+        (IsNew (reception_of table message).verdict → serving table.slots < most_served)
+        → MayEnter table.slots (change_of table message source) }
+    ensures calls { (table : Contents) (calls : List Call) →
+        AreServers table.slots → WereDone table calls → AreServers (after_all table calls).slots }
+{}
+
+/// A call that tells a transaction nothing leaves it as it was, with its timers.
+pub fn others_are_untouched()
+    ensures { (table : Contents) (call : Call) → LeavesOthers table call }
+{}
+
+/// The final answer of the core, but a 2xx to an INVITE, is kept over any calls while its transaction lasts; until the ACK
+/// comes, a copy of the request gets its bytes again, and timer G sends them again (RFC 3261 sections 17.2.1 and 17.2.2).
+pub fn answers_are_repeated()
+    ensures kept { (table : Contents) (id : ℕ) (response : Response) (now : ℕ) → KeepsFinal table id response now }
+    ensures left { (table : Contents) (call : Call) → LeavesAnswer table call }
+    ensures over { (table : Contents) (calls : List Call) → KeepsOver table calls }
+    ensures again { (table : Contents) (request : Request) → RepeatsAnswer table request }
+    ensures timer { (transaction : Transaction) → ResendsAnswer transaction }
 {}

@@ -3,22 +3,15 @@
 //! dialogs, calls or users.
 #![tactic(auto)]
 
-mod ack;
 mod applying;
 mod change;
 mod error;
 mod foreseeing;
-mod input;
-mod invite_client;
-mod invite_server;
 mod laws;
 mod matching;
-mod other_client;
-mod other_server;
 mod outcome;
+mod same_branch;
 mod slots;
-mod state;
-mod step;
 mod stopping;
 mod table;
 mod transaction;
@@ -27,14 +20,8 @@ mod verdicts;
 pub use change::{Change, Entry};
 pub use error::TableError;
 pub use foreseeing::{Foreseen, ForeseenFire};
-pub use input::{Class, Input, TimerKind};
-pub use invite_client::InviteClient;
-pub use invite_server::InviteServer;
-pub use laws::{once, replies};
-pub use other_client::OtherClient;
-pub use other_server::OtherServer;
+pub use laws::{answers_are_repeated, once, others_are_untouched, replies, servers};
 pub use outcome::{Fired, Outgoing, Reception, Started, Verdict};
-pub use state::{State, advance};
-pub use step::{Sending, Start, Starts, Step, Stops, Told};
+pub use same_branch::{ack_of, cancel_of};
 pub use table::Table;
 pub use transaction::{TimerId, Transaction};

@@ -1,39 +1,15 @@
 //! Which message belongs to which request (RFC 3261 sections 17.1.3, 17.2.3 and 9.2).
 
 ghost use Rattle.std.specs.Prelude.{◌≡◌, is_some};
-ghost use Rattle.std.specs.Option.{option_copied};
-ghost use Rattle.transactions.specs.Matching.{value_of, branch_in, tag_in, same_sent_by, same_top, is_method, served_method, is_copy, is_reply, keeps_to_tag, is_same_call, is_merged_with};
+ghost use Rattle.sip_message.specs.Words.{tag_value};
+ghost use Rattle.transactions.specs.Matching.{same_sent_by, same_top, served_method, is_copy, is_reply, keeps_to_tag, is_same_call, is_merged_with};
 
-use sip_message::{Parts, Via};
-use sip_uri::{NameAddr, Param, param_named, same_host, same_text};
+use sip_message::{Parts, Via, is_method, tag_value, top_branch};
+use sip_uri::{same_host, same_text};
 use text::Text;
 
 /// The port of a sent-by that names none (RFC 3261 section 18.1.1).
 const DEFAULT_PORT: u16 = 5060;
-
-fn value_of<'m, 'a>(params: &'m [Param<'a>], name: &[u8]) -> Option<&'m Text<'a>>
-    ensures { option_copied result ≡ value_of name.now params.now }
-{
-    match param_named(params, name) {
-        Some(param) => param.value.as_ref(),
-        None => None,
-    }
-}
-
-fn branch_in<'m, 'a>(vias: &'m [Via<'a>]) -> Option<&'m Text<'a>>
-    ensures { option_copied result ≡ branch_in vias.now }
-{
-    match vias {
-        [] => None,
-        [via, ..] => value_of(via.params.as_slice(), b"branch"),
-    }
-}
-
-pub(crate) fn tag_in<'m, 'a>(party: &'m NameAddr<'a>) -> Option<&'m Text<'a>>
-    ensures { option_copied result ≡ tag_in party.now }
-{
-    value_of(party.params.as_slice(), b"tag")
-}
 
 fn same_sent_by(a: &Via, b: &Via) -> bool
     ensures { result ≡ same_sent_by a.now b.now }
@@ -47,19 +23,11 @@ pub(crate) fn same_top(a: &Parts, b: &Parts) -> bool
 {
     match (a.vias.as_slice(), b.vias.as_slice()) {
         ([top_a, ..], [top_b, ..]) => {
-            same_text(branch_in(a.vias.as_slice()), branch_in(b.vias.as_slice()))
-                && same_sent_by(top_a, top_b)
+            same_text(top_branch(&a.vias), top_branch(&b.vias)) && same_sent_by(top_a, top_b)
         }
         ([], []) => true,
         _ => false,
     }
-}
-
-/// Whether this is the method of CSeq.
-pub(crate) fn is_method(parts: &Parts, name: &[u8]) -> bool
-    ensures { result ≡ is_method name.now parts.now }
-{
-    parts.cseq.method.as_bytes() == name
 }
 
 // The method of the transaction that a request belongs to: an ACK belongs to its INVITE.
@@ -85,9 +53,9 @@ pub(crate) fn is_copy(request: &Parts, first: &Parts) -> bool
 fn keeps_to_tag(answer: &Parts, request: &Parts) -> bool
     ensures { result ≡ keeps_to_tag answer.now request.now }
 {
-    match tag_in(&request.to) {
+    match tag_value(request.to.params.as_slice()) {
         None => true,
-        Some(tag) => same_text(tag_in(&answer.to), Some(tag)),
+        Some(tag) => same_text(tag_value(answer.to.params.as_slice()), Some(tag)),
     }
 }
 
@@ -96,7 +64,10 @@ fn is_same_call(a: &Parts, b: &Parts) -> bool
     ensures { result ≡ is_same_call a.now b.now }
 {
     a.call_id.as_bytes() == b.call_id.as_bytes()
-        && same_text(tag_in(&a.from), tag_in(&b.from))
+        && same_text(
+            tag_value(a.from.params.as_slice()),
+            tag_value(b.from.params.as_slice()),
+        )
         && a.cseq.number == b.cseq.number
         && a.cseq.method.as_bytes() == b.cseq.method.as_bytes()
 }
@@ -106,10 +77,8 @@ fn is_same_call(a: &Parts, b: &Parts) -> bool
 pub(crate) fn is_reply(answer: &Parts, request: &Parts) -> bool
     ensures { result ≡ is_reply answer.now request.now }
 {
-    same_text(
-        branch_in(answer.vias.as_slice()),
-        branch_in(request.vias.as_slice()),
-    ) && is_same_call(answer, request)
+    same_text(top_branch(&answer.vias), top_branch(&request.vias))
+        && is_same_call(answer, request)
         && keeps_to_tag(answer, request)
 }
 
@@ -123,7 +92,7 @@ pub(crate) fn is_merged_with(request: &Parts, first: &Parts) -> bool
 
 /// Whether To has a tag.
 pub(crate) fn has_to_tag(parts: &Parts) -> bool
-    ensures { result ≡ is_some (tag_in parts.now.to) }
+    ensures { result ≡ is_some (tag_value parts.now.to.params) }
 {
-    tag_in(&parts.to).is_some()
+    tag_value(parts.to.params.as_slice()).is_some()
 }

@@ -3,9 +3,9 @@
 ghost use Rattle.std.specs.Prelude.{◌≡◌};
 ghost use Rattle.transactions.specs.Contents.{stray};
 
-use crate::state::State;
 use sip_uri::Addr;
 use text::Text;
+use transaction_machines::State;
 
 /// Bytes to send, and where to.
 #[derive(Debug, Drop)]

@@ -5,10 +5,10 @@ ghost use Rattle.std.specs.List.{list_any};
 ghost use Rattle.std.specs.Option.{option_copied};
 ghost use Rattle.transactions.specs.Slots.{at, is_asked, is_answered, is_named, is_named_invite, is_merged, is_serving, free_number, named};
 
-use crate::matching::{is_copy, is_merged_with, is_method, is_reply, same_top};
-use crate::state::{State, is_server};
+use crate::matching::{is_copy, is_merged_with, is_reply, same_top};
 use crate::transaction::Transaction;
-use sip_message::Parts;
+use sip_message::{Parts, is_method};
+use transaction_machines::{State, is_server};
 
 /// The transaction of a number.
 pub(crate) fn transaction_at(slots: &[Option<Transaction>], id: usize) -> Option<&Transaction>

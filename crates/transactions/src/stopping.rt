@@ -2,15 +2,14 @@
 
 ghost use Rattle.std.specs.Prelude.{◌≡◌, ◌+◌, ◌<◌, ◌≤◌, ◌^◌, [], ◌∷◌};
 ghost use Rattle.transactions.specs.Timing.{same_timer, timer_of, without_kinds, stopped, stopped_by, start, started};
-ghost use Rattle.transactions.specs.Steps.{IsShort};
+ghost use Rattle.transaction_machines.specs.Steps.{IsShort};
 ghost use Rattle.timers.specs.Queue.{without, moment};
 ghost use Rattle.transactions.specs.Contents.{has_come};
 ghost use Rattle.transactions.specs.Changes.{starts_count};
 
-use crate::input::TimerKind;
-use crate::step::{Start, Starts, Stops};
 use crate::transaction::TimerId;
 use timers::Timers;
+use transaction_machines::{Start, Starts, Stops, TimerKind};
 
 /// The moment of a timer, where it is set.
 pub(crate) fn moment(timers: &Timers<TimerId>, id: usize, kind: TimerKind) -> Option<u64>

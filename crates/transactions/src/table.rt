@@ -1,8 +1,10 @@
 //! The table of transactions, with its timers.
 
-ghost use Rattle.std.specs.Prelude.{◌≡◌, ◌<◌, ◌^◌, [], OnOk, OnErr, IfOk, IfErr, Some, IfSome, IsSome, is_some, option_map, IsTrue};
+ghost use Rattle.std.specs.Prelude.{◌≡◌, ◌<◌, ◌^◌, [], OnOk, OnErr, IfOk, IfErr, Some, IfSome, IsSome, is_some, option_map, length, true, IsTrue};
 ghost use Rattle.std.specs.Option.{option_copied};
-ghost use Rattle.timers.specs.Queue.{first, first_due};
+ghost use Rattle.timers.specs.Queue.{EachKeyOnce, first, first_due};
+ghost use Rattle.timers.specs.Settings.{IsDue, IsNext};
+ghost use Rattle.transactions.specs.Timing.{same_timer};
 ghost use Rattle.sip_message.specs.Grammar.{ReadsMessage};
 ghost use Rattle.sip_writing.specs.Writing.{message_text};
 ghost use Rattle.sip_writing.specs.WritingMessage.{IsWrittenMessage};
@@ -10,27 +12,26 @@ ghost use Rattle.sip_message.specs.declared.message.Message.TheVariants as Kinds
 ghost use Rattle.transactions.specs.Limits.{most_served};
 ghost use Rattle.transactions.specs.Slots.{at, named, serving, is_serving};
 ghost use Rattle.transactions.specs.Transactions.{outgoing};
-ghost use Rattle.transactions.specs.Inputs.{class_of};
+ghost use Rattle.sip_message.specs.Words.{class_of};
 ghost use Rattle.transactions.specs.Contents.{line_at, reception_of, IsNew, RefusesMessage, answer_input, after_answer, answer_sent, RefusesAnswer, after_abandon, RefusesAbandon, fired_of, after_fire, is_due, RefusesFire, merged};
-ghost use Rattle.transactions.specs.Changes.{entered, entered_all, after_message, after_start, started_number};
+ghost use Rattle.transactions.specs.Changes.{entered, entered_all, after_message, after_start, started_number, needs_room};
 
 use crate::applying::{enter, enter_all, make_room, make_room_for};
 use crate::change::Change;
 use crate::error::TableError;
 use crate::foreseeing::{Foreseen, ForeseenFire};
-use crate::input::{Input, class_of};
-use crate::matching::{has_to_tag, is_method};
+use crate::matching::has_to_tag;
 use crate::outcome::{Fired, Outgoing, Reception, Started};
 use crate::slots::{any_merged, free_number, named, transaction_at};
-use crate::state::{advance, is_server};
 use crate::stopping::{has_come, moment};
 use crate::transaction::{TimerId, Transaction};
-use sip_message::{Message, Request, Response};
+use sip_message::{Message, Request, Response, class_of, is_method};
 use sip_uri::Addr;
 use sip_writing::{write_request, write_response};
 use std::alloc::{AllocError, Global};
 use std::marker::Model;
 use timers::{Timer, Timers};
+use transaction_machines::{Input, advance, is_server};
 
 /// The transactions of the server (RFC 3261 section 17), each with a number, and their timers. Moments are in
 /// milliseconds.
@@ -43,7 +44,7 @@ pub struct Table {
 
 impl Model for Table {
     ghost use Rattle.transactions.specs.Contents.{Contents};
-    ghost use Rattle.transactions.specs.Lines.{IsFireable};
+    ghost use Rattle.transactions.specs.Fireable.{IsFireable};
 
     ghost Value = { Contents };
 
@@ -160,7 +161,8 @@ impl Table {
         Ok(())
     }
 
-    /// Lets a timer fire that is due. One that is not due, or not set, is refused (X1), and no other.
+    /// Lets a timer fire that is due. One that is not due, or not set, is refused (X1), and one that sends something or
+    /// starts a timer may be refused for want of memory: an ending timer is not.
     pub fn fire(&mut self, timer: TimerId, now: u64) -> Result<Fired, TableError>
         requires { now < 2 ^ 60 }
         ensures fired { IfOk result (λ fired. Some fired ≡ fired_of (at self.old.slots timer.id) timer.kind) }
@@ -205,9 +207,20 @@ impl Table {
         }
     }
 
-    /// The timer that is due first, and its moment. It is one that `fire` takes. Takes no memory.
+    /// How many timers are set: each belongs to a transaction, and a transaction has one of a letter at most. Takes no
+    /// memory.
+    pub fn timer_count(&self) -> usize
+        ensures count { result ≡ length self.now.timers }
+        ensures once { EachKeyOnce same_timer self.now.timers }
+    {
+        self.timers.len()
+    }
+
+    /// The timer that is due first, and its moment: the one with the least moment, and at equal moments the one set
+    /// first. It is one that `fire` takes. Takes no memory.
     pub fn first_due(&self, now: u64) -> Option<Timer<TimerId>>
         ensures first { result ≡ first_due self.now.timers now }
+        ensures least { IsDue self.now.timers now result }
         ensures due { IfSome result (λ timer. IsTrue (is_due self.now timer.key now)) }
     {
         self.timers.first_due(now)
@@ -215,7 +228,8 @@ impl Table {
 
     /// The least moment that is set. Takes no memory.
     pub fn next(&self) -> Option<u64>
-        ensures { result ≡ option_map (λ t. t.at) (first self.now.timers) }
+        ensures first { result ≡ option_map (λ t. t.at) (first self.now.timers) }
+        ensures least { IsNext self.now.timers result }
     {
         self.timers.next()
     }
@@ -258,6 +272,7 @@ impl Table {
         requires { now < 2 ^ 60 }
         ensures ok { OnOk result (self.new ≡ entered now self.old change) }
         ensures err { OnErr result (self.new ≡ self.old) }
+        ensures needed { OnErr result (needs_room self.old.slots change ≡ true) }
     {
         make_room_for(&mut self.slots, &mut self.timers, &change)?;
         enter(&mut self.slots, &mut self.timers, change, now);

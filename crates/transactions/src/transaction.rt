@@ -1,24 +1,22 @@
 //! A transaction.
 
-ghost use Rattle.std.specs.Prelude.{◌≡◌, ◌*◌, IfOk, IsTrue, Some, false, option_map};
-ghost use Rattle.transactions.specs.Lines.{repeats, has_sent, starts_with_lines};
-ghost use Rattle.transactions.specs.Steps.{IsShort, timer, t1};
+ghost use Rattle.std.specs.Prelude.{◌≡◌, ◌*◌, IfOk, IfErr, IsTrue, Some, true, false, option_map};
+ghost use Rattle.transaction_machines.specs.Lines.{repeats, starts_with_lines};
+ghost use Rattle.transactions.specs.Fireable.{has_sent};
+ghost use Rattle.transaction_machines.specs.Steps.{IsShort, timer, t1};
+ghost use Rattle.transactions.specs.Contents.{sends};
 ghost use Rattle.transactions.specs.Transactions.{served, served_state, asking, asking_state, asking_timers, went, outgoing, sent};
 
-use crate::input::TimerKind;
-use crate::invite_client::InviteClient;
-use crate::invite_server::InviteServer;
-use crate::matching::is_method;
-use crate::other_client::OtherClient;
-use crate::other_server::OtherServer;
 use crate::outcome::Outgoing;
-use crate::state::State;
-use crate::step::{LIMIT, Sending, Start, Starts, T1};
-use sip_message::{Parts, Request};
+use sip_message::{Parts, Request, is_method};
 use sip_uri::{Addr, Uri};
 use sip_writing::reply_address;
 use std::alloc::{AllocError, Global};
 use text::Text;
+use transaction_machines::{
+    InviteClient, InviteServer, LIMIT, OtherClient, OtherServer, Sending, Start, Starts, State, T1,
+    TimerKind,
+};
 
 /// A timer of a transaction, by the number of the transaction.
 #[derive(Clone, Copy, Debug, PartialEq, Eq, PartialOrd, Ord)]
@@ -118,7 +116,7 @@ fn starts_two(again: TimerKind, limit: TimerKind) -> Starts
 }
 
 /// The timers of a request of the server's own: when it goes again, and when it is given up.
-#[tactic(auto, unfolding(crate::specs::Machines::row_of, crate::specs::InviteClient::invite_client_row, crate::specs::OtherClient::other_client_row))]
+#[tactic(auto, unfolding(transaction_machines::specs::Machines::row_of, transaction_machines::specs::InviteClient::invite_client_row, transaction_machines::specs::OtherClient::other_client_row))]
 pub(crate) fn asking_timers(parts: &Parts) -> Starts
     ensures timers { result ≡ asking_timers parts.now }
     ensures short { IsShort result }
@@ -166,7 +164,9 @@ pub(crate) fn sent(
     fresh: &Option<Text<'static>>,
     sending: Sending,
 ) -> Result<Option<Outgoing>, AllocError>
-    ensures { IfOk result (λ send. send ≡ sent transaction.now fresh.now sending) }
+    ensures sent { IfOk result (λ send. send ≡ sent transaction.now fresh.now sending) }
+    // What sends nothing takes no memory.
+    ensures needed { IfErr result (λ error. sends sending ≡ true) }
 {
     match sending {
         Sending::Nothing => Ok(None),

@@ -2,13 +2,11 @@
 
 ghost use Rattle.std.specs.Prelude.{◌≡◌, false};
 ghost use Rattle.transactions.specs.Contents.{input_of, verdict_by, fired_by, IsNew};
-ghost use Rattle.transactions.specs.Lines.{is_answer};
+ghost use Rattle.transaction_machines.specs.Lines.{is_answer};
 
-use crate::input::Input;
-use crate::matching::is_method;
 use crate::outcome::{Fired, Outgoing, Verdict};
-use crate::step::{Sending, Told};
-use sip_message::Parts;
+use sip_message::{Parts, is_method};
+use transaction_machines::{Input, Sending, Told};
 
 /// What a request of a transaction that stands is to it.
 pub(crate) fn input_of(parts: &Parts) -> Input

@@ -2,7 +2,7 @@ use Rattle.std.proofs.Common.{◌≡◌, ◌+◌, ◌*◌, ◌≤◌, length}
 use Rattle.std.specs.Prelude.{vec_len}
 use Rattle.std.specs.Vec.{vec_capacity}
 use Rattle.transactions.specs.Changes.{entered_all}
-use Rattle.transactions.specs.Lines.{IsFireable}
+use Rattle.transactions.specs.Fireable.{IsFireable}
 use Rattle.transactions.proofs.applying.enter_all.Given as goal
 
 -- the changes that are left lead to the same table, and there is room for them

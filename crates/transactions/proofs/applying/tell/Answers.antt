@@ -1,5 +1,5 @@
 use Rattle.std.proofs.Common.{is_some, ap, ◌∙◌}
-use Rattle.transactions.specs.Lines.{is_answer}
+use Rattle.transaction_machines.specs.Lines.{is_answer}
 use Rattle.transactions.specs.Slots.{at}
 use Rattle.transactions.proofs.FireLaws.{follows_by}
 use Rattle.transactions.proofs.applying.tell.Goals as goal

@@ -1,4 +1,4 @@
-use Rattle.transactions.proofs.ReplyLaws.{reply_decides, replies_where_taken}
+use Rattle.transactions.proofs.ReplyLaws.{reply_decides, replies_where_taken, written_replies}
 use Rattle.transactions.proofs.laws.replies.Goals as goal
 
 pub returns-clause-reply : goal.returns-clause-reply
@@ -6,3 +6,6 @@ returns-clause-reply c = λ answer request. reply_decides answer request
 
 pub returns-clause-taken : goal.returns-clause-taken
 returns-clause-taken c = λ table response. replies_where_taken table response
+
+pub returns-clause-written : goal.returns-clause-written
+returns-clause-written c = λ answer request status tag. written_replies answer request status tag

@@ -22,7 +22,7 @@ unreachable-requires-in_default-fired_by c =
     let t = c.in-Some.transaction.now in
     let step = c.in-Some-advance.step in
     let nothing : fired_by step.told c.in_ok-send.send ≡ None = sym c.fired_by.ensures ∙ c.in_default-fired_by.is in
-    false≢true (ap is_some (sym nothing ∙ ap (fired_by step.told) c.in_ok-send.ensures)
+    false≢true (ap is_some (sym nothing ∙ ap (fired_by step.told) c.in_ok-send.ensures.sent)
     ∙ ap (λ o. is_some (fired_step t o)) c.in-Some-advance.ensures.row
     ∙ fires_then c.self.inside.slots.items c.self.inside.timers.timers c.args.self.now c.args.timer c.args.now c.self.invariant c.self.view_is
     c.if-not-is_due.ensures (Some t) (c.in-Some.ensures ∙ ap (λ l. at l c.args.timer.id) c.deref.ensures.value))

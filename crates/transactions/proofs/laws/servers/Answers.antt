@@ -1,0 +1,14 @@
+use Rattle.transactions.proofs.ServerLaws.{no_servers, entered_servers, foreseen_may, calls_servers}
+use Rattle.transactions.proofs.laws.servers.Goals as goal
+
+pub returns-clause-none : goal.returns-clause-none
+returns-clause-none c = no_servers
+
+pub returns-clause-change : goal.returns-clause-change
+returns-clause-change c = λ now table change. entered_servers now table change
+
+pub returns-clause-message : goal.returns-clause-message
+returns-clause-message c = λ table message source. foreseen_may table message source
+
+pub returns-clause-calls : goal.returns-clause-calls
+returns-clause-calls c = λ table calls. calls_servers table calls
