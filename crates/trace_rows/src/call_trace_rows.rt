@@ -1,14 +1,16 @@
-//! Rows of calls of `call_trace` on traces that are written as tables.
+//! Rows of calls of `call_trace` on traces that are written as tables, or read from the bytes of their datagrams.
 
+use crate::reading_rows::{datagram, fault_words, read_text, reading_laws};
 use crate::trace_tables::{Descriptions, dialog, fault_text, methods};
 use call_trace::{
-    Datagram, Dialog, Places, are_last, are_passed_together, calls_are_moves, calls_are_spared,
-    calls_stay, dialog_of, dialogs_are_known, exchanges_stay, has_begun, has_ended, is_call,
-    is_exchange, is_last, is_live, is_named, is_open, is_passed_on, moves_are_promised, moves_keep,
-    relayed_is_promised, replies, standing_is_promised,
+    Datagram, Dialog, Direction, Places, are_last, are_passed_together, calls_are_moves,
+    calls_are_spared, calls_stay, dialog_of, dialogs_are_known, exchanges_stay, has_begun,
+    has_ended, is_call, is_exchange, is_last, is_live, is_named, is_open, is_passed_on,
+    moves_are_promised, moves_keep, relayed_is_promised, replies, standing_is_promised,
 };
 use rows::{Rows, said, shown, usize_of};
 use sdp::DescriptionError;
+use sip_message::MessageError;
 use std::alloc::{AllocError, Global};
 use text::{Texts, cut};
 
@@ -66,6 +68,19 @@ fn call_text(
     )
 }
 
+/// The same of two dialogs by their words.
+fn call_of_text(
+    alloc: Global,
+    trace: &[Datagram],
+    (dx, dy): (&[u8], &[u8]),
+    places: (Places, Places),
+) -> Result<String, AllocError> {
+    let methods = methods(alloc)?;
+    let dx = dialog(alloc, dx)?;
+    let dy = dialog(alloc, dy)?;
+    call_text(alloc, &methods, trace, (&dx, &dy), places)
+}
+
 /// The same of the caller's dialog and the callee's.
 fn outcome_text(
     alloc: Global,
@@ -73,10 +88,7 @@ fn outcome_text(
     x: Places,
     y: Places,
 ) -> Result<String, AllocError> {
-    let methods = methods(alloc)?;
-    let dx = dialog(alloc, b"c1 2.2 fa")?;
-    let dy = dialog(alloc, b"2.3 2.4 tb")?;
-    call_text(alloc, &methods, trace, (&dx, &dy), (x, y))
+    call_of_text(alloc, trace, (b"c1 2.2 fa", b"2.3 2.4 tb"), (x, y))
 }
 
 fn dialog_text(alloc: Global, dialog: &Dialog) -> Result<String, AllocError> {
@@ -264,6 +276,51 @@ impl CallTraceRows {
         }
     }
 
+    /// Puts a datagram that is read from these bytes behind those of the trace.
+    fn put(
+        &mut self,
+        alloc: Global,
+        direction: Direction,
+        event: &[u8],
+        bytes: &[u8],
+    ) -> Result<String, MessageError> {
+        self.trace.push(datagram(alloc, direction, event, bytes)?)?;
+        Ok(format!(in alloc; "{} datagrams", self.trace.len())?)
+    }
+
+    fn put_text(
+        &mut self,
+        alloc: Global,
+        direction: Direction,
+        event: &[u8],
+        bytes: &[u8],
+    ) -> Result<String, AllocError> {
+        match self.put(alloc, direction, event, bytes) {
+            Ok(text) => Ok(text),
+            Err(fault) => fault_words(alloc, fault),
+        }
+    }
+
+    /// What a call of `trace_reading` answers.
+    fn of_reading(
+        &mut self,
+        alloc: Global,
+        call: &str,
+        args: &[&[u8]],
+    ) -> Result<Option<String>, AllocError> {
+        let answer = match (call, args) {
+            ("laws", []) => {
+                reading_laws();
+                said(alloc, "hold")
+            }
+            ("read", [bytes]) => read_text(alloc, bytes),
+            ("taken", [event, bytes]) => self.put_text(alloc, Direction::Taken, event, bytes),
+            ("sent", [event, bytes]) => self.put_text(alloc, Direction::Sent, event, bytes),
+            _ => return Ok(None),
+        };
+        Ok(Some(answer?))
+    }
+
     /// Notes a description.
     fn note(&mut self, alloc: Global, name: &[u8], bytes: &[u8]) -> Result<String, AllocError> {
         self.descriptions.add(alloc, name, bytes)?;
@@ -286,6 +343,10 @@ impl Rows for CallTraceRows {
             }
             ("call_trace", "description", [name, bytes]) => self.note(alloc, name, bytes),
             ("call_trace", "dialog_of", [at]) => dialog_at(alloc, &self.trace, usize_of(at)),
+            ("call_trace", "call", [dx, dy, x, y]) => {
+                call_of_text(alloc, &self.trace, (dx, dy), (places(x), places(y)))
+            }
+            ("trace_reading", ..) => return self.of_reading(alloc, call, args),
             ("call_trace", ..) => return self.of_trace(alloc, call, args),
             _ => return Ok(None),
         };

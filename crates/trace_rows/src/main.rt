@@ -1,7 +1,8 @@
-//! Rows of `call_trace`.
+//! Rows of `call_trace` and `trace_reading`.
 #![tactic(auto)]
 
 mod call_trace_rows;
+mod reading_rows;
 mod trace_tables;
 
 use crate::call_trace_rows::CallTraceRows;
