@@ -16,7 +16,7 @@ use Rattle.offer_answer.specs.declared.range.OwnRange.{OwnRange}
 use Rattle.offer_answer.specs.Checks.{accepted_fault, answer_fault, answered_fault, first_answered_fault, is_good_place, is_same_media}
 use Rattle.offer_answer.specs.declared.fault.AnswerFault.{AnswerFault}
 use Rattle.offer_answer.specs.declared.fault.AnswerFault.TheVariants.{NumberOfMedia, OtherMedia, UnwantedPort, BadPlace}
-use Rattle.offer_answer.specs.Readdressed.{has_ports, told_port, told_ports}
+use Rattle.offer_answer.specs.Readdressing.{has_ports, told_port, told_ports}
 use Rattle.offer_answer.specs.Rows.{are_distinct, is_even, pairs_named}
 use Rattle.offer_answer.specs.Session.{HoldsPairs, session_lines}
 use Rattle.call_media.specs.declared.seat.Seat.{Seat}

@@ -12,7 +12,7 @@ use Rattle.sdp.specs.declared.description.Media.{Media}
 use Rattle.offer_answer.specs.Alike.{Alike}
 use Rattle.offer_answer.specs.Checks.{answer_fault}
 use Rattle.offer_answer.specs.Joined.{is_at_server}
-use Rattle.offer_answer.specs.Readdressed.{has_ports, told_ports}
+use Rattle.offer_answer.specs.Readdressing.{has_ports, told_ports}
 use Rattle.offer_answer.specs.Rows.{LeadsAll, Named, are_distinct, is_even, pairs_named, ports_named}
 use Rattle.offer_answer.specs.Session.{HoldsPairs, leads_by, line_of, session_lines}
 use Rattle.call_media.specs.declared.seat.Seat.{Seat}

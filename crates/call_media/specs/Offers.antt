@@ -9,7 +9,7 @@ use Rattle.sdp.specs.declared.description.Media.{Media}
 use Rattle.offer_answer.specs.Alike.{Alike}
 use Rattle.offer_answer.specs.Checks.{offer_fault}
 use Rattle.offer_answer.specs.Joined.{is_at_server}
-use Rattle.offer_answer.specs.Readdressed.{readdressed, told_ports}
+use Rattle.offer_answer.specs.Readdressing.{readdressed_description, told_ports}
 use Rattle.offer_answer.specs.Rows.{are_distinct, is_even}
 use Rattle.call_media.specs.declared.end.End.{End}
 use Rattle.call_media.specs.declared.end.End.TheVariants.{Caller}
@@ -59,7 +59,7 @@ opened_over m e offer seats = record {
   offerer = e;
   seats = seats;
   offer_taken = offer;
-  offer_sent = readdressed (origin m.number m.range.ip (other e) m.versions) (map port_to_answerer seats) offer;
+  offer_sent = readdressed_description (origin m.number m.range.ip (other e) m.versions) (map port_to_answerer seats) offer;
 }
 
 abbrev pub opened : CallMedia → Contents → End → Description → ℕ → OpenOffer

@@ -14,15 +14,15 @@ use Rattle.sdp.specs.declared.way.Way.TheVariants.{SendReceive}
 use Rattle.sdp.specs.PlaceOf.{address_of_medium}
 use Rattle.sdp.specs.WayOf.{first_way, way_of}
 use Rattle.offer_answer.specs.Formats.{first_rtpmap, rtpmap_of, maps_match, formats_match}
-use Rattle.offer_answer.specs.Direct.{is_hold, is_answered, matching}
-use Rattle.offer_answer.specs.Alike.{kept, bare_media, BareMedia}
+use Rattle.offer_answer.specs.Direct.{is_hold, is_answered, matching_formats}
+use Rattle.offer_answer.specs.Alike.{kept_lines, bare_media, BareMedia}
 use Rattle.offer_answer.proofs.KeptLines.{first_way-kept, first_rtpmap-kept}
 
 -- a medium of one description, and a medium of another that is alike
 pub record AlikeMedia (D : Description) (d : Media) (E : Description) (e : Media) : Type 0 where
   pub medium : bare_media d ≡ bare_media e
   pub connection : option_map is_hold D.connection ≡ option_map is_hold E.connection
-  pub after : kept D.after ≡ kept E.after
+  pub after : kept_lines D.after ≡ kept_lines E.after
 
 pub alike_back : (D : Description) (d : Media) (E : Description) (e : Media) → AlikeMedia D d E e → AlikeMedia E e D d
 alike_back D d E e h = record { medium = sym h.medium; connection = sym h.connection; after = sym h.after }
@@ -30,10 +30,10 @@ alike_back D d E e h = record { medium = sym h.medium; connection = sym h.connec
 pub alike_itself : (D : Description) (d : Media) → AlikeMedia D d D d
 alike_itself D d = record { medium = refl; connection = refl; after = refl }
 
-same_first_way : (ls ms : List Line) → kept ls ≡ kept ms → first_way ls ≡ first_way ms
+same_first_way : (ls ms : List Line) → kept_lines ls ≡ kept_lines ms → first_way ls ≡ first_way ms
 same_first_way ls ms e = sym (first_way-kept ls) ∙ ap first_way e ∙ first_way-kept ms
 
-same_lines : (d e : Media) → bare_media d ≡ bare_media e → kept d.after ≡ kept e.after
+same_lines : (d e : Media) → bare_media d ≡ bare_media e → kept_lines d.after ≡ kept_lines e.after
 same_lines d e h = ap (λ (b : BareMedia). b.after) h
 
 pub same_way : (D : Description) (d : Media) (E : Description) (e : Media) → AlikeMedia D d E e → way_of D d ≡ way_of E e
@@ -61,7 +61,7 @@ same_answered o o' s s' f h k =
     ap (λ gs. list_any (λ g. formats_match o f s g) gs) (ap (λ (b : BareMedia). b.formats) k)
     ∙ any_agree (λ g. formats_match o f s g) (λ g. formats_match o' f s' g) s'.formats (λ g. same_match o o' s s' f g h k)
 
-pub same_matching : (o o' s s' : Media) → bare_media o ≡ bare_media o' → bare_media s ≡ bare_media s' → matching o s ≡ matching o' s'
+pub same_matching : (o o' s s' : Media) → bare_media o ≡ bare_media o' → bare_media s ≡ bare_media s' → matching_formats o s ≡ matching_formats o' s'
 same_matching o o' s s' h k =
     ap (λ v. filter (is_answered o s) v) (ap (λ (b : BareMedia). b.formats) h)
     ∙ filter_agree (is_answered o s) (is_answered o' s') (λ f. same_answered o o' s s' f h k) o'.formats

@@ -12,7 +12,7 @@ use Rattle.sdp.specs.declared.description.Description.{Description}
 use Rattle.offer_answer.specs.Direct.{is_hold, destination, stream_of, streams_of, direct}
 use Rattle.offer_answer.specs.Joined.{is_own_or_hold, is_at_server, joined, joined_media}
 use Rattle.offer_answer.specs.Rows.{Named, LeadsAll, HasRows, medium_named, media_named, pair_named}
-use Rattle.offer_answer.specs.Alike.{Alike, Bare, bare_media, kept}
+use Rattle.offer_answer.specs.Alike.{Alike, Bare, bare_media, kept_lines}
 use Rattle.offer_answer.proofs.Streams.{stream_joined}
 
 own_address : (server : List ℕ) (a b : Option Address) → is_own_or_hold server a ≡ true → is_own_or_hold server b ≡ true → is_own_or_hold server (option_or a b) ≡ true
@@ -50,7 +50,7 @@ leads_both table OX ox p q SY sy rest rows = record { offerer = λ e f. (both e 
 -- ---- medium by medium
 
 pub media_joined : (server : List ℕ) (table : ℕ → Option Addr) (OX SX OY SY : Description) (oxs sxs oys sys : List Media)
-    → option_map is_hold OX.connection ≡ option_map is_hold OY.connection → kept OX.after ≡ kept OY.after → option_map is_hold SY.connection ≡ option_map is_hold SX.connection → kept SY.after ≡ kept SX.after
+    → option_map is_hold OX.connection ≡ option_map is_hold OY.connection → kept_lines OX.after ≡ kept_lines OY.after → option_map is_hold SY.connection ≡ option_map is_hold SX.connection → kept_lines SY.after ≡ kept_lines SX.after
     → is_own_or_hold server SX.connection ≡ true → is_own_or_hold server OY.connection ≡ true
     → map bare_media oxs ≡ map bare_media oys → map bare_media sys ≡ map bare_media sxs
     → list_all (λ (m : Media). is_own_or_hold server m.connection) sxs ≡ true → list_all (λ (m : Media). is_own_or_hold server m.connection) oys ≡ true

@@ -8,10 +8,10 @@ use Rattle.sdp.specs.declared.line.Line.{Line}
 use Rattle.sdp.specs.declared.way.Way.TheVariants.{SendReceive, SendOnly, ReceiveOnly, Inactive}
 use Rattle.sdp.specs.WayOf.{way_named, way_on, first_way}
 use Rattle.offer_answer.specs.Formats.{rtpmap_in, first_rtpmap}
-use Rattle.offer_answer.specs.Alike.{tells_place, is_kept, kept}
+use Rattle.offer_answer.specs.Alike.{tells_place, is_kept, kept_lines}
 
 -- a line that is left out is an attribute that tells a place
-left_out : (l : Line) → is_kept l ≡ false → (eqb l.letter 97 ≡ true) × (tells_place (before 58 l.value) ≡ true)
+pub left_out : (l : Line) → is_kept l ≡ false → (eqb l.letter 97 ≡ true) × (tells_place (before 58 l.value) ≡ true)
 left_out l e = step (eqb l.letter 97) (tells_place (before 58 l.value)) e where
   step : (a b : Bool) → not (a && b) ≡ false → (a ≡ true) × (b ≡ true)
   step true true h = (refl, refl)
@@ -45,17 +45,17 @@ no_rtpmap format l e = step (pointwise nat_eq (before 58 l.value) (codes "rtpmap
   step false h = rw (out.0, h) refl
 
 -- the first way and the first rtpmap stand among the lines that are kept
-pub first_way-kept : (ls : List Line) → first_way (kept ls) ≡ first_way ls
+pub first_way-kept : (ls : List Line) → first_way (kept_lines ls) ≡ first_way ls
 first_way-kept [] = refl
 first_way-kept (l ∷ ls) = step (is_kept l) refl (first_way-kept ls) where
-  step : (b : Bool) → is_kept l ≡ b → first_way (kept ls) ≡ first_way ls → first_way (cond b (l ∷ kept ls) (kept ls)) ≡ option_or (way_on l) (first_way ls)
+  step : (b : Bool) → is_kept l ≡ b → first_way (kept_lines ls) ≡ first_way ls → first_way (cond b (l ∷ kept_lines ls) (kept_lines ls)) ≡ option_or (way_on l) (first_way ls)
   step true h rest = ap (λ w. option_or (way_on l) w) rest
   step false h rest = rw (no_way l h) rest
 
-pub first_rtpmap-kept : (format : List ℕ) (ls : List Line) → first_rtpmap format (kept ls) ≡ first_rtpmap format ls
+pub first_rtpmap-kept : (format : List ℕ) (ls : List Line) → first_rtpmap format (kept_lines ls) ≡ first_rtpmap format ls
 first_rtpmap-kept format [] = refl
 first_rtpmap-kept format (l ∷ ls) = step (is_kept l) refl (first_rtpmap-kept format ls) where
-  step : (b : Bool) → is_kept l ≡ b → first_rtpmap format (kept ls) ≡ first_rtpmap format ls
-      → first_rtpmap format (cond b (l ∷ kept ls) (kept ls)) ≡ option_or (rtpmap_in format l) (first_rtpmap format ls)
+  step : (b : Bool) → is_kept l ≡ b → first_rtpmap format (kept_lines ls) ≡ first_rtpmap format ls
+      → first_rtpmap format (cond b (l ∷ kept_lines ls) (kept_lines ls)) ≡ option_or (rtpmap_in format l) (first_rtpmap format ls)
   step true h rest = ap (λ w. option_or (rtpmap_in format l) w) rest
   step false h rest = rw (no_rtpmap format l h) rest

@@ -9,3 +9,5 @@ pub mod RowLaws
 pub mod PairLaws
 pub mod SessionLaws
 pub mod RelayLaws
+pub mod KeptOrder
+pub mod ReadBackLaws

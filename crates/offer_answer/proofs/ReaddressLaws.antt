@@ -12,8 +12,8 @@ use Rattle.sdp.specs.declared.description.Description.{Description}
 use Rattle.offer_answer.specs.declared.readdressing.ServerOrigin.{ServerOrigin}
 use Rattle.offer_answer.specs.Direct.{hold_address, is_hold}
 use Rattle.offer_answer.specs.Joined.{is_server, is_own_or_hold, is_at_server}
-use Rattle.offer_answer.specs.Alike.{Alike, bare_media, is_kept, kept}
-use Rattle.offer_answer.specs.Readdressed.{origin_of, readdressed_address, told_port, readdressed_medium, readdressed_media, told_ports, readdressed, has_ports}
+use Rattle.offer_answer.specs.Alike.{Alike, bare_media, is_kept, kept_lines}
+use Rattle.offer_answer.specs.Readdressing.{origin_of, readdressed_address, told_port, readdressed_medium, readdressed_media, told_ports, readdressed_description, has_ports}
 
 pub not_hold : (ip : List ℕ) → ip ≢ hold_address → pointwise nat_eq ip hold_address ≡ false
 not_hold ip other = step (pointwise nat_eq ip hold_address) refl where
@@ -28,10 +28,10 @@ hold_stays ip (Some a) other = step (is_hold a) refl where
   step true e = rw e refl
   step false e = rw (e, not_hold ip other) refl
 
-kept_twice : (ls : List Line) → kept (kept ls) ≡ kept ls
+kept_twice : (ls : List Line) → kept_lines (kept_lines ls) ≡ kept_lines ls
 kept_twice [] = refl
 kept_twice (l ∷ ls) = step (is_kept l) refl (kept_twice ls) where
-  step : (b : Bool) → is_kept l ≡ b → kept (kept ls) ≡ kept ls → kept (cond b (l ∷ kept ls) (kept ls)) ≡ cond b (l ∷ kept ls) (kept ls)
+  step : (b : Bool) → is_kept l ≡ b → kept_lines (kept_lines ls) ≡ kept_lines ls → kept_lines (cond b (l ∷ kept_lines ls) (kept_lines ls)) ≡ cond b (l ∷ kept_lines ls) (kept_lines ls)
   step true e rest = rw (e, rest) refl
   step false e rest = rest
 
@@ -55,8 +55,8 @@ media_again ip (port ∷ ports) (m ∷ ms) other long has =
     ap (λ b. b ∷ map bare_media ms) (bare_again ip port m other both.0)
     ∙ ap (λ bs. bare_media (readdressed_medium ip port m) ∷ bs) (media_again ip ports ms other (omega arith) both.1)
 
-pub readdressed_alike : (origin : ServerOrigin) (ports : List ℕ) (d : Description) → length ports ≡ length d.media → has_ports ports d.media ≡ true → origin.ip ≢ hold_address → Alike d (readdressed origin ports d)
-unfolding readdressed
+pub readdressed_alike : (origin : ServerOrigin) (ports : List ℕ) (d : Description) → length ports ≡ length d.media → has_ports ports d.media ≡ true → origin.ip ≢ hold_address → Alike d (readdressed_description origin ports d)
+unfolding readdressed_description
 readdressed_alike origin ports d long has other = sym (rw (hold_stays origin.ip d.connection other, kept_twice d.after, sym (media_again origin.ip ports d.media other long has)) refl)
 
 own_again : (ip : List ℕ) (c : Option Address) → is_own_or_hold ip (option_map (readdressed_address ip) c) ≡ true
@@ -76,8 +76,8 @@ all_own ip [] ms = refl
 all_own ip (port ∷ ports) [] = refl
 all_own ip (port ∷ ports) (m ∷ ms) = rw (own_again ip m.connection, all_own ip ports ms) refl
 
-pub readdressed_at_server : (origin : ServerOrigin) (ports : List ℕ) (d : Description) → is_at_server origin.ip (readdressed origin ports d) ≡ true
-unfolding readdressed
+pub readdressed_at_server : (origin : ServerOrigin) (ports : List ℕ) (d : Description) → is_at_server origin.ip (readdressed_description origin ports d) ≡ true
+unfolding readdressed_description
 readdressed_at_server origin ports d = rw (own_again origin.ip d.connection, all_own origin.ip ports d.media) refl
 
 ports_again : (ip : List ℕ) (ports : List ℕ) (ms : List Media) → map (λ (m : Media). m.port) (readdressed_media ip ports ms) ≡ told_ports ports ms
@@ -86,10 +86,10 @@ ports_again ip [] ms = refl
 ports_again ip (port ∷ ports) [] = refl
 ports_again ip (port ∷ ports) (m ∷ ms) = ap (λ ps. told_port port m ∷ ps) (ports_again ip ports ms)
 
-pub readdressed_ports : (origin : ServerOrigin) (ports : List ℕ) (d : Description) → map (λ (m : Media). m.port) (readdressed origin ports d).media ≡ told_ports ports d.media
-unfolding readdressed
+pub readdressed_ports : (origin : ServerOrigin) (ports : List ℕ) (d : Description) → map (λ (m : Media). m.port) (readdressed_description origin ports d).media ≡ told_ports ports d.media
+unfolding readdressed_description
 readdressed_ports origin ports d = ports_again origin.ip ports d.media
 
-pub readdressed_origin : (origin : ServerOrigin) (ports : List ℕ) (d : Description) → (readdressed origin ports d).origin ≡ origin_of origin
-unfolding readdressed
+pub readdressed_origin : (origin : ServerOrigin) (ports : List ℕ) (d : Description) → (readdressed_description origin ports d).origin ≡ origin_of origin
+unfolding readdressed_description
 readdressed_origin origin ports d = refl

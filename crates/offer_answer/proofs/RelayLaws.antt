@@ -6,15 +6,15 @@ use Rattle.sdp.specs.declared.description.Description.{Description}
 use Rattle.offer_answer.specs.declared.readdressing.ServerOrigin.{ServerOrigin}
 use Rattle.offer_answer.specs.Direct.{direct}
 use Rattle.offer_answer.specs.Joined.{is_at_server, joined}
-use Rattle.offer_answer.specs.Readdressed.{readdressed}
+use Rattle.offer_answer.specs.Readdressing.{readdressed_description}
 use Rattle.offer_answer.specs.Rows.{are_distinct, is_even, pairs_named, rows_of, table_of}
 use Rattle.offer_answer.specs.Relayed.{SentBy}
 use Rattle.offer_answer.proofs.Joining.{joined_is_direct}
 use Rattle.offer_answer.proofs.PairLaws.{rows_lead}
 use Rattle.offer_answer.proofs.ReaddressLaws.{readdressed_alike, readdressed_at_server}
 
-at_server : (server : List ℕ) (origin : ServerOrigin) (ports : List ℕ) (d : Description) → origin.ip ≡ server → is_at_server server (readdressed origin ports d) ≡ true
-at_server server origin ports d same = ap (λ ip. is_at_server ip (readdressed origin ports d)) (sym same) ∙ readdressed_at_server origin ports d
+at_server : (server : List ℕ) (origin : ServerOrigin) (ports : List ℕ) (d : Description) → origin.ip ≡ server → is_at_server server (readdressed_description origin ports d) ≡ true
+at_server server origin ports d same = ap (λ ip. is_at_server ip (readdressed_description origin ports d)) (sym same) ∙ readdressed_at_server origin ports d
 
 pub relayed_is_direct : (server : List ℕ) (offer answer offer_sent answer_sent : Description) → SentBy server offer offer_sent → SentBy server answer answer_sent
     → list_all is_even (pairs_named offer answer_sent offer_sent answer) ≡ true → are_distinct (pairs_named offer answer_sent offer_sent answer) ≡ true

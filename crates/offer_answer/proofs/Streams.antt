@@ -13,7 +13,7 @@ use Rattle.sdp.specs.PlaceOf.{address_of_medium, place_of}
 use Rattle.sdp.specs.WayOf.{way_of, sends, receives}
 use Rattle.sdp.specs.declared.way.Way.{Way}
 use Rattle.offer_answer.specs.declared.stream.Stream.TheVariants.{Used}
-use Rattle.offer_answer.specs.Direct.{is_hold, sent_to, destination_at, destination, side, matching, stream_of}
+use Rattle.offer_answer.specs.Direct.{is_hold, sent_to, destination_at, destination, side, matching_formats, stream_of}
 use Rattle.offer_answer.specs.Joined.{is_server, through, joined_side, joined_stream, is_own_or_hold}
 use Rattle.offer_answer.proofs.AlikeMedia.{AlikeMedia, same_way, same_matching, same_hold, same_refusal, same_formats}
 
@@ -132,11 +132,11 @@ stream_joined server table OX ox SX sx OY oy SY sy offers answers own_s own_o ro
       let i : eqb oy.port 0 ≡ false = sym (same_refusal ox oy offers.medium) ∙ e in
       let offer_way = same_way OX ox OY oy offers in
       let answer_way = same_way SY sy SX sx answers in
-      let same_x : matching ox sx ≡ matching ox sy = same_matching ox ox sx sy refl (sym answers.medium) in
-      let same_y : matching oy sy ≡ matching ox sy = same_matching oy ox sy sy (sym offers.medium) refl in
+      let same_x : matching_formats ox sx ≡ matching_formats ox sy = same_matching ox ox sx sy refl (sym answers.medium) in
+      let same_y : matching_formats oy sy ≡ matching_formats ox sy = same_matching oy ox sy sy (sym offers.medium) refl in
       let a = side_joined (way_of OX ox) (way_of OY oy) (way_of SX sx) (way_of SY sy) sx.formats sy.formats sy.formats (destination SX sx) (destination SY sy) (destination SY sy) (through server table (place_of SX sx)) (way_of OX ox) (way_of SY sy)
       refl (sym offer_way) (sym answer_way) refl (sym (same_formats sy sx answers.medium)) refl (both_second (is_some (destination SX sx)) (is_some (destination SY sy)) to_a.also_some) to_a.through_table in
-      let o = side_joined (way_of SX sx) (way_of SY sy) (way_of OX ox) (way_of OY oy) (matching ox sx) (matching oy sy) (matching ox sy) (destination OX ox) (destination OY oy) (destination OX ox) (through server table (place_of OY oy)) (way_of SY sy) (way_of OX ox)
+      let o = side_joined (way_of SX sx) (way_of SY sy) (way_of OX ox) (way_of OY oy) (matching_formats ox sx) (matching_formats oy sy) (matching_formats ox sy) (destination OX ox) (destination OY oy) (destination OX ox) (through server table (place_of OY oy)) (way_of SY sy) (way_of OX ox)
       (sym answer_way) refl refl (sym offer_way) same_x same_y (both_first (is_some (destination OX ox)) (is_some (destination OY oy)) to_o.also_some) to_o.through_table in
-      rw (e, f, g, i) (ap (λ v. Used ox.kind ox.proto v (joined_side (side (way_of SX sx) (way_of OX ox) (matching ox sx) (destination OX ox)) (side (way_of SY sy) (way_of OY oy) (matching oy sy) (destination OY oy)) (through server table (place_of OY oy)))) a
+      rw (e, f, g, i) (ap (λ v. Used ox.kind ox.proto v (joined_side (side (way_of SX sx) (way_of OX ox) (matching_formats ox sx) (destination OX ox)) (side (way_of SY sy) (way_of OY oy) (matching_formats oy sy) (destination OY oy)) (through server table (place_of OY oy)))) a
       ∙ ap (λ v. Used ox.kind ox.proto (side (way_of OX ox) (way_of SY sy) sy.formats (destination SY sy)) v) o)

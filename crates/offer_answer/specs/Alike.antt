@@ -16,8 +16,8 @@ tells_place name =
 abbrev pub is_kept : Line → Bool
 is_kept l = not (l.letter == 97 && tells_place (before 58 l.value))
 
-abbrev pub kept : List Line → List Line
-kept ls = filter is_kept ls
+abbrev pub kept_lines : List Line → List Line
+kept_lines ls = filter is_kept ls
 
 -- of a medium: of its port, whether it is 0, and of its address, whether it is there and is 0.0.0.0
 pub record BareMedia : Type 0 where
@@ -45,7 +45,7 @@ bare_media m = record {
   formats = m.formats;
   info = m.info;
   connection = option_map is_hold m.connection;
-  after = kept m.after;
+  after = kept_lines m.after;
 }
 
 -- what is left of a description without its `o=` line, its addresses and its ports
@@ -53,7 +53,7 @@ abbrev pub bare : Description → Bare
 bare d = record {
   before = d.before;
   connection = option_map is_hold d.connection;
-  after = kept d.after;
+  after = kept_lines d.after;
   media = map bare_media d.media;
 }
 

@@ -49,8 +49,8 @@ side from to formats destination = record { on = sends from && receives to && is
 unfoldable pub is_answered : Media → Media → List ℕ → Bool
 is_answered o s f = list_any (λ g. formats_match o f s g) s.formats
 
-abbrev pub matching : Media → Media → List (List ℕ)
-matching o s = filter (is_answered o s) o.formats
+abbrev pub matching_formats : Media → Media → List (List ℕ)
+matching_formats o s = filter (is_answered o s) o.formats
 
 -- one medium o of the offer O, answered by s of S: rejected by port 0 of either (section 6); else the answerer gets the
 -- answer's formats, and the offerer those of its own that match
@@ -59,7 +59,7 @@ stream_of O o S s =
     if o.port == 0 || s.port == 0 then Rejected
     else Used o.kind o.proto
     (side (way_of O o) (way_of S s) s.formats (destination S s))
-    (side (way_of S s) (way_of O o) (matching o s) (destination O o))
+    (side (way_of S s) (way_of O o) (matching_formats o s) (destination O o))
 
 abbrev pub streams_of : Description → List Media → Description → List Media → List Stream
 streams_of O (o ∷ os) S (s ∷ ss) = stream_of O o S s ∷ streams_of O os S ss

@@ -5,6 +5,6 @@ pub mod Rows
 pub mod Session
 pub mod Alike
 pub mod Checks
-pub mod Readdressed
+pub mod Readdressing
 pub mod Relayed
 pub mod Worked

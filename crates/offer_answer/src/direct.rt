@@ -1,7 +1,7 @@
 //! What an offer and an answer mean.
 
 ghost use Rattle.std.specs.Prelude.{◌≡◌, length, IfOk};
-ghost use Rattle.offer_answer.specs.Direct.{is_hold, sent_to, destination, side, is_answered, matching, stream_of, direct};
+ghost use Rattle.offer_answer.specs.Direct.{is_hold, sent_to, destination, side, is_answered, matching_formats, stream_of, direct};
 
 use crate::formats::formats_match;
 use crate::stream::{Side, Stream};
@@ -65,12 +65,12 @@ fn is_answered(offer: &Media<'_>, answer: &Media<'_>, format: &Text<'_>) -> bool
 }
 
 /// The formats of the offer that match one of the answer.
-fn matching(
+fn matching_formats(
     alloc: Global,
     offer: &Media<'_>,
     answer: &Media<'_>,
 ) -> Result<Texts<'static>, AllocError>
-    ensures { IfOk result (λ t. t ≡ matching offer.now answer.now) }
+    ensures { IfOk result (λ t. t ≡ matching_formats offer.now answer.now) }
 {
     let mut found = Vec::new(alloc);
     for format in offer.formats.as_slice() {
@@ -97,7 +97,7 @@ fn stream_of(
     }
     let (out, back) = (way_of(offer, offered), way_of(answer, answered));
     let listed = keep_formats(alloc, &answered.formats)?;
-    let shared = matching(alloc, offered, answered)?;
+    let shared = matching_formats(alloc, offered, answered)?;
     Ok(Stream::Used {
         kind: offered.kind.keep(alloc)?,
         proto: offered.proto.keep(alloc)?,

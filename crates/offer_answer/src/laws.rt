@@ -9,12 +9,17 @@ ghost use Rattle.port_pool.specs.Pool.{Contents, AreOwn, StandOnce};
 ghost use Rattle.sdp.specs.declared.address.Address.TheVariants.{Ip4};
 ghost use Rattle.sdp.specs.declared.description.Description.{Description};
 ghost use Rattle.sdp.specs.declared.description.Media.{Media};
+ghost use Rattle.sdp.specs.Addresses.{is_unicast};
+ghost use Rattle.sdp.specs.Grammar.{ReadsDescription};
 ghost use Rattle.sdp.specs.PlaceOf.{address_of_medium};
+ghost use Rattle.sdp.specs.Writing.{description_text};
 ghost use Rattle.offer_answer.specs.declared.range.OwnRange.{OwnRange};
+ghost use Rattle.offer_answer.specs.declared.readdressing.ServerOrigin.{ServerOrigin};
 ghost use Rattle.offer_answer.specs.Alike.{Alike};
 ghost use Rattle.offer_answer.specs.Checks.{is_carried, is_same_media, medium_fault, answered_fault};
 ghost use Rattle.offer_answer.specs.Direct.{hold_address, direct};
 ghost use Rattle.offer_answer.specs.Joined.{is_at_server, joined};
+ghost use Rattle.offer_answer.specs.Readdressing.{AreOfTheirSizes, readdressed_description};
 ghost use Rattle.offer_answer.specs.Relayed.{SentBy};
 ghost use Rattle.offer_answer.specs.Rows.{HasRows, are_distinct, is_even, pairs_named, rows_of, table_of};
 ghost use Rattle.offer_answer.specs.Session.{HoldsPairs, leads_by, session_lines};
@@ -52,6 +57,15 @@ pub fn relayed_is_direct()
         IsTrue (are_distinct (pairs_named offer answer_sent offer_sent answer)) →
         joined server (table_of (rows_of offer answer_sent offer_sent answer)) offer answer_sent offer_sent answer
         ≡ direct offer answer }
+{}
+
+/// What the server sends on in place of a description that was read reads back, where the server's address is below
+/// 224.0.0.0 (RFC 4566 section 5.7): its bytes, as `write_description` gives them, are that description.
+pub fn sent_is_read()
+    ensures { (text : List ℕ) (taken : Description) (origin : ServerOrigin) (ports : List ℕ) →
+        ReadsDescription text taken → AreOfTheirSizes origin ports → IsTrue (is_unicast origin.ip) →
+        ReadsDescription (description_text (readdressed_description origin ports taken))
+        (readdressed_description origin ports taken) }
 {}
 
 /// The lines of a session are of the ports of a call that holds the session's pairs, no port stands in two of them, and a

@@ -18,7 +18,7 @@ pub use direct::{destination, meaning};
 pub use fault::{AnswerFault, OfferFault};
 pub use laws::{
     alike_is_equivalence, fewer_rows, held_call, hold_passes, joined_is_direct, plain_call,
-    relayed_is_direct, rows_lead, rows_of_session_stand,
+    relayed_is_direct, rows_lead, rows_of_session_stand, sent_is_read,
 };
 pub use range::OwnRange;
 pub use readdressing::{ServerOrigin, readdress};

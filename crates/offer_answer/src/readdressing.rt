@@ -1,11 +1,14 @@
 //! The description that the server sends on.
 
-ghost use Rattle.std.specs.Prelude.{◌≡◌, ◌≢◌, IfOk, IsTrue, decimal, length, map, option_map};
+ghost use Rattle.std.specs.Prelude.{◌≡◌, ◌≢◌, ◌≤◌, ◌<◌, ◌^◌, ℕ, List, IfOk, IsTrue, decimal, length, map, option_map, slice_index};
+ghost use Rattle.sdp.specs.Addresses.{is_unicast};
+ghost use Rattle.sdp.specs.Grammar.{ReadsDescription};
+ghost use Rattle.sdp.specs.Writing.{description_text};
 ghost use Rattle.sip_uri.specs.Writing.{ip4_text};
 ghost use Rattle.offer_answer.specs.Joined.{is_at_server};
-ghost use Rattle.offer_answer.specs.Alike.{tells_place, is_kept, kept, Alike};
+ghost use Rattle.offer_answer.specs.Alike.{tells_place, is_kept, kept_lines, Alike};
 ghost use Rattle.offer_answer.specs.Direct.{hold_address};
-ghost use Rattle.offer_answer.specs.Readdressed.{origin_of, readdressed_address, told_port, readdressed_medium, readdressed_media, told_ports, readdressed, has_ports};
+ghost use Rattle.offer_answer.specs.Readdressing.{origin_of, readdressed_address, told_port, readdressed_medium, readdressed_media, told_ports, readdressed_description, has_ports};
 
 use crate::direct::{HOLD, is_hold};
 use sdp::{Address, Description, Line, Lines, Media, MediaList, Origin, keep_formats};
@@ -38,7 +41,7 @@ fn address_text(alloc: Global, ip: [u8; 4]) -> Result<Text<'static>, AllocError>
     Ok(Text::from_vec(out))
 }
 
-#[tactic(auto, unfolding(crate::specs::Readdressed::origin_of))]
+#[tactic(auto, unfolding(crate::specs::Readdressing::origin_of))]
 fn origin_of(alloc: Global, origin: ServerOrigin) -> Result<Origin<'static>, AllocError>
     ensures { IfOk result (λ o. o ≡ origin_of origin) }
 {
@@ -90,8 +93,8 @@ fn is_kept(line: &Line<'_>) -> bool
 }
 
 /// The lines but for the attributes that tell places of their own.
-fn kept(alloc: Global, lines: &Lines<'_>) -> Result<Lines<'static>, AllocError>
-    ensures { IfOk result (λ ls. ls ≡ kept lines.now) }
+fn kept_lines(alloc: Global, lines: &Lines<'_>) -> Result<Lines<'static>, AllocError>
+    ensures { IfOk result (λ ls. ls ≡ kept_lines lines.now) }
 {
     let mut left = Vec::new(alloc);
     for line in lines.as_slice() {
@@ -109,7 +112,7 @@ fn told_port(port: u16, medium: &Media<'_>) -> u16
     if medium.port == 0 { 0 } else { port }
 }
 
-#[tactic(auto, unfolding(crate::specs::Readdressed::readdressed_medium))]
+#[tactic(auto, unfolding(crate::specs::Readdressing::readdressed_medium))]
 fn readdressed_medium(
     alloc: Global,
     medium: &Media<'_>,
@@ -122,7 +125,7 @@ fn readdressed_medium(
     let proto = medium.proto.keep(alloc)?;
     let formats = keep_formats(alloc, &medium.formats)?;
     let info = keep_text(alloc, &medium.info)?;
-    let after = kept(alloc, &medium.after)?;
+    let after = kept_lines(alloc, &medium.after)?;
     Ok(Media {
         kind,
         port: told_port(port, medium),
@@ -151,18 +154,18 @@ fn readdressed_media(
     Ok(MediaList::from_vec(told))
 }
 
-#[tactic(auto, unfolding(crate::specs::Readdressed::readdressed))]
-fn readdressed(
+#[tactic(auto, unfolding(crate::specs::Readdressing::readdressed_description))]
+fn readdressed_description(
     alloc: Global,
     description: &Description<'_>,
     ports: &[u16],
     origin: ServerOrigin,
 ) -> Result<Description<'static>, AllocError>
     requires { length ports.now ≡ length description.now.media }
-    ensures { IfOk result (λ d. d ≡ readdressed origin ports.now description.now) }
+    ensures { IfOk result (λ d. d ≡ readdressed_description origin ports.now description.now) }
 {
     let before = description.before.keep(alloc)?;
-    let after = kept(alloc, &description.after)?;
+    let after = kept_lines(alloc, &description.after)?;
     let media = readdressed_media(alloc, description.media.as_slice(), ports, origin.ip)?;
     Ok(Description {
         origin: origin_of(alloc, origin)?,
@@ -172,6 +175,19 @@ fn readdressed(
         media,
     })
 }
+
+/// A law: an id and a version have 64 bits, octets are bytes, and ports have 16 bits.
+fn numbers_fit(id: u64, version: u64, ip: &[u8], ports: &[u16])
+    ensures id { id < 2 ^ 64 }
+    ensures version { version < 2 ^ 64 }
+    ensures octets { (i : ℕ) → slice_index ip.now i ≤ 255 }
+    ensures ports { (i : ℕ) → slice_index ports.now i ≤ 65535 }
+{}
+
+/// A law: an IPv4 address has four octets.
+fn four_octets(ip: &[u8; 4])
+    ensures { length ip.now ≡ 4 }
+{}
 
 /// The description that the server sends in place of the one that it took (RFC 3264): each medium that has a port gets
 /// its port of `ports`, each address but 0.0.0.0 is the server's, and the attributes that tell addresses and ports of
@@ -192,7 +208,12 @@ pub fn readdress(
     ensures addresses { IfOk result (λ sent. IsTrue (is_at_server origin.ip sent)) }
     ensures ports { IfOk result (λ sent. map (λ m. m.port) sent.media
         ≡ told_ports ports.now description.now.media) }
-    ensures exact { IfOk result (λ sent. sent ≡ readdressed origin ports.now description.now) }
+    // What is sent in place of a description that was read reads back, where the server's address is below 224.0.0.0.
+    ensures again { (text : List ℕ) → ReadsDescription text description.now → IsTrue (is_unicast origin.ip) →
+        IfOk result (λ sent. ReadsDescription (description_text sent) sent) }
+    ensures exact { IfOk result (λ sent. sent ≡ readdressed_description origin ports.now description.now) }
 {
-    readdressed(alloc, description, ports, origin)
+    numbers_fit(origin.id, origin.version, &origin.ip, ports);
+    four_octets(&origin.ip);
+    readdressed_description(alloc, description, ports, origin)
 }

@@ -1,13 +1,13 @@
 //! Rows of calls of `offer_answer`, of a server at 192.0.2.1 with the relay ports 40000 to 40015.
 
-use crate::readdress_rows::sent_text;
+use crate::readdress_rows::{sent_read, sent_text};
 use crate::sdp_rows::told;
 use crate::session_rows::session_words;
 use crate::stream_words::streams_words;
 use offer_answer::{
     OwnRange, alike_is_equivalence, check_answer, check_offer, destination, fewer_rows, held_call,
     hold_passes, joined_is_direct, meaning, plain_call, relayed_is_direct, rows_lead,
-    rows_of_session_stand,
+    rows_of_session_stand, sent_is_read,
 };
 use rows::{address_words, said};
 use sdp::{Description, DescriptionError, read_description};
@@ -196,6 +196,7 @@ fn laws(alloc: Global) -> Result<String, DescriptionError> {
     rows_of_session_stand();
     relayed_is_direct();
     hold_passes();
+    sent_is_read();
     plain_call();
     held_call();
     fewer_rows();
@@ -216,6 +217,7 @@ pub(crate) fn answer(
         }
         ("destination", [at, media]) => first_destination(alloc, at, media),
         ("readdress", [text, id, version, ports]) => { sent_text(alloc, text, id, version, ports) }
+        ("read_again", [text, server, ports]) => sent_read(alloc, text, server, ports),
         ("hold_checks", [media]) => hold_checks(alloc, media),
         ("session_lines" | "plan_session", [at, offer, for_answer, for_offer, from, answer]) => {
             session_of(

@@ -113,7 +113,7 @@ octets_are t os h =
 decimal_lacks : (n : ℕ) → n ≤ 255 → Lacks 46 (decimal n)
 decimal_lacks n le = Lacks-from_class is_ascii_digit 46 refl (decimal n) (decimal_digits n (omega arith))
 
-ip4_again : (a b c d : ℕ) → a ≤ 255 → b ≤ 255 → c ≤ 255 → d ≤ 255 → ip4_of (ip4_text (a ∷ b ∷ c ∷ d ∷ [])) ≡ Some (a ∷ b ∷ c ∷ d ∷ [])
+pub ip4_again : (a b c d : ℕ) → a ≤ 255 → b ≤ 255 → c ≤ 255 → d ≤ 255 → ip4_of (ip4_text (a ∷ b ∷ c ∷ d ∷ [])) ≡ Some (a ∷ b ∷ c ∷ d ∷ [])
 unfolding ip4_of
 ip4_again a b c d la lb lc ld =
     let z : Option (List ℕ) = Some (decimal d) in

@@ -10,7 +10,7 @@ use Rattle.sdp.specs.Faults.{Gives}
 use Rattle.sdp.specs.Grammar.{SaysDescription, ReadsDescription, Refuses}
 use Rattle.sdp.specs.Lines.{IsLines, lines_of, is_formed}
 use Rattle.sdp.specs.Order.{is_ordered}
-use Rattle.sdp.specs.Reading.{is_version, has_origin, is_good_connection, is_good_medium, value_of, has_places, has_few_media, has_few_formats, judged, said_by, description_of}
+use Rattle.sdp.specs.Reading.{is_version, has_origin, is_good_connection, is_good_medium, value_of, has_places, has_few_media, has_few_formats, judgment, said_by, description_of}
 use Rattle.sdp.proofs.LineLaws.{are_lines, lines_are}
 use Rattle.sdp.proofs.SessionLaws.{lines_say, lines_read}
 
@@ -56,7 +56,7 @@ found_by text ls d true false c f g i j k l are h0 h1 h2 h3 h4 h5 h6 h7 h8 h = a
 found_by text ls d false b c f g i j k l are h0 h1 h2 h3 h4 h5 h6 h7 h8 h = absurd cc
 
 pub is_found : (text : List ℕ) (d : Description) → description_of text ≡ Ok d → ReadsDescription text d
-unfolding description_of said_by judged
+unfolding description_of said_by judgment
 is_found text d h =
     let ls = lines_of text in
     found_by text ls d (is_ordered ls) (list_all is_formed ls) (is_version ls) (has_origin ls) (list_all is_good_connection ls) (list_all is_good_medium ls) (has_places (value_of ls)) (has_few_media (value_of ls)) (has_few_formats (value_of ls)) refl refl refl refl refl refl refl refl refl refl h
@@ -64,7 +64,7 @@ is_found text d h =
 -- ---- a description is read
 
 pub is_read : (text : List ℕ) (d : Description) → ReadsDescription text d → description_of text ≡ Ok d
-unfolding description_of said_by judged
+unfolding description_of said_by judgment
 is_read text d h =
     let are : lines_of text ≡ h.lines = lines_are h.lines text h.formed h.are_lines in
     let reads = lines_read h.lines d h.says in
@@ -87,7 +87,7 @@ refused_by text e true false c f g i j k l h0 h1 h2 h3 h4 h5 h6 h7 h8 h = subst 
 refused_by text e false b c f g i j k l h0 h1 h2 h3 h4 h5 h6 h7 h8 h = subst (λ (x : DescriptionError). Refuses text x) (error_is Order e h) (λ good. true≢false (sym good ∙ h0))
 
 pub is_refused : (text : List ℕ) (e : DescriptionError) → description_of text ≡ Err e → Refuses text e
-unfolding description_of said_by judged
+unfolding description_of said_by judgment
 is_refused text e h =
     let ls = lines_of text in
     refused_by text e (is_ordered ls) (list_all is_formed ls) (is_version ls) (has_origin ls) (list_all is_good_connection ls) (list_all is_good_medium ls) (has_places (value_of ls)) (has_few_media (value_of ls)) (has_few_formats (value_of ls)) refl refl refl refl refl refl refl refl refl h

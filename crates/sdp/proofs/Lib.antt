@@ -12,3 +12,4 @@ pub mod MediaReads
 pub mod SessionLaws
 pub mod GrammarLaws
 pub mod RoundTrip
+pub mod WrittenForm

@@ -45,7 +45,7 @@ pub record IsForm (o : Origin) : Type 0 where
   pub address_type : is_run_of is_token_char o.address_type ≡ true
   pub address : is_run_of is_visible o.address ≡ true
 
-form_of : (o : Origin) → is_origin o ≡ true → IsForm o
+pub form_of : (o : Origin) → is_origin o ≡ true → IsForm o
 unfolding is_origin is_word is_number is_token
 form_of o h =
     let a = and_parts (is_word o.username && is_number o.id && is_number o.version && is_token o.network_type && is_token o.address_type) (is_word o.address) h in

@@ -1,7 +1,7 @@
--- What is written for a description is read again as that description.
-use Rattle.std.proofs.Common.{◌≡◌, ℕ, zero, suc, ◌+◌, ◌<◌, ◌≤◌, Bool, true, false, not, ◌&&◌, cond, eqb, leb, inr, List, [], ◌∷◌, ◌++◌, length, map, Option, Some, None, refl, sym, ap, subst, ◌∙◌, append_assoc, arith, codes}
-use Rattle.std.specs.Prelude.{is_some, option_map, option_and_then, unwrap_or, decimal}
-use Rattle.std.specs.List.{list_all, flat_map, slice_split, onto_first, join_with_byte}
+-- What is written for a part of a description is read again as that part.
+use Rattle.std.proofs.Common.{◌≡◌, ℕ, zero, suc, ◌+◌, ◌<◌, ◌≤◌, Bool, true, false, not, ◌&&◌, cond, eqb, leb, inr, List, [], ◌∷◌, ◌++◌, length, Option, Some, None, refl, sym, ap, subst, ◌∙◌, append_assoc, arith, codes}
+use Rattle.std.specs.Prelude.{IsTrue, is_some, option_map, option_and_then, unwrap_or, decimal}
+use Rattle.std.specs.List.{list_all, slice_split, onto_first, join_with_byte}
 use Rattle.std.specs.Char.{is_ascii_digit, digit_value}
 use Rattle.std.specs.Str.Parse.{digits_value}
 use Rattle.std.proofs.lemmas.Bool.{and_parts, and_from, true≢false, eq-eqb}
@@ -16,27 +16,25 @@ use Rattle.text.proofs.Numbers.{digit_is, number_is, number_again, decimal_run}
 use Rattle.text.proofs.Lists.{run_lacks}
 use Rattle.sdp.specs.declared.address.Address.{Address}
 use Rattle.sdp.specs.declared.address.Address.TheVariants.{Ip4, Multicast, Ip6, Name}
-use Rattle.sdp.specs.declared.description.Description.{Description}
 use Rattle.sdp.specs.declared.description.Media.{Media}
-use Rattle.sdp.specs.Addresses.{IsAddress, ip4_of, is_dotted_byte}
+use Rattle.sdp.specs.Addresses.{IsAddress, ip4_of, is_unicast, is_dotted_byte}
 use Rattle.sdp.specs.Classes.{begins, is_text_byte, is_token_char, is_token, is_number, is_integer, is_proto}
-use Rattle.sdp.specs.Grammar.{SaysConnection, SaysMedium, SaysUnder, SaysMedia, SaysDescription, ReadsDescription}
+use Rattle.sdp.specs.Grammar.{SaysConnection, SaysMedium}
 use Rattle.sdp.specs.Lines.{IsLines, is_formed}
 use Rattle.sdp.specs.MediumLines.{RawMedium, raw_medium_text, greatest_port, is_port, is_count, formats_of, is_raw_medium}
-use Rattle.sdp.specs.Writing.{line_text, ended, origin_text, ip4_text, address_text, connection_lines, count_text, formats_text, medium_line, info_lines, media_lines, description_lines, description_text}
+use Rattle.sdp.specs.Writing.{ended, ip4_text, address_text, connection_lines, count_text, formats_text, medium_line}
 use Rattle.sdp.proofs.AddressLaws.{octets_are, octets_again, decimal_begins}
-use Rattle.sdp.proofs.MediaLaws.{all_parts, all_joined}
 use Rattle.sdp.proofs.MediumLaws.{IsForm, form_of, tokens_lack}
 
 -- ---- lines with their ends
 
-ended_lines : (ls : List (List ℕ)) → IsLines ls (ended ls)
+pub ended_lines : (ls : List (List ℕ)) → IsLines ls (ended ls)
 ended_lines [] = refl
 ended_lines (l ∷ ls) = inr (ended ls, inr (append_assoc l (13 ∷ 10 ∷ []) (ended ls)), ended_lines ls)
 
 -- ---- bytes of lines
 
-text_from_lacks : (t : List ℕ) → Lacks 13 t → Lacks 10 t → Lacks 0 t → list_all is_text_byte t ≡ true
+pub text_from_lacks : (t : List ℕ) → Lacks 13 t → Lacks 10 t → Lacks 0 t → list_all is_text_byte t ≡ true
 text_from_lacks [] h k l = refl
 text_from_lacks (b ∷ bs) h k l = rw (h.0, k.0, l.0) (text_from_lacks bs h.1 k.1 l.1)
 
@@ -53,15 +51,17 @@ as_read lines value a whole same is formed =
     let lines_same : lines ≡ connection_lines (Some a) = whole ∙ ap (λ (x : List ℕ). (codes "c=" ++ x) ∷ []) same in
     record { said = (address_text a, refl, subst (λ (x : List ℕ). IsAddress x a) same is); formed = sym (ap (list_all is_formed) lines_same) ∙ formed }
 
-pub connection_written : (lines : List (List ℕ)) (c : Option Address) → SaysConnection lines c → list_all is_formed lines ≡ true → Written (SaysConnection (connection_lines c) c) (connection_lines c)
-connection_written lines None h formed = record { said = refl; formed = refl }
-connection_written lines (Some (Ip4 octets)) h formed =
-    let is = h.2 in
-    let again : ip4_of (ip4_text octets) ≡ Some octets = octets_again is.0 octets is.2 in
+-- a unicast address whose four octets are read where they are written
+pub ip4_written : (octets : List ℕ) → ip4_of (ip4_text octets) ≡ Some octets → IsTrue (is_unicast octets) → Written (SaysConnection (connection_lines (Some (Ip4 octets))) (Some (Ip4 octets))) (connection_lines (Some (Ip4 octets)))
+ip4_written octets again unicast =
     let dotted = (octets_are (ip4_text octets) octets again).dotted in
     let bytes : list_all is_text_byte (ip4_text octets) ≡ true = text_from_lacks (ip4_text octets) (Lacks-from_class is_dotted_byte 13 refl (ip4_text octets) dotted) (Lacks-from_class is_dotted_byte 10 refl (ip4_text octets) dotted) (Lacks-from_class is_dotted_byte 0 refl (ip4_text octets) dotted) in
     let line : is_formed (codes "c=" ++ address_text (Ip4 octets)) ≡ true = bytes in
-    record { said = (address_text (Ip4 octets), refl, (ip4_text octets, refl, again, is.3)); formed = and_from _ _ line refl }
+    record { said = (address_text (Ip4 octets), refl, (ip4_text octets, refl, again, unicast)); formed = and_from _ _ line refl }
+
+pub connection_written : (lines : List (List ℕ)) (c : Option Address) → SaysConnection lines c → list_all is_formed lines ≡ true → Written (SaysConnection (connection_lines c) c) (connection_lines c)
+connection_written lines None h formed = record { said = refl; formed = refl }
+connection_written lines (Some (Ip4 octets)) h formed = (let is = h.2 in ip4_written octets (octets_again is.0 octets is.2) is.3)
 connection_written lines (Some (Multicast t)) h formed = as_read lines h.0 (Multicast t) h.1 h.2.0 h.2 formed
 connection_written lines (Some (Ip6 t)) h formed = as_read lines h.0 (Ip6 t) h.1 h.2.0 h.2 formed
 connection_written lines (Some (Name t)) h formed = as_read lines h.0 (Name t) h.1 h.2.0 h.2 formed
@@ -185,14 +185,12 @@ unfolding is_raw_medium is_token
 raw_form m raw f kind small count proto =
     and_from _ _ (and_from _ _ (and_from _ _ (and_from _ _ (ap is_token kind ∙ f.kind) (is_port_written m.port small)) count.form) (ap is_proto proto ∙ f.proto)) f.formats
 
-medium_written : (value : List ℕ) (m : Media) → SaysMedium value m → MediumAgain m
-medium_written value m s =
-    let f = form_of s.raw s.form in
-    let raw = written_raw m s.raw.formats in
-    let small : m.port ≤ greatest_port = subst (λ (n : ℕ). n ≤ greatest_port) (sym s.port) (port_small (number_upto greatest_port s.raw.port) s.raw.port refl) in
-    let count : CountAgain m.count = subst (λ (c : Option ℕ). CountAgain c) (sym s.count) (count_again s.raw.count f.count) in
-    let form = raw_form m s.raw f s.kind small count s.proto in
-    let formats : formats_text m.formats ≡ 32 ∷ s.raw.formats = ap formats_text s.formats ∙ formats_written s.raw.formats in
+-- a medium with the kind, protocol and formats of a line, and with a port and a count of their sizes
+medium_of : (m : Media) (raw : RawMedium) → IsForm raw → m.kind ≡ raw.kind → m.port ≤ greatest_port → CountAgain m.count → m.proto ≡ raw.proto → m.formats ≡ formats_of raw.formats → MediumAgain m
+medium_of m r f kind small count proto same_formats =
+    let raw = written_raw m r.formats in
+    let form = raw_form m r f kind small count proto in
+    let formats : formats_text m.formats ≡ 32 ∷ r.formats = ap formats_text same_formats ∙ formats_written r.formats in
     let text : medium_line m ≡ 109 ∷ 61 ∷ raw_medium_text raw =
     ap (λ (x : List ℕ). 109 ∷ 61 ∷ (m.kind ++ 32 ∷ (decimal m.port ++ (x ++ 32 ∷ (m.proto ++ formats_text m.formats))))) count.text
     ∙ ap (λ (x : List ℕ). 109 ∷ 61 ∷ (m.kind ++ 32 ∷ (decimal m.port ++ (led_by 47 (option_map decimal m.count) ++ 32 ∷ (m.proto ++ x))))) formats in
@@ -209,85 +207,28 @@ medium_written value m s =
         port = sym (ap (λ (o : Option ℕ). unwrap_or o 0) (port_again m.port small));
         count = count.value;
         proto = refl;
-        formats = s.formats;
+        formats = same_formats;
       };
       formed = ap is_formed text ∙ bytes;
     }
 
--- ---- media
+count_of_line : (value : List ℕ) (m : Media) → SaysMedium value m → CountAgain m.count
+count_of_line value m s = subst (λ (c : Option ℕ). CountAgain c) (sym s.count) (count_again s.raw.count (form_of s.raw s.form).count)
 
-abbrev under_text : Media → List (List ℕ)
-under_text m = info_lines m.info ++ (connection_lines m.connection ++ map line_text m.after)
+pub medium_written : (value : List ℕ) (m : Media) → SaysMedium value m → MediumAgain m
+medium_written value m s =
+    let small : m.port ≤ greatest_port = subst (λ (n : ℕ). n ≤ greatest_port) (sym s.port) (port_small (number_upto greatest_port s.raw.port) s.raw.port refl) in
+    medium_of m s.raw (form_of s.raw s.form) s.kind small (count_of_line value m s) s.proto s.formats
 
-under_written : (under : List (List ℕ)) (m : Media) → SaysUnder under m → list_all is_formed under ≡ true → Written (SaysUnder (under_text m) m) (under_text m)
-under_written under m s formed =
-    let after = map line_text m.after in
-    let f = all_parts is_formed (info_lines m.info) (s.connection ++ after) under (sym s.whole) formed in
-    let g = all_parts is_formed s.connection after (s.connection ++ after) refl f.1 in
-    let c = connection_written s.connection m.connection s.says_connection g.0 in
-    record {
-      said = record { connection = connection_lines m.connection; whole = refl; says_connection = c.said; after = s.after };
-      formed = all_joined is_formed (info_lines m.info) (connection_lines m.connection ++ after) f.0 (all_joined is_formed (connection_lines m.connection) after c.formed g.1);
-    }
+-- the line of a medium but for its port
+pub record SameLine (m n : Media) : Type 0 where
+  pub kind : n.kind ≡ m.kind
+  pub count : n.count ≡ m.count
+  pub proto : n.proto ≡ m.proto
+  pub formats : n.formats ≡ m.formats
 
-media_written : (ms : List Media) (lines : List (List ℕ)) → SaysMedia lines ms → list_all is_formed lines ≡ true → Written (SaysMedia (flat_map media_lines ms) ms) (flat_map media_lines ms)
-media_written [] lines h formed = record { said = refl; formed = refl }
-media_written (m ∷ ms) lines h formed =
-    let b = h.1 in
-    let more = h.0 in
-    let f = (all_parts is_formed ((codes "m=" ++ b.value) ∷ []) (b.under ++ more) lines (sym b.whole) formed).1 in
-    let g = all_parts is_formed b.under more (b.under ++ more) refl f in
-    let line = medium_written b.value m b.says_medium in
-    let under = under_written b.under m b.says_under g.0 in
-    let rest = media_written ms more h.2 g.1 in
-    let next = flat_map media_lines ms in
-    record {
-      said = (next, record { value = line.value; under = under_text m; whole = ap (λ (x : List ℕ). x ∷ (under_text m ++ next)) line.line; says_medium = line.said; says_under = under.said }, rest.said);
-      formed = and_from _ _ line.formed (all_joined is_formed (under_text m) next under.formed rest.formed);
-    }
-
--- ---- descriptions
-
-lines_written : (lines : List (List ℕ)) (d : Description) → SaysDescription lines d → list_all is_formed lines ≡ true → Written (SaysDescription (description_lines d) d) (description_lines d)
-unfolding description_lines
-lines_written lines d s formed =
-    let before = map line_text d.before in
-    let after = map line_text d.after in
-    let origin : List ℕ = codes "o=" ++ s.origin_value in
-    let head : List (List ℕ) = codes "v=0" ∷ origin ∷ [] in
-    let f1 = all_parts is_formed head (before ++ (s.connection ++ (after ++ s.media))) lines (sym s.whole) formed in
-    let f2 = all_parts is_formed before (s.connection ++ (after ++ s.media)) _ refl f1.1 in
-    let f3 = all_parts is_formed s.connection (after ++ s.media) _ refl f2.1 in
-    let f4 = all_parts is_formed after s.media _ refl f3.1 in
-    let c = connection_written s.connection d.connection s.says_connection f3.0 in
-    let m = media_written d.media s.media s.says_media f4.1 in
-    let media = flat_map media_lines d.media in
-    let line : is_formed (codes "o=" ++ origin_text d.origin) ≡ true = ap (λ (x : List ℕ). is_formed (codes "o=" ++ x)) (sym s.says_origin.whole) ∙ (and_parts (is_formed origin) true (and_parts (is_formed (codes "v=0")) (is_formed origin && true) f1.0).1).0 in
-    record {
-      said = record {
-        origin_value = origin_text d.origin;
-        connection = connection_lines d.connection;
-        media = media;
-        whole = refl;
-        says_origin = record { whole = refl; form = s.says_origin.form };
-        before = s.before;
-        says_connection = c.said;
-        after = s.after;
-        says_media = m.said;
-      };
-      formed = and_from _ _ line (all_joined is_formed before (connection_lines d.connection ++ (after ++ media)) f2.0 (all_joined is_formed (connection_lines d.connection) (after ++ media) c.formed (all_joined is_formed after media f4.0 m.formed)));
-    }
-
-pub written_again : (from : List ℕ) (d : Description) → ReadsDescription from d → ReadsDescription (description_text d) d
-unfolding description_text
-written_again from d h =
-    let w = lines_written h.lines d h.says h.formed in
-    record {
-      lines = description_lines d;
-      are_lines = ended_lines (description_lines d);
-      formed = w.formed;
-      says = w.said;
-      places = h.places;
-      few_media = h.few_media;
-      few_formats = h.few_formats;
-    }
+pub with_port : (m n : Media) → MediumAgain m → SameLine m n → n.port ≤ greatest_port → MediumAgain n
+with_port m n again same small =
+    let s = again.said in
+    let count = subst (λ (c : Option ℕ). CountAgain c) (sym same.count) (count_of_line again.value m s) in
+    medium_of n s.raw (form_of s.raw s.form) (same.kind ∙ s.kind) small count (same.proto ∙ s.proto) (same.formats ∙ s.formats)

@@ -88,8 +88,8 @@ has_few_media d = nat_le (length d.media) max_media
 abbrev pub has_few_formats : Description → Bool
 has_few_formats d = list_all (λ m. nat_le (length m.formats) max_formats) d.media
 
-unfoldable pub judged : Description → Result Description DescriptionError
-judged d =
+unfoldable pub judgment : Description → Result Description DescriptionError
+judgment d =
     if has_places d
     then (if has_few_media d
     then (if has_few_formats d then Ok d else Err Faults.TooManyFormats)
@@ -104,7 +104,7 @@ said_by lines =
     if is_version lines
     then (if has_origin lines
     then (if list_all is_good_connection lines
-    then (if list_all is_good_medium lines then judged (value_of lines)
+    then (if list_all is_good_medium lines then judgment (value_of lines)
     else Err Faults.Medium)
     else Err Faults.Connection)
     else Err Faults.Origin)

@@ -9,7 +9,7 @@ ghost use Rattle.sdp.specs.Reading.{said_by, description_of};
 
 use crate::description::Description;
 use crate::error::DescriptionError;
-use crate::judge::{are_connections, are_formed, are_media, has_origin, is_version, judged};
+use crate::judge::{are_connections, are_formed, are_media, has_origin, is_version, judgment};
 use crate::order::is_ordered;
 use crate::split::lines_of;
 use crate::value::value_of;
@@ -31,7 +31,7 @@ fn read_lines<'a>(alloc: Global, lines: &[&'a [u8]]) -> Result<Description<'a>, 
     if !are_media(lines) {
         return Err(DescriptionError::Medium);
     }
-    judged(value_of(alloc, lines)?)
+    judgment(value_of(alloc, lines)?)
 }
 
 #[tactic(auto, unfolding(crate::specs::Reading::description_of))]

@@ -1,5 +1,5 @@
 use Rattle.std.proofs.Common.{◌≡◌, ◌++◌, drop}
-use Rattle.offer_answer.specs.Readdressed.{readdressed_media}
+use Rattle.offer_answer.specs.Readdressing.{readdressed_media}
 use Rattle.offer_answer.proofs.readdressing.readdressed_media.Given as goal
 
 -- the media so far and those of what is left are all

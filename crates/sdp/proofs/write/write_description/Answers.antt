@@ -2,7 +2,7 @@ use Rattle.std.proofs.Common.{◌≡◌, List, ℕ, sym, subst}
 use Rattle.std.proofs.lemmas.Result.{IfOk-weaker}
 use Rattle.sdp.specs.Grammar.{ReadsDescription}
 use Rattle.sdp.specs.Writing.{description_text}
-use Rattle.sdp.proofs.RoundTrip.{written_again}
+use Rattle.sdp.proofs.WrittenForm.{written_again}
 use Rattle.sdp.proofs.write.write_description.Goals as goal
 
 pub returns-clause-again : goal.returns-clause-again

@@ -1,7 +1,7 @@
 use Rattle.std.proofs.Common.{◌∙◌, sym, arith}
 use Rattle.offer_answer.specs.Alike.{is_kept}
 use Rattle.offer_answer.proofs.Filters.{filter_put}
-use Rattle.offer_answer.proofs.readdressing.kept.Goals as goal
+use Rattle.offer_answer.proofs.readdressing.kept_lines.Goals as goal
 
 pub loop-line-preserved : goal.loop-line-preserved
 loop-line-preserved c =

@@ -1,5 +1,5 @@
 -- The description that the server sends in place of the one that it took: with its own origin, address and ports.
-use Rattle.std.specs.Prelude.{ℕ, Bool, true, not, ◌&&◌, ◌||◌, ◌==◌, List, [], ◌∷◌, codes, decimal, option_map, if◌then◌else◌}
+use Rattle.std.specs.Prelude.{◌≡◌, ◌≤◌, ◌<◌, ◌^◌, ℕ, Bool, true, not, ◌&&◌, ◌||◌, ◌==◌, List, [], ◌∷◌, codes, decimal, length, option_map, slice_index, if◌then◌else◌}
 use Rattle.sip_uri.specs.Writing.{ip4_text}
 use Rattle.sdp.specs.declared.address.Address.{Address}
 use Rattle.sdp.specs.declared.address.Address.TheVariants.{Ip4}
@@ -8,7 +8,7 @@ use Rattle.sdp.specs.declared.description.Media.{Media}
 use Rattle.sdp.specs.declared.description.Description.{Description}
 use Rattle.offer_answer.specs.declared.readdressing.ServerOrigin.{ServerOrigin}
 use Rattle.offer_answer.specs.Direct.{hold_address, is_hold}
-use Rattle.offer_answer.specs.Alike.{kept}
+use Rattle.offer_answer.specs.Alike.{kept_lines}
 
 -- `o=- ID VERSION IN IP4 ADDRESS` (RFC 4566 section 5.2)
 unfoldable pub origin_of : ServerOrigin → Origin
@@ -31,7 +31,7 @@ readdressed_medium ip port m = record {
   formats = m.formats;
   info = m.info;
   connection = option_map (readdressed_address ip) m.connection;
-  after = kept m.after;
+  after = kept_lines m.after;
 }
 
 abbrev pub readdressed_media : List ℕ → List ℕ → List Media → List Media
@@ -43,12 +43,12 @@ abbrev pub told_ports : List ℕ → List Media → List ℕ
 told_ports (port ∷ ports) (m ∷ ms) = told_port port m ∷ told_ports ports ms
 told_ports _ _ = []
 
-unfoldable pub readdressed : ServerOrigin → List ℕ → Description → Description
-readdressed origin ports d = record {
+unfoldable pub readdressed_description : ServerOrigin → List ℕ → Description → Description
+readdressed_description origin ports d = record {
   origin = origin_of origin;
   before = d.before;
   connection = option_map (readdressed_address origin.ip) d.connection;
-  after = kept d.after;
+  after = kept_lines d.after;
   media = readdressed_media origin.ip ports d.media;
 }
 
@@ -56,3 +56,11 @@ readdressed origin ports d = record {
 abbrev pub has_ports : List ℕ → List Media → Bool
 has_ports (port ∷ ports) (m ∷ ms) = (m.port == 0 || not (port == 0)) && has_ports ports ms
 has_ports _ _ = true
+
+-- the numbers of an origin and the ports are of the sizes of their types: 64 bits, four octets, 16 bits
+pub record AreOfTheirSizes (origin : ServerOrigin) (ports : List ℕ) : Type 0 where
+  pub id : origin.id < 2 ^ 64
+  pub version : origin.version < 2 ^ 64
+  pub four : length origin.ip ≡ 4
+  pub octets : (i : ℕ) → slice_index origin.ip i ≤ 255
+  pub each_port : (i : ℕ) → slice_index ports i ≤ 65535

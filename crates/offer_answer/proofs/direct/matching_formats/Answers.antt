@@ -1,7 +1,7 @@
 use Rattle.std.proofs.Common.{◌∙◌, sym, arith}
 use Rattle.offer_answer.specs.Direct.{is_answered}
 use Rattle.offer_answer.proofs.Filters.{filter_put}
-use Rattle.offer_answer.proofs.direct.matching.Goals as goal
+use Rattle.offer_answer.proofs.direct.matching_formats.Goals as goal
 
 pub loop-format-preserved : goal.loop-format-preserved
 loop-format-preserved c =
