@@ -8,7 +8,7 @@ use Rattle.sdp.specs.declared.description.Description.{Description}
 use Rattle.offer_answer.specs.Alike.{Alike}
 use Rattle.offer_answer.specs.Checks.{answer_fault}
 use Rattle.offer_answer.specs.Joined.{is_at_server}
-use Rattle.offer_answer.specs.Readdressed.{readdressed}
+use Rattle.offer_answer.specs.Readdressing.{readdressed_description}
 use Rattle.offer_answer.specs.Rows.{HasRows, are_distinct, pairs_named}
 use Rattle.offer_answer.specs.Session.{leads_by, session_lines}
 use Rattle.call_media.specs.declared.session.OpenOffer.{OpenOffer}
@@ -30,7 +30,7 @@ RefusesAnswer m o answer (Unfit fault) = answer_fault m.range o.offer_sent answe
 
 -- the answer as the offerer gets it: at the server's address, and at the ports that face the offerer
 abbrev pub answer_sent : CallMedia → OpenOffer → Description → Description
-answer_sent m o answer = readdressed (origin m.number m.range.ip o.offerer m.versions) (map port_to_offerer o.seats) answer
+answer_sent m o answer = readdressed_description (origin m.number m.range.ip o.offerer m.versions) (map port_to_offerer o.seats) answer
 
 -- the session of an open offer and its answer, as it was sent and as it was taken
 abbrev pub session_over : OpenOffer → Description → Description → Session

@@ -8,7 +8,7 @@ ghost use Rattle.offer_answer.specs.Alike.{Alike};
 ghost use Rattle.offer_answer.specs.Checks.{answer_fault};
 ghost use Rattle.offer_answer.specs.Direct.{hold_address};
 ghost use Rattle.offer_answer.specs.Joined.{is_at_server};
-ghost use Rattle.offer_answer.specs.Readdressed.{has_ports, told_ports};
+ghost use Rattle.offer_answer.specs.Readdressing.{has_ports, told_ports};
 ghost use Rattle.offer_answer.specs.Rows.{HasRows, are_distinct, pairs_named};
 ghost use Rattle.offer_answer.specs.Session.{leads_by, session_lines};
 ghost use Rattle.call_media.specs.declared.session.OpenOffer.{OpenOffer};
