@@ -5,6 +5,7 @@
 
 mod body;
 mod laws;
+mod letting_go;
 mod message;
 mod read;
 

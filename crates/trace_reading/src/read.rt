@@ -7,6 +7,7 @@ ghost use Rattle.sip_message.specs.Grammar.{ReadsMessage, IsWithin, Refuses};
 ghost use Rattle.trace_reading.specs.Message.{trace_message};
 ghost use Rattle.trace_reading.specs.Read.{Shows, read_of};
 
+use crate::letting_go::let_message_go;
 use crate::message::trace_message;
 use call_trace::Message as TraceMessage;
 use sip_message::{Message, MessageError, read_message};
@@ -21,11 +22,24 @@ fn shown(alloc: Global, bytes: &[u8], message: &Message<'_>) -> Result<TraceMess
     }
 }
 
+/// The same of a message that is then let go.
+fn shown_last(
+    alloc: Global,
+    bytes: &[u8],
+    message: Message<'_>,
+) -> Result<TraceMessage, MessageError>
+    ensures { Gives result (Ok (trace_message bytes.now message.entry)) }
+{
+    let seen = shown(alloc, bytes, &message);
+    let_message_go(message);
+    seen
+}
+
 fn read(alloc: Global, bytes: &[u8]) -> Result<TraceMessage, MessageError>
     ensures { Gives result (read_of bytes.now) }
 {
     match read_message(alloc, bytes) {
-        Ok(message) => shown(alloc, bytes, &message),
+        Ok(message) => shown_last(alloc, bytes, message),
         Err(fault) => Err(fault),
     }
 }
