@@ -9,3 +9,4 @@ pub mod UntouchedLaws
 pub mod RepeatLaws
 pub mod KeyLaws
 pub mod SameBranchLaws
+pub mod MemoryLaws

@@ -39,7 +39,7 @@ use Rattle.transactions.specs.Changes.{entered, request_change, response_change,
 use Rattle.transactions.specs.Calls as calls
 use Rattle.transactions.specs.Calls.{Call, after, after_all}
 use Rattle.transactions.specs.Once.{Lasts}
-use Rattle.transactions.specs.Repeats.{is_completed, has_final, KeepsAnswer, KeepsIfThere, KeepsFinal, LeavesAnswer, KeepsOver, RepeatsAnswer, ResendsAnswer}
+use Rattle.transactions.specs.Repeats.{is_completed, has_final, KeepsAnswer, KeepsAt, KeepsIfThere, KeepsFinal, LeavesAnswer, KeepsOver, RepeatsAnswer, ResendsAnswer}
 use Rattle.transactions.proofs.LastingLaws.{within, other_left, placed_other}
 
 -- ---- a line keeps the answer
@@ -189,24 +189,24 @@ keeps_over table more id t bytes there h lasts = over_by table more id bytes (So
 -- ---- the answer is given
 
 given_by : (table : Contents) (id : ℕ) (t : Transaction) (bytes : List ℕ) (now : ℕ) (step : Step) (next : State) → at table.slots id ≡ Some t → step.next ≡ Some next
-    → is_completed next ≡ true → KeepsIfThere bytes (at (stepped_by table id t (Some bytes) now (Some step)).slots id)
+    → is_completed next ≡ true → KeepsAt bytes (stepped_by table id t (Some bytes) now (Some step)) id
 given_by table id t bytes now step next there e h =
     let here = get_or-set_same table.slots id (option_map (went t (Some bytes)) step.next) None (within table.slots id t there) in
-    subst (λ o. KeepsIfThere bytes o) (sym (here ∙ ap (option_map (went t (Some bytes))) e)) (record { final = completed_is_final next h; last = refl })
+    (went t (Some bytes) next, here ∙ ap (option_map (went t (Some bytes))) e, record { final = completed_is_final next h; last = refl })
 
 given_next : (table : Contents) (id : ℕ) (t : Transaction) (bytes : List ℕ) (now : ℕ) (step : Step) (next : Option State) → at table.slots id ≡ Some t → step.next ≡ next
-    → IfSome next (λ s. is_completed s ≡ true → KeepsIfThere bytes (at (stepped_by table id t (Some bytes) now (Some step)).slots id))
+    → IfSome next (λ s. is_completed s ≡ true → KeepsAt bytes (stepped_by table id t (Some bytes) now (Some step)) id)
 given_next table id t bytes now step None there e = tt
 given_next table id t bytes now step (Some s) there e = λ h. given_by table id t bytes now step s there e h
 
 given_line : (table : Contents) (id : ℕ) (t : Transaction) (bytes : List ℕ) (now : ℕ) (line : Option Step) → at table.slots id ≡ Some t
-    → IfSome line (λ step. IfSome step.next (λ s. is_completed s ≡ true → KeepsIfThere bytes (at (stepped_by table id t (Some bytes) now line).slots id)))
+    → IfSome line (λ step. IfSome step.next (λ s. is_completed s ≡ true → KeepsAt bytes (stepped_by table id t (Some bytes) now line) id))
 given_line table id t bytes now None there = tt
 given_line table id t bytes now (Some step) there = given_next table id t bytes now step step.next there refl
 
 given_at : (table : Contents) (id : ℕ) (o : Option Transaction) (input : Input) (bytes : List ℕ) (now : ℕ) → at table.slots id ≡ o
     → IfSome (option_and_then (λ t. row_of t.state input) o) (λ step. IfSome step.next (λ s. is_completed s ≡ true
-    → KeepsIfThere bytes (at (table_at table id o input (Some bytes) now).slots id)))
+    → KeepsAt bytes (table_at table id o input (Some bytes) now) id))
 given_at table id None input bytes now there = tt
 given_at table id (Some t) input bytes now there = given_line table id t bytes now (row_of t.state input) there
 

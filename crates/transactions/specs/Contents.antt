@@ -64,8 +64,21 @@ table_at table id None input fresh now = table
 table_at table id (Some t) input fresh now = stepped_by table id t fresh now (row_of t.state input)
 
 -- what an input does to transaction id, where there is one
+abbrev pub line_in : List (Option Transaction) → ℕ → Input → Option Step
+line_in slots id input = option_and_then (λ t. row_of t.state input) (at slots id)
+
 abbrev pub line_at : Contents → ℕ → Input → Option Step
-line_at table id input = option_and_then (λ t. row_of t.state input) (at table.slots id)
+line_at table id input = line_in table.slots id input
+
+-- a line that sends something, or starts a timer, takes memory. No other does: so an ending timer is never refused
+abbrev pub sends : Sending → Bool
+sends Nothing = false
+sends Again = true
+sends Fresh = true
+
+abbrev pub takes_memory : Option Step → Bool
+takes_memory None = false
+takes_memory (Some step) = sends step.send || not (starts_none step.starts)
 
 -- the slots with a transaction at a place, which may be one past the last
 abbrev pub placed : List (Option Transaction) → ℕ → Transaction → List (Option Transaction)
@@ -154,16 +167,29 @@ IsNew verdicts.Swallowed = ⊥
 IsNew (verdicts.Up id) = ⊥
 IsNew verdicts.Stray = ⊥
 
+-- a message takes memory where it begins a transaction, or where its line does
+abbrev pub request_takes : Contents → Request → Option ℕ → Bool
+request_takes table r None = not (is_method (codes "ACK") r.parts)
+request_takes table r (Some id) = takes_memory (line_at table id (input_of r.parts))
+
+abbrev pub response_takes : Contents → Response → Option ℕ → Bool
+response_takes table r None = false
+response_takes table r (Some id) = takes_memory (line_at table id (response_input r))
+
+unfoldable pub message_takes : Contents → Message → Bool
+message_takes table (Kinds.Request r) = request_takes table r (position (is_asked r.parts) table.slots)
+message_takes table (Kinds.Response r) = response_takes table r (position (is_answered r.parts) table.slots)
+
 -- which message is refused: one that would begin a transaction, where there are as many as there may be
 abbrev pub RefusesMessage : Contents → Message → TableError → Type 0
-RefusesMessage table message OutOfMemory = Unit {0}
+RefusesMessage table message OutOfMemory = message_takes table message ≡ true
 RefusesMessage table message Full = IsNew (reception_of table message).verdict × (most_served ≤ serving table.slots)
 RefusesMessage table message Unknown = ⊥
 RefusesMessage table message AfterFinal = ⊥
 
 -- the same, of a request that belongs to no transaction
 abbrev pub RefusesBegun : Contents → Parts → TableError → Type 0
-RefusesBegun table parts OutOfMemory = Unit {0}
+RefusesBegun table parts OutOfMemory = is_method (codes "ACK") parts ≡ false
 RefusesBegun table parts Full = IsNew (begun table parts).verdict × (most_served ≤ serving table.slots)
 RefusesBegun table parts Unknown = ⊥
 RefusesBegun table parts AfterFinal = ⊥
@@ -224,16 +250,6 @@ has_come now (Some at) = nat_le at now
 -- the timer is set, and its moment has come
 abbrev pub is_due : Contents → TimerId → ℕ → Bool
 is_due table timer now = has_come now (moment same_timer table.timers timer)
-
--- a line that sends something, or starts a timer, takes memory. No other does: so an ending timer is never refused
-abbrev pub sends : Sending → Bool
-sends Nothing = false
-sends Again = true
-sends Fresh = true
-
-abbrev pub takes_memory : Option Step → Bool
-takes_memory None = false
-takes_memory (Some step) = sends step.send || not (starts_none step.starts)
 
 -- which timer is refused, and why
 abbrev pub RefusesFire : Contents → TimerId → ℕ → TableError → Type 0

@@ -53,11 +53,15 @@ abbrev pub KeepsIfThere : List ℕ → Option Transaction → Type 0
 KeepsIfThere bytes None = Unit {0}
 KeepsIfThere bytes (Some t) = KeepsAnswer bytes t
 
+-- transaction id stands, and has given this final answer
+abbrev pub KeepsAt : List ℕ → Contents → ℕ → Type 0
+KeepsAt bytes table id = (t : Transaction) × (at table.slots id ≡ Some t) × KeepsAnswer bytes t
+
 -- a final answer that is taken, but a 2xx to an INVITE, is kept
 abbrev pub KeepsFinal : Contents → ℕ → Response → ℕ → Type 0
 KeepsFinal table id r now =
     IfSome (line_at table id (answer_input r)) (λ step. IfSome step.next (λ next. is_completed next ≡ true
-    → KeepsIfThere (message_text (Kinds.Response r)) (at (after_answer table id r now).slots id)))
+    → KeepsAt (message_text (Kinds.Response r)) (after_answer table id r now) id))
 
 -- each call leaves it so, or ends the transaction
 abbrev pub LeavesAnswer : Contents → Call → Type 0

@@ -1,13 +1,13 @@
 //! What the table would answer, and the change that it would make. Nothing changes here.
 
-ghost use Rattle.std.specs.Prelude.{◌≡◌, ◌<◌, IfOk, IfErr, Some, None, IsTrue, false};
+ghost use Rattle.std.specs.Prelude.{◌≡◌, ◌<◌, IfOk, IfErr, Some, None, IsTrue, true, false};
 ghost use Rattle.sip_uri.specs.declared.uri.Addr.{Addr};
 ghost use Rattle.sip_message.specs.declared.message.Message.TheVariants as Kinds;
 ghost use Rattle.transactions.specs.declared.change.Entry.TheVariants.{Tells, Leaves};
 ghost use Rattle.transactions.specs.Limits.{most_served};
 ghost use Rattle.transaction_machines.specs.Lines.{is_answer};
 ghost use Rattle.transactions.specs.Slots.{at, serving};
-ghost use Rattle.transactions.specs.Contents.{stray, reception_at, reception_of, begun, ack_at, IsNew, RefusesMessage, RefusesBegun, fired_of, is_due, RefusesFire};
+ghost use Rattle.transactions.specs.Contents.{stray, reception_at, reception_of, begun, ack_at, IsNew, RefusesMessage, RefusesBegun, fired_of, is_due, RefusesFire, line_in, response_input, takes_memory, message_takes};
 ghost use Rattle.transactions.specs.Changes.{change_of, request_change, fire_of};
 
 use crate::change::Change;
@@ -56,7 +56,7 @@ pub struct ForeseenFire {
 
 impl Table {
     /// What `receive` would answer, and the change that it would make: to enter that is to receive the message. A
-    /// refusal is X3 or for want of memory.
+    /// refusal is X3, or for want of memory where the message begins a transaction, sends something or starts a timer.
     pub fn foresee(&self, message: &Message, source: Addr) -> Result<Foreseen, TableError>
         ensures reception { IfOk result (λ f. f.reception ≡ reception_of self.now message.now) }
         ensures change { IfOk result (λ f. f.change ≡ change_of self.now message.now source) }
@@ -95,7 +95,7 @@ impl Table {
         Ok(ForeseenFire { fired, change })
     }
 
-    #[tactic(auto, unfolding(crate::specs::Contents::reception_of, crate::specs::Changes::change_of))]
+    #[tactic(auto, unfolding(crate::specs::Contents::reception_of, crate::specs::Contents::message_takes, crate::specs::Changes::change_of))]
     fn foresee_request(&self, request: &Request, source: Addr) -> Result<Foreseen, TableError>
         ensures reception { IfOk result (λ f. f.reception ≡ reception_of self.now (Kinds.Request request.now)) }
         ensures change { IfOk result (λ f. f.change ≡ change_of self.now (Kinds.Request request.now) source) }
@@ -112,11 +112,12 @@ impl Table {
     }
 
     // An answer.
-    #[tactic(auto, unfolding(crate::specs::Contents::reception_of, crate::specs::Changes::change_of))]
+    #[tactic(auto, unfolding(crate::specs::Contents::reception_of, crate::specs::Contents::message_takes, crate::specs::Changes::change_of))]
     fn foresee_response(&self, response: &Response) -> Result<Foreseen, AllocError>
         ensures reception { IfOk result (λ f. f.reception ≡ reception_of self.now (Kinds.Response response.now)) }
         ensures change { (source : Addr) → IfOk result (λ f. f.change ≡ change_of self.now (Kinds.Response response.now) source) }
         ensures old { IfOk result (λ f. IsNew f.reception.verdict → ⊥) }
+        ensures needed { IfErr result (λ error. message_takes self.now (Kinds.Response response.now) ≡ true) }
     {
         match answered(&self.slots, &response.parts) {
             Some(id) => {
@@ -158,7 +159,8 @@ fn ack_at(
     id: usize,
     response: &Response,
 ) -> Result<Option<Text<'static>>, AllocError>
-    ensures { IfOk result (λ ack. ack ≡ ack_at (at slots.now id) response.now) }
+    ensures ack { IfOk result (λ ack. ack ≡ ack_at (at slots.now id) response.now) }
+    ensures needed { IfErr result (λ error. takes_memory (line_in slots.now id (response_input response.now)) ≡ true) }
 {
     let Some(transaction) = transaction_at(slots, id) else {
         return Ok(None);
@@ -179,6 +181,7 @@ fn reception_at(
 ) -> Result<Reception, AllocError>
     ensures reception { IfOk result (λ r. r ≡ reception_at id (at slots.now id) input fresh.now) }
     ensures old { IfOk result (λ r. IsNew r.verdict → ⊥) }
+    ensures needed { IfErr result (λ error. takes_memory (line_in slots.now id input) ≡ true) }
 {
     let Some(transaction) = transaction_at(slots, id) else {
         return Ok(Reception::stray());
@@ -210,6 +213,7 @@ fn input_foreseen(
     ensures reception { IfOk result (λ f. f.reception ≡ reception_at id (at slots.now id) input fresh.entry) }
     ensures change { IfOk result (λ f. f.change ≡ Tells id input fresh.entry) }
     ensures old { IfOk result (λ f. IsNew f.reception.verdict → ⊥) }
+    ensures needed { IfErr result (λ error. takes_memory (line_in slots.now id input) ≡ true) }
 {
     let reception = reception_at(slots, id, input, &fresh)?;
     let change = Change::tells(id, input, fresh);

@@ -1,7 +1,7 @@
 //! Requests with the branch of an INVITE that the server sent: its CANCEL (RFC 3261 section 9.1) and the ACK to a refusal
 //! (section 17.1.1.3).
 
-ghost use Rattle.std.specs.Prelude.{◌≡◌, [], IfOk, IfSome, IsTrue, codes, option_map};
+ghost use Rattle.std.specs.Prelude.{◌≡◌, [], IfOk, IfErr, IfSome, true, IsTrue, codes, option_map};
 ghost use Rattle.text.specs.Class.{is_run_of, is_token_byte};
 ghost use Rattle.sip_message.specs.declared.message.Message.TheVariants as Kinds;
 ghost use Rattle.sip_message.specs.declared.start.Start.TheVariants.{Asking};
@@ -10,7 +10,7 @@ ghost use Rattle.sip_message.specs.Grammar.{SaysContact};
 ghost use Rattle.sip_writing.specs.Requests.{IsEnd, IsReadVia};
 ghost use Rattle.sip_writing.specs.Writing.{message_text};
 ghost use Rattle.sip_writing.specs.WritingMessage.{IsWrittenMessage};
-ghost use Rattle.transactions.specs.Contents.{ack_for};
+ghost use Rattle.transactions.specs.Contents.{ack_for, sends};
 ghost use Rattle.transactions.specs.SameBranch.{request_like, ack_to, ack_with, ack_of, cancel_of, cancel_with, IsSoundInvite, HasReadVia};
 
 use crate::transaction::Transaction;
@@ -155,6 +155,8 @@ pub(crate) fn ack_for(
     sending: Sending,
 ) -> Result<Option<Text<'static>>, AllocError>
     ensures ack { IfOk result (λ ack. ack ≡ ack_for transaction.now response.now sending) }
+    // What sends nothing takes no memory.
+    ensures needed { IfErr result (λ error. sends sending ≡ true) }
 {
     match sending {
         Sending::Nothing | Sending::Again => Ok(None),

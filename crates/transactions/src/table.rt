@@ -68,9 +68,9 @@ impl Table {
     }
 
     /// Takes a message that came from `source`. A request that belongs to no transaction begins one, under the least
-    /// number that none has; an answer or an ACK that belongs to none is stray. A refusal (X3, no memory) leaves the
-    /// table as it was.
-    #[tactic(auto, unfolding(crate::specs::Changes::after_message))]
+    /// number that none has; an answer or an ACK that belongs to none is stray. A refusal (X3, or no memory, where the
+    /// message begins a transaction, sends something or starts a timer) leaves the table as it was.
+    #[tactic(auto, using(crate::proofs::MemoryLaws::message_room), unfolding(crate::specs::Changes::after_message))]
     pub fn receive(
         &mut self,
         message: &Message,
