@@ -1,5 +1,5 @@
 -- What a text says of media, and its first fault (RFC 4566).
-use Rattle.std.specs.Prelude.{ℕ, Bool, false, not, ◌||◌, ◌==◌, nat_eq, nat_le, List, [], ◌∷◌, length, drop, map, codes, Option, is_some, option_map, option_and_then, Result, Ok, Err, if◌then◌else◌}
+use Rattle.std.specs.Prelude.{ℕ, Bool, false, not, ◌&&◌, ◌||◌, ◌==◌, nat_eq, nat_le, List, [], ◌∷◌, length, drop, map, codes, Option, is_some, option_map, option_and_then, Result, Ok, Err, if◌then◌else◌}
 use Rattle.std.specs.List.{list_all}
 use Rattle.std.specs.Cmp.Lexicographic.{pointwise}
 use Rattle.sdp.specs.declared.address.Address.{Address}
@@ -97,6 +97,10 @@ judgment d =
     else Err Faults.NoConnection
 
 -- ---- all
+
+-- the lines say version and origin, and each c= and m= is of its form
+abbrev pub is_sound : List (List ℕ) → Bool
+is_sound lines = is_version lines && has_origin lines && list_all is_good_connection lines && list_all is_good_medium lines
 
 -- the faults of lines, in their order, before those of the value
 unfoldable pub said_by : List (List ℕ) → Result Description DescriptionError

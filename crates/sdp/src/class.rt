@@ -2,7 +2,6 @@
 
 ghost use Rattle.std.specs.Prelude.{◌≡◌, ◌==◌};
 ghost use Rattle.std.specs.List.{list_all, slice_split};
-ghost use Rattle.text.specs.Class.{is_run_of};
 ghost use Rattle.sdp.specs.Classes.{is_token_char, is_token, is_visible, is_word, begins, is_number, is_integer, is_proto};
 ghost use Rattle.sdp.specs.Lines.{has_mark};
 

@@ -3,7 +3,7 @@
 ghost use Rattle.std.specs.Prelude.{◌≡◌};
 ghost use Rattle.std.specs.List.{list_all};
 ghost use Rattle.std.specs.Option.{option_copied};
-ghost use Rattle.sdp.specs.Addresses.{octet_of, ip4_of, is_unicast, is_group_address, is_scope, is_multicast, is_name_byte, is_dotted_byte, is_name, unicast_of, inet_of, behind, address_of};
+ghost use Rattle.sdp.specs.Addresses.{octet_of, ip4_of, is_group_address, is_scope, is_multicast, is_name_byte, is_dotted_byte, is_name, unicast_of, inet_of, behind, address_of};
 
 use crate::address::Address;
 use crate::class::{begins, is_integer, is_word};

@@ -5,7 +5,8 @@ use crate::line::Lines;
 use std::marker::Model;
 use text::{Text, Texts};
 
-/// The fields of an `o=` line (RFC 4566 section 5.2), as written. The id and the version are decimal digits.
+/// The fields of an `o=` line (RFC 4566 section 5.2), as written. Of a description that was read the id and the version are
+/// decimal digits.
 #[derive(Clone, Debug, Drop, PartialEq, Eq)]
 pub struct Origin<'a> {
     pub username: Text<'a>,
@@ -16,18 +17,19 @@ pub struct Origin<'a> {
     pub address: Text<'a>,
 }
 
-/// A medium: an `m=` line and what stands under it (RFC 4566 sections 5 and 5.14).
+/// A medium: an `m=` line and what stands under it (RFC 4566 sections 5 and 5.14). Of a description that was read a count is 1 or
+/// more, and there is a format.
 #[derive(Clone, Debug, Drop)]
 pub struct Media<'a> {
     /// What is sent, as `audio`.
     pub kind: Text<'a>,
     /// 0 where the medium is not used.
     pub port: u16,
-    /// How many ports, where a number is written behind the port: 1 or more.
+    /// How many ports, where a number is written behind the port.
     pub count: Option<u16>,
     /// The transport protocol, as `RTP/AVP`.
     pub proto: Text<'a>,
-    /// One or more, in order of preference.
+    /// In order of preference.
     pub formats: Texts<'a>,
     /// The value of the `i=` line.
     pub info: Option<Text<'a>>,

@@ -2,7 +2,6 @@
 
 ghost use Rattle.std.specs.Prelude.{◌≡◌, ◌==◌, nat_le, length};
 ghost use Rattle.std.specs.List.{list_all};
-ghost use Rattle.sdp.specs.Faults.{Gives};
 ghost use Rattle.sdp.specs.Lines.{texts, has_mark, is_clean, is_formed};
 ghost use Rattle.sdp.specs.Limits.{max_formats};
 ghost use Rattle.sdp.specs.Reading.{is_version, has_origin, is_good_connection, is_good_medium, is_placed, has_places, has_few_media, has_few_formats, judgment};
@@ -133,7 +132,7 @@ fn has_few_formats(description: &Description<'_>) -> bool
 /// The description, if its media have places and are within the limits.
 #[tactic(auto, unfolding(crate::specs::Reading::judgment))]
 pub(crate) fn judgment(description: Description<'_>) -> Result<Description<'_>, DescriptionError>
-    ensures { Gives result (judgment description.entry) }
+    ensures { result ≡ judgment description.entry }
 {
     if !has_places(&description) {
         return Err(DescriptionError::NoConnection);

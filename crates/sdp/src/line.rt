@@ -3,8 +3,8 @@
 use std::marker::Model;
 use text::Text;
 
-/// A line `type=value`: the type is one letter, whose case counts, and the value is any bytes but NUL, CR and LF (RFC
-/// 4566 section 5).
+/// A line `type=value` (RFC 4566 section 5): the type is one letter, whose case counts. Of a description that was read the value
+/// is any bytes but NUL, CR and LF.
 #[derive(Clone, Debug, Drop, PartialEq, Eq)]
 pub struct Line<'a> {
     pub letter: u8,

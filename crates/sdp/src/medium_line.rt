@@ -1,7 +1,6 @@
 //! The value of an `m=` line (RFC 4566 section 5.14).
 
 ghost use Rattle.std.specs.Prelude.{◌≡◌, IfOk};
-ghost use Rattle.std.specs.List.{list_all};
 ghost use Rattle.std.specs.Option.{option_copied};
 ghost use Rattle.text.specs.Class.{passes_if_there};
 ghost use Rattle.sdp.specs.MediumLines.{is_port, is_count, formats_of};

@@ -1,11 +1,12 @@
 //! Reading of descriptions.
 
-ghost use Rattle.std.specs.Prelude.{◌≡◌, ℕ, List, Ok, IfOk, IfErr};
+ghost use Rattle.std.specs.Prelude.{◌≡◌, Ok, Err, IfOk, IfErr, IsTrue};
 ghost use Rattle.sdp.specs.declared.description.Description.{Description};
+ghost use Rattle.sdp.specs.declared.error.DescriptionError.TheVariants as DescriptionError;
 ghost use Rattle.sdp.specs.Faults.{Gives};
 ghost use Rattle.sdp.specs.Grammar.{ReadsDescription, Refuses};
 ghost use Rattle.sdp.specs.Lines.{texts};
-ghost use Rattle.sdp.specs.Reading.{said_by, description_of};
+ghost use Rattle.sdp.specs.Reading.{is_sound, said_by, description_of};
 
 use crate::description::Description;
 use crate::error::DescriptionError;
@@ -17,7 +18,9 @@ use std::alloc::Global;
 
 #[tactic(auto, unfolding(crate::specs::Reading::said_by))]
 fn read_lines<'a>(alloc: Global, lines: &[&'a [u8]]) -> Result<Description<'a>, DescriptionError>
-    ensures { Gives result (said_by (texts lines.now)) }
+    ensures description { Gives result (said_by (texts lines.now)) }
+    // No memory is asked for before each line has passed.
+    ensures memory { result ≡ Err DescriptionError.OutOfMemory → IsTrue (is_sound (texts lines.now)) }
 {
     if !is_version(lines) {
         return Err(DescriptionError::Version);

@@ -2,7 +2,6 @@
 
 ghost use Rattle.std.specs.Prelude.{◌≡◌, ◌++◌, ◌∷◌, [], ℕ, List, map, OnOk, IfOk, decimal};
 ghost use Rattle.std.specs.List.{flat_map};
-ghost use Rattle.std.specs.Option.{option_copied};
 ghost use Rattle.sdp.specs.Grammar.{ReadsDescription};
 ghost use Rattle.sdp.specs.Writing.{line_text, ended, origin_line, ip4_text, address_text, connection_lines, count_text, formats_text, medium_line, info_lines, media_lines, description_lines, description_text};
 
