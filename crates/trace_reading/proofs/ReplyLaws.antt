@@ -15,38 +15,10 @@ use Rattle.sip_message.specs.Via.{via_texts}
 use Rattle.sip_message.specs.Words.{value_found, top_branch, tag_value}
 use Rattle.sip_writing.specs.Replies as writing
 use Rattle.sip_writing.specs.Replies.{answered_tag}
-use Rattle.transactions.specs.Matching as matching
 use Rattle.transactions.specs.Matching.{RepliesTo}
 use Rattle.call_trace.specs.Messages.{Replies}
 use Rattle.trace_reading.specs.Message.{trace_message}
 use Rattle.trace_reading.proofs.ReadTexts.{IsThere, one_text, tag_there, branch_there}
-
--- ---- the words of transactions are those of messages
-
-value_same : (o : Option Param) → matching.value_found o ≡ value_found o
-value_same None = refl
-value_same (Some p) = refl
-
-branch_same : (vias : List Via) → matching.branch_in vias ≡ top_branch vias
-branch_same [] = refl
-branch_same (via ∷ vias) = value_same (param_named (codes "branch") via.params)
-
-tag_same : (params : List Param) → matching.value_of (codes "tag") params ≡ tag_value params
-tag_same params = value_same (param_named (codes "tag") params)
-
-some_said : (o : Option Param) → IsSome (value_found o) → IsSome (matching.value_found o)
-some_said None some = some
-some_said (Some p) some = some
-
-said_some : (o : Option Param) → IsSome (matching.value_found o) → IsSome (value_found o)
-said_some None some = some
-said_some (Some p) some = some
-
-tag_from : (asked answered : Option Param) → (IsSome (matching.value_found asked) → matching.value_found answered ≡ matching.value_found asked) → IsSome (value_found asked) → value_found answered ≡ value_found asked
-tag_from asked answered h some = sym (value_same answered) ∙ h (some_said asked some) ∙ value_same asked
-
-tag_to : (asked answered : Option Param) → (IsSome (value_found asked) → value_found answered ≡ value_found asked) → IsSome (matching.value_found asked) → matching.value_found answered ≡ matching.value_found asked
-tag_to asked answered h some = value_same answered ∙ h (said_some asked some) ∙ sym (value_same asked)
 
 -- ---- what was read
 
@@ -78,18 +50,15 @@ reply_of : (asked answered : List ℕ) (request : Request) (response : Response)
 unfolding trace_message
 reply_of asked answered request response h =
     let text : Option (List ℕ) → List ℕ = λ o. unwrap_or o [] in
-    let one_branch : top_branch response.parts.vias ≡ top_branch request.parts.vias = sym (branch_same response.parts.vias) ∙ h.branch ∙ branch_same request.parts.vias in
-    let one_tag : tag_value response.parts.from.params ≡ tag_value request.parts.from.params = sym (tag_same response.parts.from.params) ∙ h.from_tag ∙ tag_same request.parts.from.params in
     record {
       response_kind = refl;
       request_kind = refl;
-      branch = ap text one_branch;
+      branch = ap text h.branch;
       call_id = h.call_id;
-      from_tag = ap text one_tag;
+      from_tag = ap text h.from_tag;
       number = h.number;
       method = h.method;
-      to_tag = kept_tag (tag_value request.parts.to.params) (tag_value response.parts.to.params)
-          (tag_from (param_named (codes "tag") request.parts.to.params) (param_named (codes "tag") response.parts.to.params) h.to_tag);
+      to_tag = kept_tag (tag_value request.parts.to.params) (tag_value response.parts.to.params) h.to_tag;
     }
 
 reply_by : (asked answered : List ℕ) (request : Request) (response : Response) → AreThere request.parts → AreThere response.parts
@@ -99,13 +68,12 @@ reply_by asked answered request response there both h =
     let one_branch : top_branch response.parts.vias ≡ top_branch request.parts.vias = one_text (top_branch response.parts.vias) (top_branch request.parts.vias) both.branch there.branch h.branch in
     let one_tag : tag_value response.parts.from.params ≡ tag_value request.parts.from.params = one_text (tag_value response.parts.from.params) (tag_value request.parts.from.params) both.from_tag there.from_tag h.from_tag in
     record {
-      branch = branch_same response.parts.vias ∙ one_branch ∙ sym (branch_same request.parts.vias);
+      branch = one_branch;
       call_id = h.call_id;
-      from_tag = tag_same response.parts.from.params ∙ one_tag ∙ sym (tag_same request.parts.from.params);
+      from_tag = one_tag;
       number = h.number;
       method = h.method;
-      to_tag = tag_to (param_named (codes "tag") request.parts.to.params) (param_named (codes "tag") response.parts.to.params)
-          (tag_kept (tag_value request.parts.to.params) (tag_value response.parts.to.params) there.to_tag both.to_tag h.to_tag);
+      to_tag = tag_kept (tag_value request.parts.to.params) (tag_value response.parts.to.params) there.to_tag both.to_tag h.to_tag;
     }
 
 pub replies_both : (asked answered : List ℕ) (request : Request) (response : Response) → ReadsMessage asked (Kinds.Request request) → ReadsMessage answered (Kinds.Response response)
@@ -117,13 +85,13 @@ replies_both asked answered request response reads answers =
 
 -- ---- what is written
 
-written_tag : (asked answered : Option Param) (status : ℕ) (tag : List ℕ) → answered ≡ answered_tag status asked tag → IsSome (matching.value_found asked) → matching.value_found answered ≡ matching.value_found asked
+written_tag : (asked answered : Option Param) (status : ℕ) (tag : List ℕ) → answered ≡ answered_tag status asked tag → IsSome (value_found asked) → value_found answered ≡ value_found asked
 written_tag None answered status tag e some = absurd cc
-written_tag (Some own) answered status tag e some = ap matching.value_found e
+written_tag (Some own) answered status tag e some = ap value_found e
 
-written_branch : (a b : List Via) → writing.top_branch a ≡ writing.top_branch b → matching.branch_in a ≡ matching.branch_in b
-written_branch a b e = at a ∙ ap matching.value_found e ∙ sym (at b) where
-  at : (vias : List Via) → matching.branch_in vias ≡ matching.value_found (writing.top_branch vias)
+written_branch : (a b : List Via) → writing.top_branch a ≡ writing.top_branch b → top_branch a ≡ top_branch b
+written_branch a b e = at a ∙ ap value_found e ∙ sym (at b) where
+  at : (vias : List Via) → top_branch vias ≡ value_found (writing.top_branch vias)
   at [] = refl
   at (via ∷ vias) = refl
 
@@ -133,7 +101,7 @@ written_replies asked answered request response status tag h =
     reply_of asked answered request response (record {
       branch = written_branch response.parts.vias request.parts.vias h.branch;
       call_id = h.call_id;
-      from_tag = ap matching.value_found h.from_tag;
+      from_tag = ap value_found h.from_tag;
       number = ap (λ c. c.number) h.cseq;
       method = ap (λ c. c.method) h.cseq;
       to_tag = written_tag (param_named (codes "tag") request.parts.to.params) (param_named (codes "tag") response.parts.to.params) status tag h.to_tag;
