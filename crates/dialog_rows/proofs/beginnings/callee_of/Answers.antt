@@ -1,5 +1,5 @@
 use Rattle.std.proofs.Common.{rules}
-use Rattle.message_rows.proofs.dialogs_rows.callee_of.Goals as goal
+use Rattle.dialog_rows.proofs.beginnings.callee_of.Goals as goal
 
 pub as_callee-requires : goal.as_callee-requires
 as_callee-requires c =

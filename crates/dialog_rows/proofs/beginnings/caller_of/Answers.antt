@@ -1,5 +1,5 @@
 use Rattle.std.proofs.Common.{rules}
-use Rattle.message_rows.proofs.dialogs_rows.caller_of.Goals as goal
+use Rattle.dialog_rows.proofs.beginnings.caller_of.Goals as goal
 
 pub as_caller-requires : goal.as_caller-requires
 as_caller-requires c =
