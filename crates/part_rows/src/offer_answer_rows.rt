@@ -3,13 +3,13 @@
 use crate::readdress_rows::{sent_read, sent_text};
 use crate::sdp_rows::told;
 use crate::session_rows::session_words;
-use crate::stream_words::streams_words;
+use crate::stream_words::put_streams;
 use offer_answer::{
     OwnRange, alike_is_equivalence, check_answer, check_offer, destination, fewer_rows, held_call,
     hold_passes, joined_is_direct, meaning, plain_call, relayed_is_direct, rows_lead,
     rows_of_session_stand, sent_is_read,
 };
-use rows::{address_words, said};
+use rows::{answer_of, number, put_address, said, words_of};
 use sdp::{Description, DescriptionError, read_description};
 use std::alloc::{AllocError, Global};
 use std::fmt::Display;
@@ -41,6 +41,17 @@ fn pair(alloc: Global, one: Vec<u8>, other: Vec<u8>) -> Result<Vec<Vec<u8>>, All
     Ok(vec![in alloc; one, other]?)
 }
 
+fn push_description<'a>(
+    alloc: Global,
+    found: &mut Vec<Description<'a>>,
+    text: &'a [u8],
+) -> Result<(), DescriptionError> {
+    match read_description(alloc, text) {
+        Ok(description) => Ok(found.push(description)?),
+        Err(fault) => Err(fault),
+    }
+}
+
 /// The descriptions of these texts.
 fn descriptions(
     alloc: Global,
@@ -48,19 +59,19 @@ fn descriptions(
 ) -> Result<Vec<Description<'_>>, DescriptionError> {
     let mut found = Vec::new(alloc);
     for text in texts {
-        found.push(read_description(alloc, text)?)?;
+        push_description(alloc, &mut found, text)?;
     }
     Ok(found)
 }
 
-/// That a description was taken, or the letter and the words of the fault.
-fn taken_or<E: Display + Drop>(
-    alloc: Global,
+/// Writes that a description was taken, or the letter and the words of the fault.
+fn put_taken<E: Display + Drop>(
+    out: &mut String,
     outcome: Result<(), E>,
-) -> Result<String, AllocError> {
+) -> Result<(), AllocError> {
     match outcome {
-        Ok(()) => said(alloc, "taken"),
-        Err(fault) => fault.to_string(alloc),
+        Ok(()) => out.push_str("taken"),
+        Err(fault) => write!(out, "{fault}"),
     }
 }
 
@@ -78,11 +89,15 @@ fn offer_texts(
     pair(alloc, text, Vec::from_slice(alloc, previous)?)
 }
 
-fn offer_words(alloc: Global, descriptions: &[Description<'_>]) -> Result<String, AllocError> {
-    match descriptions {
-        [new] => taken_or(alloc, check_offer(new, None, RANGE)),
-        [new, previous] => taken_or(alloc, check_offer(new, Some(previous), RANGE)),
-        _ => said(alloc, "no description"),
+fn put_offer_check(
+    _alloc: Global,
+    out: &mut String,
+    descriptions: &Vec<Description<'_>>,
+) -> Result<(), AllocError> {
+    match descriptions.as_slice() {
+        [new] => put_taken(out, check_offer(new, None, RANGE)),
+        [new, previous] => put_taken(out, check_offer(new, Some(previous), RANGE)),
+        _ => out.push_str("no description"),
     }
 }
 
@@ -92,17 +107,30 @@ fn offer_check(
     connection: &[u8],
     media: &[u8],
     previous: &[u8],
-) -> Result<String, DescriptionError> {
+) -> Result<String, AllocError> {
     let texts = offer_texts(alloc, connection, media, previous)?;
-    let descriptions = descriptions(alloc, &texts)?;
-    Ok(offer_words(alloc, &descriptions)?)
+    told(alloc, descriptions(alloc, &texts), put_offer_check)
 }
 
-fn answer_words(alloc: Global, descriptions: &[Description<'_>]) -> Result<String, AllocError> {
-    match descriptions {
-        [offer, answer] => taken_or(alloc, check_answer(offer, answer, RANGE)),
-        _ => said(alloc, "no description"),
+fn put_answer_check(
+    _alloc: Global,
+    out: &mut String,
+    descriptions: &Vec<Description<'_>>,
+) -> Result<(), AllocError> {
+    match descriptions.as_slice() {
+        [offer, answer] => put_taken(out, check_answer(offer, answer, RANGE)),
+        _ => out.push_str("no description"),
     }
+}
+
+/// The texts of an offer and of an answer.
+fn texts_of(
+    alloc: Global,
+    offer: &[&[u8]; 2],
+    answer: &[&[u8]; 2],
+) -> Result<Vec<Vec<u8>>, AllocError> {
+    let offer = text_of(alloc, offer[0], offer[1])?;
+    pair(alloc, offer, text_of(alloc, answer[0], answer[1])?)
 }
 
 /// The check of an answer from this connection, to an offer of these media at 192.0.2.10.
@@ -111,30 +139,100 @@ fn answer_check(
     offered: &[u8],
     connection: &[u8],
     answered: &[u8],
-) -> Result<String, DescriptionError> {
-    let offer = text_of(alloc, b"IP4 192.0.2.10", offered)?;
-    let texts = pair(alloc, offer, text_of(alloc, connection, answered)?)?;
-    let descriptions = descriptions(alloc, &texts)?;
-    Ok(answer_words(alloc, &descriptions)?)
+) -> Result<String, AllocError> {
+    let texts = texts_of(
+        alloc,
+        &[b"IP4 192.0.2.10", offered],
+        &[connection, answered],
+    )?;
+    told(alloc, descriptions(alloc, &texts), put_answer_check)
 }
 
-fn meaning_words(alloc: Global, descriptions: &[Description<'_>]) -> Result<String, AllocError> {
-    let [offer, answer] = descriptions else {
-        return said(alloc, "no description");
-    };
+fn put_meaning_of(
+    alloc: Global,
+    out: &mut String,
+    offer: &Description<'_>,
+    answer: &Description<'_>,
+) -> Result<(), AllocError> {
     if offer.media.as_slice().len() != answer.media.as_slice().len() {
-        return said(alloc, "other number of media");
+        return out.push_str("other number of media");
     }
-    streams_words(alloc, &meaning(alloc, offer, answer)?)
+    let streams = words_of(alloc, meaning(alloc, offer, answer)?, put_streams)?;
+    out.push_str(streams.as_str())
+}
+
+fn put_meaning(
+    alloc: Global,
+    out: &mut String,
+    descriptions: &Vec<Description<'_>>,
+) -> Result<(), AllocError> {
+    match descriptions.as_slice() {
+        [offer, answer] => put_meaning_of(alloc, out, offer, answer),
+        _ => out.push_str("no description"),
+    }
+}
+
+/// What an offer and an answer mean, which have as many media.
+fn meaning_of(
+    alloc: Global,
+    offer: &[&[u8]; 2],
+    answer: &[&[u8]; 2],
+) -> Result<String, AllocError> {
+    let texts = texts_of(alloc, offer, answer)?;
+    told(alloc, descriptions(alloc, &texts), put_meaning)
+}
+
+fn put_hold_checks_of(
+    out: &mut String,
+    offer: &Description<'_>,
+    answer: &Description<'_>,
+) -> Result<(), AllocError> {
+    out.push_str("offer ")?;
+    put_taken(out, check_offer(offer, None, HOLD_RANGE))?;
+    out.push_str(", answer ")?;
+    put_taken(out, check_answer(offer, answer, HOLD_RANGE))
+}
+
+fn put_hold_checks(
+    _alloc: Global,
+    out: &mut String,
+    descriptions: &Vec<Description<'_>>,
+) -> Result<(), AllocError> {
+    match descriptions.as_slice() {
+        [offer, answer] => put_hold_checks_of(out, offer, answer),
+        _ => out.push_str("no description"),
+    }
 }
 
 /// The checks of an offer and of an answer at 0.0.0.0 by a server at 0.0.0.0.
-fn hold_checks(alloc: Global, media: &[u8]) -> Result<String, DescriptionError> {
-    let text = text_of(alloc, b"IP4 0.0.0.0", media)?;
-    let description = read_description(alloc, &text)?;
-    let offer = taken_or(alloc, check_offer(&description, None, HOLD_RANGE))?;
-    let answer = taken_or(alloc, check_answer(&description, &description, HOLD_RANGE))?;
-    Ok(format!(in alloc; "offer {offer}, answer {answer}")?)
+fn hold_checks(alloc: Global, media: &[u8]) -> Result<String, AllocError> {
+    let texts = texts_of(alloc, &[b"IP4 0.0.0.0", media], &[b"IP4 0.0.0.0", media])?;
+    told(alloc, descriptions(alloc, &texts), put_hold_checks)
+}
+
+/// The texts of a session: of the offer, of what was sent on in place of the answer and of the offer, and of the answer.
+fn session_texts(
+    alloc: Global,
+    offer: &[&[u8]; 2],
+    sent: &[&[u8]; 2],
+    answer: &[&[u8]; 2],
+) -> Result<Vec<Vec<u8>>, AllocError> {
+    let mut texts = Vec::new(alloc);
+    texts.push(text_of(alloc, offer[0], offer[1])?)?;
+    texts.push(text_of(alloc, b"IP4 192.0.2.1", sent[0])?)?;
+    texts.push(text_of(alloc, b"IP4 192.0.2.1", sent[1])?)?;
+    texts.push(text_of(alloc, answer[0], answer[1])?)?;
+    Ok(texts)
+}
+
+/// The lines or the changes of a session.
+fn put_session(
+    alloc: Global,
+    out: &mut String,
+    descriptions: &Vec<Description<'_>>,
+    call: &str,
+) -> Result<(), AllocError> {
+    out.push_str(session_words(alloc, call, descriptions)?.as_str())
 }
 
 /// What a call on a session answers, of which the row has the connection and media of the offer, the media of what was sent
@@ -145,51 +243,35 @@ fn session_of(
     offer: &[&[u8]; 2],
     sent: &[&[u8]; 2],
     answer: &[&[u8]; 2],
-) -> Result<String, DescriptionError> {
-    let mut texts = Vec::new(alloc);
-    texts.push(text_of(alloc, offer[0], offer[1])?)?;
-    texts.push(text_of(alloc, b"IP4 192.0.2.1", sent[0])?)?;
-    texts.push(text_of(alloc, b"IP4 192.0.2.1", sent[1])?)?;
-    texts.push(text_of(alloc, answer[0], answer[1])?)?;
-    let descriptions = descriptions(alloc, &texts)?;
-    Ok(session_words(alloc, call, &descriptions)?)
+) -> Result<String, AllocError> {
+    let texts = session_texts(alloc, offer, sent, answer)?;
+    told(alloc, descriptions(alloc, &texts), |alloc, out, read| {
+        put_session(alloc, out, read, call)
+    })
 }
 
-/// What an offer and an answer mean, which have as many media.
-fn meaning_of(
-    alloc: Global,
-    offer: &[&[u8]; 2],
-    answer: &[&[u8]; 2],
-) -> Result<String, DescriptionError> {
-    let offer = text_of(alloc, offer[0], offer[1])?;
-    let texts = pair(alloc, offer, text_of(alloc, answer[0], answer[1])?)?;
-    let descriptions = descriptions(alloc, &texts)?;
-    Ok(meaning_words(alloc, &descriptions)?)
-}
-
-fn destination_words(alloc: Global, description: &Description<'_>) -> Result<String, AllocError> {
+fn put_destination(
+    _alloc: Global,
+    out: &mut String,
+    description: &Description<'_>,
+) -> Result<(), AllocError> {
     let Some(medium) = description.media.as_slice().first() else {
-        return said(alloc, "no medium");
+        return out.push_str("no medium");
     };
     match destination(description, medium) {
-        Some(address) => address_words(alloc, address),
-        None => said(alloc, "nowhere"),
+        Some(address) => put_address(out, address),
+        None => out.push_str("nowhere"),
     }
 }
 
 /// Where media for the first medium are sent.
-fn first_destination(
-    alloc: Global,
-    connection: &[u8],
-    media: &[u8],
-) -> Result<String, DescriptionError> {
+fn first_destination(alloc: Global, connection: &[u8], media: &[u8]) -> Result<String, AllocError> {
     let text = text_of(alloc, connection, media)?;
-    let description = read_description(alloc, &text)?;
-    Ok(destination_words(alloc, &description)?)
+    told(alloc, read_description(alloc, &text), put_destination)
 }
 
 /// Calls what has a law for its contract.
-fn laws(alloc: Global) -> Result<String, DescriptionError> {
+fn laws(alloc: Global) -> Result<String, AllocError> {
     alike_is_equivalence();
     joined_is_direct();
     rows_lead();
@@ -200,7 +282,27 @@ fn laws(alloc: Global) -> Result<String, DescriptionError> {
     plain_call();
     held_call();
     fewer_rows();
-    Ok(said(alloc, "called")?)
+    said(alloc, "called")
+}
+
+/// What a call on what is sent on answers, if it is one.
+fn answer_on_sent(alloc: Global, call: &str, args: &[&[u8]]) -> Result<Option<String>, AllocError> {
+    match (call, args) {
+        ("readdress", [text, id, version, ports]) => {
+            answer_of(sent_text(alloc, text, number(id), number(version), ports))
+        }
+        ("read_again", [text, server, ports]) => answer_of(sent_read(alloc, text, server, ports)),
+        ("session_lines" | "plan_session", [at, offer, for_answer, for_offer, from, answer]) => {
+            answer_of(session_of(
+                alloc,
+                call,
+                &[at, offer],
+                &[for_answer, for_offer],
+                &[from, answer],
+            ))
+        }
+        _ => Ok(None),
+    }
 }
 
 /// What the row's call answers, if it is one of `offer_answer`.
@@ -209,27 +311,19 @@ pub(crate) fn answer(
     call: &str,
     args: &[&[u8]],
 ) -> Result<Option<String>, AllocError> {
-    let outcome = match (call, args) {
-        ("check_offer", [at, media, previous]) => offer_check(alloc, at, media, previous),
-        ("check_answer", [offered, at, answered]) => answer_check(alloc, offered, at, answered),
+    match (call, args) {
+        ("check_offer", [at, media, previous]) => {
+            answer_of(offer_check(alloc, at, media, previous))
+        }
+        ("check_answer", [offered, at, answered]) => {
+            answer_of(answer_check(alloc, offered, at, answered))
+        }
         ("meaning", [at, offer, from, answer]) => {
-            meaning_of(alloc, &[at, offer], &[from, answer])
+            answer_of(meaning_of(alloc, &[at, offer], &[from, answer]))
         }
-        ("destination", [at, media]) => first_destination(alloc, at, media),
-        ("readdress", [text, id, version, ports]) => { sent_text(alloc, text, id, version, ports) }
-        ("read_again", [text, server, ports]) => sent_read(alloc, text, server, ports),
-        ("hold_checks", [media]) => hold_checks(alloc, media),
-        ("session_lines" | "plan_session", [at, offer, for_answer, for_offer, from, answer]) => {
-            session_of(
-                alloc,
-                call,
-                &[at, offer],
-                &[for_answer, for_offer],
-                &[from, answer],
-            )
-        }
-        ("laws", []) => laws(alloc),
-        _ => return Ok(None),
-    };
-    Ok(Some(told(alloc, outcome)?))
+        ("destination", [at, media]) => answer_of(first_destination(alloc, at, media)),
+        ("hold_checks", [media]) => answer_of(hold_checks(alloc, media)),
+        ("laws", []) => answer_of(laws(alloc)),
+        _ => answer_on_sent(alloc, call, args),
+    }
 }

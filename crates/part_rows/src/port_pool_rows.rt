@@ -6,7 +6,7 @@ ghost use Rattle.port_pool.specs.Pool.{AreOwn, StandOnce, hop_of};
 
 use crate::port_pool_words::{changes_words, hop_words, pairs_words};
 use port_pool::{Change, Hop, Pair, Pool, PoolError, RelayLine, RelayTable};
-use rows::{number, number_or_none, said, u16_of};
+use rows::{answer_of, number, number_or_none, said, u16_of};
 use sip_uri::{Addr, ip4};
 use std::alloc::{AllocError, Global};
 use text::{cut_word, pieces};
@@ -18,11 +18,11 @@ pub(crate) struct PortPoolRows {
 }
 
 /// What was found, or the letter and the words of the refusal.
-fn told(alloc: Global, outcome: Result<String, PoolError>) -> Result<String, AllocError> {
+fn told(alloc: Global, outcome: Result<String, PoolError>) -> Result<Option<String>, AllocError> {
     match outcome {
-        Ok(words) => Ok(words),
+        Ok(words) => Ok(Some(words)),
         Err(PoolError::OutOfMemory) => Err(AllocError),
-        Err(fault) => fault.to_string(alloc),
+        Err(fault) => answer_of(fault.to_string(alloc)),
     }
 }
 
@@ -248,6 +248,17 @@ fn commit(
     changes_words(alloc, &pool.commit(call, &lines, now)?)
 }
 
+/// What would end with a call.
+fn planned_drop(alloc: Global, pool: &Pool, call: u64) -> Result<String, AllocError> {
+    changes_words(alloc, &pool.plan_drop(call)?)
+}
+
+/// Calls what has a law for its contract.
+fn laws(alloc: Global, pool: &Pool) -> Result<String, AllocError> {
+    pool.pairs_never_meet();
+    said(alloc, "called")
+}
+
 /// What ends with a call.
 fn without(alloc: Global, pool: &mut Pool, call: u64, now: u64) -> Result<String, AllocError> {
     changes_words(alloc, &pool.drop_call(call, now)?)
@@ -272,7 +283,7 @@ fn plan_answer(
     call: &str,
     args: &[&[u8]],
 ) -> Result<Option<String>, AllocError> {
-    let answer = match (call, args) {
+    match (call, args) {
         ("plan_reserve", [now, pairs]) => {
             told(alloc, plan_reserve(alloc, pool, number(pairs), number(now)))
         }
@@ -282,27 +293,44 @@ fn plan_answer(
                 hold(alloc, pool, number(owner), number(pairs), number(now)),
             )
         }
-        ("free", [now, even]) => free(alloc, pool, u16_of(even), number(now)),
+        ("free", [now, even]) => answer_of(free(alloc, pool, u16_of(even), number(now))),
         ("free_others", [now, owner, kept, lines @ ..]) => {
-            free_others(alloc, pool, number(owner), kept, lines, number(now))
+            answer_of(free_others(alloc, pool, number(owner), kept, lines, number(now)))
         }
-        ("plan_commit", [owner, lines @ ..]) => plan_commit(alloc, pool, number(owner), lines),
-        ("put", [owner, lines @ ..]) => put(alloc, pool, number(owner), lines),
-        ("plan_drop", [owner]) => changes_words(alloc, &pool.plan_drop(number(owner))?),
-        ("end_call", [now, owner]) => end_call(alloc, pool, number(owner), number(now)),
-        _ => return Ok(None),
-    };
-    Ok(Some(answer?))
+        ("plan_commit", [owner, lines @ ..]) => {
+            answer_of(plan_commit(alloc, pool, number(owner), lines))
+        }
+        ("put", [owner, lines @ ..]) => answer_of(put(alloc, pool, number(owner), lines)),
+        ("plan_drop", [owner]) => answer_of(planned_drop(alloc, pool, number(owner))),
+        ("end_call", [now, owner]) => answer_of(end_call(alloc, pool, number(owner), number(now))),
+        _ => Ok(None),
+    }
 }
 
-/// What a call of the pool answers, if there is one.
-fn answer_of(
+/// What a call that only asks the pool answers, if it is one, or else a plan.
+fn look_answer(
     alloc: Global,
     pool: &mut Pool,
     call: &str,
     args: &[&[u8]],
 ) -> Result<Option<String>, AllocError> {
-    let answer = match (call, args) {
+    match (call, args) {
+        ("holder", [port]) => answer_of(number_or_none(alloc, pool.holder(u16_of(port)))),
+        ("hop", [port]) => answer_of(hop_words(alloc, pool.hop(u16_of(port)))),
+        ("table", [port]) => answer_of(hop_words(alloc, pool.table().hop(u16_of(port)))),
+        ("laws", []) => answer_of(laws(alloc, pool)),
+        _ => plan_answer(alloc, pool, call, args),
+    }
+}
+
+/// What a call of the pool answers, if there is one.
+fn pool_answer(
+    alloc: Global,
+    pool: &mut Pool,
+    call: &str,
+    args: &[&[u8]],
+) -> Result<Option<String>, AllocError> {
+    match (call, args) {
         ("reserve", [now, owner, pairs]) => {
             told(
                 alloc,
@@ -316,19 +344,13 @@ fn answer_of(
             )
         }
         ("commit", [now, owner, lines @ ..]) => {
-            commit(alloc, pool, number(owner), lines, number(now))
+            answer_of(commit(alloc, pool, number(owner), lines, number(now)))
         }
-        ("drop_call", [now, owner]) => without(alloc, pool, number(owner), number(now)),
-        ("holder", [port]) => number_or_none(alloc, pool.holder(u16_of(port))),
-        ("hop", [port]) => hop_words(alloc, pool.hop(u16_of(port))),
-        ("table", [port]) => hop_words(alloc, pool.table().hop(u16_of(port))),
-        ("laws", []) => {
-            pool.pairs_never_meet();
-            said(alloc, "called")
+        ("drop_call", [now, owner]) => {
+            answer_of(without(alloc, pool, number(owner), number(now)))
         }
-        _ => return plan_answer(alloc, pool, call, args),
-    };
-    Ok(Some(answer?))
+        _ => look_answer(alloc, pool, call, args),
+    }
 }
 
 impl PortPoolRows {
@@ -344,15 +366,15 @@ impl PortPoolRows {
         args: &[&[u8]],
     ) -> Result<Option<String>, AllocError> {
         if let ("changed", [port, changes @ ..]) = (call, args) {
-            return Ok(Some(changed(alloc, u16_of(port), changes)?));
+            return answer_of(changed(alloc, u16_of(port), changes));
         }
         if let ("new", [first, pairs]) = (call, args) {
             self.pool = pool_of(alloc, u16_of(first), u16_of(pairs))?;
             let made = self.pool.is_some();
-            return Ok(Some(said(alloc, if made { "made" } else { "no such pool" })?));
+            return answer_of(said(alloc, if made { "made" } else { "no such pool" }));
         }
         match &mut self.pool {
-            Some(pool) => answer_of(alloc, pool, call, args),
+            Some(pool) => pool_answer(alloc, pool, call, args),
             None => Ok(None),
         }
     }

@@ -3,12 +3,11 @@
 ghost use Rattle.std.specs.Prelude.{IsTrue, ◌≡◌, length};
 ghost use Rattle.offer_answer.specs.Readdressing.{has_ports};
 
-use crate::sdp_rows::description_shown;
+use crate::sdp_rows::{put_description, told};
 use offer_answer::{ServerOrigin, readdress};
-use rows::{number, said, u16_of};
-use sdp::{Description, DescriptionError, Media, read_description, write_description};
+use rows::{u16_of, words_of};
+use sdp::{Description, Media, read_description, write_description};
 use std::alloc::{AllocError, Global};
-use text::Text;
 
 const SERVER: [u8; 4] = [192, 0, 2, 1];
 
@@ -56,39 +55,40 @@ fn sent_for(
 }
 
 /// What the server sends in place of a description, where the row has a port for each medium.
-fn sent_on(
+fn put_sent(
     alloc: Global,
-    text: &[u8],
+    out: &mut String,
+    description: &Description<'_>,
     ports: &[u16],
     id: u64,
     version: u64,
-) -> Result<Option<Description<'static>>, DescriptionError> {
-    let description = read_description(alloc, text)?;
+) -> Result<(), AllocError> {
     let media = description.media.as_slice();
     if ports.len() != media.len() || !have_ports(ports, media) {
-        return Ok(None);
+        return out.push_str("no port for each medium");
     }
-    Ok(Some(sent_for(alloc, &description, ports, id, version)?))
-}
-
-fn sent_words(alloc: Global, sent: Option<&Description<'_>>) -> Result<String, AllocError> {
-    match sent {
-        Some(sent) => description_shown(alloc, sent),
-        None => said(alloc, "no port for each medium"),
-    }
+    let sent = words_of(
+        alloc,
+        sent_for(alloc, description, ports, id, version)?,
+        put_description,
+    )?;
+    out.push_str(sent.as_str())
 }
 
 /// The text of what the server sends in place of a description.
 pub(crate) fn sent_text(
     alloc: Global,
     text: &[u8],
-    id: &[u8],
-    version: &[u8],
+    id: u64,
+    version: u64,
     ports: &[u8],
-) -> Result<String, DescriptionError> {
+) -> Result<String, AllocError> {
     let ports = ports_of(alloc, ports)?;
-    let sent = sent_on(alloc, text, &ports, number(id), number(version))?;
-    Ok(sent_words(alloc, sent.as_ref())?)
+    told(
+        alloc,
+        read_description(alloc, text),
+        |alloc, out, description| { put_sent(alloc, out, description, &ports, id, version) },
+    )
 }
 
 /// What a server at the last unicast address sends in place of a description, or one at the address above it.
@@ -110,38 +110,48 @@ fn sent_at_edge(
     readdress(alloc, description, ports, ServerOrigin { id, version, ip })
 }
 
+/// The same as text.
 fn text_at_edge(
     alloc: Global,
     description: &Description<'_>,
     ports: &[u16],
     is_group: bool,
-) -> Result<Text<'static>, AllocError>
+) -> Result<String, AllocError>
     requires one_each { length ports.now ≡ length description.now.media }
     requires not_zero { IsTrue (has_ports ports.now description.now.media) }
 {
     let sent = sent_at_edge(alloc, description, ports, is_group)?;
-    write_description(alloc, &sent)
+    words_of(alloc, sent, put_written_again)
 }
 
-/// The bytes of what such a server sends, where the row has a port for each medium.
-fn bytes_at_edge(
+/// What such a server sends, read and written again, where the row has a port for each medium.
+fn put_read(
     alloc: Global,
-    text: &[u8],
+    out: &mut String,
+    description: &Description<'_>,
     ports: &[u16],
     is_group: bool,
-) -> Result<Option<Text<'static>>, DescriptionError> {
-    let description = read_description(alloc, text)?;
+) -> Result<(), AllocError> {
     let media = description.media.as_slice();
     if ports.len() != media.len() || !have_ports(ports, media) {
-        return Ok(None);
+        return out.push_str("no port for each medium");
     }
-    Ok(Some(text_at_edge(alloc, &description, ports, is_group)?))
+    out.push_str(text_at_edge(alloc, description, ports, is_group)?.as_str())
 }
 
-/// A text, read and written again.
-fn written_again(alloc: Global, text: &[u8]) -> Result<String, DescriptionError> {
-    let description = read_description(alloc, text)?;
-    Ok(description_shown(alloc, &description)?)
+/// A description, written, and what was written read and written again.
+fn put_written_again(
+    alloc: Global,
+    out: &mut String,
+    description: &Description<'_>,
+) -> Result<(), AllocError> {
+    let bytes = write_description(alloc, description)?;
+    let again = told(
+        alloc,
+        read_description(alloc, bytes.as_bytes()),
+        put_description,
+    )?;
+    out.push_str(again.as_str())
 }
 
 /// What a server at the edge of the unicast addresses sends in place of a description, read and written again.
@@ -150,11 +160,12 @@ pub(crate) fn sent_read(
     text: &[u8],
     server: &[u8],
     ports: &[u8],
-) -> Result<String, DescriptionError> {
+) -> Result<String, AllocError> {
     let ports = ports_of(alloc, ports)?;
     let is_group = server == b"224.0.0.0".as_slice();
-    match bytes_at_edge(alloc, text, &ports, is_group)? {
-        Some(bytes) => written_again(alloc, bytes.as_bytes()),
-        None => Ok(said(alloc, "no port for each medium")?),
-    }
+    told(
+        alloc,
+        read_description(alloc, text),
+        |alloc, out, description| { put_read(alloc, out, description, &ports, is_group) },
+    )
 }

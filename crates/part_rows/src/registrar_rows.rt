@@ -1,9 +1,10 @@
 //! Rows of calls of `registrar`, of the users 100, 101 and 102 at 192.0.2.1 and `office.example`.
 
-use crate::registrar_words::bindings_words;
-use registrar::{Contact, Contacts, Refusal, Register, Registrar, laws_of_bindings};
-use rows::{number, said, shown, u32_of, yes_or_no};
-use sip_uri::{Uri, UriError, read_uri, write_uri};
+use crate::registrar_words::put_bindings;
+use crate::sip_uri_words::put_uri;
+use registrar::{Binding, Contact, Contacts, Refusal, Register, Registrar, laws_of_bindings};
+use rows::{answer_of, number, put_shown, said, u32_of, words_of, yes_or_no};
+use sip_uri::{Uri, UriError, read_uri};
 use std::alloc::{AllocError, Global};
 use text::{Text, Texts, cut_word};
 
@@ -16,12 +17,11 @@ pub(crate) struct RegistrarRows {
     registrar: Option<Registrar>,
 }
 
-/// What was found, or the letter and the words of the refusal.
-fn told(alloc: Global, outcome: Result<String, Refusal>) -> Result<String, AllocError> {
-    match outcome {
-        Ok(words) => Ok(words),
-        Err(Refusal::OutOfMemory) => Err(AllocError),
-        Err(refusal) => refusal.to_string(alloc),
+/// The letter and the words of a refusal. Want of memory goes up.
+fn refusal_words(alloc: Global, refusal: Refusal) -> Result<String, AllocError> {
+    match refusal {
+        Refusal::OutOfMemory => Err(AllocError),
+        refusal => refusal.to_string(alloc),
     }
 }
 
@@ -101,17 +101,27 @@ fn register_of<'a>(
     })
 }
 
+/// Bindings as they are at a moment.
+fn bindings_words(alloc: Global, bindings: &[Binding], now: u64) -> Result<String, AllocError> {
+    let mut out = String::new(alloc);
+    put_bindings(alloc, &mut out, bindings, now)?;
+    Ok(out)
+}
+
 /// What the registrar answers to a REGISTER.
 fn answer_to(
     alloc: Global,
     registrar: &mut Registrar,
     register: &Register<'_>,
     now: u64,
-) -> Result<String, Refusal> {
+) -> Result<String, AllocError> {
     if now >= END_OF_TIME {
-        return Ok(said(alloc, "no such moment")?);
+        return said(alloc, "no such moment");
     }
-    Ok(bindings_words(alloc, &registrar.apply(register, now)?, now)?)
+    match registrar.apply(register, now) {
+        Ok(bindings) => bindings_words(alloc, &bindings, now),
+        Err(refusal) => refusal_words(alloc, refusal),
+    }
 }
 
 /// What the registrar answers to a REGISTER of these words.
@@ -123,7 +133,7 @@ fn apply(
     now: u64,
 ) -> Result<String, AllocError> {
     let register = register_of(alloc, head, contacts)?;
-    told(alloc, answer_to(alloc, registrar, &register, now))
+    answer_to(alloc, registrar, &register, now)
 }
 
 /// The bindings of a user at a moment, as they are at another one.
@@ -144,6 +154,13 @@ fn knows(alloc: Global, registrar: &Registrar, user: &[u8]) -> Result<String, Al
     yes_or_no(alloc, registrar.knows(&user))
 }
 
+fn put_target(alloc: Global, out: &mut String, target: Option<&Uri<'_>>) -> Result<(), AllocError> {
+    match target {
+        Some(uri) => put_uri(alloc, out, uri),
+        None => out.push_str("none"),
+    }
+}
+
 /// Where a call to a user goes.
 fn target_words(
     alloc: Global,
@@ -152,53 +169,62 @@ fn target_words(
     now: u64,
 ) -> Result<String, AllocError> {
     let user = Text::lent(user);
-    match registrar.target(&user, now) {
-        Some(uri) => shown(alloc, write_uri(alloc, uri)?.as_bytes()),
-        None => said(alloc, "none"),
+    let mut out = String::new(alloc);
+    put_target(alloc, &mut out, registrar.target(&user, now))?;
+    Ok(out)
+}
+
+fn put_user(out: &mut String, user: Option<&Text<'_>>) -> Result<(), AllocError> {
+    match user {
+        Some(user) => {
+            out.push_str("user ")?;
+            put_shown(out, user.as_bytes())
+        }
+        None => out.push_str("nobody"),
     }
 }
 
 /// The user that a To names.
 fn user_words(alloc: Global, registrar: &Registrar, to: &[u8]) -> Result<String, AllocError> {
-    let Some(to) = uri_of(alloc, to)? else {
-        return said(alloc, "no URI");
-    };
-    match registrar.user_of(&to) {
-        Some(user) => format!(in alloc; "user {}", shown(alloc, user.as_bytes())?),
-        None => said(alloc, "nobody"),
+    match uri_of(alloc, to)? {
+        Some(to) => {
+            words_of(
+                alloc,
+                to,
+                |_alloc, out, to| put_user(out, registrar.user_of(to)),
+            )
+        }
+        None => said(alloc, "no URI"),
     }
 }
 
+/// Calls what has a law for its contract.
+fn laws(alloc: Global) -> Result<String, AllocError> {
+    laws_of_bindings();
+    said(alloc, "called")
+}
+
 /// What a call of the registrar answers, if there is one.
-fn answer_of(
+fn registrar_answer(
     alloc: Global,
     registrar: &mut Registrar,
     call: &str,
     args: &[&[u8]],
 ) -> Result<Option<String>, AllocError> {
-    let answer = match (call, args) {
+    match (call, args) {
         ("apply", [now, user, call_id, cseq, expires, contacts @ ..]) => {
-            apply(
-                alloc,
-                registrar,
-                &[user, call_id, cseq, expires],
-                contacts,
-                number(now),
-            )
+            let head = [*user, *call_id, *cseq, *expires];
+            answer_of(apply(alloc, registrar, &head, contacts, number(now)))
         }
         ("bindings", [user, now, then]) => {
-            bindings_then(alloc, registrar, user, number(now), number(then))
+            answer_of(bindings_then(alloc, registrar, user, number(now), number(then)))
         }
-        ("target", [user, now]) => { target_words(alloc, registrar, user, number(now)) }
-        ("knows", [user]) => knows(alloc, registrar, user),
-        ("user_of", [to]) => user_words(alloc, registrar, to),
-        ("laws", []) => {
-            laws_of_bindings();
-            said(alloc, "called")
-        }
-        _ => return Ok(None),
-    };
-    Ok(Some(answer?))
+        ("target", [user, now]) => { answer_of(target_words(alloc, registrar, user, number(now))) }
+        ("knows", [user]) => answer_of(knows(alloc, registrar, user)),
+        ("user_of", [to]) => answer_of(user_words(alloc, registrar, to)),
+        ("laws", []) => answer_of(laws(alloc)),
+        _ => Ok(None),
+    }
 }
 
 impl RegistrarRows {
@@ -216,10 +242,10 @@ impl RegistrarRows {
         if let ("new", [min_expires]) = (call, args) {
             self.registrar = office(alloc, u32_of(min_expires))?;
             let made = self.registrar.is_some();
-            return Ok(Some(said(alloc, if made { "made" } else { "no such office" })?));
+            return answer_of(said(alloc, if made { "made" } else { "no such office" }));
         }
         match &mut self.registrar {
-            Some(registrar) => answer_of(alloc, registrar, call, args),
+            Some(registrar) => registrar_answer(alloc, registrar, call, args),
             None => Ok(None),
         }
     }

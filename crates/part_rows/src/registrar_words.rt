@@ -1,34 +1,48 @@
 //! How bindings are written.
 
+use crate::sip_uri_words::put_uri;
 use registrar::Binding;
-use rows::{said, shown};
-use sip_uri::write_uri;
+use rows::put_shown;
 use std::alloc::{AllocError, Global};
 
-/// A binding: its URI, its moment of expiry, the rest of its life at a moment, and the REGISTER that made or refreshed it.
-fn binding_words(alloc: Global, binding: &Binding, now: u64) -> Result<String, AllocError> {
-    let uri = write_uri(alloc, &binding.uri)?;
-    let uri = shown(alloc, uri.as_bytes())?;
-    let until = binding.expires_at;
-    let call_id = shown(alloc, binding.call_id.as_bytes())?;
-    let cseq = binding.cseq;
-    if binding.is_present(now) && now < until {
+/// The rest of a binding's life at a moment.
+fn put_rest(out: &mut String, binding: &Binding, now: u64) -> Result<(), AllocError> {
+    if binding.is_present(now) && now < binding.expires_at {
         let left = binding.seconds_left(now);
-        format!(in alloc; "; {uri} until {until}, {left} s left, by {call_id} {cseq}")
+        write!(out, "{left} s left")
     } else {
-        format!(in alloc; "; {uri} until {until}, over, by {call_id} {cseq}")
+        out.push_str("over")
     }
 }
 
-/// Bindings at a moment, in order.
-pub(crate) fn bindings_words(
+/// A binding: its URI, its moment of expiry, the rest of its life at a moment, and the REGISTER that made or refreshed it.
+fn put_binding(
     alloc: Global,
+    out: &mut String,
+    binding: &Binding,
+    now: u64,
+) -> Result<(), AllocError> {
+    out.push_str("; ")?;
+    put_uri(alloc, out, &binding.uri)?;
+    let until = binding.expires_at;
+    write!(out, " until {until}, ")?;
+    put_rest(out, binding, now)?;
+    out.push_str(", by ")?;
+    put_shown(out, binding.call_id.as_bytes())?;
+    let cseq = binding.cseq;
+    write!(out, " {cseq}")
+}
+
+/// Writes bindings at a moment, in order.
+pub(crate) fn put_bindings(
+    alloc: Global,
+    out: &mut String,
     bindings: &[Binding],
     now: u64,
-) -> Result<String, AllocError> {
-    let mut out = said(alloc, "bindings")?;
+) -> Result<(), AllocError> {
+    out.push_str("bindings")?;
     for binding in bindings {
-        out.push_str(binding_words(alloc, binding, now)?.as_str())?;
+        put_binding(alloc, out, binding, now)?;
     }
-    Ok(out)
+    Ok(())
 }

@@ -1,9 +1,7 @@
 //! Rows of calls of `sdp`.
 
-use crate::sdp_words::{
-    connection_words, direction_words, lines_words, medium_words, origin_words,
-};
-use rows::{said, shown, usize_of};
+use crate::sdp_words::{put_connection, put_direction, put_medium, put_origin, put_session};
+use rows::{answer_of, put_shown, said, usize_of, words_of};
 use sdp::{
     Description, DescriptionError, Lines, MediaList, one_description, read_description,
     write_description,
@@ -13,80 +11,119 @@ use std::alloc::{AllocError, Global};
 /// The lines v, o and s, which stand before those of a row.
 const FRONT: &[u8] = b"v=0\r\no=- 1 1 IN IP4 a\r\ns=-\r\n";
 
-/// What was read, or the letter and the words of its fault.
-pub(crate) fn told(
-    alloc: Global,
-    outcome: Result<String, DescriptionError>,
-) -> Result<String, AllocError> {
-    match outcome {
-        Ok(words) => Ok(words),
-        Err(DescriptionError::OutOfMemory) => Err(AllocError),
-        Err(fault) => fault.to_string(alloc),
+/// The same, and the letter of a `c=` line.
+const FRONT_OF_CONNECTION: &[u8] = b"v=0\r\no=- 1 1 IN IP4 a\r\ns=-\r\nc=";
+
+/// The same with an address and a time, and the letter of an `m=` line.
+const FRONT_OF_MEDIUM: &[u8] = b"v=0\r\no=- 1 1 IN IP4 a\r\ns=-\r\nc=IN IP4 192.0.2.10\nt=0 0\nm=";
+
+/// The letter and the words of a fault. Want of memory goes up.
+pub(crate) fn fault_words(alloc: Global, fault: DescriptionError) -> Result<String, AllocError> {
+    match fault {
+        DescriptionError::OutOfMemory => Err(AllocError),
+        fault => fault.to_string(alloc),
     }
 }
 
-fn session_words(alloc: Global, description: &Description<'_>) -> Result<String, AllocError> {
-    let origin = origin_words(alloc, description)?;
-    let before = lines_words(alloc, "before", description.before.as_slice())?;
-    let address = connection_words(alloc, &description.connection)?;
-    let after = lines_words(alloc, "after", description.after.as_slice())?;
-    let media = description.media.as_slice().len();
-    format!(in alloc; "origin {origin}, {before}, {address}, {after}, media {media}")
-}
-
-/// What stands in a description before its media.
-fn session(alloc: Global, text: &[u8]) -> Result<String, DescriptionError> {
-    let description = read_description(alloc, text)?;
-    Ok(session_words(alloc, &description)?)
-}
-
-/// What a row wants to know of a medium.
-#[derive(Clone, Copy)]
-enum Asked {
-    Parts,
-    Direction,
-}
-
-fn words_at(
+/// What was read in words, or the letter and the words of its fault.
+pub(crate) fn told<T: Drop, P: Fn(Global, &mut String, &T) -> Result<(), AllocError>>(
     alloc: Global,
+    outcome: Result<T, DescriptionError>,
+    put: P,
+) -> Result<String, AllocError>
+    requires { P.IsAlwaysCallable put }
+{
+    match outcome {
+        Ok(value) => words_of(alloc, value, put),
+        Err(fault) => fault_words(alloc, fault),
+    }
+}
+
+/// A medium by its place from 0, and what stands under it.
+fn put_medium_at(
+    alloc: Global,
+    out: &mut String,
     description: &Description<'_>,
     at: usize,
-    asked: Asked,
-) -> Result<String, AllocError> {
-    match (description.media.as_slice().get(at), asked) {
-        (Some(medium), Asked::Parts) => medium_words(alloc, medium),
-        (Some(medium), Asked::Direction) => direction_words(alloc, description, medium),
-        (None, _) => said(alloc, "no medium"),
+) -> Result<(), AllocError> {
+    match description.media.as_slice().get(at) {
+        Some(medium) => put_medium(alloc, out, medium),
+        None => out.push_str("no medium"),
     }
 }
 
-/// A medium of a description, by its place from 0.
-fn medium(alloc: Global, text: &[u8], at: &[u8], asked: Asked) -> Result<String, DescriptionError> {
-    let description = read_description(alloc, text)?;
-    Ok(words_at(alloc, &description, usize_of(at), asked)?)
+/// Where a medium is wanted, by its place from 0, and which way it goes.
+fn put_direction_at(
+    out: &mut String,
+    description: &Description<'_>,
+    at: usize,
+) -> Result<(), AllocError> {
+    match description.media.as_slice().get(at) {
+        Some(medium) => put_direction(out, description, medium),
+        None => out.push_str("no medium"),
+    }
+}
+
+fn medium(alloc: Global, text: &[u8], at: usize) -> Result<String, AllocError> {
+    told(
+        alloc,
+        read_description(alloc, text),
+        |alloc, out, read| put_medium_at(alloc, out, read, at),
+    )
+}
+
+fn direction(alloc: Global, text: &[u8], at: usize) -> Result<String, AllocError> {
+    told(
+        alloc,
+        read_description(alloc, text),
+        |alloc, out, read| put_direction_at(out, read, at),
+    )
 }
 
 /// A description as it is written.
-pub(crate) fn description_shown(
+pub(crate) fn put_description(
     alloc: Global,
+    out: &mut String,
     description: &Description<'_>,
-) -> Result<String, AllocError> {
+) -> Result<(), AllocError> {
     let text = write_description(alloc, description)?;
-    shown(alloc, text.as_bytes())
+    put_shown(out, text.as_bytes())
 }
 
-/// A description, read, taken apart, made again and written.
-fn back(alloc: Global, text: &[u8]) -> Result<String, DescriptionError> {
-    let mut description = read_description(alloc, text)?;
-    description.media = MediaList::from_vec(description.media.into_vec());
-    description.before = Lines::from_vec(description.before.into_vec());
-    Ok(description_shown(alloc, &description)?)
+/// A description, taken apart and made again.
+fn remade(description: Description<'_>) -> Description<'_> {
+    let Description {
+        origin,
+        before,
+        connection,
+        after,
+        media,
+    } = description;
+    Description {
+        origin,
+        before: Lines::from_vec(before.into_vec()),
+        connection,
+        after,
+        media: MediaList::from_vec(media.into_vec()),
+    }
+}
+
+/// A description, read, taken apart and made again.
+fn read_remade(alloc: Global, text: &[u8]) -> Result<Description<'_>, DescriptionError> {
+    match read_description(alloc, text) {
+        Ok(description) => Ok(remade(description)),
+        Err(fault) => Err(fault),
+    }
 }
 
 /// A description as it is kept, written.
-fn kept(alloc: Global, text: &[u8]) -> Result<String, DescriptionError> {
-    let description = read_description(alloc, text)?.keep(alloc)?;
-    Ok(description_shown(alloc, &description)?)
+fn put_kept(
+    alloc: Global,
+    out: &mut String,
+    description: &Description<'_>,
+) -> Result<(), AllocError> {
+    let kept = words_of(alloc, description.keep(alloc)?, put_description)?;
+    out.push_str(kept.as_str())
 }
 
 /// A text before and a text behind the value of a row.
@@ -98,29 +135,33 @@ fn between(alloc: Global, front: &[u8], value: &[u8], end: &[u8]) -> Result<Vec<
 }
 
 /// The session of a description that has these lines behind v, o and s.
-fn behind_front(alloc: Global, lines: &[u8]) -> Result<String, DescriptionError> {
-    session(alloc, &between(alloc, FRONT, lines, b"")?)
+fn behind_front(alloc: Global, lines: &[u8]) -> Result<String, AllocError> {
+    let text = between(alloc, FRONT, lines, b"")?;
+    told(alloc, read_description(alloc, &text), put_session)
 }
 
 /// The origin of a description that has this `o=` line.
-fn origin(alloc: Global, value: &[u8]) -> Result<String, DescriptionError> {
+fn origin(alloc: Global, value: &[u8]) -> Result<String, AllocError> {
     let text = between(alloc, b"v=0\no=", value, b"\ns=-\nt=0 0\n")?;
-    let description = read_description(alloc, &text)?;
-    Ok(origin_words(alloc, &description)?)
+    told(alloc, read_description(alloc, &text), put_origin)
 }
 
 /// The address of a description that has this `c=` line.
-fn connection(alloc: Global, value: &[u8]) -> Result<String, DescriptionError> {
-    let front = between(alloc, FRONT, b"c=", value)?;
-    let text = between(alloc, &front, b"\nt=0 0\n", b"")?;
-    let description = read_description(alloc, &text)?;
-    Ok(connection_words(alloc, &description.connection)?)
+fn connection(alloc: Global, value: &[u8]) -> Result<String, AllocError> {
+    let text = between(alloc, FRONT_OF_CONNECTION, value, b"\nt=0 0\n")?;
+    told(alloc, read_description(alloc, &text), put_connection)
 }
 
 /// The medium of a description at 192.0.2.10 that has this `m=` line.
-fn medium_line(alloc: Global, value: &[u8]) -> Result<String, DescriptionError> {
-    let front = between(alloc, FRONT, b"c=IN IP4 192.0.2.10\nt=0 0\nm=", value)?;
-    medium(alloc, &front, b"0", Asked::Parts)
+fn medium_line(alloc: Global, value: &[u8]) -> Result<String, AllocError> {
+    let text = between(alloc, FRONT_OF_MEDIUM, value, b"")?;
+    medium(alloc, &text, 0)
+}
+
+/// Calls what has a law for its contract.
+fn laws(alloc: Global) -> Result<String, AllocError> {
+    one_description();
+    said(alloc, "called")
 }
 
 /// What the row's call answers, if it is one of `sdp`.
@@ -129,21 +170,23 @@ pub(crate) fn answer(
     call: &str,
     args: &[&[u8]],
 ) -> Result<Option<String>, AllocError> {
-    let outcome = match (call, args) {
-        ("read_description", [text]) => session(alloc, text),
-        ("write_description", [text]) => back(alloc, text),
-        ("keep_description", [text]) => kept(alloc, text),
-        ("lines", [lines]) => behind_front(alloc, lines),
-        ("origin", [value]) => origin(alloc, value),
-        ("connection", [value]) => connection(alloc, value),
-        ("medium_line", [value]) => medium_line(alloc, value),
-        ("medium", [text, at]) => medium(alloc, text, at, Asked::Parts),
-        ("place_and_way", [text, at]) => medium(alloc, text, at, Asked::Direction),
-        ("laws", []) => {
-            one_description();
-            Ok(said(alloc, "called")?)
+    match (call, args) {
+        ("read_description", [text]) => {
+            answer_of(told(alloc, read_description(alloc, text), put_session))
         }
-        _ => return Ok(None),
-    };
-    Ok(Some(told(alloc, outcome)?))
+        ("write_description", [text]) => {
+            answer_of(told(alloc, read_remade(alloc, text), put_description))
+        }
+        ("keep_description", [text]) => {
+            answer_of(told(alloc, read_description(alloc, text), put_kept))
+        }
+        ("lines", [lines]) => answer_of(behind_front(alloc, lines)),
+        ("origin", [value]) => answer_of(origin(alloc, value)),
+        ("connection", [value]) => answer_of(connection(alloc, value)),
+        ("medium_line", [value]) => answer_of(medium_line(alloc, value)),
+        ("medium", [text, at]) => answer_of(medium(alloc, text, usize_of(at))),
+        ("place_and_way", [text, at]) => answer_of(direction(alloc, text, usize_of(at))),
+        ("laws", []) => answer_of(laws(alloc)),
+        _ => Ok(None),
+    }
 }

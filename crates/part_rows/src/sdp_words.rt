@@ -1,53 +1,72 @@
 //! How the parts of a description are written.
 
-use rows::{boxes, ip4_words, put_boxed, said, shown, yes_or_no};
+use rows::{put_boxed, put_boxes, put_octets, put_shown};
 use sdp::{Address, Description, Line, Media, Way, place_of, way_of};
 use std::alloc::{AllocError, Global};
 
+fn put_named_text(out: &mut String, name: &str, text: &[u8]) -> Result<(), AllocError> {
+    out.push_str(name)?;
+    out.push(' ')?;
+    put_shown(out, text)
+}
+
 /// An address and its kind.
-fn address_words(alloc: Global, address: &Address<'_>) -> Result<String, AllocError> {
+fn put_address(out: &mut String, address: &Address<'_>) -> Result<(), AllocError> {
     match address {
-        Address::Ip4(octets) => format!(in alloc; "ip4 {}", ip4_words(alloc, octets)?),
-        Address::Multicast(text) => {
-            format!(in alloc; "multicast {}", shown(alloc, text.as_bytes())?)
+        Address::Ip4(octets) => {
+            out.push_str("ip4 ")?;
+            put_octets(out, octets)
         }
-        Address::Ip6(text) => format!(in alloc; "ip6 {}", shown(alloc, text.as_bytes())?),
-        Address::Name(text) => format!(in alloc; "name {}", shown(alloc, text.as_bytes())?),
+        Address::Multicast(text) => put_named_text(out, "multicast", text.as_bytes()),
+        Address::Ip6(text) => put_named_text(out, "ip6", text.as_bytes()),
+        Address::Name(text) => put_named_text(out, "name", text.as_bytes()),
     }
 }
 
 /// The address of a `c=` line, if there is one.
-pub(crate) fn connection_words(
-    alloc: Global,
-    address: &Option<Address<'_>>,
-) -> Result<String, AllocError> {
+fn put_connection_line(out: &mut String, address: &Option<Address<'_>>) -> Result<(), AllocError> {
     match address {
-        Some(address) => address_words(alloc, address),
-        None => said(alloc, "no address"),
+        Some(address) => put_address(out, address),
+        None => out.push_str("no address"),
     }
+}
+
+/// The address of a description.
+pub(crate) fn put_connection(
+    _alloc: Global,
+    out: &mut String,
+    description: &Description<'_>,
+) -> Result<(), AllocError> {
+    put_connection_line(out, &description.connection)
+}
+
+fn put_line(alloc: Global, out: &mut String, line: &Line<'_>) -> Result<(), AllocError> {
+    let mut text = vec![in alloc; line.letter, b'=']?;
+    text.extend_from_slice(line.value.as_bytes())?;
+    put_boxed(out, &text)
 }
 
 /// A name, and each line behind it in brackets.
-pub(crate) fn lines_words(
+fn put_lines(
     alloc: Global,
+    out: &mut String,
     name: &str,
     lines: &[Line<'_>],
-) -> Result<String, AllocError> {
-    let mut out = said(alloc, name)?;
+) -> Result<(), AllocError> {
+    out.push_str(name)?;
     for line in lines {
-        let mut text = vec![in alloc; line.letter, b'=']?;
-        text.extend_from_slice(line.value.as_bytes())?;
         out.push(' ')?;
-        put_boxed(alloc, &mut out, &text)?;
+        put_line(alloc, out, line)?;
     }
-    Ok(out)
+    Ok(())
 }
 
 /// The fields of the `o=` line.
-pub(crate) fn origin_words(
-    alloc: Global,
+pub(crate) fn put_origin(
+    _alloc: Global,
+    out: &mut String,
     description: &Description<'_>,
-) -> Result<String, AllocError> {
+) -> Result<(), AllocError> {
     let origin = &description.origin;
     let fields = [
         origin.username.as_bytes(),
@@ -57,68 +76,116 @@ pub(crate) fn origin_words(
         origin.address_type.as_bytes(),
         origin.address.as_bytes(),
     ];
-    boxes(alloc, &fields)
+    put_boxes(out, &fields)
+}
+
+/// What stands in a description before its media.
+pub(crate) fn put_session(
+    alloc: Global,
+    out: &mut String,
+    description: &Description<'_>,
+) -> Result<(), AllocError> {
+    out.push_str("origin ")?;
+    put_origin(alloc, out, description)?;
+    out.push_str(", ")?;
+    put_lines(alloc, out, "before", description.before.as_slice())?;
+    out.push_str(", ")?;
+    put_connection(alloc, out, description)?;
+    out.push_str(", ")?;
+    put_lines(alloc, out, "after", description.after.as_slice())?;
+    let media = description.media.as_slice().len();
+    write!(out, ", media {media}")
 }
 
 /// The formats of a medium in brackets.
-fn formats_words(alloc: Global, medium: &Media<'_>) -> Result<String, AllocError> {
-    let mut formats: Vec<&[u8]> = Vec::new(alloc);
-    for format in medium.formats.as_slice() {
-        formats.push(format.as_bytes())?;
+fn put_formats(out: &mut String, medium: &Media<'_>) -> Result<(), AllocError> {
+    for (at, format) in medium.formats.as_slice().iter().enumerate() {
+        if at > 0 {
+            out.push(' ')?;
+        }
+        put_boxed(out, format.as_bytes())?;
     }
-    boxes(alloc, &formats)
+    Ok(())
 }
 
 /// The `i=` line of a medium, if it has one.
-fn info_words(alloc: Global, medium: &Media<'_>) -> Result<String, AllocError> {
+fn put_info(out: &mut String, medium: &Media<'_>) -> Result<(), AllocError> {
     match &medium.info {
-        Some(info) => boxes(alloc, &[info.as_bytes()]),
-        None => said(alloc, "none"),
+        Some(info) => put_boxed(out, info.as_bytes()),
+        None => out.push_str("none"),
+    }
+}
+
+/// The port of a medium, and how many there are where it says so.
+fn put_ports(out: &mut String, medium: &Media<'_>) -> Result<(), AllocError> {
+    let port = medium.port;
+    match medium.count {
+        Some(count) => write!(out, " {port}/{count} "),
+        None => write!(out, " {port} "),
     }
 }
 
 /// A medium and what stands under it.
-pub(crate) fn medium_words(alloc: Global, medium: &Media<'_>) -> Result<String, AllocError> {
-    let kind = shown(alloc, medium.kind.as_bytes())?;
-    let port = medium.port;
-    let count = match medium.count {
-        Some(count) => format!(in alloc; "/{count}")?,
-        None => String::new(alloc),
-    };
-    let proto = shown(alloc, medium.proto.as_bytes())?;
-    let formats = formats_words(alloc, medium)?;
-    let info = info_words(alloc, medium)?;
-    let address = connection_words(alloc, &medium.connection)?;
-    let after = lines_words(alloc, "after", medium.after.as_slice())?;
-    format!(in alloc; "{kind} {port}{count} {proto} {formats}, info {info}, {address}, {after}")
+pub(crate) fn put_medium(
+    alloc: Global,
+    out: &mut String,
+    medium: &Media<'_>,
+) -> Result<(), AllocError> {
+    put_shown(out, medium.kind.as_bytes())?;
+    put_ports(out, medium)?;
+    put_shown(out, medium.proto.as_bytes())?;
+    out.push(' ')?;
+    put_formats(out, medium)?;
+    out.push_str(", info ")?;
+    put_info(out, medium)?;
+    out.push_str(", ")?;
+    put_connection_line(out, &medium.connection)?;
+    out.push_str(", ")?;
+    put_lines(alloc, out, "after", medium.after.as_slice())
 }
 
 /// A direction, and whether it sends and receives.
-fn way_words(alloc: Global, way: Way) -> Result<String, AllocError> {
-    let name = match way {
+fn put_way(out: &mut String, way: Way) -> Result<(), AllocError> {
+    out.push_str(match way {
         Way::SendReceive => "sendrecv",
         Way::SendOnly => "sendonly",
         Way::ReceiveOnly => "recvonly",
         Way::Inactive => "inactive",
-    };
-    let sends = yes_or_no(alloc, way.sends())?;
-    let receives = yes_or_no(alloc, way.receives())?;
-    format!(in alloc; "{name}, sends {sends}, receives {receives}")
+    })?;
+    out.push_str(if way.sends() {
+        ", sends yes"
+    } else {
+        ", sends no"
+    })?;
+    out.push_str(if way.receives() {
+        ", receives yes"
+    } else {
+        ", receives no"
+    })
+}
+
+fn put_place(
+    out: &mut String,
+    description: &Description<'_>,
+    medium: &Media<'_>,
+) -> Result<(), AllocError> {
+    match place_of(description, medium) {
+        Some(place) => {
+            let port = place.port;
+            put_address(out, place.address)?;
+            write!(out, " port {port}")
+        }
+        None => out.push_str("no place"),
+    }
 }
 
 /// Where a medium is wanted and which way it goes.
-pub(crate) fn direction_words(
-    alloc: Global,
+pub(crate) fn put_direction(
+    out: &mut String,
     description: &Description<'_>,
     medium: &Media<'_>,
-) -> Result<String, AllocError> {
-    let place = match place_of(description, medium) {
-        Some(place) => {
-            let port = place.port;
-            format!(in alloc; "{} port {port}", address_words(alloc, place.address)?)?
-        }
-        None => said(alloc, "no place")?,
-    };
-    let way = way_words(alloc, way_of(description, medium))?;
-    format!(in alloc; "{place}, {way}")
+) -> Result<(), AllocError> {
+    put_place(out, description, medium)?;
+    out.push_str(", ")?;
+    put_way(out, way_of(description, medium))
 }

@@ -6,7 +6,7 @@ ghost use Rattle.port_pool.specs.Holdings.{holder_of};
 ghost use Rattle.offer_answer.specs.Rows.{are_distinct};
 ghost use Rattle.offer_answer.specs.Session.{HasAbove};
 
-use crate::port_pool_words::{changes_words, hop_words};
+use crate::port_pool_words::{changes_words, put_row};
 use offer_answer::{plan_session, session_lines, session_pairs};
 use port_pool::{Pool, PoolError, RelayLine};
 use rows::said;
@@ -58,8 +58,8 @@ fn lines_words(alloc: Global, lines: &[RelayLine]) -> Result<String, AllocError>
     let mut out = said(alloc, "lines")?;
     for line in lines {
         let port = line.port;
-        let hop = hop_words(alloc, line.hop)?;
-        out.push_str(format!(in alloc; "; {port} {hop}")?.as_str())?;
+        write!(out, "; {port} ")?;
+        put_row(&mut out, line.hop)?;
     }
     Ok(out)
 }

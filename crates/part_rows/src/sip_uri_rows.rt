@@ -1,94 +1,86 @@
 //! Rows of calls of `sip_uri`.
 
-use crate::sip_uri_words::{host_words, params_words, text_words};
-use rows::{boxes, byte_of, ip4_words, said, shown, yes_or_no};
+use crate::sip_uri_words::{
+    put_host_words, put_name, put_name_parts, put_parameters, put_uri, put_uri_parts,
+};
+use rows::{answer_of, byte_of, ip4_words, said, shown, words_of, yes_or_no};
 use sip_uri::{
     NameAddr, Params, Uri, UriError, binding_is_equivalence, ip4, is_host, one_value, param_named,
     put_param, put_params, read_field_params, read_host, read_name_addr, read_uri, same_binding,
-    same_host, same_text, write_name_addr, write_uri,
+    same_host, same_text,
 };
 use std::alloc::{AllocError, Global};
 use text::Text;
 
-/// What was read, or the letter and the words of its fault.
-fn told(alloc: Global, outcome: Result<String, UriError>) -> Result<String, AllocError> {
-    match outcome {
-        Ok(words) => Ok(words),
-        Err(UriError::OutOfMemory) => Err(AllocError),
-        Err(fault) => fault.to_string(alloc),
+/// The letter and the words of a fault. Want of memory goes up.
+fn fault_words(alloc: Global, fault: UriError) -> Result<String, AllocError> {
+    match fault {
+        UriError::OutOfMemory => Err(AllocError),
+        fault => fault.to_string(alloc),
     }
 }
 
-fn uri_words(alloc: Global, uri: &Uri<'_>) -> Result<String, AllocError> {
-    let user = text_words(alloc, "user", uri.user.as_ref())?;
-    let host = host_words(alloc, &uri.host)?;
-    let port = match uri.port {
-        Some(port) => format!(in alloc; "port {port}")?,
-        None => said(alloc, "no port")?,
-    };
-    let params = params_words(alloc, "parameters", uri.params.as_slice())?;
-    let headers = params_words(alloc, "headers", uri.headers.as_slice())?;
-    format!(in alloc; "{user}, {host}, {port}, {params}, {headers}")
-}
-
-/// The parts of a URI.
-fn uri_parts(alloc: Global, text: &[u8]) -> Result<String, UriError> {
-    let uri = read_uri(alloc, text)?;
-    Ok(uri_words(alloc, &uri)?)
+/// What was read in words, or the letter and the words of its fault.
+fn told<T: Drop, P: Fn(Global, &mut String, &T) -> Result<(), AllocError>>(
+    alloc: Global,
+    outcome: Result<T, UriError>,
+    put: P,
+) -> Result<Option<String>, AllocError>
+    requires { P.IsAlwaysCallable put }
+{
+    match outcome {
+        Ok(value) => answer_of(words_of(alloc, value, put)),
+        Err(fault) => answer_of(fault_words(alloc, fault)),
+    }
 }
 
 /// The parts of a URI as it is kept.
-fn kept_uri(alloc: Global, text: &[u8]) -> Result<String, UriError> {
-    let uri = read_uri(alloc, text)?.keep(alloc)?;
-    Ok(uri_words(alloc, &uri)?)
-}
-
-fn uri_shown(alloc: Global, uri: &Uri<'_>) -> Result<String, AllocError> {
-    let text = write_uri(alloc, uri)?;
-    shown(alloc, text.as_bytes())
-}
-
-/// A URI, read and written.
-fn uri_back(alloc: Global, text: &[u8]) -> Result<String, UriError> {
-    let uri = read_uri(alloc, text)?;
-    Ok(uri_shown(alloc, &uri)?)
-}
-
-fn name_words(alloc: Global, name: &NameAddr<'_>) -> Result<String, AllocError> {
-    let display = text_words(alloc, "display", name.display.as_ref())?;
-    let uri = write_uri(alloc, &name.uri)?;
-    let uri = boxes(alloc, &[uri.as_bytes()])?;
-    let params = params_words(alloc, "parameters", name.params.as_slice())?;
-    format!(in alloc; "{display}, uri {uri}, {params}")
-}
-
-/// The parts of a name and an address.
-fn name_parts(alloc: Global, text: &[u8]) -> Result<String, UriError> {
-    let name = read_name_addr(alloc, text)?;
-    Ok(name_words(alloc, &name)?)
+fn put_kept_uri(alloc: Global, out: &mut String, uri: &Uri<'_>) -> Result<(), AllocError> {
+    let kept = words_of(alloc, uri.keep(alloc)?, put_uri_parts)?;
+    out.push_str(kept.as_str())
 }
 
 /// The parts of a name and an address as they are kept.
-fn kept_name(alloc: Global, text: &[u8]) -> Result<String, UriError> {
-    let name = read_name_addr(alloc, text)?.keep(alloc)?;
-    Ok(name_words(alloc, &name)?)
+fn put_kept_name(alloc: Global, out: &mut String, name: &NameAddr<'_>) -> Result<(), AllocError> {
+    let kept = words_of(alloc, name.keep(alloc)?, put_name_parts)?;
+    out.push_str(kept.as_str())
 }
 
-fn name_shown(alloc: Global, name: &NameAddr<'_>) -> Result<String, AllocError> {
-    let text = write_name_addr(alloc, name)?;
-    shown(alloc, text.as_bytes())
+/// Two URIs.
+#[derive(Drop)]
+struct Pair<'a, 'b> {
+    one: Uri<'a>,
+    other: Uri<'b>,
 }
 
-/// A name and an address, read and written.
-fn name_back(alloc: Global, text: &[u8]) -> Result<String, UriError> {
-    let name = read_name_addr(alloc, text)?;
-    Ok(name_shown(alloc, &name)?)
+fn pair_with<'a, 'b>(
+    one: Uri<'a>,
+    other: Result<Uri<'b>, UriError>,
+) -> Result<Pair<'a, 'b>, UriError> {
+    match other {
+        Ok(other) => Ok(Pair { one, other }),
+        Err(fault) => Err(fault),
+    }
+}
+
+fn read_pair<'a, 'b>(
+    alloc: Global,
+    one: &'a [u8],
+    other: &'b [u8],
+) -> Result<Pair<'a, 'b>, UriError> {
+    match read_uri(alloc, one) {
+        Ok(one) => pair_with(one, read_uri(alloc, other)),
+        Err(fault) => Err(fault),
+    }
 }
 
 /// Whether two URIs are one binding.
-fn are_one_binding(alloc: Global, a: &[u8], b: &[u8]) -> Result<String, UriError> {
-    let (a, b) = (read_uri(alloc, a)?, read_uri(alloc, b)?);
-    Ok(yes_or_no(alloc, same_binding(&a, &b))?)
+fn put_sameness(_alloc: Global, out: &mut String, pair: &Pair<'_, '_>) -> Result<(), AllocError> {
+    out.push_str(if same_binding(&pair.one, &pair.other) {
+        "yes"
+    } else {
+        "no"
+    })
 }
 
 /// Whether two hosts are one.
@@ -113,13 +105,14 @@ fn are_one_text(alloc: Global, a: &[u8], b: &[u8]) -> Result<String, AllocError>
     yes_or_no(alloc, same_text(a.as_ref(), b.as_ref()))
 }
 
+fn put_params_of(alloc: Global, out: &mut String, params: &Params<'_>) -> Result<(), AllocError> {
+    put_parameters(alloc, out, params.as_slice())
+}
+
 /// The parameters of a header field, which were taken apart and made a list again.
 fn field_params(alloc: Global, text: Option<&[u8]>) -> Result<String, AllocError> {
     match read_field_params(alloc, text)? {
-        Some(params) => {
-            let params = Params::from_vec(params.into_vec());
-            params_words(alloc, "parameters", params.as_slice())
-        }
+        Some(params) => words_of(alloc, Params::from_vec(params.into_vec()), put_params_of),
         None => said(alloc, "malformed"),
     }
 }
@@ -152,7 +145,7 @@ fn named(alloc: Global, text: &[u8], name: &[u8]) -> Result<String, AllocError> 
 /// A host of a URI or of a Via.
 fn host(alloc: Global, text: &[u8]) -> Result<String, AllocError> {
     match read_host(text) {
-        Some(host) => host_words(alloc, &host),
+        Some(host) => words_of(alloc, host, put_host_words),
         None => said(alloc, "none"),
     }
 }
@@ -172,33 +165,43 @@ fn laws(alloc: Global) -> Result<String, AllocError> {
     said(alloc, "called")
 }
 
+/// What a call on parts of a URI answers, if it is one.
+fn answer_on_parts(
+    alloc: Global,
+    call: &str,
+    args: &[&[u8]],
+) -> Result<Option<String>, AllocError> {
+    match (call, args) {
+        ("read_field_params", []) => answer_of(field_params(alloc, None)),
+        ("read_field_params", [text]) => answer_of(field_params(alloc, Some(text))),
+        ("put_params", [text, first, next]) => {
+            answer_of(params_back(alloc, text, byte_of(first), byte_of(next)))
+        }
+        ("param_named", [text, name]) => answer_of(named(alloc, text, name)),
+        ("read_host", [text]) => answer_of(host(alloc, text)),
+        ("is_host", [text]) => answer_of(yes_or_no(alloc, is_host(text))),
+        ("ip4", [text]) => answer_of(octets(alloc, text)),
+        ("laws", []) => answer_of(laws(alloc)),
+        _ => Ok(None),
+    }
+}
+
 /// What the row's call answers, if it is one of `sip_uri`.
 pub(crate) fn answer(
     alloc: Global,
     call: &str,
     args: &[&[u8]],
 ) -> Result<Option<String>, AllocError> {
-    let answer = match (call, args) {
-        ("read_uri", [text]) => told(alloc, uri_parts(alloc, text)),
-        ("write_uri", [text]) => told(alloc, uri_back(alloc, text)),
-        ("keep_uri", [text]) => told(alloc, kept_uri(alloc, text)),
-        ("keep_name_addr", [text]) => told(alloc, kept_name(alloc, text)),
-        ("read_name_addr", [text]) => told(alloc, name_parts(alloc, text)),
-        ("write_name_addr", [text]) => told(alloc, name_back(alloc, text)),
-        ("same_binding", [a, b]) => told(alloc, are_one_binding(alloc, a, b)),
-        ("same_host", [a, b]) => are_one_host(alloc, a, b),
-        ("same_text", [a, b]) => are_one_text(alloc, a, b),
-        ("read_field_params", []) => field_params(alloc, None),
-        ("read_field_params", [text]) => field_params(alloc, Some(text)),
-        ("put_params", [text, first, next]) => {
-            params_back(alloc, text, byte_of(first), byte_of(next))
-        }
-        ("param_named", [text, name]) => named(alloc, text, name),
-        ("read_host", [text]) => host(alloc, text),
-        ("is_host", [text]) => yes_or_no(alloc, is_host(text)),
-        ("ip4", [text]) => octets(alloc, text),
-        ("laws", []) => laws(alloc),
-        _ => return Ok(None),
-    };
-    Ok(Some(answer?))
+    match (call, args) {
+        ("read_uri", [text]) => told(alloc, read_uri(alloc, text), put_uri_parts),
+        ("write_uri", [text]) => told(alloc, read_uri(alloc, text), put_uri),
+        ("keep_uri", [text]) => told(alloc, read_uri(alloc, text), put_kept_uri),
+        ("keep_name_addr", [text]) => told(alloc, read_name_addr(alloc, text), put_kept_name),
+        ("read_name_addr", [text]) => told(alloc, read_name_addr(alloc, text), put_name_parts),
+        ("write_name_addr", [text]) => told(alloc, read_name_addr(alloc, text), put_name),
+        ("same_binding", [a, b]) => told(alloc, read_pair(alloc, a, b), put_sameness),
+        ("same_host", [a, b]) => answer_of(are_one_host(alloc, a, b)),
+        ("same_text", [a, b]) => answer_of(are_one_text(alloc, a, b)),
+        _ => answer_on_parts(alloc, call, args),
+    }
 }

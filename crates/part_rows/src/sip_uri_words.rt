@@ -1,45 +1,124 @@
 //! How the parts of a URI are written.
 
-use rows::{boxes, put_boxed, said, shown};
-use sip_uri::{Host, Param, put_host, put_param};
+use rows::{put_boxed, put_shown};
+use sip_uri::{Host, NameAddr, Param, Uri, put_host, put_param, write_name_addr, write_uri};
 use std::alloc::{AllocError, Global};
 use text::Text;
 
+fn put_one_param(alloc: Global, out: &mut String, param: &Param<'_>) -> Result<(), AllocError> {
+    let mut text = Vec::new(alloc);
+    put_param(&mut text, param)?;
+    put_boxed(out, &text)
+}
+
 /// A name, and each parameter behind it in brackets.
-pub(crate) fn params_words(
+fn put_named_params(
     alloc: Global,
+    out: &mut String,
     name: &str,
     params: &[Param<'_>],
-) -> Result<String, AllocError> {
-    let mut out = said(alloc, name)?;
+) -> Result<(), AllocError> {
+    out.push_str(name)?;
     for param in params {
-        let mut text = Vec::new(alloc);
-        put_param(&mut text, param)?;
         out.push(' ')?;
-        put_boxed(alloc, &mut out, &text)?;
+        put_one_param(alloc, out, param)?;
     }
-    Ok(out)
+    Ok(())
+}
+
+/// The parameters of a header field.
+pub(crate) fn put_parameters(
+    alloc: Global,
+    out: &mut String,
+    params: &[Param<'_>],
+) -> Result<(), AllocError> {
+    put_named_params(alloc, out, "parameters", params)
 }
 
 /// A text in brackets with a word before it, or none.
-pub(crate) fn text_words(
-    alloc: Global,
-    name: &str,
-    text: Option<&Text<'_>>,
-) -> Result<String, AllocError> {
+fn put_text(out: &mut String, name: &str, text: Option<&Text<'_>>) -> Result<(), AllocError> {
     match text {
-        Some(text) => format!(in alloc; "{name} {}", boxes(alloc, &[text.as_bytes()])?),
-        None => format!(in alloc; "no {name}"),
+        Some(text) => {
+            out.push_str(name)?;
+            out.push(' ')?;
+            put_boxed(out, text.as_bytes())
+        }
+        None => {
+            out.push_str("no ")?;
+            out.push_str(name)
+        }
     }
 }
 
 /// A host and its kind.
-pub(crate) fn host_words(alloc: Global, host: &Host<'_>) -> Result<String, AllocError> {
-    let kind = match host {
-        Host::Ip4(_) => "ip4",
-        Host::Name(_) => "name",
-    };
+pub(crate) fn put_host_words(
+    alloc: Global,
+    out: &mut String,
+    host: &Host<'_>,
+) -> Result<(), AllocError> {
+    out.push_str(match host {
+        Host::Ip4(_) => "ip4 ",
+        Host::Name(_) => "name ",
+    })?;
     let mut text = Vec::new(alloc);
     put_host(&mut text, host)?;
-    format!(in alloc; "{kind} {}", shown(alloc, &text)?)
+    put_shown(out, &text)
+}
+
+fn put_port(out: &mut String, port: Option<u16>) -> Result<(), AllocError> {
+    match port {
+        Some(port) => write!(out, "port {port}"),
+        None => out.push_str("no port"),
+    }
+}
+
+/// The parts of a URI.
+pub(crate) fn put_uri_parts(
+    alloc: Global,
+    out: &mut String,
+    uri: &Uri<'_>,
+) -> Result<(), AllocError> {
+    put_text(out, "user", uri.user.as_ref())?;
+    out.push_str(", ")?;
+    put_host_words(alloc, out, &uri.host)?;
+    out.push_str(", ")?;
+    put_port(out, uri.port)?;
+    out.push_str(", ")?;
+    put_named_params(alloc, out, "parameters", uri.params.as_slice())?;
+    out.push_str(", ")?;
+    put_named_params(alloc, out, "headers", uri.headers.as_slice())
+}
+
+/// A URI as it is written.
+pub(crate) fn put_uri(alloc: Global, out: &mut String, uri: &Uri<'_>) -> Result<(), AllocError> {
+    let text = write_uri(alloc, uri)?;
+    put_shown(out, text.as_bytes())
+}
+
+fn put_uri_boxed(alloc: Global, out: &mut String, uri: &Uri<'_>) -> Result<(), AllocError> {
+    let text = write_uri(alloc, uri)?;
+    put_boxed(out, text.as_bytes())
+}
+
+/// The parts of a name and an address.
+pub(crate) fn put_name_parts(
+    alloc: Global,
+    out: &mut String,
+    name: &NameAddr<'_>,
+) -> Result<(), AllocError> {
+    put_text(out, "display", name.display.as_ref())?;
+    out.push_str(", uri ")?;
+    put_uri_boxed(alloc, out, &name.uri)?;
+    out.push_str(", ")?;
+    put_named_params(alloc, out, "parameters", name.params.as_slice())
+}
+
+/// A name and an address as they are written.
+pub(crate) fn put_name(
+    alloc: Global,
+    out: &mut String,
+    name: &NameAddr<'_>,
+) -> Result<(), AllocError> {
+    let text = write_name_addr(alloc, name)?;
+    put_shown(out, text.as_bytes())
 }

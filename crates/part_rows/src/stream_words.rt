@@ -1,51 +1,61 @@
 //! How the streams of an offer and its answer are written.
 
 use offer_answer::{Side, Stream};
-use rows::{address_words, said, shown};
+use rows::{put_address, put_shown};
+use sip_uri::Addr;
 use std::alloc::{AllocError, Global};
 
-/// One side of a stream: whether it is on, its formats, and where it goes.
-fn side_words(alloc: Global, side: &Side) -> Result<String, AllocError> {
-    let mut out = said(alloc, if side.on { "on" } else { "off" })?;
-    for format in side.formats.as_slice() {
-        out.push(' ')?;
-        out.push_str(shown(alloc, format.as_bytes())?.as_str())?;
-    }
-    match side.to {
+fn put_goal(out: &mut String, to: Option<Addr>) -> Result<(), AllocError> {
+    match to {
         Some(addr) => {
             out.push_str(" at ")?;
-            out.push_str(address_words(alloc, addr)?.as_str())?;
+            put_address(out, addr)
         }
-        None => out.push_str(" nowhere")?,
+        None => out.push_str(" nowhere"),
     }
-    Ok(out)
+}
+
+/// One side of a stream: whether it is on, its formats, and where it goes.
+fn put_side(out: &mut String, side: &Side) -> Result<(), AllocError> {
+    out.push_str(if side.on { "on" } else { "off" })?;
+    for format in side.formats.as_slice() {
+        out.push(' ')?;
+        put_shown(out, format.as_bytes())?;
+    }
+    put_goal(out, side.to)
 }
 
 /// One stream.
-fn stream_words(alloc: Global, stream: &Stream) -> Result<String, AllocError> {
+fn put_stream(out: &mut String, stream: &Stream) -> Result<(), AllocError> {
     match stream {
-        Stream::Rejected => said(alloc, "rejected"),
+        Stream::Rejected => out.push_str("rejected"),
         Stream::Used {
             kind,
             proto,
             to_answerer,
             to_offerer,
         } => {
-            let kind = shown(alloc, kind.as_bytes())?;
-            let proto = shown(alloc, proto.as_bytes())?;
-            let to_answerer = side_words(alloc, to_answerer)?;
-            let to_offerer = side_words(alloc, to_offerer)?;
-            format!(in alloc; "{kind} {proto}, to answerer {to_answerer}, to offerer {to_offerer}")
+            put_shown(out, kind.as_bytes())?;
+            out.push(' ')?;
+            put_shown(out, proto.as_bytes())?;
+            out.push_str(", to answerer ")?;
+            put_side(out, to_answerer)?;
+            out.push_str(", to offerer ")?;
+            put_side(out, to_offerer)
         }
     }
 }
 
 /// The streams, in order.
-pub(crate) fn streams_words(alloc: Global, streams: &[Stream]) -> Result<String, AllocError> {
-    let mut out = said(alloc, "streams")?;
+pub(crate) fn put_streams(
+    _alloc: Global,
+    out: &mut String,
+    streams: &Vec<Stream>,
+) -> Result<(), AllocError> {
+    out.push_str("streams")?;
     for stream in streams {
         out.push_str("; ")?;
-        out.push_str(stream_words(alloc, stream)?.as_str())?;
+        put_stream(out, stream)?;
     }
-    Ok(out)
+    Ok(())
 }

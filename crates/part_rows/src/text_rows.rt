@@ -1,6 +1,8 @@
 //! Rows of calls of `text`.
 
-use rows::{boxes, byte_of, number, number_or_none, said, shown, yes_or_no};
+use rows::{
+    answer_of, boxes, byte_of, number, number_or_none, put_boxed, said, shown, words_of, yes_or_no,
+};
 use std::alloc::{AllocError, Global};
 use text::{
     Text, Texts, Within, cut, cut_piece, cut_word, is_blank, is_run_of_digits, is_run_of_token,
@@ -104,11 +106,14 @@ fn are_same(alloc: Global, a: &[u8], b: &[u8]) -> Result<String, AllocError> {
 }
 
 /// A text and what it borrows: the bytes where they stand, or nothing.
-fn place_words(alloc: Global, text: &Text<'_>) -> Result<String, AllocError> {
-    let said = boxes(alloc, &[text.as_bytes()])?;
+fn put_place(_alloc: Global, out: &mut String, text: &Text<'_>) -> Result<(), AllocError> {
+    put_boxed(out, text.as_bytes())?;
     match text.in_place() {
-        Some(bytes) => format!(in alloc; "{said} at {}", boxes(alloc, &[bytes])?),
-        None => format!(in alloc; "{said} of its own"),
+        Some(bytes) => {
+            out.push_str(" at ")?;
+            put_boxed(out, bytes)
+        }
+        None => out.push_str(" of its own"),
     }
 }
 
@@ -120,15 +125,14 @@ fn lent_words(alloc: Global, word: &[u8]) -> Result<String, AllocError> {
         Some(word)
     };
     match lent(bytes) {
-        Some(text) => place_words(alloc, &text),
+        Some(text) => words_of(alloc, text, put_place),
         None => said(alloc, "none"),
     }
 }
 
 /// A text that was lent, as it is kept.
 fn kept_words(alloc: Global, word: &[u8]) -> Result<String, AllocError> {
-    let kept = Text::lent(word).keep(alloc)?;
-    place_words(alloc, &kept)
+    words_of(alloc, Text::lent(word).keep(alloc)?, put_place)
 }
 
 /// Texts, made a list, taken apart and made a list again.
@@ -145,35 +149,58 @@ fn listed(alloc: Global, words: &[&[u8]]) -> Result<String, AllocError> {
     boxes(alloc, &lent)
 }
 
+/// What a call on pieces of a text answers, if it is one.
+fn answer_on_pieces(
+    alloc: Global,
+    call: &str,
+    args: &[&[u8]],
+) -> Result<Option<String>, AllocError> {
+    match (call, args) {
+        ("cut", [text, mark]) => answer_of(cut_at(alloc, text, byte_of(mark))),
+        ("cut_word", [text]) => answer_of(word_of(alloc, text)),
+        ("trimmed", [text]) => answer_of(boxes(alloc, &[trimmed(text)])),
+        ("without_blanks", [text]) => answer_of(boxes(alloc, &[without_blanks(text)])),
+        ("pieces", [text, mark]) => answer_of(pieces_at(alloc, text, byte_of(mark))),
+        ("cut_piece", [text, mark]) => answer_of(first_piece(alloc, text, byte_of(mark))),
+        ("put_pieces", [one, other, mark]) => {
+            answer_of(pieces_of_two(alloc, one, other, byte_of(mark)))
+        }
+        _ => Ok(None),
+    }
+}
+
+/// What a call on bytes and digits answers, if it is one, or else one on pieces.
+fn answer_on_bytes(
+    alloc: Global,
+    call: &str,
+    args: &[&[u8]],
+) -> Result<Option<String>, AllocError> {
+    match (call, args) {
+        ("next", [within, byte]) => {
+            answer_of(said(alloc, name_of(within_named(within).next(byte_of(byte)))))
+        }
+        ("is_token_byte", []) => answer_of(token_bytes(alloc)),
+        ("is_blank", []) => answer_of(blanks(alloc)),
+        ("is_run_of_digits", [text]) => answer_of(yes_or_no(alloc, is_run_of_digits(text))),
+        ("is_run_of_token", [text]) => answer_of(yes_or_no(alloc, is_run_of_token(text))),
+        ("number_upto", [limit, digits]) => answer_of(read_number(alloc, number(limit), digits)),
+        _ => answer_on_pieces(alloc, call, args),
+    }
+}
+
 /// What the row's call answers, if it is one of `text`.
 pub(crate) fn answer(
     alloc: Global,
     call: &str,
     args: &[&[u8]],
 ) -> Result<Option<String>, AllocError> {
-    let answer = match (call, args) {
-        ("cut", [text, mark]) => cut_at(alloc, text, byte_of(mark)),
-        ("cut_word", [text]) => word_of(alloc, text),
-        ("trimmed", [text]) => boxes(alloc, &[trimmed(text)]),
-        ("without_blanks", [text]) => boxes(alloc, &[without_blanks(text)]),
-        ("pieces", [text, mark]) => pieces_at(alloc, text, byte_of(mark)),
-        ("cut_piece", [text, mark]) => first_piece(alloc, text, byte_of(mark)),
-        ("put_pieces", [one, other, mark]) => pieces_of_two(alloc, one, other, byte_of(mark)),
-        ("next", [within, byte]) => {
-            said(alloc, name_of(within_named(within).next(byte_of(byte))))
-        }
-        ("is_token_byte", []) => token_bytes(alloc),
-        ("is_blank", []) => blanks(alloc),
-        ("is_run_of_digits", [text]) => yes_or_no(alloc, is_run_of_digits(text)),
-        ("is_run_of_token", [text]) => yes_or_no(alloc, is_run_of_token(text)),
-        ("number_upto", [limit, digits]) => read_number(alloc, number(limit), digits),
-        ("put_number", [front, word]) => with_number(alloc, front, number(word)),
-        ("same_without_case", [a, b]) => yes_or_no(alloc, same_without_case(a, b)),
-        ("same", [a, b]) => are_same(alloc, a, b),
-        ("lent", [word]) => lent_words(alloc, word),
-        ("keep", [word]) => kept_words(alloc, word),
-        ("texts", words) => listed(alloc, words),
-        _ => return Ok(None),
-    };
-    Ok(Some(answer?))
+    match (call, args) {
+        ("put_number", [front, word]) => answer_of(with_number(alloc, front, number(word))),
+        ("same_without_case", [a, b]) => answer_of(yes_or_no(alloc, same_without_case(a, b))),
+        ("same", [a, b]) => answer_of(are_same(alloc, a, b)),
+        ("lent", [word]) => answer_of(lent_words(alloc, word)),
+        ("keep", [word]) => answer_of(kept_words(alloc, word)),
+        ("texts", words) => answer_of(listed(alloc, words)),
+        _ => answer_on_bytes(alloc, call, args),
+    }
 }

@@ -1,6 +1,6 @@
 //! Rows of calls of `timers`: keys are single letters.
 
-use rows::{byte_of, number, number_or_none, said, usize_of, yes_or_no};
+use rows::{answer_of, byte_of, number, number_or_none, said, usize_of, words_of, yes_or_no};
 use std::alloc::{AllocError, Global};
 use text::cut_word;
 use timers::{
@@ -13,16 +13,23 @@ pub(crate) struct TimersRows {
     timers: Timers<u8>,
 }
 
-/// A key and its moment, or `none`.
-fn timer_words(alloc: Global, timer: Option<Timer<u8>>) -> Result<String, AllocError> {
+/// Writes a key and its moment, or `none`.
+fn put_timer(out: &mut String, timer: Option<Timer<u8>>) -> Result<(), AllocError> {
     match timer {
         Some(timer) => {
             let key = char::from(timer.key);
             let at = timer.at;
-            format!(in alloc; "{key} at {at}")
+            write!(out, "{key} at {at}")
         }
-        None => said(alloc, "none"),
+        None => out.push_str("none"),
     }
+}
+
+/// A key and its moment, or `none`.
+fn timer_words(alloc: Global, timer: Option<Timer<u8>>) -> Result<String, AllocError> {
+    let mut out = String::new(alloc);
+    put_timer(&mut out, timer)?;
+    Ok(out)
 }
 
 /// A call of a run, as `set a 5`, if it is one.
@@ -43,37 +50,55 @@ fn call_of(word: &[u8]) -> Option<Call<u8>> {
     }
 }
 
-/// What a call of a run answered.
-fn answer_words(alloc: Global, answer: &Answer<u8>) -> Result<String, AllocError> {
-    match answer {
-        Answer::Done => said(alloc, "done"),
-        Answer::Due(timer) => timer_words(alloc, *timer),
-        Answer::At(moment) => number_or_none(alloc, *moment),
-        Answer::Count(count) => count.to_string(alloc),
+/// Writes a moment, or `none`.
+fn put_moment(out: &mut String, moment: Option<u64>) -> Result<(), AllocError> {
+    match moment {
+        Some(moment) => write!(out, "{moment}"),
+        None => out.push_str("none"),
     }
 }
 
-/// Makes calls in turn on new timers, and tells what each answers.
-fn run_words(alloc: Global, words: &[&[u8]]) -> Result<String, AllocError> {
+/// Writes what a call of a run answered.
+fn put_answer(out: &mut String, answer: &Answer<u8>) -> Result<(), AllocError> {
+    match answer {
+        Answer::Done => out.push_str("done"),
+        Answer::Due(timer) => put_timer(out, *timer),
+        Answer::At(moment) => put_moment(out, *moment),
+        Answer::Count(count) => write!(out, "{count}"),
+    }
+}
+
+/// The calls of a run.
+fn calls_of(alloc: Global, words: &[&[u8]]) -> Result<Vec<Call<u8>>, AllocError> {
     let mut calls = Vec::new(alloc);
     for word in words {
         if let Some(call) = call_of(word) {
             calls.push(call)?;
         }
     }
-    told(alloc, &run(alloc, &mut Timers::new(alloc), &calls)?)
+    Ok(calls)
 }
 
 /// The answers of a run.
-fn told(alloc: Global, answers: &[Answer<u8>]) -> Result<String, AllocError> {
-    let mut out = String::new(alloc);
-    for answer in answers {
-        if !out.is_empty() {
+fn put_answers(
+    _alloc: Global,
+    out: &mut String,
+    answers: &Vec<Answer<u8>>,
+) -> Result<(), AllocError> {
+    for (at, answer) in answers.iter().enumerate() {
+        if at > 0 {
             out.push_str("; ")?;
         }
-        out.push_str(answer_words(alloc, answer)?.as_str())?;
+        put_answer(out, answer)?;
     }
-    Ok(out)
+    Ok(())
+}
+
+/// Makes calls in turn on new timers, and tells what each answers.
+fn run_words(alloc: Global, words: &[&[u8]]) -> Result<String, AllocError> {
+    let calls = calls_of(alloc, words)?;
+    let mut timers = Timers::new(alloc);
+    words_of(alloc, run(alloc, &mut timers, &calls)?, put_answers)
 }
 
 /// Whether timers, in whatever form, have room for so many keys.
@@ -82,10 +107,11 @@ fn has_room<T: DueTimers<u8>>(timers: &T, keys: usize) -> bool {
 }
 
 /// Calls what has a law for its contract.
-fn laws() {
+fn laws(alloc: Global) -> Result<String, AllocError> {
     due_by_settings::<u8>();
     keys_stand_once::<u8>();
     runs_by_settings::<u8>();
+    said(alloc, "called")
 }
 
 impl TimersRows {
@@ -95,25 +121,43 @@ impl TimersRows {
         }
     }
 
+    fn set(&mut self, alloc: Global, key: u8, at: u64) -> Result<String, AllocError> {
+        self.timers.set(key, at)?;
+        said(alloc, "done")
+    }
+
+    fn cancel(&mut self, alloc: Global, key: u8) -> Result<String, AllocError> {
+        self.timers.cancel(key);
+        said(alloc, "done")
+    }
+
+    fn reserve(&mut self, alloc: Global, keys: usize) -> Result<String, AllocError> {
+        self.timers.reserve(keys)?;
+        said(alloc, "done")
+    }
+
+    fn empty(&mut self, alloc: Global) -> Result<String, AllocError> {
+        self.timers = Timers::new(alloc);
+        said(alloc, "done")
+    }
+
     /// What a call that changes the timers answers, if it is one.
-    fn changed(
+    fn change_answer(
         &mut self,
         alloc: Global,
         call: &str,
         args: &[&[u8]],
     ) -> Result<Option<String>, AllocError> {
         match (call, args) {
-            ("new", []) => self.timers = Timers::new(alloc),
-            ("set", [key, at]) => self.timers.set(byte_of(key), number(at))?,
-            ("cancel", [key]) => self.timers.cancel(byte_of(key)),
-            ("reserve", [keys]) => self.timers.reserve(usize_of(keys))?,
+            ("new", []) => answer_of(self.empty(alloc)),
+            ("set", [key, at]) => answer_of(self.set(alloc, byte_of(key), number(at))),
+            ("cancel", [key]) => answer_of(self.cancel(alloc, byte_of(key))),
+            ("reserve", [keys]) => answer_of(self.reserve(alloc, usize_of(keys))),
             ("take_due", [now]) => {
-                let taken = self.timers.take_due(number(now));
-                return Ok(Some(timer_words(alloc, taken)?));
+                answer_of(timer_words(alloc, self.timers.take_due(number(now))))
             }
-            _ => return Ok(None),
+            _ => Ok(None),
         }
-        Ok(Some(said(alloc, "done")?))
     }
 
     /// What the row's call answers, if it is one of `timers`.
@@ -123,22 +167,24 @@ impl TimersRows {
         call: &str,
         args: &[&[u8]],
     ) -> Result<Option<String>, AllocError> {
-        let answer = match (call, args) {
-            ("first_due", [now]) => timer_words(alloc, self.timers.first_due(number(now))),
-            ("moment", [key]) => number_or_none(alloc, self.timers.moment(byte_of(key))),
-            ("next", []) => number_or_none(alloc, self.timers.next()),
-            ("len", []) => self.timers.len().to_string(alloc),
-            ("has_room", [keys]) => yes_or_no(alloc, self.timers.room() >= usize_of(keys)),
+        match (call, args) {
+            ("first_due", [now]) => {
+                answer_of(timer_words(alloc, self.timers.first_due(number(now))))
+            }
+            ("moment", [key]) => {
+                answer_of(number_or_none(alloc, self.timers.moment(byte_of(key))))
+            }
+            ("next", []) => answer_of(number_or_none(alloc, self.timers.next())),
+            ("len", []) => answer_of(self.timers.len().to_string(alloc)),
+            ("has_room", [keys]) => {
+                answer_of(yes_or_no(alloc, self.timers.room() >= usize_of(keys)))
+            }
             ("has_room_in_any_form", [keys]) => {
-                yes_or_no(alloc, has_room(&self.timers, usize_of(keys)))
+                answer_of(yes_or_no(alloc, has_room(&self.timers, usize_of(keys))))
             }
-            ("run", calls) => run_words(alloc, calls),
-            ("laws", []) => {
-                laws();
-                said(alloc, "called")
-            }
-            _ => return self.changed(alloc, call, args),
-        };
-        Ok(Some(answer?))
+            ("run", calls) => answer_of(run_words(alloc, calls)),
+            ("laws", []) => answer_of(laws(alloc)),
+            _ => self.change_answer(alloc, call, args),
+        }
     }
 }

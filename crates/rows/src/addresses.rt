@@ -1,9 +1,9 @@
 //! Addresses as a row writes them, as `192.0.2.10:5060`.
 
-use crate::notation::{shown, u16_of};
-use sip_uri::{Addr, ip4, put_ip4};
+use crate::notation::u16_of;
+use sip_uri::{Addr, ip4};
 use std::alloc::{AllocError, Global};
-use text::{cut, put_number};
+use text::cut;
 
 /// The address of a word; octets and port are 0 where the word has none.
 pub fn address_of(word: &[u8]) -> Addr {
@@ -14,18 +14,29 @@ pub fn address_of(word: &[u8]) -> Addr {
     }
 }
 
+/// Writes four octets with dots between them.
+pub fn put_octets(out: &mut String, octets: &[u8; 4]) -> Result<(), AllocError> {
+    let [a, b, c, d] = octets;
+    write!(out, "{a}.{b}.{c}.{d}")
+}
+
 /// Four octets with dots between them.
 pub fn ip4_words(alloc: Global, octets: &[u8; 4]) -> Result<String, AllocError> {
-    let mut out = Vec::new(alloc);
-    put_ip4(&mut out, octets)?;
-    shown(alloc, &out)
+    let mut out = String::new(alloc);
+    put_octets(&mut out, octets)?;
+    Ok(out)
+}
+
+/// Writes an address and a port.
+pub fn put_address(out: &mut String, address: Addr) -> Result<(), AllocError> {
+    let port = address.port;
+    put_octets(out, &address.ip)?;
+    write!(out, ":{port}")
 }
 
 /// An address and a port.
 pub fn address_words(alloc: Global, address: Addr) -> Result<String, AllocError> {
-    let mut out = Vec::new(alloc);
-    put_ip4(&mut out, &address.ip)?;
-    out.push(b':')?;
-    put_number(&mut out, u64::from(address.port))?;
-    shown(alloc, &out)
+    let mut out = String::new(alloc);
+    put_address(&mut out, address)?;
+    Ok(out)
 }

@@ -115,7 +115,7 @@ impl Notation {
     }
 }
 
-fn put_shown(out: &mut String, byte: u8) -> Result<(), AllocError> {
+fn put_byte(out: &mut String, byte: u8) -> Result<(), AllocError> {
     match byte {
         b'\r' => out.push_str("\\r"),
         b'\n' => out.push_str("\\n"),
@@ -132,12 +132,18 @@ fn put_shown(out: &mut String, byte: u8) -> Result<(), AllocError> {
     }
 }
 
+/// Writes bytes as a row writes them.
+pub fn put_shown(out: &mut String, bytes: &[u8]) -> Result<(), AllocError> {
+    for byte in bytes {
+        put_byte(out, *byte)?;
+    }
+    Ok(())
+}
+
 /// Bytes as a row writes them.
 pub fn shown(alloc: Global, bytes: &[u8]) -> Result<String, AllocError> {
     let mut out = String::new(alloc);
-    for byte in bytes {
-        put_shown(&mut out, *byte)?;
-    }
+    put_shown(&mut out, bytes)?;
     Ok(out)
 }
 

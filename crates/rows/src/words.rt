@@ -1,6 +1,7 @@
-//! How an answer is written: words, and texts in brackets.
+//! How an answer is written: words, and texts in brackets. What has several parts is written behind what stands already, so that
+//! no part has to be let go where a later one finds no memory.
 
-use crate::notation::shown;
+use crate::notation::put_shown;
 use std::alloc::{AllocError, Global};
 
 /// A word as an answer.
@@ -22,21 +23,27 @@ pub fn number_or_none(alloc: Global, number: Option<u64>) -> Result<String, Allo
 }
 
 /// Writes a text in brackets.
-pub fn put_boxed(alloc: Global, out: &mut String, text: &[u8]) -> Result<(), AllocError> {
+pub fn put_boxed(out: &mut String, text: &[u8]) -> Result<(), AllocError> {
     out.push('[')?;
-    out.push_str(shown(alloc, text)?.as_str())?;
+    put_shown(out, text)?;
     out.push(']')
+}
+
+/// Writes texts in brackets, with spaces between them.
+pub fn put_boxes(out: &mut String, texts: &[&[u8]]) -> Result<(), AllocError> {
+    for (at, text) in texts.iter().enumerate() {
+        if at > 0 {
+            out.push(' ')?;
+        }
+        put_boxed(out, text)?;
+    }
+    Ok(())
 }
 
 /// Texts in brackets, with spaces between them.
 pub fn boxes(alloc: Global, texts: &[&[u8]]) -> Result<String, AllocError> {
     let mut out = String::new(alloc);
-    for text in texts {
-        if !out.is_empty() {
-            out.push(' ')?;
-        }
-        put_boxed(alloc, &mut out, text)?;
-    }
+    put_boxes(&mut out, texts)?;
     Ok(out)
 }
 
