@@ -1,5 +1,5 @@
 -- Offers that cross others (RFC 3261 section 14.2, RFC 3311 section 5.2, RFC 6337).
-use Rattle.std.specs.Prelude.{Bool, Option, Some, None, if◌then◌else◌}
+use Rattle.std.specs.Prelude.{Option, Some, None, if◌then◌else◌}
 use Rattle.call_core.specs.declared.clash.Clash.{Clash}
 use Rattle.call_core.specs.declared.clash.Clash.TheVariants.{Glare, SecondOffer}
 use Rattle.call_media.specs.declared.end.End.{End}

@@ -10,3 +10,8 @@ pub mod Updating
 pub mod Ending
 pub mod Clashes
 pub mod Table
+pub mod Inputs
+pub mod Calls
+pub mod Refusals
+pub mod Plans
+pub mod CallRows

@@ -10,7 +10,7 @@ use Rattle.call_core.specs.declared.stage.Cancelled.{Cancelled}
 use Rattle.call_core.specs.declared.stage.Cancelled.TheVariants.{Never, Waits, PassedOn}
 use Rattle.call_core.specs.declared.stage.Stage.TheVariants.{Settled, Reasked, Reanswered}
 use Rattle.call_core.specs.Asked.{rings}
-use Rattle.call_media.specs.Ends.{other, is_same}
+use Rattle.call_media.specs.Ends.{other}
 use Rattle.call_core.specs.Passing.{status_passed_on}
 use Rattle.call_core.specs.Rows.{row, gone, first_interval, wait_time, short_time}
 

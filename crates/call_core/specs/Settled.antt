@@ -1,7 +1,6 @@
 -- No offer is open, and each was answered. X is either end.
-use Rattle.std.specs.Prelude.{Bool, true, false, [], ◌∷◌, Option, Some, None}
+use Rattle.std.specs.Prelude.{false, [], ◌∷◌, Option, Some, None}
 use Rattle.call_core.specs.declared.action.Action.TheVariants.{Bye, Offer, Okay, Trying}
-use Rattle.call_media.specs.declared.end.End.{End}
 use Rattle.call_core.specs.declared.row.Row.{Row}
 use Rattle.call_core.specs.declared.signal.Signal.{Signal}
 use Rattle.call_core.specs.declared.signal.Signal.TheVariants as signals

@@ -68,7 +68,16 @@ impl Model for Actions {
 }
 
 impl Actions {
-    ghost use Rattle.std.specs.Prelude.{◌≡◌, IfOk};
+    ghost use Rattle.std.specs.Prelude.{◌≡◌, IfOk, []};
+
+    /// No action.
+    pub(crate) fn none(alloc: Global) -> Actions
+        ensures { result ≡ [] }
+    {
+        Actions {
+            actions: Vec::new(alloc),
+        }
+    }
 
     /// The list of these actions.
     pub(crate) fn of(alloc: Global, actions: &[Action]) -> Result<Actions, AllocError>

@@ -1,0 +1,110 @@
+-- Why what reached a call is refused.
+use Rattle.std.specs.Prelude.{◌≡◌, ◌<◌, ℕ, true, false, length, Option, Some, None}
+use Rattle.port_pool.specs.Holdings.{free_pairs}
+use Rattle.port_pool.specs.Pool.{Contents}
+use Rattle.sdp.specs.declared.description.Description.{Description}
+use Rattle.offer_answer.specs.declared.fault.OfferFault.{OfferFault}
+use Rattle.offer_answer.specs.Checks.{offer_fault}
+use Rattle.call_media.specs.declared.end.End.{End}
+use Rattle.call_media.specs.declared.refusal.OfferRefusal.{OfferRefusal}
+use Rattle.call_media.specs.declared.refusal.OfferRefusal.TheVariants as media
+use Rattle.call_media.specs.declared.state.CallMedia.{CallMedia}
+use Rattle.call_media.specs.Ends.{other}
+use Rattle.call_media.specs.Offers.{fresh_needed}
+use Rattle.call_media.specs.Sessions.{previous}
+use Rattle.call_core.specs.declared.call.Call.{Call}
+use Rattle.call_core.specs.declared.input.Input.{Input}
+use Rattle.call_core.specs.declared.input.Input.TheVariants as inputs
+use Rattle.call_core.specs.declared.refusal.CallRefusal.{CallRefusal}
+use Rattle.call_core.specs.declared.refusal.CallRefusal.TheVariants.{OutOfMemory, Crosses, Undescribed, Unfit, NoPorts, NumberAtItsEnd}
+use Rattle.call_core.specs.declared.signal.OfferMethod.{OfferMethod}
+use Rattle.call_core.specs.declared.signal.Signal.TheVariants as signals
+use Rattle.call_core.specs.declared.stage.Standing.{Standing}
+use Rattle.call_core.specs.Calls.{clash_in, dialog_of, has_number_left}
+use Rattle.call_core.specs.Clashes.{clash_of}
+use Rattle.call_core.specs.Plans.{IfLine}
+use Rattle.call_core.specs.Table.{row_of}
+
+-- the same, of a call
+abbrev pub refusal_of : OfferRefusal → CallRefusal
+refusal_of media.OutOfMemory = OutOfMemory
+refusal_of (media.Unfit fault) = Unfit fault
+refusal_of media.NoPorts = NoPorts
+
+-- RFC 3264 doesn't let the end say this after what it gave before, or the relay doesn't carry it
+abbrev pub IsFaultOf : CallMedia → End → Option Description → OfferFault → Type 0
+IsFaultOf m x None fault = ⊥
+IsFaultOf m x (Some offer) fault = offer_fault m.range offer (previous x m.session) ≡ Some fault
+
+-- too few pairs are free for the offer's media
+abbrev pub LacksPairs : CallMedia → Contents → End → Option Description → ℕ → Type 0
+LacksPairs m pool x None now = ⊥
+LacksPairs m pool x (Some offer) now = length (free_pairs now pool.holdings) < fresh_needed m x offer
+
+-- why the first offer of a call is not passed on
+abbrev pub RefusesFirst : CallMedia → Contents → End → Option Description → ℕ → CallRefusal → Type 0
+RefusesFirst m pool x offer now OutOfMemory = Unit {0}
+RefusesFirst m pool x offer now (Crosses clash) = ⊥
+RefusesFirst m pool x offer now Undescribed = ⊥
+RefusesFirst m pool x offer now (Unfit fault) = IsFaultOf m x offer fault
+RefusesFirst m pool x offer now NoPorts = LacksPairs m pool x offer now
+RefusesFirst m pool x offer now NumberAtItsEnd = ⊥
+
+-- why an offer inside a call is not passed on
+abbrev pub RefusesLater : Call → Contents → End → Option Description → ℕ → CallRefusal → Type 0
+RefusesLater c pool x offer now OutOfMemory = Unit {0}
+RefusesLater c pool x offer now (Crosses clash) = clash_in c.standing x ≡ Some clash
+RefusesLater c pool x offer now Undescribed = (clash_in c.standing x ≡ None) × (offer ≡ None)
+RefusesLater c pool x offer now (Unfit fault) = (clash_in c.standing x ≡ None) × IsFaultOf c.media x offer fault
+RefusesLater c pool x offer now NoPorts = (clash_in c.standing x ≡ None) × LacksPairs c.media pool x offer now
+RefusesLater c pool x offer now NumberAtItsEnd = (clash_in c.standing x ≡ None) × (has_number_left (dialog_of (other x) c) ≡ false)
+
+abbrev pub IsNoMemory : CallRefusal → Type 0
+IsNoMemory OutOfMemory = Unit {0}
+IsNoMemory (Crosses clash) = ⊥
+IsNoMemory Undescribed = ⊥
+IsNoMemory (Unfit fault) = ⊥
+IsNoMemory NoPorts = ⊥
+IsNoMemory NumberAtItsEnd = ⊥
+
+-- only offers are refused, but for want of memory
+abbrev pub RefusesInput : Call → Contents → Input → ℕ → CallRefusal → Type 0
+RefusesInput c pool (inputs.Offer x method offer) now refusal = RefusesLater c pool x offer now refusal
+RefusesInput c pool (inputs.Provisional status) now refusal = IsNoMemory refusal
+RefusesInput c pool (inputs.Answer answer) now refusal = IsNoMemory refusal
+RefusesInput c pool (inputs.Refusal status) now refusal = IsNoMemory refusal
+RefusesInput c pool inputs.TimedOut now refusal = IsNoMemory refusal
+RefusesInput c pool inputs.Ack now refusal = IsNoMemory refusal
+RefusesInput c pool inputs.Cancel now refusal = IsNoMemory refusal
+RefusesInput c pool (inputs.Bye end) now refusal = IsNoMemory refusal
+RefusesInput c pool inputs.Limit now refusal = IsNoMemory refusal
+RefusesInput c pool inputs.Repeat now refusal = IsNoMemory refusal
+RefusesInput c pool inputs.Wait now refusal = IsNoMemory refusal
+
+-- ---- what is not refused
+
+-- what can be passed on: it has a description that the end may offer and that the relay carries, and a number is left
+abbrev pub IsPassable : Call → End → Option Description → Type 0
+IsPassable c x None = ⊥
+IsPassable c x (Some offer) = (offer_fault c.media.range offer (previous x c.media.session) ≡ None) × (has_number_left (dialog_of (other x) c) ≡ true)
+
+-- no other offer crosses this one; where it has a line, it can be passed on
+abbrev pub MayOffer : Call → Standing → End → OfferMethod → Option Description → Type 0
+MayOffer c s x method offer = (clash_of s.stage s.offerer x ≡ None) × IfLine (λ row. IsPassable c x offer) (row_of s (signals.Offer x method))
+
+abbrev pub MayTake : Call → Standing → Input → Type 0
+MayTake c s (inputs.Offer x method offer) = MayOffer c s x method offer
+MayTake c s (inputs.Provisional status) = Unit {0}
+MayTake c s (inputs.Answer answer) = Unit {0}
+MayTake c s (inputs.Refusal status) = Unit {0}
+MayTake c s inputs.TimedOut = Unit {0}
+MayTake c s inputs.Ack = Unit {0}
+MayTake c s inputs.Cancel = Unit {0}
+MayTake c s (inputs.Bye end) = Unit {0}
+MayTake c s inputs.Limit = Unit {0}
+MayTake c s inputs.Repeat = Unit {0}
+MayTake c s inputs.Wait = Unit {0}
+
+abbrev pub MayTakeIn : Call → Option Standing → Input → Type 0
+MayTakeIn c None input = Unit {0}
+MayTakeIn c (Some s) input = MayTake c s input
