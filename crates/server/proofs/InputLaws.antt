@@ -4,8 +4,9 @@ use Rattle.std.proofs.Math.Seq.{take-append-add}
 use Rattle.std.proofs.lemmas.List.{take_all, append-nil}
 use Rattle.std.specs.Io.KnownBytes.{Consumes, Appends}
 use Rattle.server.specs.declared.fault.Fault.{Fault}
+use Rattle.events.specs.declared.sent.Sent.{Sent}
 use Rattle.server.specs.Input.{most_kept, Takes, Reads}
-use Rattle.server.specs.Once.{once_of, Answers}
+use Rattle.server.specs.Once.{Answers, SendsFor, bytes_of}
 
 -- all of a short list is taken
 pub take_fits : (n : ℕ) (xs ys : List ℕ) → length xs + length ys ≤ n → xs ++ ys ≡ take n (xs ++ ys)
@@ -50,8 +51,10 @@ takes_more a b c kept bytes kept_after h k e =
 pub takes_same : (a b c : Option (List ℕ)) (kept : List ℕ) → Takes a b kept → Consumes b c [] → Takes a c kept
 takes_same a b c kept h k = (h.0 ++ [], consumes_more a b c h.0 [] h.1 k, h.2 ∙ ap (take most_kept) (sym (append-nil h.0)))
 
--- an answer to all that was read was written, where it was written
-pub answered_all : (r : Result (Unit {0}) Fault) (left left_after held held_after : Option (List ℕ)) (datagram answer : List ℕ) → Reads left left_after datagram → answer ≡ once_of datagram → OnOk r (Appends held held_after answer)
+-- what is sent for all that was read was written, where it was written
+pub answered_all : (r : Result (Unit {0}) Fault) (left left_after held held_after : Option (List ℕ)) (datagram : List ℕ) (sent : List Sent) (bytes : List ℕ)
+    → Reads left left_after datagram → SendsFor datagram sent → bytes ≡ bytes_of sent → OnOk r (Appends held held_after bytes)
     → OnOk r (Answers left left_after held held_after)
-answered_all (Ok done) left left_after held held_after datagram answer reads is written = (datagram, reads, subst (λ (t : List ℕ). Appends held held_after t) is written)
-answered_all (Err e) left left_after held held_after datagram answer reads is written = tt
+answered_all (Ok done) left left_after held held_after datagram sent bytes reads sends is written =
+    (datagram, sent, reads, sends, subst (λ (t : List ℕ). Appends held held_after t) is written)
+answered_all (Err e) left left_after held held_after datagram sent bytes reads sends is written = tt

@@ -1,10 +1,6 @@
-pub mod Answers
-pub mod Endings
-pub mod Example
 pub mod Input
-pub mod Leaves
 pub mod Once
-pub mod Registering
+pub mod Leaves
 pub mod Statuses
-pub mod Tags
 pub mod Words
+pub mod Endings

@@ -9,6 +9,8 @@ use std::fmt;
 pub enum Fault {
     /// The input failed or never ended. Nothing was written.
     Input,
+    /// The configuration breaks a rule. Nothing was written.
+    Config,
     /// The output failed. How much was written is open.
     Output,
     /// Memory ran out. Nothing was written.
@@ -24,6 +26,7 @@ impl Fault {
         ensures { result ≡ status_of self }
     {
         match self {
+            Fault::Config => 3,
             Fault::Input | Fault::Output => 4,
             Fault::OutOfMemory => 6,
         }
@@ -34,6 +37,7 @@ impl Fault {
         ensures { result.now ≡ fault_words_of self }
     {
         match self {
+            Fault::Config => "office: config",
             Fault::Input | Fault::Output => "office: script",
             Fault::OutOfMemory => "office: memory",
         }

@@ -1,15 +1,27 @@
-//! One datagram, answered.
+//! `once`: one datagram from a reader, and what is sent for it to a writer.
 
-ghost use Rattle.std.specs.Prelude.{◌≡◌, IfErr, OnOk};
+ghost use Rattle.std.specs.Prelude.{◌≡◌, ◌++◌, IfErr, IfOk, OnOk};
 ghost use Rattle.std.specs.Io.KnownBytes.{Appends};
-ghost use Rattle.server.specs.Once.{Answers};
-ghost use Rattle.server.specs.Leaves.{Leaves};
+ghost use Rattle.configuration.specs.Example.{example};
+ghost use Rattle.agent.specs.State.{IsNew};
+ghost use Rattle.server.specs.Once.{Answers, SendsFor, bytes_of};
+ghost use Rattle.server.specs.Leaves.{IsOfConfig, Leaves};
 
-use crate::checks::answer_to;
 use crate::fault::Fault;
 use crate::input::read_datagram;
-use std::alloc::Global;
+use agent::Agent;
+use configuration::{ConfigError, example_config};
+use events::{Event, Sent, What};
+use sip_uri::Addr;
+use std::alloc::{AllocError, Global};
 use std::io::{Read, Write};
+use text::Text;
+
+/// Where the datagram counts as sent from.
+const SOURCE: Addr = Addr {
+    ip: [192, 0, 2, 11],
+    port: 6000,
+};
 
 fn write_out<W: Write>(writer: &mut W, bytes: &[u8]) -> Result<(), Fault>
     ensures written { OnOk result (Appends (W.contents writer.old) (W.contents writer.new) bytes.now) }
@@ -21,13 +33,56 @@ fn write_out<W: Write>(writer: &mut W, bytes: &[u8]) -> Result<(), Fault>
     }
 }
 
-/// Reads one datagram to its end, and writes the bytes of its answers on the example office.
+/// The example office, to which nothing has happened.
+fn example_agent(alloc: Global) -> Result<Agent, Fault>
+    ensures made { IfOk result (IsNew example) }
+    ensures refused { IfErr result IsOfConfig }
+{
+    let config = example_config(alloc)?;
+    match Agent::new(alloc, &config) {
+        Ok(agent) => Ok(agent),
+        Err(ConfigError::OutOfMemory) => Err(Fault::OutOfMemory),
+        Err(_) => Err(Fault::Config),
+    }
+}
+
+fn sent_for(alloc: Global, datagram: Vec<u8>) -> Result<Vec<Sent>, Fault>
+    ensures sent { IfOk result (λ sent. SendsFor datagram.items sent.items) }
+    ensures refused { IfErr result IsOfConfig }
+{
+    let mut agent = example_agent(alloc)?;
+    let event = Event {
+        now: 0,
+        salt: 1,
+        what: What::Datagram {
+            source: SOURCE,
+            bytes: Text::from_vec(datagram),
+        },
+    };
+    let mut sent = Vec::new(alloc);
+    agent.step(&event, &mut sent)?;
+    Ok(sent)
+}
+
+/// The bytes of what is sent, one behind the other.
+fn bytes_of(alloc: Global, sent: &[Sent]) -> Result<Vec<u8>, AllocError>
+    ensures { IfOk result (λ bytes. bytes.items ≡ bytes_of sent.now) }
+{
+    let mut bytes = Vec::new(alloc);
+    for datagram in sent {
+        bytes.extend_from_slice(datagram.bytes.as_bytes())?;
+    }
+    Ok(bytes)
+}
+
+/// Reads one datagram to its end, and writes the bytes of all that is sent for it, on the example office.
 pub fn once<R: Read, W: Write>(alloc: Global, reader: &mut R, writer: &mut W) -> Result<(), Fault>
     ensures written { OnOk result (Answers (R.remaining reader.old) (R.remaining reader.new) (W.contents writer.old) (W.contents writer.new)) }
     // Nothing is written but where the output itself failed.
     ensures refused { IfErr result (λ e. Leaves e (W.contents writer.old) (W.contents writer.new)) }
 {
     let datagram = read_datagram(alloc, reader)?;
-    let answer = answer_to(alloc, &datagram)?;
-    write_out(writer, answer.as_bytes())
+    let sent = sent_for(alloc, datagram)?;
+    let bytes = bytes_of(alloc, &sent)?;
+    write_out(writer, bytes.as_slice())
 }

@@ -2,7 +2,7 @@
 
 use crate::streams::{EndlessReader, NarrowWriter, slow};
 use rows::{Rows, number, said, shown, usize_of};
-use server::{Asked, CommandError, Ending, Fault, answer_to, command, once, read_datagram, run};
+use server::{Asked, CommandError, Ending, Fault, command, once, read_datagram, run};
 use std::alloc::{AllocError, Global};
 
 /// Bytes, or that there are none.
@@ -19,11 +19,6 @@ fn fault_text(alloc: Global, fault: Fault) -> Result<String, AllocError> {
         Fault::OutOfMemory => Err(AllocError),
         fault => format!(in alloc; "{fault}, status {}", fault.status()),
     }
-}
-
-fn answered_text(alloc: Global, text: &[u8]) -> Result<String, AllocError> {
-    let answer = answer_to(alloc, text)?;
-    shown_or_nothing(alloc, answer.as_bytes())
 }
 
 fn once_text(alloc: Global, text: &[u8], size: usize) -> Result<String, AllocError> {
@@ -130,6 +125,7 @@ fn run_text(alloc: Global, text: &[u8], words: &[&str]) -> Result<String, AllocE
 fn fault_named(name: &[u8]) -> Option<Fault> {
     match name {
         b"input" => Some(Fault::Input),
+        b"config" => Some(Fault::Config),
         b"output" => Some(Fault::Output),
         b"memory" => Some(Fault::OutOfMemory),
         _ => None,
@@ -191,7 +187,6 @@ fn of_run(alloc: Global, text: &[u8], words: &[&[u8]]) -> Result<Option<String>,
 /// What the row's call answers, if it is one of `server`.
 fn answer(alloc: Global, call: &str, args: &[&[u8]]) -> Result<Option<String>, AllocError> {
     let answer = match (call, args) {
-        ("answer_to", [text]) => answered_text(alloc, text),
         ("once", [text, given]) => once_text(alloc, text, usize_of(given)),
         ("once_failing", [text, failing]) => failing_text(alloc, text, number(failing)),
         ("once_endless", []) => endless_text(alloc),

@@ -5,4 +5,4 @@ use Rattle.server.proofs.single.once.Goals as goal
 pub returns-clause-written : goal.returns-clause-written
 returns-clause-written g c =
     answered_all c.write_out.result (g.R.Read.remaining c.args.reader.now) (g.R.Read.remaining c.read_datagram.new.reader) (g.W.Write.contents c.args.writer.now) (g.W.Write.contents c.write_out.new.writer)
-    c.in_ok-datagram.datagram.items c.as_bytes.result.now c.in_ok-datagram.ensures (search rules) c.write_out.ensures.written
+    c.in_ok-datagram.datagram.items c.in_ok-sent.sent.items c.as_slice.result.now c.in_ok-datagram.ensures c.in_ok-sent.ensures.sent (search rules) c.write_out.ensures.written

@@ -1,0 +1,44 @@
+//! What a step does to the agent's parts and to the list of what is sent: all of it or nothing.
+
+ghost use Rattle.std.specs.Prelude.{◌≡◌, ◌<◌, ◌^◌, ◌++◌, OnOk, OnErr};
+ghost use Rattle.transactions.specs.Changes.{entered_all};
+ghost use Rattle.agent.specs.State.{registered_by};
+
+use events::Sent;
+use registrar::Registrar;
+use std::alloc::AllocError;
+use transactions::{Change, Table};
+
+/// What is sent goes behind what stands in the list, and the changes of the transactions are entered. Where memory is refused,
+/// neither.
+pub(crate) fn commit(
+    table: &mut Table,
+    sent: &mut Vec<Sent>,
+    changes: Vec<Change>,
+    mut sends: Vec<Sent>,
+    now: u64,
+) -> Result<(), AllocError>
+    requires { now < 2 ^ 60 }
+    ensures table { OnOk result (table.new ≡ entered_all now table.old changes.items) }
+    ensures sends { OnOk result (sent.new.items ≡ sent.old.items ++ sends.items) }
+    ensures err_table { OnErr result (table.new ≡ table.old) }
+    ensures err_sends { OnErr result (sent.new.items ≡ sent.old.items) }
+{
+    let length = sent.len();
+    sent.append(&mut sends)?;
+    if let Err(error) = table.apply(changes, now) {
+        sent.truncate(length);
+        return Err(error);
+    }
+    Ok(())
+}
+
+/// Makes the change of the registrar, if there is one. Takes no memory.
+pub(crate) fn enter(registrar: &mut Registrar, registration: Option<registrar::Plan>)
+    ensures { registrar.new ≡ registered_by registrar.old registration }
+{
+    match registration {
+        None => {}
+        Some(plan) => registrar.carry_out(plan),
+    }
+}

@@ -1,0 +1,62 @@
+//! The agent of a configuration.
+
+ghost use Rattle.std.specs.Prelude.{◌≡◌, [], IfOk, IfErr, OnOk};
+ghost use Rattle.configuration.specs.Rules.{KeepsRules};
+ghost use Rattle.registrar.specs.Registrar.{StandsAfter};
+ghost use Rattle.agent.specs.State.{IsNew, RefusesConfig, rules_by};
+
+use crate::agent::Agent;
+use crate::tally::Tally;
+use configuration::{Config, ConfigError, check};
+use registrar::Registrar;
+use std::alloc::{AllocError, Global};
+use text::{Text, Texts};
+use transactions::Table;
+
+fn kept_texts(alloc: Global, texts: &[Text<'static>]) -> Result<Texts<'static>, AllocError>
+    ensures { IfOk result (λ kept. kept ≡ texts.now) }
+{
+    let mut kept = Vec::new(alloc);
+    for text in texts {
+        kept.push(text.keep(alloc)?)?;
+    }
+    Ok(Texts::from_vec(kept))
+}
+
+fn registrar_of(alloc: Global, config: &Config) -> Result<Registrar, AllocError>
+    requires { KeepsRules config.now }
+    ensures { IfOk result (λ r. StandsAfter r (rules_by config.now) []) }
+{
+    let users = kept_texts(alloc, config.users.as_slice())?;
+    let domain = config.domain_text(alloc)?;
+    Registrar::new(
+        alloc,
+        users,
+        config.ip,
+        config.sip_port,
+        domain,
+        config.min_expires,
+    )
+}
+
+impl Agent {
+    /// An agent that nothing has happened to. The configuration keeps the rules, or the first that it breaks is told.
+    #[tactic(auto, using(crate::proofs::ConfigLaws::refuses))]
+    pub fn new(alloc: Global, config: &Config) -> Result<Agent, ConfigError>
+        ensures new { IfOk result (IsNew config.now) }
+        ensures kept { OnOk result (KeepsRules config.now) }
+        ensures refused { IfErr result (RefusesConfig config.now) }
+    {
+        check(config)?;
+        let registrar = registrar_of(alloc, config)?;
+        Ok(Agent {
+            alloc,
+            registrar,
+            table: Table::new(alloc),
+            least: config.min_expires,
+            moment: 0,
+            tokens: 0,
+            tally: Tally::none_counted(),
+        })
+    }
+}

@@ -1,0 +1,126 @@
+//! Datagrams that can't be read, and branches that do not begin as they have to: what is answered, no transaction sends.
+
+ghost use Rattle.std.specs.Prelude.{◌≡◌, [], IfOk};
+ghost use Rattle.std.specs.Option.{option_copied};
+ghost use Rattle.sip_message.specs.AnswerableParts.{answerable_of};
+ghost use Rattle.sip_message.specs.Faults.{Fails};
+ghost use Rattle.sip_message.specs.Read.{message_of};
+ghost use Rattle.sip_writing.specs.Reply.{answer_address};
+ghost use Rattle.agent.specs.Plan.{replies};
+ghost use Rattle.responses.specs.Responding.{responds, stateless};
+ghost use Rattle.agent.specs.Rows.{datagram_row, unfit_branch, unfit_request, unread_by};
+ghost use Rattle.agent.specs.State.{Contents};
+
+use crate::letting_go::let_response_go;
+use crate::plan::Plan;
+use crate::setting::Setting;
+use crate::taken::{Taken, Why};
+use responses::{STATELESS, is_method, response_with};
+use sip_message::{Message, MessageError, Parts, Request, Response, answerable};
+use sip_writing::reply_address;
+use std::alloc::{AllocError, Global};
+
+/// The plan of a response that no transaction sends, which is let go.
+fn sent_alone(
+    alloc: Global,
+    e: Setting,
+    parts: &Parts<'_>,
+    response: Response<'static>,
+) -> Result<Plan, AllocError>
+    ensures { IfOk result (λ p. p ≡ replies (answer_address parts.now.vias e.source) response.entry) }
+{
+    let to = reply_address(parts, e.source);
+    let plan = Plan::replies(alloc, to, &response);
+    let_response_go(response);
+    plan
+}
+
+/// The tag of To in a response that no transaction sends.
+fn stateless() -> &'static [u8]
+    ensures { result.now ≡ stateless }
+{
+    STATELESS
+}
+
+fn replies(alloc: Global, e: Setting, parts: &Parts<'_>, status: u16) -> Result<Plan, AllocError>
+    ensures { IfOk result (λ p. p ≡ replies (answer_address parts.now.vias e.source) (responds parts.now e.source status stateless [])) }
+{
+    let further = Vec::new(alloc);
+    let response = response_with(alloc, parts, e.source, status, stateless(), further)?;
+    sent_alone(alloc, e, parts, response)
+}
+
+fn unread_by(
+    alloc: Global,
+    e: Setting,
+    fault: MessageError,
+    status: u16,
+    parts: Option<&Parts<'_>>,
+) -> Result<Plan, AllocError>
+    ensures { IfOk result (λ p. p ≡ unread_by e fault status (option_copied parts.entry)) }
+{
+    match parts {
+        None => Ok(Plan::nothing(alloc, Taken::Dropped(Why::Unread(fault)))),
+        Some(parts) => replies(alloc, e, parts, status),
+    }
+}
+
+/// A datagram with this fault: where something can be answered, it is.
+fn unread_with(
+    alloc: Global,
+    e: Setting,
+    datagram: &[u8],
+    fault: MessageError,
+    status: u16,
+) -> Result<Plan, AllocError>
+    ensures { IfOk result (λ p. p ≡ unread_by e fault status (answerable_of datagram.now)) }
+{
+    let parts = answerable(alloc, datagram)?;
+    unread_by(alloc, e, fault, status, parts.as_ref())
+}
+
+/// What a datagram comes to that can't be read.
+#[tactic(auto, unfolding(crate::specs::Rows::unread_row, crate::specs::Rows::datagram_row))]
+pub(crate) fn unread_row(
+    alloc: Global,
+    e: Setting,
+    datagram: &[u8],
+    fault: MessageError,
+) -> Result<Plan, AllocError>
+    requires { Fails fault (message_of datagram.now) }
+    ensures { (s : Contents) → IfOk result (λ p. p ≡ datagram_row s e datagram.now) }
+{
+    match fault {
+        MessageError::OutOfMemory => Err(AllocError),
+        MessageError::TooLong => Ok(Plan::nothing(alloc, Taken::Dropped(Why::Unread(fault)))),
+        MessageError::Version => unread_with(alloc, e, datagram, fault, 505),
+        MessageError::StartLine => unread_with(alloc, e, datagram, fault, 400),
+        MessageError::HeaderLine => unread_with(alloc, e, datagram, fault, 400),
+        MessageError::Missing(_) => unread_with(alloc, e, datagram, fault, 400),
+        MessageError::Unreadable(_) => unread_with(alloc, e, datagram, fault, 400),
+        MessageError::Short => unread_with(alloc, e, datagram, fault, 400),
+    }
+}
+
+fn unfit_request(alloc: Global, e: Setting, request: &Request<'_>) -> Result<Plan, AllocError>
+    ensures { IfOk result (λ p. p ≡ unfit_request e request.now) }
+{
+    if is_method(b"ACK", request) {
+        return Ok(Plan::nothing(alloc, Taken::Dropped(Why::NoBranch)));
+    }
+    replies(alloc, e, &request.parts, 400)
+}
+
+/// What a message comes to whose branch does not begin as it has to.
+pub(crate) fn unfit_branch(
+    alloc: Global,
+    e: Setting,
+    message: &Message<'_>,
+) -> Result<Plan, AllocError>
+    ensures { IfOk result (λ p. p ≡ unfit_branch e message.now) }
+{
+    match message {
+        Message::Request(request) => unfit_request(alloc, e, request),
+        Message::Response(_) => Ok(Plan::nothing(alloc, Taken::Dropped(Why::NoBranch))),
+    }
+}

@@ -1,0 +1,4 @@
+mod KeyLaws
+mod RuleLaws
+mod ReadingLaws
+mod WrittenLaws

@@ -1,0 +1,17 @@
+-- The example office.
+use Rattle.std.specs.Prelude.{[], ◌∷◌, codes, Some, replicate}
+use Rattle.configuration.specs.declared.config.Config.{Config}
+
+-- users 100, 101 and 102 of office.example, at 192.0.2.1:5060, bound for a minute at least, with eight pairs of ports from 40000 on
+abbrev pub example : Config
+example = record {
+  relay_first = 40000;
+  relay_pairs = 8;
+  ip = 192 ∷ 0 ∷ 2 ∷ 1 ∷ [];
+  sip_port = 5060;
+  users = codes "100" ∷ codes "101" ∷ codes "102" ∷ [];
+  min_expires = 60;
+  domain = Some (codes "office.example");
+  workers = 2;
+  random_key = replicate 32 0;
+}

@@ -1,0 +1,143 @@
+-- What the file of a configuration says: a table of TOML with the keys of a configuration.
+use Rattle.std.specs.Prelude.{ℕ, ℤ, pos, negsuc, Bool, true, ◌&&◌, ◌||◌, nat_eq, nat_le, List, [], ◌∷◌, codes, Option, Some, None, option_map, option_and_then, unwrap_or, if◌then◌else◌}
+use Rattle.std.specs.Cmp.Lexicographic.{pointwise}
+use Rattle.std.specs.Result.{result_ok}
+use Rattle.toml.specs.Data.{Data, Items, no_items, item, Members, no_members, member, as_integer, as_str, as_array, get_member}
+use Rattle.hex.specs.Hex.{decode_sized}
+use Rattle.sip_uri.specs.Hosts.{ip4_of}
+use Rattle.configuration.specs.Limits.{most_workers, usual_workers}
+use Rattle.configuration.specs.declared.config.Config.{Config}
+use Rattle.configuration.specs.declared.numbers.Numbers.{Numbers}
+
+-- ---- keys
+
+abbrev pub is_same : List ℕ → List ℕ → Bool
+is_same text other = pointwise nat_eq text other
+
+abbrev pub is_known_key : List ℕ → Bool
+is_known_key key =
+    is_same key (codes "relay_first") || is_same key (codes "relay_pairs") || is_same key (codes "ip") || is_same key (codes "sip_port")
+    || is_same key (codes "users") || is_same key (codes "min_expires") || is_same key (codes "domain") || is_same key (codes "workers")
+    || is_same key (codes "random_key")
+
+-- each key of the table is known
+abbrev pub has_known_keys : Members → Bool
+has_known_keys no_members = true
+has_known_keys (member key value rest) = is_known_key key && has_known_keys rest
+
+-- ---- whole numbers
+
+abbrev pub number_at : List ℕ → Members → Option ℤ
+number_at key ms = option_and_then as_integer (get_member key ms)
+
+-- a whole number from 0 to the most
+abbrev pub natural : ℕ → ℤ → Option ℕ
+natural most (pos n) = if nat_le n most then Some n else None
+natural most (negsuc n) = None
+
+-- the number, where it fits its field; any other reads as 0, which the rule of its key refuses as it refuses the number
+abbrev pub fitting : ℕ → ℤ → ℕ
+fitting most z = unwrap_or (natural most z) 0
+
+abbrev pub port_of : ℤ → ℕ
+port_of z = fitting 65535 z
+
+abbrev pub seconds_of : ℤ → ℕ
+seconds_of z = fitting 4294967295 z
+
+abbrev pub few : ℕ → Option ℕ
+few n = if nat_le 1 n && nat_le n most_workers then Some n else None
+
+-- 1 to 8 workers
+abbrev pub workers_in : Data → Option ℕ
+workers_in value = option_and_then few (option_and_then (natural 255) (as_integer value))
+
+-- the workers; the usual number where the key is missing
+abbrev pub workers_of : Option Data → Option ℕ
+workers_of None = Some usual_workers
+workers_of (Some value) = workers_in value
+
+abbrev pub workers_at : Members → Option ℕ
+workers_at ms = workers_of (get_member (codes "workers") ms)
+
+-- the numbers, each key of which but the workers' has to be there
+unfoldable pub numbers_at : Members → Option Numbers
+numbers_at ms =
+    option_and_then (λ first.
+    option_and_then (λ pairs.
+    option_and_then (λ port.
+    option_and_then (λ expires.
+    option_and_then (λ workers. Some (record {
+      relay_first = port_of first;
+      relay_pairs = port_of pairs;
+      sip_port = port_of port;
+      min_expires = seconds_of expires;
+      workers = workers;
+    }))
+    (workers_at ms)) (number_at (codes "min_expires") ms)) (number_at (codes "sip_port") ms)) (number_at (codes "relay_pairs") ms))
+    (number_at (codes "relay_first") ms)
+
+-- ---- texts
+
+abbrev pub text_at : List ℕ → Members → Option (List ℕ)
+text_at key ms = option_and_then as_str (get_member key ms)
+
+-- the octets of an address in dotted form; any other text reads as 0.0.0.0, which the rule of addresses refuses as it refuses the text
+abbrev pub octets_of : List ℕ → List ℕ
+octets_of text = unwrap_or (ip4_of text) (0 ∷ 0 ∷ 0 ∷ 0 ∷ [])
+
+abbrev pub ip_at : Members → Option (List ℕ)
+ip_at ms = option_map octets_of (text_at (codes "ip") ms)
+
+-- 64 hexadecimal digits of either case
+abbrev pub key_of : List ℕ → Option (List ℕ)
+key_of text = result_ok (decode_sized text 32)
+
+abbrev pub key_at : Members → Option (List ℕ)
+key_at ms = option_and_then key_of (text_at (codes "random_key") ms)
+
+-- the domain, which may be missing
+abbrev pub domain_of : Option Data → Option (Option (List ℕ))
+domain_of None = Some None
+domain_of (Some value) = option_map Some (as_str value)
+
+abbrev pub domain_at : Members → Option (Option (List ℕ))
+domain_at ms = domain_of (get_member (codes "domain") ms)
+
+-- a list of texts, and of nothing else
+abbrev pub texts_of : Items → Option (List (List ℕ))
+texts_of no_items = Some []
+texts_of (item value rest) = option_and_then (λ text. option_map (λ texts. text ∷ texts) (texts_of rest)) (as_str value)
+
+abbrev pub array_at : List ℕ → Members → Option Items
+array_at key ms = option_and_then as_array (get_member key ms)
+
+abbrev pub users_at : Members → Option (List (List ℕ))
+users_at ms = option_and_then texts_of (array_at (codes "users") ms)
+
+-- ---- all of them
+
+abbrev pub config_from : Numbers → List ℕ → List ℕ → Option (List ℕ) → List (List ℕ) → Config
+config_from numbers ip key domain users = record {
+  relay_first = numbers.relay_first;
+  relay_pairs = numbers.relay_pairs;
+  ip = ip;
+  sip_port = numbers.sip_port;
+  users = users;
+  min_expires = numbers.min_expires;
+  domain = domain;
+  workers = numbers.workers;
+  random_key = key;
+}
+
+-- the configuration that a table says, whether or not it keeps the rules: none where a key is unknown, missing or of another type
+unfoldable pub config_of : Members → Option Config
+config_of ms =
+    if has_known_keys ms then
+    option_and_then (λ numbers.
+    option_and_then (λ ip.
+    option_and_then (λ key.
+    option_and_then (λ domain.
+    option_and_then (λ users. Some (config_from numbers ip key domain users))
+    (users_at ms)) (domain_at ms)) (key_at ms)) (ip_at ms)) (numbers_at ms)
+    else None

@@ -1,0 +1,54 @@
+//! The values of a configuration.
+
+ghost use Rattle.std.specs.Prelude.{IfOk, ◌≡◌};
+
+use sip_uri::put_ip4;
+use std::alloc::{AllocError, Global};
+use text::{Text, Texts};
+
+/// How an office is configured. It may break each rule.
+#[derive(Clone, Drop)]
+pub struct Config {
+    /// The first relay port.
+    pub relay_first: u16,
+    /// How many pairs of relay ports there are.
+    pub relay_pairs: u16,
+    /// The server's address.
+    pub ip: [u8; 4],
+    /// The port that the server has for SIP.
+    pub sip_port: u16,
+    /// Who may register.
+    pub users: Texts<'static>,
+    /// The seconds that a binding lasts at least.
+    pub min_expires: u32,
+    /// The office's domain. Where none is named, it is the server's address.
+    pub domain: Option<Text<'static>>,
+    /// How many threads carry media.
+    pub workers: u8,
+    /// The key of the random numbers that salts are taken from.
+    pub random_key: [u8; 32],
+}
+
+impl Config {
+    ghost use Rattle.configuration.specs.Domain.{domain_text};
+
+    /// The text of the office's domain: the name that is configured, or the server's address.
+    pub fn domain_text(&self, alloc: Global) -> Result<Text<'static>, AllocError>
+        ensures { IfOk result (λ text. text ≡ domain_text self.now) }
+    {
+        match &self.domain {
+            Some(name) => name.keep(alloc),
+            None => address_text(alloc, &self.ip),
+        }
+    }
+}
+
+ghost use Rattle.sip_uri.specs.Writing.{ip4_text};
+
+fn address_text(alloc: Global, ip: &[u8; 4]) -> Result<Text<'static>, AllocError>
+    ensures { IfOk result (λ text. text ≡ ip4_text ip.now) }
+{
+    let mut text = Vec::new(alloc);
+    put_ip4(&mut text, ip)?;
+    Ok(Text::from_vec(text))
+}

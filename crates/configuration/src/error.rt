@@ -1,0 +1,55 @@
+//! Why a configuration is refused.
+
+use std::alloc::{AllocError, AllocFailed};
+use thiserror::Error;
+
+/// Why a configuration is refused: the first rule, in the order of the variants, that it breaks, or want of memory. Of a file,
+/// `File` comes before them.
+#[derive(Clone, Copy, Debug, PartialEq, Eq, Error)]
+pub enum ConfigError {
+    #[error("out of memory")]
+    OutOfMemory,
+    /// The first relay port is odd or below 1024, the pairs are none or more than 2,048, the last port is above 65535, or the
+    /// port for SIP is one of them.
+    #[error("C1: relay ports")]
+    RelayPorts,
+    /// The address is no IPv4 address in dotted form, or 0.0.0.0, or 224.0.0.0 or above, or the port for SIP is not in 1 to
+    /// 65535.
+    #[error("C2: address or port")]
+    Address,
+    /// There is no user, or more than 1,000, or one that is not 1 to 64 letters, digits, `-`, `_` or `.`, or one twice.
+    #[error("C3: users")]
+    Users,
+    /// The least lifetime of a binding is not in 1 to 3600 seconds.
+    #[error("C4: least lifetime")]
+    MinExpires,
+    /// The domain is no host name.
+    #[error("C5: domain")]
+    Domain,
+    /// The text is no TOML, has another key, lacks one, or has a value of another type; or the workers are not 1 to 8, or the key
+    /// of the random numbers is not 64 hexadecimal digits.
+    #[error("C6: file")]
+    File,
+}
+
+impl From<AllocError> for ConfigError {
+    ghost use Rattle.std.specs.Prelude.{◌≡◌};
+    ghost use Rattle.configuration.specs.declared.error.ConfigError.TheVariants.{OutOfMemory};
+
+    ghost from_gives = { λ _ e. e ≡ OutOfMemory };
+
+    fn from(_error: AllocError) -> ConfigError {
+        ConfigError::OutOfMemory
+    }
+}
+
+impl<T: Drop> From<AllocFailed<T>> for ConfigError {
+    ghost use Rattle.std.specs.Prelude.{◌≡◌};
+    ghost use Rattle.configuration.specs.declared.error.ConfigError.TheVariants.{OutOfMemory};
+
+    ghost from_gives = { λ _ e. e ≡ OutOfMemory };
+
+    fn from(_error: AllocFailed<T>) -> ConfigError {
+        ConfigError::OutOfMemory
+    }
+}

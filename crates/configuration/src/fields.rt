@@ -1,0 +1,154 @@
+//! The values of a configuration, as a table has them.
+
+ghost use Rattle.std.specs.Prelude.{◌≡◌};
+ghost use Rattle.toml.specs.Data.{as_str};
+ghost use Rattle.toml.specs.View.{view, array_view, table_view};
+ghost use Rattle.configuration.specs.Files.{few, workers_in, workers_at, numbers_at, octets_of, ip_at, key_of, key_at, domain_at, texts_of, users_at, config_of};
+ghost use Rattle.configuration.specs.Reading.{Gives};
+
+use crate::config::Config;
+use crate::error::ConfigError;
+use crate::numbers::{Numbers, below_2_8, port_of, seconds_of};
+use crate::tables::{array_at, has_known_keys, number_at, text_at, value_at};
+use hex::FromHex;
+use sip_uri::ip4;
+use std::alloc::Global;
+use text::{Text, Texts};
+use toml::value::Array;
+use toml::{Table, Value};
+
+const MAX_WORKERS: u8 = 8;
+
+/// The workers where none are named.
+const USUAL_WORKERS: u8 = 2;
+
+fn few(number: u8) -> Option<u8>
+    ensures { result ≡ few number }
+{
+    if 1 <= number && number <= MAX_WORKERS {
+        Some(number)
+    } else {
+        None
+    }
+}
+
+fn workers_in(value: &Value) -> Option<u8>
+    ensures { result ≡ workers_in (view value.now) }
+{
+    few(below_2_8(value.as_integer()?)?)
+}
+
+fn workers_at(table: &Table) -> Option<u8>
+    ensures { result ≡ workers_at (table_view table.now) }
+{
+    match value_at(table, "workers") {
+        Some(value) => workers_in(value),
+        None => Some(USUAL_WORKERS),
+    }
+}
+
+#[tactic(auto, unfolding(crate::specs::Files::numbers_at))]
+fn numbers_at(table: &Table) -> Option<Numbers>
+    ensures { result ≡ numbers_at (table_view table.now) }
+{
+    let first = number_at(table, "relay_first")?;
+    let pairs = number_at(table, "relay_pairs")?;
+    let port = number_at(table, "sip_port")?;
+    let expires = number_at(table, "min_expires")?;
+    let workers = workers_at(table)?;
+    Some(Numbers {
+        relay_first: port_of(first),
+        relay_pairs: port_of(pairs),
+        sip_port: port_of(port),
+        min_expires: seconds_of(expires),
+        workers,
+    })
+}
+
+fn octets_of(text: &[u8]) -> [u8; 4]
+    ensures { result ≡ octets_of text.now }
+{
+    ip4(text).unwrap_or([0, 0, 0, 0])
+}
+
+fn ip_at(table: &Table) -> Option<[u8; 4]>
+    ensures { result ≡ ip_at (table_view table.now) }
+{
+    let text = text_at(table, "ip")?;
+    Some(octets_of(text.as_bytes()))
+}
+
+fn key_of(text: &str) -> Option<[u8; 32]>
+    ensures { result ≡ key_of text.now }
+{
+    <[u8; 32] as FromHex>::from_hex(text).ok()
+}
+
+fn key_at(table: &Table) -> Option<[u8; 32]>
+    ensures { result ≡ key_at (table_view table.now) }
+{
+    key_of(text_at(table, "random_key")?)
+}
+
+fn name_in(alloc: Global, value: &Value) -> Result<Text<'static>, ConfigError>
+    ensures { Gives result (as_str (view value.now)) }
+{
+    match value.as_str() {
+        Some(text) => Ok(Text::from_slice(alloc, text.as_bytes())?),
+        None => Err(ConfigError::File),
+    }
+}
+
+fn domain_at(alloc: Global, table: &Table) -> Result<Option<Text<'static>>, ConfigError>
+    ensures { Gives result (domain_at (table_view table.now)) }
+{
+    match value_at(table, "domain") {
+        Some(value) => Ok(Some(name_in(alloc, value)?)),
+        None => Ok(None),
+    }
+}
+
+fn texts_of(alloc: Global, array: &Array) -> Result<Texts<'static>, ConfigError>
+    ensures { Gives result (texts_of (array_view array.now)) }
+{
+    let mut texts = Vec::new(alloc);
+    for value in array {
+        texts.push(name_in(alloc, value)?)?;
+    }
+    Ok(Texts::from_vec(texts))
+}
+
+fn users_at(alloc: Global, table: &Table) -> Result<Texts<'static>, ConfigError>
+    ensures { Gives result (users_at (table_view table.now)) }
+{
+    match array_at(table, "users") {
+        Some(array) => texts_of(alloc, array),
+        None => Err(ConfigError::File),
+    }
+}
+
+/// The configuration that a table says, whether or not it keeps the rules.
+#[tactic(auto, unfolding(crate::specs::Files::config_of))]
+pub(crate) fn config_of(alloc: Global, table: &Table) -> Result<Config, ConfigError>
+    ensures { Gives result (config_of (table_view table.now)) }
+{
+    if !has_known_keys(table) {
+        return Err(ConfigError::File);
+    }
+    let numbers = numbers_at(table).ok_or(ConfigError::File)?;
+    let ip = ip_at(table).ok_or(ConfigError::File)?;
+    let key = key_at(table).ok_or(ConfigError::File)?;
+    let domain = domain_at(alloc, table)?;
+    let users = users_at(alloc, table)?;
+    Ok(Config {
+        relay_first: numbers.relay_first,
+        relay_pairs: numbers.relay_pairs,
+        ip,
+        sip_port: numbers.sip_port,
+        users,
+        min_expires: numbers.min_expires,
+        domain,
+        workers: numbers.workers,
+        random_key: key,
+    })
+}

@@ -1,0 +1,20 @@
+//! How an office is configured: its values, the rules that they keep, and the file that says them (TOML).
+//!
+//! A configuration is a plain value, which may break the rules: `check` says which is broken first.
+#![tactic(auto)]
+
+mod config;
+mod error;
+mod example;
+mod fields;
+mod names;
+mod numbers;
+mod reading;
+mod rules;
+mod tables;
+
+pub use config::Config;
+pub use error::ConfigError;
+pub use example::example_config;
+pub use reading::read_config;
+pub use rules::check;

@@ -1,0 +1,126 @@
+//! The rules of a configuration.
+
+ghost use Rattle.std.specs.Prelude.{◌≡◌, ◌==◌, None, Some, MatchResult, OnOk};
+ghost use Rattle.std.specs.List.{list_all};
+ghost use Rattle.configuration.specs.Rules.{is_relay_port, has_room_for_ports, has_relay_ports, is_server_address, has_address, has_users, has_lifetime, has_domain, first_broken, KeepsRules};
+
+use crate::config::Config;
+use crate::error::ConfigError;
+use crate::names::{are_distinct, are_users, is_domain};
+
+const MIN_RELAY_PORT: u16 = 1024;
+
+const MAX_RELAY_PAIRS: u16 = 2048;
+
+/// How many ports there are, 0 included.
+const ALL_PORTS: u32 = 65536;
+
+const MAX_USERS: usize = 1000;
+
+/// The greatest number of seconds that may be the least lifetime of a binding.
+const MAX_MIN_EXPIRES: u32 = 3600;
+
+fn is_relay_port(config: &Config, port: u16) -> bool
+    ensures { result ≡ is_relay_port config.now port }
+{
+    config.relay_first <= port
+        && u32::from(port) < u32::from(config.relay_first) + 2 * u32::from(config.relay_pairs)
+}
+
+fn has_room_for_ports(config: &Config) -> bool
+    ensures { result ≡ has_room_for_ports config.now }
+{
+    u32::from(config.relay_first) + 2 * u32::from(config.relay_pairs) <= ALL_PORTS
+}
+
+#[tactic(auto, unfolding(crate::specs::Rules::has_relay_ports))]
+fn has_relay_ports(config: &Config) -> bool
+    ensures { result ≡ has_relay_ports config.now }
+{
+    config.relay_first % 2 == 0
+        && MIN_RELAY_PORT <= config.relay_first
+        && 1 <= config.relay_pairs
+        && config.relay_pairs <= MAX_RELAY_PAIRS
+        && has_room_for_ports(config)
+        && !is_relay_port(config, config.sip_port)
+}
+
+fn is_zero(ip: &[u8]) -> bool
+    ensures { result ≡ list_all (λ octet. octet == 0) ip.now }
+{
+    ip.iter().all(|octet| *octet == 0)
+}
+
+fn is_server_address(ip: &[u8; 4]) -> bool
+    ensures { result ≡ is_server_address ip.now }
+{
+    !is_zero(ip) && ip[0] < 224
+}
+
+#[tactic(auto, unfolding(crate::specs::Rules::has_address))]
+fn has_address(config: &Config) -> bool
+    ensures { result ≡ has_address config.now }
+{
+    is_server_address(&config.ip) && config.sip_port != 0
+}
+
+#[tactic(auto, unfolding(crate::specs::Rules::has_users))]
+fn has_users(config: &Config) -> bool
+    ensures { result ≡ has_users config.now }
+{
+    let users = config.users.as_slice();
+    1 <= users.len() && users.len() <= MAX_USERS && are_users(users) && are_distinct(users)
+}
+
+#[tactic(auto, unfolding(crate::specs::Rules::has_lifetime))]
+fn has_lifetime(config: &Config) -> bool
+    ensures { result ≡ has_lifetime config.now }
+{
+    1 <= config.min_expires && config.min_expires <= MAX_MIN_EXPIRES
+}
+
+#[tactic(auto, unfolding(crate::specs::Rules::has_domain))]
+fn has_domain(config: &Config) -> bool
+    ensures { result ≡ has_domain config.now }
+{
+    match &config.domain {
+        Some(name) => is_domain(name.as_bytes()),
+        None => true,
+    }
+}
+
+#[tactic(auto, unfolding(crate::specs::Rules::first_broken))]
+fn first_broken(config: &Config) -> Option<ConfigError>
+    ensures { result ≡ first_broken config.now }
+{
+    if !has_relay_ports(config) {
+        return Some(ConfigError::RelayPorts);
+    }
+    if !has_address(config) {
+        return Some(ConfigError::Address);
+    }
+    if !has_users(config) {
+        return Some(ConfigError::Users);
+    }
+    if !has_lifetime(config) {
+        return Some(ConfigError::MinExpires);
+    }
+    if !has_domain(config) {
+        return Some(ConfigError::Domain);
+    }
+    None
+}
+
+/// Says whether a configuration keeps the rules, and else which rule it breaks first. Takes no memory.
+#[tactic(auto, using(crate::proofs::RuleLaws::kept))]
+pub fn check(config: &Config) -> Result<(), ConfigError>
+    // What a configuration has that passes.
+    ensures kept { OnOk result (KeepsRules config.now) }
+    // It passes where no rule is broken, and else the first that is decides.
+    ensures exact { MatchResult result (λ _. first_broken config.now ≡ None) (λ e. first_broken config.now ≡ Some e) }
+{
+    match first_broken(config) {
+        Some(error) => Err(error),
+        None => Ok(()),
+    }
+}

@@ -1,0 +1,83 @@
+//! The values at the keys of a table.
+
+ghost use Rattle.std.specs.Prelude.{◌≡◌, option_map, string_bytes};
+ghost use Rattle.std.specs.List.{list_all};
+ghost use Rattle.std.specs.Map.{keys_of};
+ghost use Rattle.std.specs.Option.{option_copied};
+ghost use Rattle.toml.specs.Data.{get_member};
+ghost use Rattle.toml.specs.View.{view, array_view, table_view};
+ghost use Rattle.configuration.specs.Files.{is_same, is_known_key, has_known_keys, number_at, text_at, array_at};
+
+use toml::value::Array;
+use toml::{Table, Value};
+
+fn is_same(text: &[u8], other: &[u8]) -> bool
+    ensures { result ≡ is_same text.now other.now }
+{
+    text == other
+}
+
+fn is_known_key(key: &[u8]) -> bool
+    ensures { result ≡ is_known_key key.now }
+{
+    is_same(key, b"relay_first")
+        || is_same(key, b"relay_pairs")
+        || is_same(key, b"ip")
+        || is_same(key, b"sip_port")
+        || is_same(key, b"users")
+        || is_same(key, b"min_expires")
+        || is_same(key, b"domain")
+        || is_same(key, b"workers")
+        || is_same(key, b"random_key")
+}
+
+fn all_known(table: &Table) -> bool
+    ensures { result ≡ list_all (λ key. is_known_key (string_bytes key)) (keys_of table.now.entries) }
+{
+    table.keys().all(|key| is_known_key(key.as_bytes()))
+}
+
+/// Whether each key of the table is one of a configuration.
+#[tactic(auto, using(crate::proofs::KeyLaws::known_keys))]
+pub(crate) fn has_known_keys(table: &Table) -> bool
+    ensures { result ≡ has_known_keys (table_view table.now) }
+{
+    all_known(table)
+}
+
+/// The value at a key.
+pub(crate) fn value_at<'t>(table: &'t Table, key: &str) -> Option<&'t Value>
+    ensures { option_map (λ value. view value.now) result ≡ get_member key.now (table_view table.now) }
+{
+    table.get(key)
+}
+
+/// The whole number at a key.
+pub(crate) fn number_at(table: &Table, key: &str) -> Option<i64>
+    ensures { result ≡ number_at key.now (table_view table.now) }
+{
+    match value_at(table, key) {
+        Some(value) => value.as_integer(),
+        None => None,
+    }
+}
+
+/// The text at a key.
+pub(crate) fn text_at<'t>(table: &'t Table, key: &str) -> Option<&'t str>
+    ensures { option_copied result ≡ text_at key.now (table_view table.now) }
+{
+    match value_at(table, key) {
+        Some(value) => value.as_str(),
+        None => None,
+    }
+}
+
+/// The list at a key.
+pub(crate) fn array_at<'t>(table: &'t Table, key: &str) -> Option<&'t Array>
+    ensures { option_map (λ array. array_view array.now) result ≡ array_at key.now (table_view table.now) }
+{
+    match value_at(table, key) {
+        Some(value) => value.as_array(),
+        None => None,
+    }
+}

@@ -1,0 +1,9 @@
+//! What goes into the server and what comes out of it: events, and datagrams to send. Values alone: the moments and the salts
+//! are handed in, and nothing here reads a clock, draws a number or knows of SIP.
+#![tactic(auto)]
+
+mod event;
+mod sent;
+
+pub use event::{Event, What};
+pub use sent::Sent;

@@ -1,0 +1,11 @@
+//! What the server sends.
+
+use sip_uri::Addr;
+use text::Text;
+
+/// A datagram that is sent. Contracts see its bytes as a list.
+#[derive(Clone, Drop)]
+pub struct Sent {
+    pub to: Addr,
+    pub bytes: Text<'static>,
+}

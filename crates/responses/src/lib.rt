@@ -1,0 +1,17 @@
+//! The responses of the server's own (RFC 3261 sections 8.2, 10.3 and 11.2): what a request asks for, and what it is answered
+//! beside what every response repeats. Nothing here knows of transactions, dialogs or calls.
+#![tactic(auto)]
+
+mod registering;
+mod responding;
+mod tags;
+mod tokens;
+mod words;
+
+pub use registering::register_of;
+pub use responding::{
+    STATELESS, allow_header, contact_headers, refusal_headers, response_with, status_of,
+    unsupported_header,
+};
+pub use tokens::token;
+pub use words::{has_fit_branch, has_header, is_declined_method, is_method, is_offered_method};

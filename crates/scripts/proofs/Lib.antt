@@ -1,0 +1,3 @@
+mod NumberLaws
+mod EntryLaws
+mod ScriptLaws

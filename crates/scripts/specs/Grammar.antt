@@ -1,0 +1,62 @@
+-- What a script is.
+use Rattle.std.specs.Prelude.{◌≡◌, ℕ, List, [], ◌∷◌, ◌++◌, length, codes, Some, ◌⊎◌}
+use Rattle.sip_uri.specs.Hosts.{ip4_of}
+use Rattle.events.specs.declared.event.Event.{Event}
+use Rattle.scripts.specs.declared.error.ScriptError.{ScriptError}
+use Rattle.scripts.specs.declared.error.ScriptError.TheVariants.{OutOfMemory, Malformed}
+use Rattle.scripts.specs.Limits.{most_number, most_bytes}
+use Rattle.scripts.specs.Numbers.{number_of, port_of}
+use Rattle.scripts.specs.Values.{due_at, datagram_at}
+
+-- a word, one space, and more
+abbrev pub spaced : List ℕ → List ℕ → List ℕ
+spaced text more = text ++ 32 ∷ more
+
+-- a line, its line feed, and what stands behind it
+abbrev pub lined : List ℕ → List ℕ → List ℕ
+lined line behind = line ++ 10 ∷ behind
+
+-- the text is `T now salt`, a line feed, and the rest
+pub record BeginsDue (text : List ℕ) (e : Event) (rest : List ℕ) : Type 0 where
+  pub now_text : List ℕ
+  pub salt_text : List ℕ
+  pub now : ℕ
+  pub salt : ℕ
+  pub spelled : text ≡ lined (spaced (codes "T") (spaced now_text salt_text)) rest
+  pub now_is : number_of most_number now_text ≡ Some now
+  pub salt_is : number_of most_number salt_text ≡ Some salt
+  pub event : e ≡ due_at now salt
+
+-- the text is `D now salt ip port length`, a line feed, that many bytes, a line feed, and the rest
+pub record BeginsDatagram (text : List ℕ) (e : Event) (rest : List ℕ) : Type 0 where
+  pub now_text : List ℕ
+  pub salt_text : List ℕ
+  pub ip_text : List ℕ
+  pub port_text : List ℕ
+  pub length_text : List ℕ
+  pub now : ℕ
+  pub salt : ℕ
+  pub ip : List ℕ
+  pub port : ℕ
+  pub bytes : List ℕ
+  pub spelled : text ≡ lined (spaced (codes "D") (spaced now_text (spaced salt_text (spaced ip_text (spaced port_text length_text))))) (lined bytes rest)
+  pub now_is : number_of most_number now_text ≡ Some now
+  pub salt_is : number_of most_number salt_text ≡ Some salt
+  pub ip_is : ip4_of ip_text ≡ Some ip
+  pub port_is : port_of port_text ≡ Some port
+  pub length_is : number_of most_bytes length_text ≡ Some (length bytes)
+  pub event : e ≡ datagram_at now salt (record { ip = ip; port = port }) bytes
+
+-- the text begins with this event, and the rest stands behind it
+abbrev pub Begins : List ℕ → Event → List ℕ → Type 0
+Begins text e rest = BeginsDue text e rest ⊎ BeginsDatagram text e rest
+
+-- the text is these events, one behind the other
+abbrev pub ReadsScript : List ℕ → List Event → Type 0
+ReadsScript text [] = text ≡ []
+ReadsScript text (e ∷ es) = (rest : List ℕ) × Begins text e rest × ReadsScript rest es
+
+-- why a text is refused: it is no list of events
+abbrev pub Refuses : List ℕ → ScriptError → Type 0
+Refuses text OutOfMemory = Unit {0}
+Refuses text Malformed = (es : List Event) → ¬ (ReadsScript text es)

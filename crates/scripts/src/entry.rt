@@ -1,0 +1,133 @@
+//! The first event of a script.
+
+ghost use Rattle.std.specs.Prelude.{◌≡◌, IfOk};
+ghost use Rattle.events.specs.declared.event.What.TheVariants.{Datagram};
+ghost use Rattle.scripts.specs.Reading.{is_same, timer_of, bytes_of, datagram_of, entry_of, next_of};
+
+use crate::head::{Head, head_of};
+use crate::number::number_of;
+use events::{Event, What};
+use sip_uri::Addr;
+use std::alloc::{AllocError, Global};
+use std::marker::Model;
+use text::{Text, cut};
+
+/// The first event of a text, where its bytes stand, and what stands behind it.
+#[derive(Drop)]
+pub(crate) struct Entry<'a> {
+    moment: u64,
+    salt: u64,
+    /// Where the datagram comes from; none at a due timer.
+    source: Option<Addr>,
+    bytes: &'a [u8],
+    rest: &'a [u8],
+}
+
+impl<'a> Model for Entry<'a> {
+    ghost use Rattle.scripts.specs.Values.{Entry, event_at};
+
+    ghost Value = { Entry };
+
+    ghost view = { λ e. record { event = event_at e.moment e.salt e.source e.bytes.now; rest = e.rest.now } };
+}
+
+impl<'a> Entry<'a> {
+    /// What stands behind the event. Takes no memory.
+    pub(crate) fn rest(&self) -> &'a [u8]
+        ensures { result.now ≡ self.now.rest }
+    {
+        self.rest
+    }
+
+    /// The event, with bytes of its own.
+    pub(crate) fn event(&self, alloc: Global) -> Result<Event, AllocError>
+        ensures { IfOk result (λ e. e ≡ self.now.event) }
+    {
+        let what = match self.source {
+            Some(source) => datagram(alloc, source, self.bytes)?,
+            None => What::Due,
+        };
+        Ok(Event {
+            now: self.moment,
+            salt: self.salt,
+            what,
+        })
+    }
+}
+
+fn datagram(alloc: Global, source: Addr, bytes: &[u8]) -> Result<What, AllocError>
+    ensures { IfOk result (λ what. what ≡ Datagram source bytes.now) }
+{
+    Ok(What::Datagram {
+        source,
+        bytes: Text::from_slice(alloc, bytes)?,
+    })
+}
+
+fn is_same(text: &[u8], other: &[u8]) -> bool
+    ensures { result ≡ is_same text.now other.now }
+{
+    text == other
+}
+
+#[tactic(auto, unfolding(crate::specs::Reading::timer_of))]
+fn timer_of<'a>(fields: &'a [u8], behind: &'a [u8]) -> Option<Entry<'a>>
+    ensures { result ≡ timer_of fields.now behind.now }
+{
+    let (now, rest) = cut(fields, b' ');
+    let now = number_of(now)?;
+    let salt = number_of(rest?)?;
+    Some(Entry {
+        moment: now,
+        salt,
+        source: None,
+        bytes: &[],
+        rest: behind,
+    })
+}
+
+#[tactic(auto, unfolding(crate::specs::Reading::bytes_of))]
+fn bytes_of(head: Head, behind: &[u8]) -> Option<Entry<'_>>
+    ensures { result ≡ bytes_of head behind.now }
+{
+    if head.count < behind.len() && behind[head.count] == b'\n' {
+        Some(Entry {
+            moment: head.now,
+            salt: head.salt,
+            source: Some(head.source),
+            bytes: &behind[..head.count],
+            rest: &behind[head.count + 1..],
+        })
+    } else {
+        None
+    }
+}
+
+fn datagram_of<'a>(fields: &'a [u8], behind: &'a [u8]) -> Option<Entry<'a>>
+    ensures { result ≡ datagram_of fields.now behind.now }
+{
+    bytes_of(head_of(fields)?, behind)
+}
+
+fn entry_of<'a>(kind: &'a [u8], fields: &'a [u8], behind: &'a [u8]) -> Option<Entry<'a>>
+    ensures { result ≡ entry_of kind.now fields.now behind.now }
+{
+    if is_same(kind, b"T") {
+        return timer_of(fields, behind);
+    }
+    if is_same(kind, b"D") {
+        return datagram_of(fields, behind);
+    }
+    None
+}
+
+/// The event of the first line, with the bytes behind the line.
+#[tactic(auto, unfolding(crate::specs::Reading::next_of))]
+pub(crate) fn next_of(text: &[u8]) -> Option<Entry<'_>>
+    ensures { result ≡ next_of text.now }
+{
+    let (line, behind) = cut(text, b'\n');
+    let (kind, fields) = cut(line, b' ');
+    let fields = fields?;
+    entry_of(kind, fields, behind?)
+}
