@@ -1,7 +1,12 @@
-//! The office's call server: hands the words of the command line and the standard streams to the library `server`.
+//! The office's call server: hands the words of the command line, the files that they name and the standard streams to the
+//! library `server`.
 #![tactic(auto)]
 
+mod disk;
+
+use crate::disk::Disk;
 use server::{CommandError, Ending, run};
+use std::fs::Files;
 use std::process::ExitCode;
 use std::rt::Env;
 use std::{env, io};
@@ -22,13 +27,20 @@ fn words<R: Env + AllocGlobal>(rt: &R) -> Result<Vec<String>, CommandError> {
     Ok(words)
 }
 
-fn ending<R: Env + Input + Print + AllocGlobal>(rt: &R) -> Result<Ending, CommandError> {
+fn ending<R: Env + Files + Input + Print + AllocGlobal>(rt: &R) -> Result<Ending, CommandError> {
     let owned = words(rt)?;
     let mut words = Vec::new(rt.alloc());
     for word in &owned {
         words.push(word.as_str())?;
     }
-    Ok(run(rt.alloc(), &words, &mut rt.reader(), &mut io::writer(rt)))
+    let disk = Disk { rt };
+    Ok(run(
+        rt.alloc(),
+        &words,
+        &disk,
+        &mut rt.reader(),
+        &mut io::writer(rt),
+    ))
 }
 
 fn main(rt: HostRuntime) -> ExitCode {

@@ -2,10 +2,11 @@
 use Rattle.std.proofs.Common.{◌≡◌, ℕ, zero, suc, ◌+◌, ◌-◌, ◌≤◌, List, [], ◌∷◌, ◌++◌, length, take, Option, Some, None, Result, Ok, Err, OnOk, refl, sym, ap, subst, ◌∙◌, append_assoc, arith, length-append}
 use Rattle.std.proofs.Math.Seq.{take-append-add}
 use Rattle.std.proofs.lemmas.List.{take_all, append-nil}
-use Rattle.std.specs.Io.KnownBytes.{Consumes, Appends}
+use Rattle.std.specs.Io.KnownBytes.{Consumes, Appends, IsAtEnd, Keeps}
 use Rattle.server.specs.declared.fault.Fault.{Fault}
 use Rattle.events.specs.declared.sent.Sent.{Sent}
 use Rattle.server.specs.Input.{most_kept, Takes, Reads}
+use Rattle.server.specs.Replay.{HasText}
 use Rattle.server.specs.Once.{Answers, SendsFor, bytes_of}
 
 -- all of a short list is taken
@@ -24,11 +25,15 @@ take_kept zero xs ys = refl
 take_kept (suc n) [] ys = refl
 take_kept (suc n) (x ∷ xs) ys = ap (λ (t : List ℕ). x ∷ t) (take_kept n xs ys)
 
-consumes_more : (a b c : Option (List ℕ)) (xs ys : List ℕ) → Consumes a b xs → Consumes b c ys → Consumes a c (xs ++ ys)
+pub consumes_more : (a b c : Option (List ℕ)) (xs ys : List ℕ) → Consumes a b xs → Consumes b c ys → Consumes a c (xs ++ ys)
 consumes_more None b c xs ys h k = tt
 consumes_more (Some as') None c xs ys h k = absurd h
 consumes_more (Some as') (Some bs) None xs ys h k = absurd k
 consumes_more (Some as') (Some bs) (Some cs) xs ys h k = h ∙ ap (λ (t : List ℕ). xs ++ t) k ∙ sym (append_assoc xs ys cs)
+
+-- nothing more was taken
+pub consumes_same : (a b c : Option (List ℕ)) (xs : List ℕ) → Consumes a b xs → Consumes b c [] → Consumes a c xs
+consumes_same a b c xs h k = subst (λ (t : List ℕ). Consumes a c t) (append-nil xs) (consumes_more a b c xs [] h k)
 
 abbrev no_bytes : List ℕ
 no_bytes = []
@@ -58,3 +63,31 @@ pub answered_all : (r : Result (Unit {0}) Fault) (left left_after held held_afte
 answered_all (Ok done) left left_after held held_after datagram sent bytes reads sends is written =
     (datagram, sent, reads, sends, subst (λ (t : List ℕ). Appends held held_after t) is written)
 answered_all (Err e) left left_after held held_after datagram sent bytes reads sends is written = tt
+
+-- all that a file has
+pub has_text : (a b : Option (List ℕ)) (whole : List ℕ) → Consumes a b whole → IsAtEnd b → HasText a whole
+has_text None b whole h k = tt
+has_text (Some xs) None whole h k = absurd h
+has_text (Some xs) (Some ys) whole h k = h ∙ ap (λ (t : List ℕ). whole ++ t) k ∙ append-nil whole
+
+-- ---- what is written
+
+pub appends_more : (a b c : Option (List ℕ)) (xs ys : List ℕ) → Appends a b xs → Appends b c ys → Appends a c (xs ++ ys)
+appends_more None b c xs ys h k = tt
+appends_more (Some as') None c xs ys h k = absurd h
+appends_more (Some as') (Some bs) None xs ys h k = absurd k
+appends_more (Some as') (Some bs) (Some cs) xs ys h k = k ∙ ap (λ (t : List ℕ). t ++ ys) h ∙ append_assoc as' xs ys
+
+pub appends_kept : (a b c : Option (List ℕ)) (xs : List ℕ) → Appends a b xs → Keeps b c → Appends a c xs
+appends_kept None b c xs h k = tt
+appends_kept (Some as') None c xs h k = absurd h
+appends_kept (Some as') (Some bs) None xs h k = absurd k
+appends_kept (Some as') (Some bs) (Some cs) xs h k = k ∙ h
+
+pub appends_nothing : (a : Option (List ℕ)) → Appends a a []
+appends_nothing None = tt
+appends_nothing (Some xs) = sym (append-nil xs)
+
+pub keeps_same : (a : Option (List ℕ)) → Keeps a a
+keeps_same None = tt
+keeps_same (Some xs) = refl

@@ -1,13 +1,16 @@
 -- How a run of the program ends, and what the shell and the user are told.
-use Rattle.std.specs.Prelude.{◌≡◌, ℕ, List, Option, Some, None}
+use Rattle.std.specs.Prelude.{ℕ, List, Option, Some, None, option_map}
 use Rattle.std.specs.Io.KnownBytes.{Keeps}
 use Rattle.server.specs.declared.ending.Ending.{Ending}
 use Rattle.server.specs.declared.ending.Ending.TheVariants.{Done, Refused, Broken}
-use Rattle.server.specs.declared.words.Asked.TheVariants.{Once}
+use Rattle.server.specs.declared.fault.Fault.{Fault}
+use Rattle.server.specs.declared.words.Asked.{Asked}
+use Rattle.server.specs.declared.words.Asked.TheVariants.{Once, Replay}
 use Rattle.server.specs.Leaves.{Leaves}
 use Rattle.server.specs.Once.{Answers}
+use Rattle.server.specs.Replay.{Replays, ReplayLeaves}
 use Rattle.server.specs.Statuses.{status_of, fault_words_of, command_status_of, command_words_of}
-use Rattle.server.specs.Words.{named_by, name_of, RefusesWords}
+use Rattle.server.specs.Words.{Asks, RefusesWords}
 
 abbrev pub ending_status_of : Ending → ℕ
 ending_status_of Done = 0
@@ -19,12 +22,24 @@ ending_words_of Done = None
 ending_words_of (Refused error) = Some (command_words_of error)
 ending_words_of (Broken fault) = Some (fault_words_of fault)
 
--- the words name `once`
-abbrev pub AsksOnce : List (List ℕ) → Type 0
-AsksOnce words = named_by words ≡ Some (name_of Once)
+-- the bytes of the file of a path, where they are known
+abbrev pub Files : Type 0
+Files = List ℕ → Option (List ℕ)
 
--- what was asked, and what became of the bytes that the reader had left and the writer held
-abbrev pub Ends : List (List ℕ) → Ending → Option (List ℕ) → Option (List ℕ) → Option (List ℕ) → Option (List ℕ) → Type 0
-Ends words Done left left_after held held_after = AsksOnce words × Answers left left_after held held_after
-Ends words (Refused error) left left_after held held_after = RefusesWords words error × Keeps left left_after × Keeps held held_after
-Ends words (Broken fault) left left_after held held_after = AsksOnce words × Leaves fault held held_after
+-- what became of the bytes that the reader had left and the writer held, where it was done
+abbrev pub Does : Files → Asked → Option (List ℕ) → Option (List ℕ) → Option (List ℕ) → Option (List ℕ) → Type 0
+Does files Once left left_after held held_after = Answers left left_after held held_after
+Does files (Replay config script) left left_after held held_after =
+    Keeps left left_after × Replays (option_map (λ path. files path.now) config) (files script.now) held held_after
+
+-- and where a fault ended it
+abbrev pub Breaks : Files → Asked → Fault → Option (List ℕ) → Option (List ℕ) → Type 0
+Breaks files Once fault held held_after = Leaves fault held held_after
+Breaks files (Replay config script) fault held held_after =
+    ReplayLeaves (option_map (λ path. files path.now) config) (files script.now) fault held held_after
+
+-- what was asked, and what became of the bytes
+abbrev pub Ends : List (List ℕ) → Files → Ending → Option (List ℕ) → Option (List ℕ) → Option (List ℕ) → Option (List ℕ) → Type 0
+Ends words files Done left left_after held held_after = (asked : Asked) × Asks words asked × Does files asked left left_after held held_after
+Ends words files (Refused error) left left_after held held_after = RefusesWords words error × Keeps left left_after × Keeps held held_after
+Ends words files (Broken fault) left left_after held held_after = (asked : Asked) × Asks words asked × Breaks files asked fault held held_after

@@ -2,7 +2,7 @@
 use Rattle.std.specs.Prelude.{◌≡◌, ℕ, List, take, Option}
 use Rattle.std.specs.Io.KnownBytes.{Consumes, IsAtEnd}
 
--- of what is read, no more is kept than shows that a datagram is too long
+-- of a datagram that is read, no more is kept than shows that it is too long
 abbrev pub most_kept : ℕ
 most_kept = 16385
 
@@ -13,3 +13,7 @@ Takes left left_after kept = (whole : List ℕ) × Consumes left left_after whol
 -- all bytes were taken, and the first of them are kept
 abbrev pub Reads : Option (List ℕ) → Option (List ℕ) → List ℕ → Type 0
 Reads left left_after kept = Takes left left_after kept × IsAtEnd left_after
+
+-- all bytes were taken, and are kept
+abbrev pub ReadsAll : Option (List ℕ) → Option (List ℕ) → List ℕ → Type 0
+ReadsAll left left_after whole = Consumes left left_after whole × IsAtEnd left_after

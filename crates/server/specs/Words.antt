@@ -1,31 +1,71 @@
 -- The command line, in the words of the parser.
-use Rattle.std.specs.Prelude.{◌≡◌, ℕ, Bool, List, true, codes, ◌⊎◌, Option, Some, option_map}
-use Rattle.clap.specs.Simple.{App, Shape, new_app, on_top, with_subcommand, subcommand_of}
+use Rattle.std.specs.Prelude.{◌≡◌, ℕ, Bool, List, [], true, codes, ◌⊎◌, Option, Some, option_map, option_and_then}
+use Rattle.clap.specs.Simple.{App, Shape, new_app, new_rule, on_top, with_rule, with_subcommand, subcommand_of}
+use Rattle.clap.specs.Walk.{Row, Rule, first_of}
 use Rattle.clap.specs.Takes.{takes}
+use Rattle.clap.specs.Faults.{fault_of}
 use Rattle.server.specs.declared.words.Asked.{Asked}
-use Rattle.server.specs.declared.words.Asked.TheVariants.{Once}
+use Rattle.server.specs.declared.words.Asked.TheVariants.{Once, Replay}
 use Rattle.server.specs.declared.words.CommandError.{CommandError}
 use Rattle.server.specs.declared.words.CommandError.TheVariants.{Words, OutOfMemory}
 
 abbrev pub requiring : Shape → Shape
 requiring s = record s { subcommand_required = true }
 
--- `office once`
-abbrev pub office_app : App
-office_app = with_subcommand (on_top requiring (new_app (codes "office"))) (new_app (codes "once")).top
+-- `--config FILE`
+abbrev pub config_rule : Rule
+config_rule = record (new_rule (codes "config")) { long = Some (codes "config") }
 
--- the subcommand that the words name
-unfoldable pub named_by : List (List ℕ) → Option (List ℕ)
-named_by words = option_map (λ p. p.0) (subcommand_of office_app words)
+-- `SCRIPT`, which has to be there
+abbrev pub script_rule : Rule
+script_rule = record (new_rule (codes "script")) { required = true }
+
+abbrev pub once_app : App
+once_app = new_app (codes "once")
+
+abbrev pub replay_app : App
+replay_app = with_rule (with_rule (new_app (codes "replay")) config_rule) script_rule
+
+-- `office once`, and `office replay [--config FILE] SCRIPT`
+abbrev pub office_app : App
+office_app = with_subcommand (with_subcommand (on_top requiring (new_app (codes "office"))) once_app.top) replay_app.top
+
+-- the subcommand that the words name, and what they give its arguments
+unfoldable pub entered_by : List (List ℕ) → Option (List ℕ × List Row)
+entered_by words = subcommand_of office_app words
+
+abbrev pub name_in : Option (List ℕ × List Row) → Option (List ℕ)
+name_in entered = option_map (λ p. p.0) entered
+
+-- what stands for an argument
+abbrev pub value_in : List ℕ → Option (List ℕ × List Row) → Option (List ℕ)
+value_in id entered = option_and_then (λ p. first_of id p.1) entered
+
+-- the parser finds no fault in these words
+unfoldable pub passes : List (List ℕ) → Type 0
+passes words = fault_of office_app words ≡ []
 
 -- the parser takes these words
 unfoldable pub is_taken : List (List ℕ) → Bool
 is_taken words = takes office_app words
 
-abbrev pub name_of : Asked → List ℕ
-name_of Once = codes "once"
+-- `replay` with these values of its arguments
+abbrev pub IsReplay : Option (List ℕ) → Option (List ℕ) → Asked → Type 0
+IsReplay config_text script_text Once = ⊥
+IsReplay config_text script_text (Replay config script) =
+    (option_map (λ path. path.now) config ≡ config_text) × (Some script.now ≡ script_text)
 
--- words are refused only where the parser doesn't take them, or they name no subcommand
+-- what a subcommand and its arguments ask
+abbrev pub AsksIn : Option (List ℕ × List Row) → Asked → Type 0
+AsksIn entered Once = name_in entered ≡ Some (codes "once")
+AsksIn entered (Replay config script) =
+    (name_in entered ≡ Some (codes "replay")) × IsReplay (value_in (codes "config") entered) (value_in (codes "script") entered) (Replay config script)
+
+-- what the words ask
+abbrev pub Asks : List (List ℕ) → Asked → Type 0
+Asks words asked = AsksIn (entered_by words) asked
+
+-- words are refused only where the parser doesn't take them, or what it makes of them asks nothing
 abbrev pub RefusesWords : List (List ℕ) → CommandError → Type 0
-RefusesWords words Words = (is_taken words ≡ true → ⊥) ⊎ ((asked : Asked) → named_by words ≡ Some (name_of asked) → ⊥)
+RefusesWords words Words = (is_taken words ≡ true → ⊥) ⊎ ((asked : Asked) → Asks words asked → ⊥)
 RefusesWords words OutOfMemory = Unit {0}

@@ -1,29 +1,58 @@
-//! A whole run of the program, over its words and its streams.
+//! A whole run of the program, over its words, its files and its streams.
 
-ghost use Rattle.std.specs.Prelude.{map};
+ghost use Rattle.std.specs.Prelude.{map, option_map, IfErr, OnOk};
 ghost use Rattle.server.specs.Endings.{Ends};
+ghost use Rattle.server.specs.Replay.{Replays, ReplayLeaves};
 
+use crate::day::replay;
 use crate::ending::Ending;
+use crate::fault::Fault;
+use crate::shelf::Shelf;
 use crate::single::once;
 use crate::words::{Asked, command};
 use std::alloc::Global;
 use std::io::{Read, Write};
 
+/// `replay` over files.
+fn replay_files<F: Shelf, W: Write>(
+    alloc: Global,
+    shelf: &F,
+    config: Option<&str>,
+    script: &str,
+    writer: &mut W,
+) -> Result<(), Fault>
+    ensures written { OnOk result (Replays (option_map (λ path. F.contents shelf.now path.now) config.entry) (F.contents shelf.now script.now) (W.contents writer.old) (W.contents writer.new)) }
+    ensures refused { IfErr result (λ e. ReplayLeaves (option_map (λ path. F.contents shelf.now path.now) config.entry) (F.contents shelf.now script.now) e (W.contents writer.old) (W.contents writer.new)) }
+{
+    let config = match config {
+        Some(path) => Some(shelf.open(path)),
+        None => None,
+    };
+    replay(alloc, config, shelf.open(script), writer)
+}
+
 /// Does what the words of the command line ask, of which the first is the program's own: `once` answers the datagram that
-/// the reader has on the writer.
-pub fn run<R: Read, W: Write>(
+/// the reader has on the writer, and `replay` runs the script of a file.
+pub fn run<F: Shelf, R: Read, W: Write>(
     alloc: Global,
     words: &[&str],
+    shelf: &F,
     reader: &mut R,
     writer: &mut W,
 ) -> Ending
-    ensures { Ends (map (λ w. w.now) words.now) result (R.remaining reader.old) (R.remaining reader.new) (W.contents writer.old) (W.contents writer.new) }
+    ensures { Ends (map (λ w. w.now) words.now) (F.contents shelf.now) result (R.remaining reader.old) (R.remaining reader.new) (W.contents writer.old) (W.contents writer.new) }
 {
     match command(alloc, words) {
         Ok(Asked::Once) => match once(alloc, reader, writer) {
             Ok(()) => Ending::Done,
             Err(fault) => Ending::Broken(fault),
         },
+        Ok(Asked::Replay { config, script }) => {
+            match replay_files(alloc, shelf, config, script, writer) {
+                Ok(()) => Ending::Done,
+                Err(fault) => Ending::Broken(fault),
+            }
+        }
         Err(error) => Ending::Refused(error),
     }
 }

@@ -4,16 +4,16 @@ use std::alloc::{AllocError, AllocFailed};
 use std::error::Error;
 use std::fmt;
 
-/// Why `once` gave up.
+/// Why `once` or `replay` gave up.
 #[derive(Clone, Copy, Debug, PartialEq, Eq)]
 pub enum Fault {
-    /// The input failed or never ended. Nothing was written.
+    /// The input or the script failed, never ended, or is no script. Nothing was written.
     Input,
-    /// The configuration breaks a rule. Nothing was written.
+    /// The file of the configuration failed, never ended, or says none that keeps the rules. Nothing was written.
     Config,
     /// The output failed. How much was written is open.
     Output,
-    /// Memory ran out. Nothing was written.
+    /// Memory ran out. Nothing was written but what a script's events before sent.
     OutOfMemory,
 }
 

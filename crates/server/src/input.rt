@@ -1,8 +1,9 @@
-//! One datagram from a reader.
+//! One datagram from a reader, and all that a reader has.
 
 ghost use Rattle.std.specs.Prelude.{◌≡◌, ◌≤◌, ◌++◌, take, length, vec_len, IfOk, IfErr, OnOk};
 ghost use Rattle.std.specs.Io.KnownBytes.{ReadConsumes};
-ghost use Rattle.server.specs.Input.{most_kept, Reads};
+ghost use Rattle.server.specs.Input.{most_kept, Reads, ReadsAll};
+ghost use Rattle.server.specs.Leaves.{IsOfReading};
 
 use crate::fault::Fault;
 use std::alloc::{AllocError, Global};
@@ -43,7 +44,8 @@ fn read_some<R: Read>(reader: &mut R, chunk: &mut [u8]) -> Result<usize, Fault>
 
 /// Reads to the end, and keeps the first bytes of it. An input that has not ended after so many reads is a fault.
 pub fn read_datagram<R: Read>(alloc: Global, reader: &mut R) -> Result<Vec<u8>, Fault>
-    ensures { IfOk result (λ v. Reads (R.remaining reader.old) (R.remaining reader.new) v.items) }
+    ensures read { IfOk result (λ v. Reads (R.remaining reader.old) (R.remaining reader.new) v.items) }
+    ensures fault { IfErr result IsOfReading }
 {
     let mut whole = Vec::new(alloc);
     let mut chunk = [0u8; 4096];
@@ -53,6 +55,23 @@ pub fn read_datagram<R: Read>(alloc: Global, reader: &mut R) -> Result<Vec<u8>, 
             return Ok(whole);
         }
         keep(&mut whole, &chunk[..count])?;
+    }
+    Err(Fault::Input)
+}
+
+/// Reads to the end, and keeps all of it. An input that has not ended after so many reads is a fault.
+pub(crate) fn read_whole<R: Read>(alloc: Global, reader: &mut R) -> Result<Vec<u8>, Fault>
+    ensures read { IfOk result (λ v. ReadsAll (R.remaining reader.old) (R.remaining reader.new) v.items) }
+    ensures fault { IfErr result IsOfReading }
+{
+    let mut whole = Vec::new(alloc);
+    let mut chunk = [0u8; 4096];
+    for _ in 0..MOST_READS {
+        let count = read_some(reader, &mut chunk)?;
+        if count == 0 {
+            return Ok(whole);
+        }
+        whole.extend_from_slice(&chunk[..count])?;
     }
     Err(Fault::Input)
 }

@@ -1,16 +1,23 @@
-//! The call server between the bytes of its streams: what a command line asks, and what is sent for a datagram.
+//! The call server between the bytes of its files and streams: what a command line asks, what is sent for a datagram, and what
+//! is sent at the events of a script.
 #![tactic(auto)]
 
 mod command_line;
+mod day;
 mod ending;
 mod fault;
 mod input;
+mod making;
+mod output;
+mod shelf;
 mod single;
 mod words;
 
 pub use command_line::run;
+pub use day::replay;
 pub use ending::Ending;
 pub use fault::Fault;
 pub use input::read_datagram;
+pub use shelf::Shelf;
 pub use single::once;
 pub use words::{Asked, CommandError, command};

@@ -5,12 +5,14 @@ ghost use Rattle.std.specs.Io.KnownBytes.{Appends};
 ghost use Rattle.configuration.specs.Example.{example};
 ghost use Rattle.agent.specs.State.{IsNew};
 ghost use Rattle.server.specs.Once.{Answers, SendsFor, bytes_of};
-ghost use Rattle.server.specs.Leaves.{IsOfConfig, Leaves};
+ghost use Rattle.server.specs.Leaves.{Leaves};
 
 use crate::fault::Fault;
 use crate::input::read_datagram;
+use crate::making::agent_of;
+use crate::output::write_out;
 use agent::Agent;
-use configuration::{ConfigError, example_config};
+use configuration::example_config;
 use events::{Event, Sent, What};
 use sip_uri::Addr;
 use std::alloc::{AllocError, Global};
@@ -23,32 +25,18 @@ const SOURCE: Addr = Addr {
     port: 6000,
 };
 
-fn write_out<W: Write>(writer: &mut W, bytes: &[u8]) -> Result<(), Fault>
-    ensures written { OnOk result (Appends (W.contents writer.old) (W.contents writer.new) bytes.now) }
-    ensures fault { IfErr result (λ e. e ≡ Fault.Output) }
-{
-    match writer.write_all(bytes) {
-        Ok(()) => Ok(()),
-        Err(_) => Err(Fault::Output),
-    }
-}
-
 /// The example office, to which nothing has happened.
 fn example_agent(alloc: Global) -> Result<Agent, Fault>
     ensures made { IfOk result (IsNew example) }
-    ensures refused { IfErr result IsOfConfig }
+    ensures refused { IfErr result (λ e. e ≡ Fault.OutOfMemory) }
 {
     let config = example_config(alloc)?;
-    match Agent::new(alloc, &config) {
-        Ok(agent) => Ok(agent),
-        Err(ConfigError::OutOfMemory) => Err(Fault::OutOfMemory),
-        Err(_) => Err(Fault::Config),
-    }
+    agent_of(alloc, &config)
 }
 
 fn sent_for(alloc: Global, datagram: Vec<u8>) -> Result<Vec<Sent>, Fault>
     ensures sent { IfOk result (λ sent. SendsFor datagram.items sent.items) }
-    ensures refused { IfErr result IsOfConfig }
+    ensures refused { IfErr result (λ e. e ≡ Fault.OutOfMemory) }
 {
     let mut agent = example_agent(alloc)?;
     let event = Event {

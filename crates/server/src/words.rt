@@ -1,21 +1,25 @@
 //! The command line.
 
-ghost use Rattle.std.specs.Prelude.{◌≡◌, ◌≢◌, map, codes, Some, None, option_map, IfOk, IfErr, IfSome, IfNone};
-ghost use Rattle.clap.specs.Simple.{app_of};
-ghost use Rattle.clap.specs.Matches.{subcommand_name_of};
-ghost use Rattle.server.specs.Words.{office_app, named_by, name_of, RefusesWords};
+ghost use Rattle.std.specs.Prelude.{◌≡◌, map, codes, Some, None, option_map, IfOk, OnOk, IfErr, IfSome, IfNone};
+ghost use Rattle.clap.specs.Words.{app_of, first_value, found_of, subcommand_rows_of};
+ghost use Rattle.server.specs.Words.{office_app, passes, Asks, AsksIn, IsReplay, RefusesWords};
 
 use clap::error::ErrorKind;
-use clap::{ArgMatches, Command};
+use clap::{Arg, ArgMatches, Command};
 use std::alloc::{AllocError, AllocFailed, Global};
 use std::error::Error;
 use std::fmt;
 
 /// What is asked of the program.
 #[derive(Clone, Copy, Debug, PartialEq, Eq)]
-pub enum Asked {
+pub enum Asked<'a> {
     /// Answer one datagram of standard input on standard output.
     Once,
+    /// Run a script, on the office of a configuration or on the example office. Both are paths.
+    Replay {
+        config: Option<&'a str>,
+        script: &'a str,
+    },
 }
 
 /// Why a command line is refused.
@@ -87,21 +91,39 @@ impl<T: Drop> From<AllocFailed<T>> for CommandError {
     }
 }
 
+/// The words that the program takes.
 fn office<'a>(alloc: Global) -> Result<Command<'a>, AllocError>
     ensures { IfOk result (λ c. app_of c ≡ office_app) }
 {
     let once = Command::new(alloc, "once");
+    let config = Arg::new(alloc, "config").long("config");
+    let script = Arg::new(alloc, "script").required(true);
+    let replay = Command::new(alloc, "replay").arg(config)?.arg(script)?;
     let office = Command::new(alloc, "office").subcommand_required(true);
-    office.subcommand(once)
+    office.subcommand(once)?.subcommand(replay)
 }
 
-fn asked_by(matches: &ArgMatches<'_>) -> Option<Asked>
-    ensures some { IfSome result (λ a. subcommand_name_of matches.now ≡ Some (name_of a)) }
-    ensures none { IfNone result ((a : Asked) → subcommand_name_of matches.now ≡ Some (name_of a) → ⊥) }
+/// What the arguments of `replay` ask.
+fn replay_by<'a>(matches: &ArgMatches<'a>) -> Option<Asked<'a>>
+    ensures some { IfSome result (λ a. IsReplay (first_value (found_of matches.now) (codes "config")) (first_value (found_of matches.now) (codes "script")) a) }
+    ensures none { IfNone result (first_value (found_of matches.now) (codes "script") ≡ None) }
 {
-    let (name, _) = matches.subcommand()?;
+    let script = matches.get_str("script")?;
+    Some(Asked::Replay {
+        config: matches.get_str("config"),
+        script,
+    })
+}
+
+fn asked_by<'a>(matches: &ArgMatches<'a>) -> Option<Asked<'a>>
+    ensures some { IfSome result (λ a. AsksIn (subcommand_rows_of matches.now) a) }
+    ensures none { IfNone result ((a : Asked) → AsksIn (subcommand_rows_of matches.now) a → ⊥) }
+{
+    let (name, below) = matches.subcommand()?;
     if name == "once" {
         Some(Asked::Once)
+    } else if name == "replay" {
+        replay_by(below)
     } else {
         None
     }
@@ -109,9 +131,12 @@ fn asked_by(matches: &ArgMatches<'_>) -> Option<Asked>
 
 /// Reads a command line, of which the first word is the program's own. A call for help is refused like any other word
 /// that asks for nothing.
-#[tactic(auto, unfolding(crate::specs::Words::named_by, crate::specs::Words::is_taken))]
-pub fn command<'a>(alloc: Global, words: &'a [&'a str]) -> Result<Asked, CommandError>
-    ensures asked { IfOk result (λ a. named_by (map (λ w. w.now) words.now) ≡ Some (name_of a)) }
+#[tactic(auto, unfolding(crate::specs::Words::entered_by, crate::specs::Words::is_taken, crate::specs::Words::passes))]
+pub fn command<'a>(alloc: Global, words: &'a [&'a str]) -> Result<Asked<'a>, CommandError>
+    // What the words ask.
+    ensures asked { IfOk result (λ a. Asks (map (λ w. w.now) words.now) a) }
+    // Only words in which the parser finds no fault ask anything.
+    ensures passes { OnOk result (passes (map (λ w. w.now) words.now)) }
     ensures refused { IfErr result (λ e. RefusesWords (map (λ w. w.now) words.now) e) }
 {
     let office = office(alloc)?;

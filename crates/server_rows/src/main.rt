@@ -1,6 +1,7 @@
 //! Rows of `server`.
 #![tactic(auto)]
 
+mod replay_rows;
 mod server_rows;
 mod streams;
 

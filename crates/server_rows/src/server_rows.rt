@@ -1,12 +1,13 @@
 //! Rows of calls of `server`, some of them over readers and writers that give little or fail.
 
-use crate::streams::{EndlessReader, NarrowWriter, slow};
+use crate::replay_rows::replay_answer;
+use crate::streams::{EndlessReader, NarrowWriter, TwoFiles, slow};
 use rows::{Rows, number, said, shown, usize_of};
 use server::{Asked, CommandError, Ending, Fault, command, once, read_datagram, run};
 use std::alloc::{AllocError, Global};
 
 /// Bytes, or that there are none.
-fn shown_or_nothing(alloc: Global, bytes: &[u8]) -> Result<String, AllocError> {
+pub(crate) fn shown_or_nothing(alloc: Global, bytes: &[u8]) -> Result<String, AllocError> {
     if bytes.is_empty() {
         return said(alloc, "nothing");
     }
@@ -14,7 +15,7 @@ fn shown_or_nothing(alloc: Global, bytes: &[u8]) -> Result<String, AllocError> {
 }
 
 /// A fault in its words. Want of memory goes up.
-fn fault_text(alloc: Global, fault: Fault) -> Result<String, AllocError> {
+pub(crate) fn fault_text(alloc: Global, fault: Fault) -> Result<String, AllocError> {
     match fault {
         Fault::OutOfMemory => Err(AllocError),
         fault => format!(in alloc; "{fault}, status {}", fault.status()),
@@ -80,7 +81,10 @@ fn length_text(alloc: Global, count: usize, size: usize) -> Result<String, Alloc
 }
 
 /// The words of a row behind the program's own, if each is text.
-fn command_words<'a>(alloc: Global, args: &[&'a [u8]]) -> Result<Option<Vec<&'a str>>, AllocError> {
+pub(crate) fn command_words<'a>(
+    alloc: Global,
+    args: &[&'a [u8]],
+) -> Result<Option<Vec<&'a str>>, AllocError> {
     let mut words = Vec::new(alloc);
     words.push("office")?;
     for arg in args {
@@ -92,29 +96,45 @@ fn command_words<'a>(alloc: Global, args: &[&'a [u8]]) -> Result<Option<Vec<&'a 
     Ok(Some(words))
 }
 
+fn asked_text(alloc: Global, config: Option<&str>, script: &str) -> Result<String, AllocError> {
+    match config {
+        Some(config) => format!(in alloc; "replay {script} on {config}"),
+        None => format!(in alloc; "replay {script} on the example office"),
+    }
+}
+
 fn command_text(alloc: Global, words: &[&str]) -> Result<String, AllocError> {
     match command(alloc, words) {
         Ok(Asked::Once) => said(alloc, "once"),
+        Ok(Asked::Replay { config, script }) => asked_text(alloc, config, script),
         Err(CommandError::OutOfMemory) => Err(AllocError),
         Err(error) => format!(in alloc; "{error}, status {}", error.status()),
     }
 }
 
-fn ending_text(alloc: Global, ending: Ending) -> Result<String, AllocError> {
+pub(crate) fn ending_text(alloc: Global, ending: Ending) -> Result<String, AllocError> {
     match ending.words() {
         Some(words) => format!(in alloc; "{words}, status {}", ending.status()),
         None => format!(in alloc; "no words, status {}", ending.status()),
     }
 }
 
-/// A whole run of the program over this input.
+/// Whether memory ran out, which goes up.
+pub(crate) fn is_out_of_memory(ending: Ending) -> bool {
+    ending == Ending::Refused(CommandError::OutOfMemory)
+        || ending == Ending::Broken(Fault::OutOfMemory)
+}
+
+/// A whole run of the program over this input, and two empty files.
 fn run_text(alloc: Global, text: &[u8], words: &[&str]) -> Result<String, AllocError> {
     let mut reader = slow(text, 100, 0);
     let mut written = Vec::new(alloc);
-    let ending = run(alloc, words, &mut reader, &mut written);
-    if ending == Ending::Refused(CommandError::OutOfMemory)
-        || ending == Ending::Broken(Fault::OutOfMemory)
-    {
+    let files = TwoFiles {
+        config: &[],
+        script: &[],
+    };
+    let ending = run(alloc, words, &files, &mut reader, &mut written);
+    if is_out_of_memory(ending) {
         return Err(AllocError);
     }
     let outcome = ending_text(alloc, ending)?;
@@ -194,7 +214,12 @@ fn answer(alloc: Global, call: &str, args: &[&[u8]]) -> Result<Option<String>, A
         ("read_length", [count, given]) => length_text(alloc, usize_of(count), usize_of(given)),
         ("command", words) => return of_command(alloc, words),
         ("run", [text, words @ ..]) => return of_run(alloc, text, words),
-        _ => return named_text(alloc, call, args),
+        _ => {
+            return match named_text(alloc, call, args)? {
+                Some(text) => Ok(Some(text)),
+                None => replay_answer(alloc, call, args),
+            };
+        }
     };
     Ok(Some(answer?))
 }

@@ -1,5 +1,6 @@
-//! Readers and writers that give and take little, or fail.
+//! Readers and writers that give and take little, or fail, and files of them.
 
+use server::Shelf;
 use std::io;
 use std::io::{ErrorKind, Read, Write};
 
@@ -72,5 +73,30 @@ pub(crate) fn slow(text: &[u8], size: usize, failing: u64) -> SlowReader<'_> {
         size,
         reads: 0,
         failing,
+    }
+}
+
+/// A file `office.toml` and a file `day.script`. Each read of any other fails.
+#[derive(Drop)]
+pub(crate) struct TwoFiles<'a> {
+    pub(crate) config: &'a [u8],
+    pub(crate) script: &'a [u8],
+}
+
+impl<'a> Shelf for TwoFiles<'a> {
+    type File = SlowReader<'a>;
+
+    ghost use Rattle.std.specs.Prelude.{None};
+
+    ghost contents = { λ _ _. None };
+
+    fn open(&self, path: &str) -> SlowReader<'a> {
+        if path == "office.toml" {
+            slow(self.config, 100, 0)
+        } else if path == "day.script" {
+            slow(self.script, 100, 0)
+        } else {
+            slow(&[], 100, 1)
+        }
     }
 }

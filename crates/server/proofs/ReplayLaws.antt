@@ -1,0 +1,139 @@
+-- What a run of a script writes, event by event, and what its faults leave.
+use Rattle.std.proofs.Common.{◌≡◌, ◌≢◌, ◌∙◌, ℕ, ◌+◌, ◌<◌, List, [], ◌∷◌, ◌++◌, length, take, drop, fold, Option, Some, None, Result, Ok, Err, OnOk, IfErr, IsErrAnd, inl, inr, refl, sym, ap, subst, append_assoc, arith}
+use Rattle.std.specs.List.{flat_map, slice_index_or}
+use Rattle.std.proofs.lemmas.List.{append-nil, take-append-drop}
+use Rattle.std.proofs.lemmas.List.Concat.{flat_map-append}
+use Rattle.std.specs.Io.KnownBytes.{Appends, Keeps}
+use Rattle.configuration.specs.declared.config.Config.{Config}
+use Rattle.configuration.specs.declared.error.ConfigError.{ConfigError}
+use Rattle.configuration.specs.declared.error.ConfigError.TheVariants as refusals
+use Rattle.configuration.specs.Example.{example}
+use Rattle.configuration.specs.Rules.{first_broken, has_address, has_domain, has_lifetime, has_relay_ports, has_users}
+use Rattle.sip_uri.specs.Hosts.{ip4_of, is_host, is_hostname}
+use Rattle.events.specs.declared.event.Event.{Event}
+use Rattle.events.specs.declared.sent.Sent.{Sent}
+use Rattle.scripts.specs.Writing.{sent_text}
+use Rattle.agent.specs.Rows.{after, row}
+use Rattle.agent.specs.State.{Contents, RefusesConfig}
+use Rattle.server.specs.declared.fault.Fault.{Fault}
+use Rattle.server.specs.declared.fault.Fault.TheVariants.{Input, Config as ConfigFault, Output, OutOfMemory}
+use Rattle.server.specs.Faults.{config_fault}
+use Rattle.server.specs.Leaves.{Leaves, IsOfConfig, IsOfOffice, IsOfReading}
+use Rattle.server.specs.Replay.{after_all, run_text, sends_of, text_of, Day, EventLeaves, IsOffice, IsScript, Replays, ReplayLeaves, RunLeaves, WritesFirst}
+use Rattle.server.proofs.InputLaws.{appends_kept, appends_more, keeps_same}
+
+-- ---- offices
+
+-- the example office breaks no rule
+pub example_keeps : first_broken example ≡ None
+unfolding first_broken has_relay_ports has_address has_users has_lifetime has_domain is_host ip4_of is_hostname
+example_keeps = refl
+
+-- an office that breaks no rule is refused for want of memory alone
+pub only_memory : (c : Config) (e : ConfigError) → first_broken c ≡ None → RefusesConfig c e → config_fault e ≡ OutOfMemory
+only_memory c refusals.OutOfMemory kept h = refl
+only_memory c refusals.RelayPorts kept h = let bad = sym kept ∙ h in cc
+only_memory c refusals.Address kept h = let bad = sym kept ∙ h in cc
+only_memory c refusals.Users kept h = let bad = sym kept ∙ h in cc
+only_memory c refusals.MinExpires kept h = let bad = sym kept ∙ h in cc
+only_memory c refusals.Domain kept h = let bad = sym kept ∙ h in cc
+only_memory c refusals.File kept h = absurd h
+
+pub of_config : (e : ConfigError) → IsOfConfig (config_fault e)
+of_config refusals.OutOfMemory = tt
+of_config refusals.RelayPorts = tt
+of_config refusals.Address = tt
+of_config refusals.Users = tt
+of_config refusals.MinExpires = tt
+of_config refusals.Domain = tt
+of_config refusals.File = tt
+
+pub of_office : (file : Option (List ℕ)) (e : Fault) → IsOfConfig e → IsOfOffice (Some file) e
+of_office file Input h = absurd h
+of_office file ConfigFault h = λ none. cc
+of_office file Output h = absurd h
+of_office file OutOfMemory h = tt
+
+-- ---- a run, and one event more
+
+pub text_more : (agent : Contents) (es : List Event) (e : Event) → run_text agent (es ++ e ∷ []) ≡ run_text agent es ++ text_of (row (after_all agent es) e).sends
+text_more agent [] e = ap text_of (append-nil (row agent e).sends)
+text_more agent (x ∷ es) e =
+    flat_map-append sent_text (row agent x).sends (sends_of (after agent x) (es ++ e ∷ []))
+    ∙ ap (λ (t : List ℕ). text_of (row agent x).sends ++ t) (text_more (after agent x) es e)
+    ∙ sym (append_assoc (text_of (row agent x).sends) (run_text (after agent x) es) (text_of (row (after_all (after agent x) es) e).sends))
+    ∙ ap (λ (t : List ℕ). t ++ text_of (row (after_all (after agent x) es) e).sends) (sym (flat_map-append sent_text (row agent x).sends (sends_of (after agent x) es)))
+
+pub after_more : (agent : Contents) (es : List Event) (e : Event) → after_all agent (es ++ e ∷ []) ≡ after (after_all agent es) e
+after_more agent [] e = refl
+after_more agent (x ∷ es) e = after_more (after agent x) es e
+
+-- what one event that was not taken leaves of the run
+stopped : (agent : Contents) (done rest : List Event) (e : Fault) (held now held_after : Option (List ℕ))
+    → Appends held now (run_text agent done) → EventLeaves e now held_after → RunLeaves agent (done ++ rest) e held held_after
+stopped agent done rest Input held now held_after h k = absurd k
+stopped agent done rest ConfigFault held now held_after h k = absurd k
+stopped agent done rest Output held now held_after h k = tt
+stopped agent done rest OutOfMemory held now held_after h k = (done, rest, refl, appends_kept held now held_after _ h k)
+
+pub stopped_at : (r : Result (Unit {0}) Fault) (agent : Contents) (events : List Event) (i : ℕ) (e : Fault) (held now held_after : Option (List ℕ)) → IsErrAnd r (λ y. y ≡ e)
+    → Appends held now (run_text agent (take i events)) → EventLeaves e now held_after → IfErr r (λ x. RunLeaves agent events x held held_after)
+stopped_at (Ok done) agent events i e held now held_after is h k = absurd is
+stopped_at (Err x) agent events i e held now held_after is h k =
+    subst (λ (es : List Event). RunLeaves agent es x held held_after) (take-append-drop i events)
+    (stopped agent (take i events) (drop i events) x held now held_after h (subst (λ (y : Fault). EventLeaves y now held_after) (sym is) k))
+
+-- ---- the whole
+
+pub replayed : (r : Result (Unit {0}) Fault) (config : Option (Option (List ℕ))) (script held held_after : Option (List ℕ)) (day : Day config script)
+    → OnOk r (Appends held held_after (run_text day.agent day.events)) → OnOk r (Replays config script held held_after)
+replayed (Ok done) config script held held_after day h = (day, h)
+replayed (Err e) config script held held_after day h = tt
+
+-- of the same files
+pub replayed_as : (r : Result (Unit {0}) Fault) (config files : Option (Option (List ℕ))) (script file held held_after : Option (List ℕ)) → config ≡ files → script ≡ file
+    → OnOk r (Replays config script held held_after) → OnOk r (Replays files file held held_after)
+replayed_as r config files script file held held_after config_is script_is h =
+    subst (λ (o : Option (Option (List ℕ))). OnOk r (Replays o file held held_after)) config_is
+    (subst (λ (s : Option (List ℕ)). OnOk r (Replays config s held held_after)) script_is h)
+
+run_leaves : (config : Option (Option (List ℕ))) (script held held_after : Option (List ℕ)) (day : Day config script) (e : Fault)
+    → RunLeaves day.agent day.events e held held_after → ReplayLeaves config script e held held_after
+run_leaves config script held held_after day Input h = absurd h
+run_leaves config script held held_after day ConfigFault h = absurd h
+run_leaves config script held held_after day Output h = day
+run_leaves config script held held_after day OutOfMemory h = inr (day, h)
+
+pub not_replayed : (r : Result (Unit {0}) Fault) (config : Option (Option (List ℕ))) (script held held_after : Option (List ℕ)) (day : Day config script)
+    → IfErr r (λ e. RunLeaves day.agent day.events e held held_after) → IfErr r (λ e. ReplayLeaves config script e held held_after)
+not_replayed (Ok done) config script held held_after day h = tt
+not_replayed (Err e) config script held held_after day h = run_leaves config script held held_after day e h
+
+-- a fault of the office, before anything was written
+pub office_leaves : (config : Option (Option (List ℕ))) (script held : Option (List ℕ)) (e : Fault) → IsOfOffice config e → ReplayLeaves config script e held held
+office_leaves config script held Input h = absurd h
+office_leaves config script held ConfigFault h = (h, keeps_same held)
+office_leaves config script held Output h = absurd h
+office_leaves config script held OutOfMemory h = inl (keeps_same held)
+
+-- a fault of the script, behind an office
+pub script_leaves : (config : Option (Option (List ℕ))) (script held : Option (List ℕ)) (office : Config) (e : Fault)
+    → IsOffice config office → IsOfReading e → ReplayLeaves config script e held held
+script_leaves config script held office Input is h = (office, is, keeps_same held)
+script_leaves config script held office ConfigFault is h = absurd h
+script_leaves config script held office Output is h = absurd h
+script_leaves config script held office OutOfMemory is h = inl (keeps_same held)
+
+pub memory_leaves : (config : Option (Option (List ℕ))) (script held : Option (List ℕ)) (e : Fault) → e ≡ OutOfMemory → ReplayLeaves config script e held held
+memory_leaves config script held e is = subst (λ (x : Fault). ReplayLeaves config script x held held) (sym is) (inl (keeps_same held))
+
+-- of `once`
+reading_leaves : (held : Option (List ℕ)) (e : Fault) → IsOfReading e → Leaves e held held
+reading_leaves held Input h = keeps_same held
+reading_leaves held ConfigFault h = absurd h
+reading_leaves held Output h = absurd h
+reading_leaves held OutOfMemory h = keeps_same held
+
+pub unread_leaves : {T : Type 0} (r : Result T Fault) (held : Option (List ℕ)) (e : Fault) → IsErrAnd r (λ y. y ≡ e) → IsOfReading e → IfErr r (λ x. Leaves x held held)
+unread_leaves (Ok x) held e is h = absurd is
+unread_leaves (Err x) held e is h = reading_leaves held x (subst IsOfReading (sym is) h)

@@ -1,0 +1,93 @@
+-- What `replay` writes for a script: the text of all that the agent sends, event by event, on an office to which nothing has
+-- happened.
+use Rattle.std.specs.Prelude.{◌≡◌, ◌≢◌, ℕ, List, [], ◌∷◌, ◌++◌, ◌⊎◌, fold, Option, Some, None}
+use Rattle.std.specs.List.{flat_map}
+use Rattle.std.specs.Io.KnownBytes.{Appends, Keeps}
+use Rattle.configuration.specs.declared.config.Config.{Config}
+use Rattle.configuration.specs.Example.{example}
+use Rattle.configuration.specs.Reading.{ReadsConfig}
+use Rattle.events.specs.declared.event.Event.{Event}
+use Rattle.events.specs.declared.sent.Sent.{Sent}
+use Rattle.scripts.specs.Grammar.{ReadsScript}
+use Rattle.scripts.specs.Writing.{sent_text}
+use Rattle.agent.specs.Rows.{after, row}
+use Rattle.agent.specs.State.{Contents, IsNew}
+use Rattle.server.specs.declared.fault.Fault.{Fault}
+use Rattle.server.specs.declared.fault.Fault.TheVariants.{Input, Config as ConfigFault, Output, OutOfMemory}
+
+-- ---- a run
+
+-- the agent after these events
+abbrev pub after_all : Contents → List Event → Contents
+after_all agent events = fold after agent events
+
+-- what it sends at them, in order
+abbrev pub sends_of : Contents → List Event → List Sent
+sends_of agent [] = []
+sends_of agent (e ∷ es) = (row agent e).sends ++ sends_of (after agent e) es
+
+-- the text of what is sent
+abbrev pub text_of : List Sent → List ℕ
+text_of sent = flat_map sent_text sent
+
+abbrev pub run_text : Contents → List Event → List ℕ
+run_text agent events = text_of (sends_of agent events)
+
+-- ---- what is read
+
+-- a file with these bytes, where that is known, reads as this text
+abbrev pub HasText : Option (List ℕ) → List ℕ → Type 0
+HasText None text = Unit {0}
+HasText (Some bytes) text = bytes ≡ text
+
+-- the office: the example, or what the file of a configuration says
+abbrev pub IsOffice : Option (Option (List ℕ)) → Config → Type 0
+IsOffice None config = config ≡ example
+IsOffice (Some file) config = (text : List ℕ) × HasText file text × ReadsConfig text config
+
+-- the file is this script
+abbrev pub IsScript : Option (List ℕ) → List Event → Type 0
+IsScript file events = (text : List ℕ) × HasText file text × ReadsScript text events
+
+-- ---- what is written
+
+-- an agent to which nothing has happened, of the office, and the events of the script
+pub record Day (config : Option (Option (List ℕ))) (script : Option (List ℕ)) : Type 0 where
+  pub office : Config
+  pub agent : Contents
+  pub events : List Event
+  pub configured : IsOffice config office
+  pub new : IsNew office agent
+  pub told : IsScript script events
+
+-- the text of all that is sent was written behind what the writer held
+abbrev pub Replays : Option (Option (List ℕ)) → Option (List ℕ) → Option (List ℕ) → Option (List ℕ) → Type 0
+Replays config script held held_after = (day : Day config script) × Appends held held_after (run_text day.agent day.events)
+
+-- the text of what is sent at the first of these events was written, and nothing else
+abbrev pub WritesFirst : Contents → List Event → Option (List ℕ) → Option (List ℕ) → Type 0
+WritesFirst agent events held held_after =
+    (done : List Event) × (rest : List Event) × (events ≡ done ++ rest) × Appends held held_after (run_text agent done)
+
+-- what an event leaves that could not be taken or whose text could not be written
+abbrev pub EventLeaves : Fault → Option (List ℕ) → Option (List ℕ) → Type 0
+EventLeaves Input held held_after = ⊥
+EventLeaves ConfigFault held held_after = ⊥
+EventLeaves Output held held_after = Unit {0}
+EventLeaves OutOfMemory held held_after = Keeps held held_after
+
+-- what events leave of which one was not taken, or its text not written
+abbrev pub RunLeaves : Contents → List Event → Fault → Option (List ℕ) → Option (List ℕ) → Type 0
+RunLeaves agent events Input held held_after = ⊥
+RunLeaves agent events ConfigFault held held_after = ⊥
+RunLeaves agent events Output held held_after = Unit {0}
+RunLeaves agent events OutOfMemory held held_after = WritesFirst agent events held held_after
+
+-- what a fault leaves of the output, and when it comes: one of the configuration only where a file was handed over for it, and
+-- one of the script only where there is an office
+abbrev pub ReplayLeaves : Option (Option (List ℕ)) → Option (List ℕ) → Fault → Option (List ℕ) → Option (List ℕ) → Type 0
+ReplayLeaves config script Input held held_after = (office : Config) × IsOffice config office × Keeps held held_after
+ReplayLeaves config script ConfigFault held held_after = (config ≢ None) × Keeps held held_after
+ReplayLeaves config script Output held held_after = Day config script
+ReplayLeaves config script OutOfMemory held held_after =
+    Keeps held held_after ⊎ ((day : Day config script) × WritesFirst day.agent day.events held held_after)

@@ -1,0 +1,141 @@
+//! `replay`: the events of a script, which an office takes one after the other, to which nothing has happened before.
+
+ghost use Rattle.std.specs.Prelude.{◌≡◌, None, Some, IfErr, IfOk, OnOk, option_map};
+ghost use Rattle.std.specs.Io.KnownBytes.{Appends};
+ghost use Rattle.configuration.specs.Rules.{first_broken};
+ghost use Rattle.agent.specs.Rows.{after, row};
+ghost use Rattle.server.specs.Faults.{script_fault, unread_config};
+ghost use Rattle.server.specs.Leaves.{IsOfConfig, IsOfOffice, IsOfReading};
+ghost use Rattle.server.specs.Replay.{after_all, run_text, text_of, EventLeaves, IsOffice, IsScript, Replays, ReplayLeaves, RunLeaves};
+
+use crate::fault::Fault;
+use crate::input::read_whole;
+use crate::making::{agent_of, config_fault};
+use crate::output::write_out;
+use agent::Agent;
+use configuration::{Config, example_config, read_config};
+use events::{Event, Sent};
+use scripts::{ScriptError, put_sent, read_script};
+use std::alloc::{AllocError, Global};
+use std::io::{Read, Write};
+
+/// What a fault of reading is where a configuration was read.
+fn unread_config(fault: Fault) -> Fault
+    ensures { result ≡ unread_config fault }
+{
+    match fault {
+        Fault::OutOfMemory => Fault::OutOfMemory,
+        _ => Fault::Config,
+    }
+}
+
+/// The configuration that a file says.
+fn config_of<C: Read + Drop>(alloc: Global, mut file: C) -> Result<Config, Fault>
+    ensures read { IfOk result (λ config. IsOffice (Some (C.remaining file)) config) }
+    ensures kept { IfOk result (λ config. first_broken config ≡ None) }
+    ensures refused { IfErr result IsOfConfig }
+{
+    let text = match read_whole(alloc, &mut file) {
+        Ok(text) => text,
+        Err(fault) => return Err(unread_config(fault)),
+    };
+    match read_config(alloc, &text) {
+        Ok(config) => Ok(config),
+        Err(error) => Err(config_fault(error)),
+    }
+}
+
+/// The configuration of a file, or the example office.
+fn office_of<C: Read + Drop>(alloc: Global, file: Option<C>) -> Result<Config, Fault>
+    ensures read { IfOk result (λ config. IsOffice (option_map (λ f. C.remaining f) file) config) }
+    ensures kept { IfOk result (λ config. first_broken config ≡ None) }
+    ensures refused { IfErr result (IsOfOffice (option_map (λ f. C.remaining f) file)) }
+{
+    match file {
+        Some(file) => config_of(alloc, file),
+        None => Ok(example_config(alloc)?),
+    }
+}
+
+fn script_fault(error: ScriptError) -> Fault
+    ensures { result ≡ script_fault error }
+{
+    match error {
+        ScriptError::OutOfMemory => Fault::OutOfMemory,
+        ScriptError::Malformed => Fault::Input,
+    }
+}
+
+/// The events of a script, all of them.
+fn events_of<S: Read + Drop>(alloc: Global, mut file: S) -> Result<Vec<Event>, Fault>
+    ensures read { IfOk result (λ events. IsScript (S.remaining file) events.items) }
+    ensures refused { IfErr result IsOfReading }
+{
+    let text = read_whole(alloc, &mut file)?;
+    match read_script(alloc, &text) {
+        Ok(events) => Ok(events),
+        Err(error) => Err(script_fault(error)),
+    }
+}
+
+/// The text of what is sent.
+fn text_of(alloc: Global, sent: &[Sent]) -> Result<Vec<u8>, AllocError>
+    ensures { IfOk result (λ text. text.items ≡ text_of sent.now) }
+{
+    let mut text = Vec::new(alloc);
+    for datagram in sent {
+        put_sent(&mut text, datagram)?;
+    }
+    Ok(text)
+}
+
+/// Takes an event, and writes the text of what is sent.
+fn play_event<W: Write>(
+    alloc: Global,
+    agent: &mut Agent,
+    event: &Event,
+    writer: &mut W,
+) -> Result<(), Fault>
+    ensures agent { OnOk result (agent.new ≡ after agent.old event.entry.now) }
+    ensures written { OnOk result (Appends (W.contents writer.old) (W.contents writer.new) (text_of (row agent.old event.entry.now).sends)) }
+    ensures refused { IfErr result (λ e. EventLeaves e (W.contents writer.old) (W.contents writer.new)) }
+{
+    let mut sent = Vec::new(alloc);
+    agent.step(event, &mut sent)?;
+    let text = text_of(alloc, &sent)?;
+    write_out(writer, text.as_slice())
+}
+
+/// Takes the events in order, and writes the text of what is sent at each before the next is taken.
+fn play<W: Write>(
+    alloc: Global,
+    agent: &mut Agent,
+    events: &[Event],
+    writer: &mut W,
+) -> Result<(), Fault>
+    ensures agent { OnOk result (agent.new ≡ after_all agent.old events.now) }
+    ensures written { OnOk result (Appends (W.contents writer.old) (W.contents writer.new) (run_text agent.old events.now)) }
+    ensures refused { IfErr result (λ e. RunLeaves agent.old events.now e (W.contents writer.old) (W.contents writer.new)) }
+{
+    for event in events {
+        play_event(alloc, agent, event, writer)?;
+    }
+    Ok(())
+}
+
+/// Reads a configuration, if there is a file of one, then a whole script, and writes the text of all that the office sends at its
+/// events, one event after the other. An event that memory is refused for ends the run behind what was sent before it.
+pub fn replay<C: Read + Drop, S: Read + Drop, W: Write>(
+    alloc: Global,
+    config: Option<C>,
+    script: S,
+    writer: &mut W,
+) -> Result<(), Fault>
+    ensures written { OnOk result (Replays (option_map (λ f. C.remaining f) config) (S.remaining script) (W.contents writer.old) (W.contents writer.new)) }
+    ensures refused { IfErr result (λ e. ReplayLeaves (option_map (λ f. C.remaining f) config) (S.remaining script) e (W.contents writer.old) (W.contents writer.new)) }
+{
+    let office = office_of(alloc, config)?;
+    let events = events_of(alloc, script)?;
+    let mut agent = agent_of(alloc, &office)?;
+    play(alloc, &mut agent, &events, writer)
+}

@@ -1,0 +1,33 @@
+//! The agent of a configuration.
+
+ghost use Rattle.std.specs.Prelude.{◌≡◌, None, IfErr, IfOk};
+ghost use Rattle.configuration.specs.Rules.{first_broken};
+ghost use Rattle.agent.specs.State.{IsNew};
+ghost use Rattle.server.specs.Faults.{config_fault};
+
+use crate::fault::Fault;
+use agent::Agent;
+use configuration::{Config, ConfigError};
+use std::alloc::Global;
+
+/// What a refusal of a configuration is to the program.
+pub(crate) fn config_fault(error: ConfigError) -> Fault
+    ensures { result ≡ config_fault error }
+{
+    match error {
+        ConfigError::OutOfMemory => Fault::OutOfMemory,
+        _ => Fault::Config,
+    }
+}
+
+/// The agent of an office to which nothing has happened.
+pub(crate) fn agent_of(alloc: Global, config: &Config) -> Result<Agent, Fault>
+    requires { first_broken config.now ≡ None }
+    ensures made { IfOk result (IsNew config.now) }
+    ensures refused { IfErr result (λ e. e ≡ Fault.OutOfMemory) }
+{
+    match Agent::new(alloc, config) {
+        Ok(agent) => Ok(agent),
+        Err(error) => Err(config_fault(error)),
+    }
+}
