@@ -1,19 +1,16 @@
 -- That the media of a call are served after an answer was passed on, and after the call ended.
-use Rattle.std.proofs.Common.{◌≡◌, ◌≢◌, ◌&&◌, ◌∙◌, ℕ, Bool, true, false, not, cond, List, [], Option, Some, None, refl, sym, ap, subst}
+use Rattle.std.proofs.Common.{◌≡◌, ◌≢◌, ◌∙◌, ℕ, Bool, true, false, cond, Option, Some, None, refl, sym, ap}
 use Rattle.std.specs.FinMap.{get}
-use Rattle.port_pool.specs.Holdings.{even_of, holder_at, is_among, is_call}
-use Rattle.port_pool.specs.Pool.{AreBareBut, Contents, hop_of, is_port_of, with_changes}
-use Rattle.offer_answer.specs.Session.{session_lines}
+use Rattle.port_pool.specs.Holdings.{even_of, holder_at, is_call}
+use Rattle.port_pool.specs.Pool.{AreBareBut, Contents, is_port_of, with_changes}
 use Rattle.call_media.specs.declared.session.OpenOffer.{OpenOffer}
-use Rattle.call_media.specs.declared.session.Session.{Session}
-use Rattle.call_media.specs.declared.session.SessionRows.{SessionRows}
 use Rattle.call_media.specs.declared.state.CallMedia.{CallMedia}
 use Rattle.call_media.specs.declared.answering.PlannedAnswer.{PlannedAnswer}
-use Rattle.call_media.specs.Answers.{FitsRows, IsFit, session_over, session_planned, with_session}
+use Rattle.call_media.specs.Answers.{IsFit, session_planned, with_session}
 use Rattle.call_media.specs.Offers.{ended}
-use Rattle.call_media.specs.Seats.{evens, pairs_at, stands_in}
+use Rattle.call_media.specs.Seats.{evens, stands_in}
 use Rattle.call_media.specs.Sessions.{pairs_of_session}
-use Rattle.call_media.specs.Serving.{SameFor, Serves, SparesOthers, are_held}
+use Rattle.call_media.specs.Serving.{Serves, SparesOthers}
 use Rattle.call_media.proofs.HeldLaws.{among, holder_of_own, other_holder}
 use Rattle.call_media.proofs.AnswerLaws.{held_even, listed, no_hop}
 use Rattle.call_media.proofs.SpareLaws.{Left, left_all_held, left_bare, left_spares}

@@ -1,5 +1,5 @@
 -- What passing an answer on takes, when it is refused, and the session that it makes.
-use Rattle.std.specs.Prelude.{◌≡◌, ℕ, List, Option, Some, None, map, IsTrue}
+use Rattle.std.specs.Prelude.{◌≡◌, ℕ, List, Some, None, map, IsTrue}
 use Rattle.std.specs.FinMap.{get}
 use Rattle.port_pool.specs.declared.changes.Change.{Change}
 use Rattle.port_pool.specs.Changes.{LeadFrom}

@@ -38,7 +38,11 @@ RefusesPairs pool needed now NoPorts = length (free_pairs now pool.holdings) < n
 abbrev pub RefusesOffer : CallMedia → Contents → End → Description → ℕ → OfferRefusal → Type 0
 RefusesOffer m pool e offer now OutOfMemory = Unit {0}
 RefusesOffer m pool e offer now (Unfit fault) = offer_fault m.range offer (previous e m.session) ≡ Some fault
-RefusesOffer m pool e offer now NoPorts = length (free_pairs now pool.holdings) < fresh_needed m e offer
+RefusesOffer m pool e offer now NoPorts = (offer_fault m.range offer (previous e m.session) ≡ None) × (length (free_pairs now pool.holdings) < fresh_needed m e offer)
+
+-- enough pairs are free
+abbrev pub HasPairs : CallMedia → Contents → End → Description → ℕ → Type 0
+HasPairs m pool e offer now = fresh_needed m e offer ≤ length (free_pairs now pool.holdings)
 
 -- the pairs of the offer's media, over the lowest pairs that are free
 abbrev pub seats_offered : CallMedia → Contents → End → Description → ℕ → List (Option Seat)

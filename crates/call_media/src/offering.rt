@@ -1,7 +1,7 @@
 //! What passing an offer on takes.
 
-ghost use Rattle.std.specs.Prelude.{◌≡◌, ◌≢◌, ℕ, All, IfOk, IfErr, OnOk, None, true, length};
-ghost use Rattle.port_pool.specs.Holdings.{AreRising, LeadsPair, even_of, holder_at, is_among};
+ghost use Rattle.std.specs.Prelude.{◌≡◌, ◌≢◌, ◌≤◌, ℕ, All, IfOk, IfErr, OnOk, None, true, length};
+ghost use Rattle.port_pool.specs.Holdings.{AreRising, LeadsPair, even_of, free_pairs, holder_at, is_among};
 ghost use Rattle.port_pool.specs.Pool.{AreFree, lowest_free};
 ghost use Rattle.offer_answer.specs.Checks.{offer_fault};
 ghost use Rattle.offer_answer.specs.Direct.{hold_address};
@@ -9,7 +9,7 @@ ghost use Rattle.call_media.specs.declared.end.End.TheVariants.{Caller};
 ghost use Rattle.call_media.specs.Ends.{is_same};
 ghost use Rattle.call_media.specs.Seats.{seated};
 ghost use Rattle.call_media.specs.Sessions.{previous};
-ghost use Rattle.call_media.specs.Offers.{DoFor, IsPassedOn, IsReady, RefusesOffer, RefusesPairs, fresh_needed, opened, opened_over};
+ghost use Rattle.call_media.specs.Offers.{DoFor, HasPairs, IsPassedOn, IsReady, RefusesOffer, RefusesPairs, fresh_needed, opened, opened_over};
 ghost use Rattle.call_media.specs.Serving.{Serves};
 
 use crate::end::End;
@@ -35,6 +35,7 @@ pub struct PlannedOffer {
 fn free_pairs(pool: &Pool, needed: usize, now: u64) -> Result<Vec<Pair>, OfferRefusal>
     ensures pairs { IfOk result (λ pairs. pairs.items ≡ lowest_free pool.now now needed) }
     ensures count { IfOk result (λ pairs. length pairs.items ≡ needed) }
+    ensures enough { OnOk result (needed ≤ length (free_pairs now pool.now.holdings)) }
     ensures free { IfOk result (λ pairs. AreFree pool.now now pairs.items) }
     ensures unheld { IfOk result (λ pairs. (port : ℕ) → is_among pairs.items (even_of port) ≡ true →
         holder_at pool.now.holdings port ≡ None) }
@@ -63,6 +64,7 @@ impl CallMedia {
     ) -> Result<PlannedOffer, OfferRefusal>
         requires { Serves self.now pool.now }
         ensures fits { OnOk result (offer_fault self.now.range offer.now (previous end self.now.session) ≡ None) }
+        ensures enough { OnOk result (HasPairs self.now pool.now end offer.now now) }
         ensures offer { IfOk result (λ p. p.offer ≡ opened self.now pool.now end offer.now now) }
         ensures fresh { IfOk result (λ p. p.fresh.items ≡ lowest_free pool.now now (fresh_needed self.now end offer.now)) }
         ensures ready { IfOk result (λ p. IsReady self.now pool.now now p) }
