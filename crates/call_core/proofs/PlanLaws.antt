@@ -52,9 +52,9 @@ plain_step c s (inputs.Offer x method offer) pool now h k = absurd (h x method o
 plain_step c s (inputs.Answer answer) pool now h k = absurd (k answer refl)
 plain_step c s input pool now h k = refl
 
-pub plain_may : (c : Call) (s : Standing) (input : Input)
+pub plain_may : (c : Call) (s : Standing) (pool : Contents) (input : Input) (now : ℕ)
     → ((x : End) (method : OfferMethod) (offer : Option Description) → input ≡ inputs.Offer x method offer → ⊥) → ((answer : Option Description) → input ≡ inputs.Answer answer → ⊥)
-    → MayTake c s input
-plain_may c s (inputs.Offer x method offer) h k = absurd (h x method offer refl)
-plain_may c s (inputs.Answer answer) h k = absurd (k answer refl)
-plain_may c s input h k = tt
+    → MayTake c s pool input now
+plain_may c s pool (inputs.Offer x method offer) now h k = absurd (h x method offer refl)
+plain_may c s pool (inputs.Answer answer) now h k = absurd (k answer refl)
+plain_may c s pool input now h k = tt

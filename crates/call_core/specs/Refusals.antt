@@ -10,7 +10,7 @@ use Rattle.call_media.specs.declared.refusal.OfferRefusal.{OfferRefusal}
 use Rattle.call_media.specs.declared.refusal.OfferRefusal.TheVariants as media
 use Rattle.call_media.specs.declared.state.CallMedia.{CallMedia}
 use Rattle.call_media.specs.Ends.{other}
-use Rattle.call_media.specs.Offers.{fresh_needed}
+use Rattle.call_media.specs.Offers.{HasPairs, fresh_needed}
 use Rattle.call_media.specs.Sessions.{previous}
 use Rattle.call_core.specs.declared.call.Call.{Call}
 use Rattle.call_core.specs.declared.input.Input.{Input}
@@ -36,10 +36,18 @@ abbrev pub IsFaultOf : CallMedia → End → Option Description → OfferFault �
 IsFaultOf m x None fault = ⊥
 IsFaultOf m x (Some offer) fault = offer_fault m.range offer (previous x m.session) ≡ Some fault
 
--- too few pairs are free for the offer's media
+-- it may say so, but too few pairs are free for the offer's media
 abbrev pub LacksPairs : CallMedia → Contents → End → Option Description → ℕ → Type 0
 LacksPairs m pool x None now = ⊥
-LacksPairs m pool x (Some offer) now = length (free_pairs now pool.holdings) < fresh_needed m x offer
+LacksPairs m pool x (Some offer) now = (offer_fault m.range offer (previous x m.session) ≡ None) × (length (free_pairs now pool.holdings) < fresh_needed m x offer)
+
+-- RFC 3264 lets the end say this after what it gave before, the relay carries it, and enough pairs are free
+abbrev pub MayPass : CallMedia → Contents → End → Description → ℕ → Type 0
+MayPass m pool x offer now = (offer_fault m.range offer (previous x m.session) ≡ None) × HasPairs m pool x offer now
+
+abbrev pub MayPassIfAny : CallMedia → Contents → End → Option Description → ℕ → Type 0
+MayPassIfAny m pool x None now = ⊥
+MayPassIfAny m pool x (Some offer) now = MayPass m pool x offer now
 
 -- why the first offer of a call is not passed on
 abbrev pub RefusesFirst : CallMedia → Contents → End → Option Description → ℕ → CallRefusal → Type 0
@@ -57,7 +65,8 @@ RefusesLater c pool x offer now (Crosses clash) = clash_in c.standing x ≡ Some
 RefusesLater c pool x offer now Undescribed = (clash_in c.standing x ≡ None) × (offer ≡ None)
 RefusesLater c pool x offer now (Unfit fault) = (clash_in c.standing x ≡ None) × IsFaultOf c.media x offer fault
 RefusesLater c pool x offer now NoPorts = (clash_in c.standing x ≡ None) × LacksPairs c.media pool x offer now
-RefusesLater c pool x offer now NumberAtItsEnd = (clash_in c.standing x ≡ None) × (has_number_left (dialog_of (other x) c) ≡ false)
+RefusesLater c pool x offer now NumberAtItsEnd =
+    (clash_in c.standing x ≡ None) × MayPassIfAny c.media pool x offer now × (has_number_left (dialog_of (other x) c) ≡ false)
 
 abbrev pub IsNoMemory : CallRefusal → Type 0
 IsNoMemory OutOfMemory = Unit {0}
@@ -83,28 +92,28 @@ RefusesInput c pool inputs.Wait now refusal = IsNoMemory refusal
 
 -- ---- what is not refused
 
--- what can be passed on: it has a description that the end may offer and that the relay carries, and a number is left
-abbrev pub IsPassable : Call → End → Option Description → Type 0
-IsPassable c x None = ⊥
-IsPassable c x (Some offer) = (offer_fault c.media.range offer (previous x c.media.session) ≡ None) × (has_number_left (dialog_of (other x) c) ≡ true)
+-- what can be passed on: it has a description that may pass, and a number is left
+abbrev pub IsPassable : Call → Contents → End → Option Description → ℕ → Type 0
+IsPassable c pool x offer now = MayPassIfAny c.media pool x offer now × (has_number_left (dialog_of (other x) c) ≡ true)
 
 -- no other offer crosses this one; where it has a line, it can be passed on
-abbrev pub MayOffer : Call → Standing → End → OfferMethod → Option Description → Type 0
-MayOffer c s x method offer = (clash_of s.stage s.offerer x ≡ None) × IfLine (λ row. IsPassable c x offer) (row_of s (signals.Offer x method))
+abbrev pub MayOffer : Call → Standing → Contents → End → OfferMethod → Option Description → ℕ → Type 0
+MayOffer c s pool x method offer now =
+    (clash_of s.stage s.offerer x ≡ None) × IfLine (λ row. IsPassable c pool x offer now) (row_of s (signals.Offer x method))
 
-abbrev pub MayTake : Call → Standing → Input → Type 0
-MayTake c s (inputs.Offer x method offer) = MayOffer c s x method offer
-MayTake c s (inputs.Provisional status) = Unit {0}
-MayTake c s (inputs.Answer answer) = Unit {0}
-MayTake c s (inputs.Refusal status) = Unit {0}
-MayTake c s inputs.TimedOut = Unit {0}
-MayTake c s inputs.Ack = Unit {0}
-MayTake c s inputs.Cancel = Unit {0}
-MayTake c s (inputs.Bye end) = Unit {0}
-MayTake c s inputs.Limit = Unit {0}
-MayTake c s inputs.Repeat = Unit {0}
-MayTake c s inputs.Wait = Unit {0}
+abbrev pub MayTake : Call → Standing → Contents → Input → ℕ → Type 0
+MayTake c s pool (inputs.Offer x method offer) now = MayOffer c s pool x method offer now
+MayTake c s pool (inputs.Provisional status) now = Unit {0}
+MayTake c s pool (inputs.Answer answer) now = Unit {0}
+MayTake c s pool (inputs.Refusal status) now = Unit {0}
+MayTake c s pool inputs.TimedOut now = Unit {0}
+MayTake c s pool inputs.Ack now = Unit {0}
+MayTake c s pool inputs.Cancel now = Unit {0}
+MayTake c s pool (inputs.Bye end) now = Unit {0}
+MayTake c s pool inputs.Limit now = Unit {0}
+MayTake c s pool inputs.Repeat now = Unit {0}
+MayTake c s pool inputs.Wait now = Unit {0}
 
-abbrev pub MayTakeIn : Call → Option Standing → Input → Type 0
-MayTakeIn c None input = Unit {0}
-MayTakeIn c (Some s) input = MayTake c s input
+abbrev pub MayTakeIn : Call → Option Standing → Contents → Input → ℕ → Type 0
+MayTakeIn c None pool input now = Unit {0}
+MayTakeIn c (Some s) pool input now = MayTake c s pool input now

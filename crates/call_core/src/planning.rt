@@ -5,15 +5,13 @@ ghost use Rattle.std.specs.List.{list_any};
 ghost use Rattle.port_pool.specs.Pool.{Contents, is_port_of};
 ghost use Rattle.offer_answer.specs.Direct.{hold_address};
 ghost use Rattle.call_media.specs.declared.end.End.TheVariants.{Caller};
-ghost use Rattle.offer_answer.specs.Checks.{offer_fault};
-ghost use Rattle.call_media.specs.Sessions.{previous};
 ghost use Rattle.dialogs.specs.declared.state.Dialog.{Dialog};
 ghost use Rattle.call_core.specs.declared.signal.Signal.TheVariants as signals;
 ghost use Rattle.call_core.specs.declared.plan.MediaPlan.TheVariants.{Holds};
 ghost use Rattle.call_core.specs.CallRows.{answer_at, call_row, first_call_row, offer_at, offer_step, signal_at, signal_step, step_at, unchanged};
 ghost use Rattle.call_core.specs.Calls.{IsServed, awaits_answer, clash_in, dialog_of, has_number_left, new_call, new_media, number_to, none_counted};
 ghost use Rattle.call_core.specs.Plans.{AnswersOn, IsPlanned, LeadsOn, OffersOn, carried, ends_media, is_plain, is_release, is_removal, releases};
-ghost use Rattle.call_core.specs.Refusals.{IsPassable, MayOffer, MayTake, MayTakeIn, RefusesFirst, RefusesInput, RefusesLater};
+ghost use Rattle.call_core.specs.Refusals.{IsPassable, MayOffer, MayPass, MayTake, MayTakeIn, RefusesFirst, RefusesInput, RefusesLater};
 ghost use Rattle.call_core.specs.Table.{first_row, row_of};
 
 use crate::action::{Action, Actions};
@@ -47,7 +45,7 @@ impl Call {
         requires nowhere { self.now.standing ≡ None }
         ensures row { IfOk result (λ p. carried self.now pool.now now p ≡ first_call_row self.now offer.now pool.now now) }
         ensures planned { IfOk result (IsPlanned self.now pool.now now) }
-        ensures fits { OnOk result (offer_fault self.now.media.range offer.now (previous Caller self.now.media.session) ≡ None) }
+        ensures may { OnOk result (MayPass self.now.media pool.now Caller offer.now now) }
         ensures refused { IfErr result (RefusesFirst self.now.media pool.now Caller (Some offer.now) now) }
     {
         let row = opening_row(alloc)?;
@@ -67,7 +65,7 @@ impl Call {
         requires { IsServed self.now pool.now }
         ensures row { IfOk result (λ p. carried self.now pool.now now p ≡ call_row self.now input.now pool.now now) }
         ensures planned { IfOk result (IsPlanned self.now pool.now now) }
-        ensures may { OnOk result (MayTakeIn self.now self.now.standing input.now) }
+        ensures may { OnOk result (MayTakeIn self.now self.now.standing pool.now input.now now) }
         ensures refused { IfErr result (RefusesInput self.now pool.now input.now now) }
     {
         match self.standing {
@@ -88,7 +86,7 @@ impl Call {
         requires stands { self.now.standing ≡ Some standing }
         ensures row { IfOk result (λ p. carried self.now pool.now now p ≡ step_at self.now standing input.now pool.now now) }
         ensures planned { IfOk result (IsPlanned self.now pool.now now) }
-        ensures may { OnOk result (MayTake self.now standing input.now) }
+        ensures may { OnOk result (MayTake self.now standing pool.now input.now now) }
         ensures refused { IfErr result (RefusesInput self.now pool.now input.now now) }
     {
         match input {
@@ -219,7 +217,7 @@ impl Call {
         ensures row { IfOk result (λ p. carried self.now pool.now now p
             ≡ offer_at self.now standing (signals.Offer end method) end offer.now pool.now now) }
         ensures planned { IfOk result (IsPlanned self.now pool.now now) }
-        ensures may { OnOk result (MayOffer self.now standing end method offer.now) }
+        ensures may { OnOk result (MayOffer self.now standing pool.now end method offer.now now) }
         ensures refused { IfErr result (RefusesLater self.now pool.now end offer.now now) }
     {
         if let Some(clash) = clash_at(standing, end) {
@@ -251,7 +249,7 @@ impl Call {
         requires leads { OffersOn standing.stage row }
         ensures row { IfOk result (λ p. carried self.now pool.now now p ≡ offer_step self.now pool.now now end offer.now row) }
         ensures planned { IfOk result (IsPlanned self.now pool.now now) }
-        ensures may { OnOk result (IsPassable self.now end (Some offer.now)) }
+        ensures may { OnOk result (IsPassable self.now pool.now end (Some offer.now) now) }
         ensures refused { IfErr result (RefusesLater self.now pool.now end (Some offer.now) now) }
     {
         let across = end.other();

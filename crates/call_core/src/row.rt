@@ -26,7 +26,7 @@ pub(crate) const SHORT: u64 = 32_000;
 
 /// What is done for a signal, in order, and where the call stands then: none where it is gone. A call that is gone frees
 /// its pairs, which rest, has no row, and its timers stop.
-#[derive(Debug, Drop)]
+#[derive(Drop)]
 pub struct Row {
     pub actions: Actions,
     pub next: Option<Standing>,

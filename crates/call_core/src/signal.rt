@@ -3,14 +3,14 @@
 use call_media::End;
 
 /// The method of a request that carries an offer (RFC 3264 section 5, RFC 3311).
-#[derive(Clone, Copy, Debug, PartialEq, Eq)]
+#[derive(Clone, Copy, Debug)]
 pub enum OfferMethod {
     Invite,
     Update,
 }
 
 /// What reaches a call. The responses are those to the open offer, which the end across from the offerer gives.
-#[derive(Clone, Copy, Debug, PartialEq, Eq)]
+#[derive(Clone, Copy)]
 pub enum Signal {
     /// An offer of this end that can be passed on.
     Offer(End, OfferMethod),

@@ -16,7 +16,7 @@ pub enum Phase {
 }
 
 /// The CANCEL of an INVITE inside a call.
-#[derive(Clone, Copy, Debug, PartialEq, Eq)]
+#[derive(Clone, Copy, Debug)]
 pub enum Cancelled {
     /// The offerer sent none.
     Never,
@@ -27,7 +27,7 @@ pub enum Cancelled {
 }
 
 /// The phase of a call, with what the table asks of it besides.
-#[derive(Clone, Copy, Debug, PartialEq, Eq)]
+#[derive(Clone, Copy, Debug)]
 pub enum Stage {
     /// The first INVITE was passed on. Whether a provisional response came.
     Asked(bool),
@@ -47,7 +47,7 @@ pub enum Stage {
 }
 
 /// Where a call stands.
-#[derive(Clone, Copy, Debug, PartialEq, Eq)]
+#[derive(Clone, Copy)]
 pub struct Standing {
     /// Whose offer is open, or was answered last.
     pub offerer: End,

@@ -6,7 +6,7 @@ ghost use Rattle.call_media.specs.declared.end.End.TheVariants.{Caller};
 ghost use Rattle.call_media.specs.Serving.{SparesOthers};
 ghost use Rattle.call_core.specs.CallRows.{call_row, first_call_row};
 ghost use Rattle.call_core.specs.Calls.{IsServed};
-ghost use Rattle.call_core.specs.Refusals.{MayTakeIn, RefusesFirst, RefusesInput};
+ghost use Rattle.call_core.specs.Refusals.{MayPass, MayTakeIn, RefusesFirst, RefusesInput};
 
 use crate::call::Call;
 use crate::input::Input;
@@ -35,6 +35,7 @@ impl Call {
         ensures leads { IfOk result (λ d. LeadFrom pool.old.rows pool.new.rows d.changes.items) }
         ensures serves { IsServed self.new pool.new }
         ensures spares { SparesOthers self.old.number pool.old pool.new }
+        ensures may { OnOk result (MayPass self.old.media pool.old Caller offer.now now) }
         ensures refused { IfErr result (RefusesFirst self.old.media pool.old Caller (Some offer.now) now) }
         ensures err_call { OnErr result (self.new ≡ self.old) }
         ensures err_pool { OnErr result (pool.new ≡ pool.old) }
@@ -60,7 +61,7 @@ impl Call {
         ensures leads { IfOk result (λ d. LeadFrom pool.old.rows pool.new.rows d.changes.items) }
         ensures serves { IsServed self.new pool.new }
         ensures spares { SparesOthers self.old.number pool.old pool.new }
-        ensures may { OnOk result (MayTakeIn self.old self.old.standing input.now) }
+        ensures may { OnOk result (MayTakeIn self.old self.old.standing pool.old input.now now) }
         ensures refused { IfErr result (RefusesInput self.old pool.old input.now now) }
         ensures err_call { OnErr result (self.new ≡ self.old) }
         ensures err_pool { OnErr result (pool.new ≡ pool.old) }

@@ -13,6 +13,6 @@ returns-in_ok-plan_signal-in_default c =
     record {
       row = line ∙ plain_step call c.args.standing c.args.input.now pool c.args.now c.in_default.not-Offer c.in_default.not-Answer;
       planned = c.in_ok-plan_signal-in_default.ensures.planned;
-      may = plain_may call c.args.standing c.args.input.now c.in_default.not-Offer c.in_default.not-Answer;
+      may = plain_may call c.args.standing pool c.args.input.now c.args.now c.in_default.not-Offer c.in_default.not-Answer;
       refused = tt;
     }
