@@ -2,11 +2,12 @@
 
 use crate::call_media_rows;
 use crate::call_words::{end_of, signal_of, standing_of};
+use crate::whole_calls::call_words;
 use call_core::{
     Action, Clash, Row, Standing, clash_at, clash_without_offer, first_row, row_at,
-    status_passed_on,
+    session_is_direct, session_is_of_its_exchange, spared_call_is_served, status_passed_on,
 };
-use rows::{Rows, said, u16_of};
+use rows::{Rows, answer_of, said, u16_of};
 use std::alloc::{AllocError, Global};
 
 /// The rows: no call leaves anything for the rows behind it.
@@ -14,29 +15,27 @@ use std::alloc::{AllocError, Global};
 pub(crate) struct CallCoreRows;
 
 /// Where the call stands, its phase first; or that it is gone.
-fn next_words(alloc: Global, next: Option<Standing>) -> Result<String, AllocError> {
+pub(crate) fn put_next(out: &mut String, next: Option<Standing>) -> Result<(), AllocError> {
     match next {
-        None => said(alloc, "gone"),
+        None => out.push_str("gone"),
         Some(next) => {
             let phase = next.stage.phase();
-            format!(in alloc; "{phase:?}: {:?} {:?}", next.offerer, next.stage)
+            write!(out, "{phase:?}: {:?} {:?}", next.offerer, next.stage)
         }
     }
 }
 
-fn put_actions(alloc: Global, out: &mut String, actions: &[Action]) -> Result<(), AllocError> {
+pub(crate) fn put_actions(out: &mut String, actions: &[Action]) -> Result<(), AllocError> {
     for action in actions {
-        let word = format!(in alloc; "{action:?}, ")?;
-        out.push_str(word.as_str())?;
+        write!(out, "{action:?}, ")?;
     }
     Ok(())
 }
 
 fn row_words(alloc: Global, row: &Row) -> Result<String, AllocError> {
     let mut out = String::new(alloc);
-    put_actions(alloc, &mut out, row.actions.as_slice())?;
-    let next = next_words(alloc, row.next)?;
-    out.push_str(next.as_str())?;
+    put_actions(&mut out, row.actions.as_slice())?;
+    put_next(&mut out, row.next)?;
     Ok(out)
 }
 
@@ -48,7 +47,7 @@ fn line_words(alloc: Global, row: Option<Row>) -> Result<String, AllocError> {
     }
 }
 
-fn clash_words(alloc: Global, clash: Option<Clash>) -> Result<String, AllocError> {
+pub(crate) fn clash_words(alloc: Global, clash: Option<Clash>) -> Result<String, AllocError> {
     match clash {
         None => said(alloc, "none"),
         Some(clash) => clash.to_string(alloc),
@@ -73,6 +72,14 @@ fn answer_at(
     Ok(Some(words?))
 }
 
+/// Calls what has a law for its contract.
+fn laws(alloc: Global) -> Result<String, AllocError> {
+    session_is_direct();
+    spared_call_is_served();
+    session_is_of_its_exchange();
+    said(alloc, "hold")
+}
+
 impl Rows for CallCoreRows {
     fn answer(
         &mut self,
@@ -87,6 +94,8 @@ impl Rows for CallCoreRows {
                 let status = status_passed_on(u16_of(status));
                 Ok(Some(format!(in alloc; "{status}")?))
             }
+            ("call_core", "call", words) => answer_of(call_words(alloc, words)),
+            ("call_core", "laws", []) => answer_of(laws(alloc)),
             ("call_media", call, args) => call_media_rows::answer(alloc, call, args),
             ("call_core", call, [offerer, stage, word]) => match standing_of(offerer, stage) {
                 Some(standing) => answer_at(alloc, standing, call, word),

@@ -1,6 +1,6 @@
 //! Calls as a row writes them: `asked rung` where a call stands, `bye callee` for a signal.
 
-use call_core::{Cancelled, End, OfferMethod, Signal, Stage, Standing};
+use call_core::{Cancelled, End, Input, OfferMethod, Signal, Stage, Standing};
 use rows::{number, u16_of};
 use text::cut_word;
 
@@ -71,5 +71,21 @@ pub(crate) fn signal_of(word: &[u8]) -> Option<Signal> {
         b"repeat" => Some(Signal::Repeat),
         b"wait" => Some(Signal::Wait),
         _ => None,
+    }
+}
+
+/// The input of a signal that no description comes with.
+pub(crate) fn plain_input(signal: Signal) -> Input<'static> {
+    match signal {
+        Signal::Provisional(status) => Input::Provisional(status),
+        Signal::Refusal(status) => Input::Refusal(status),
+        Signal::TimedOut => Input::TimedOut,
+        Signal::Ack => Input::Ack,
+        Signal::Cancel => Input::Cancel,
+        Signal::Bye(end) => Input::Bye(end),
+        Signal::Limit => Input::Limit,
+        Signal::Repeat => Input::Repeat,
+        Signal::Wait => Input::Wait,
+        _ => Input::Answer(None),
     }
 }

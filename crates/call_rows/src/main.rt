@@ -3,7 +3,9 @@
 
 mod call_core_rows;
 mod call_media_rows;
+mod call_told;
 mod call_words;
+mod whole_calls;
 
 use crate::call_core_rows::CallCoreRows;
 use rows::{Notation, play};
