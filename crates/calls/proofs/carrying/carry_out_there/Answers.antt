@@ -1,0 +1,32 @@
+use Rattle.std.proofs.Common.{◌≡◌, ◌<◌, Some, ap, arith, length, set, subst}
+use Rattle.std.specs.Prelude.{slice_get}
+use Rattle.call_core.specs.Calls.{IsServed}
+use Rattle.calls.specs.declared.standing_call.StandingCall.{StandingCall}
+use Rattle.calls.specs.Carrying.{Did}
+use Rattle.calls.proofs.KeptLaws.{read_at, same_read}
+use Rattle.calls.proofs.carrying.carry_out_there.Goals as goal
+
+pub carry_out_in-requires-clause-serves : goal.carry_out_in-requires-clause-serves
+carry_out_in-requires-clause-serves c =
+    let within : c.args.place < length c.args.calls.now.items = omega (arith, c.requires.there, c.args.calls.now.ok.0) in
+    c.requires.served c.index_mut-call.result.now (read_at c.args.calls.now.items c.args.place c.index_mut-call.result.now within c.index_mut-call.ensures.value)
+
+pub carry_out_in-requires-clause-planned : goal.carry_out_in-requires-clause-planned
+carry_out_in-requires-clause-planned c =
+    let within : c.args.place < length c.args.calls.now.items = omega (arith, c.requires.there, c.args.calls.now.ok.0) in
+    c.requires.planned c.index_mut-call.result.now (read_at c.args.calls.now.items c.args.place c.index_mut-call.result.now within c.index_mut-call.ensures.value)
+
+pub returns-clause-done : goal.returns-clause-done
+returns-clause-done c = λ d is.
+    let within : c.args.place < length c.args.calls.now.items = omega (arith, c.requires.there, c.args.calls.now.ok.0) in
+    let here = read_at c.args.calls.now.items c.args.place c.index_mut-call.result.now within c.index_mut-call.ensures.value in
+    let same : c.index_mut-call.result.now ≡ d = same_read c.index_mut-call.result.now d (slice_get c.args.calls.now.items c.args.place) here is in
+    subst (λ (y : StandingCall). Did c.args.calls.now.items c.args.pool.now c.args.place c.args.now c.args.plan y
+    (set c.args.calls.now.items c.args.place c.carry_out_in.new.call) c.carry_out_in.new.pool c.carry_out_in.result.items) same
+    (record {
+      calls = ap (λ (y : StandingCall). set c.args.calls.now.items c.args.place y) c.carry_out_in.ensures.call;
+      pool_there = c.carry_out_in.ensures.pool;
+      changes = c.carry_out_in.ensures.changes;
+      spares = c.carry_out_in.ensures.spares;
+      serves = subst (λ (y : StandingCall). IsServed y.call c.carry_out_in.new.pool) c.carry_out_in.ensures.call c.carry_out_in.ensures.serves;
+    })

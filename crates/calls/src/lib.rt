@@ -1,0 +1,13 @@
+//! The calls that stand: each with what the server keeps beside it, in the order in which they began, and the pool of ports that
+//! serves them. Each call has a number of its own, and what one does spares all others. Nothing here knows of bytes, of the order
+//! of checks or of sockets.
+#![tactic(auto)]
+
+mod beside;
+mod carrying;
+mod finding;
+mod standing_call;
+mod state;
+
+pub use standing_call::{OfferRequest, StandingCall};
+pub use state::Calls;

@@ -1,0 +1,107 @@
+//! The calls that stand, with their pool.
+
+ghost use Rattle.std.specs.Prelude.{◌≡◌, ◌+◌, ◌<◌, ◌≤◌, ◌*◌, ◌%◌, ℕ, [], IfOk, IfSome, IsOk, OnOk, false, slice_get};
+ghost use Rattle.std.specs.Option.{option_copied};
+ghost use Rattle.port_pool.specs.Limits.{least_port, last_port, most_pairs};
+ghost use Rattle.port_pool.specs.Pool.{is_port_of, new_pool};
+ghost use Rattle.call_core.specs.Calls.{IsServed};
+
+use crate::standing_call::StandingCall;
+use port_pool::Pool;
+use std::alloc::{AllocError, Global};
+use std::marker::Model;
+
+/// The calls that stand, in the order in which they began, and the pool that serves them.
+#[derive(Drop)]
+pub struct Calls {
+    pub(crate) calls: Vec<StandingCall>,
+    pub(crate) pool: Pool,
+    /// How many calls began.
+    pub(crate) begun: u64,
+}
+
+impl Model for Calls {
+    ghost use Rattle.std.specs.Prelude.{◌-◌, vec_len};
+    ghost use Rattle.std.specs.Coded.{codes};
+    ghost use Rattle.std.specs.Vec.{vec_capacity};
+    ghost use Rattle.port_pool.specs.Pool.{coded_contents};
+    ghost use Rattle.calls.specs.State.{AreKept, Contents};
+
+    ghost Value = { Contents };
+
+    ghost coded = { Prim.hlevel (codes, coded_contents) };
+
+    ghost view = { λ c. record { calls = c.calls.items; pool = c.pool; begun = c.begun; room = vec_capacity c.calls - vec_len c.calls } };
+
+    ghost invariant = { λ c. AreKept c.calls.items c.pool c.begun };
+}
+
+fn call_at(calls: &[StandingCall], place: usize) -> Option<&StandingCall>
+    ensures { option_copied result ≡ slice_get calls.now place }
+{
+    calls.get(place)
+}
+
+impl Calls {
+    /// No call, over a pool of this many pairs, the first of which begins at this even port.
+    pub fn new(alloc: Global, first: u16, pairs: u16) -> Result<Calls, AllocError>
+        requires even { first % 2 ≡ 0 }
+        requires least { least_port ≤ first }
+        requires some { 1 ≤ pairs }
+        requires most { pairs ≤ most_pairs }
+        requires last { first + 2 * pairs ≤ last_port + 1 }
+        ensures calls { IfOk result (λ c. c.calls ≡ []) }
+        ensures pool { IfOk result (λ c. c.pool ≡ new_pool first pairs) }
+        ensures begun { IfOk result (λ c. c.begun ≡ 0) }
+    {
+        let pool = Pool::new(alloc, first, pairs)?;
+        Ok(Calls {
+            calls: Vec::new(alloc),
+            pool,
+            begun: 0,
+        })
+    }
+
+    /// The calls, lent, in the order in which they began. Takes no memory.
+    pub fn as_slice(&self) -> &[StandingCall]
+        ensures { result.now ≡ self.now.calls }
+    {
+        &self.calls
+    }
+
+    /// The pool that serves them. Takes no memory.
+    pub fn pool(&self) -> &Pool
+        ensures { result.now ≡ self.now.pool }
+    {
+        &self.pool
+    }
+
+    /// How many calls began. Takes no memory.
+    pub fn begun(&self) -> u64
+        ensures begun { result ≡ self.now.begun }
+        // The pool holds nothing for a call that has not begun.
+        ensures none { (number port : ℕ) → result < number → is_port_of self.now.pool number port ≡ false }
+    {
+        self.begun
+    }
+
+    /// The call at this place, which the pool serves. Takes no memory.
+    pub fn get(&self, place: usize) -> Option<&StandingCall>
+        ensures call { option_copied result ≡ slice_get self.now.calls place }
+        ensures served { IfSome result (λ c. IsServed c.now.call self.now.pool) }
+    {
+        call_at(self.calls.as_slice(), place)
+    }
+
+    /// Makes room for so many calls more. A refusal (no memory) leaves the calls as they were.
+    pub fn reserve(&mut self, more: usize) -> Result<(), AllocError>
+        ensures calls { self.new.calls ≡ self.old.calls }
+        ensures pool { self.new.pool ≡ self.old.pool }
+        ensures begun { self.new.begun ≡ self.old.begun }
+        ensures ok { OnOk result (more ≤ self.new.room) }
+        ensures enough { more ≤ self.old.room → IsOk result }
+        ensures room { self.old.room ≤ self.new.room }
+    {
+        self.calls.reserve(more)
+    }
+}
