@@ -27,16 +27,17 @@ use Rattle.call_core.specs.Table.{first_row, row_of}
 
 -- nothing is done, and nothing changes
 abbrev pub unchanged : Call → Contents → Step
-unchanged c pool = record { actions = []; call = moved c c.standing c.media; pool = pool; changes = [] }
+unchanged c pool = record { actions = []; description = None; call = moved c c.standing c.media; pool = pool; changes = [] }
 
 -- the media stay as they are
 abbrev pub kept_step : Call → Contents → Row → Step
-kept_step c pool row = record { actions = row.actions; call = moved c row.next c.media; pool = pool; changes = [] }
+kept_step c pool row = record { actions = row.actions; description = None; call = moved c row.next c.media; pool = pool; changes = [] }
 
 -- INVITE Y, UPDATE Y: over the pairs in use and the lowest that are free, which are the call's; its number counts in Y's dialog
 abbrev pub offer_step : Call → Contents → ℕ → End → Description → Row → Step
 offer_step c pool now x offer row = record {
   actions = row.actions;
+  description = Some (opened c.media pool x offer now).offer_sent;
   call = after c (numbers_to (other x) (number_to (other x) c)) row.next (with_offer c.media (opened c.media pool x offer now));
   pool = with_pairs pool c.media.number (lowest_free pool now (fresh_needed c.media x offer));
   changes = [];
@@ -46,6 +47,7 @@ offer_step c pool now x offer row = record {
 abbrev pub session_step : Call → Contents → ℕ → Session → Row → Step
 session_step c pool now s row = record {
   actions = row.actions;
+  description = Some s.answer_sent;
   call = moved c row.next (with_session c.media s);
   pool = without_others (with_changes pool (changes_to c.media.number pool s)) c.media.number s.pairs now;
   changes = changes_to c.media.number pool s;
@@ -58,6 +60,7 @@ answer_step c pool now o answer row = session_step c pool now (session_over o (a
 abbrev pub release_step : Call → Contents → ℕ → Row → Step
 release_step c pool now row = record {
   actions = row.actions;
+  description = None;
   call = moved c row.next (without_offer c.media);
   pool = without_others pool c.media.number (pairs_listed c.media.session) now;
   changes = [];
@@ -67,6 +70,7 @@ release_step c pool now row = record {
 abbrev pub end_step : Call → Contents → ℕ → Row → Step
 end_step c pool now row = record {
   actions = row.actions;
+  description = None;
   call = moved c row.next (ended c.media);
   pool = without_call pool c.media.number now;
   changes = changes_of pool c.media.number [];
@@ -139,6 +143,7 @@ call_row c input pool now = step_in c c.standing input pool now
 unfoldable pub first_call_row : Call → Description → Contents → ℕ → Step
 first_call_row c offer pool now = record {
   actions = first_row.actions;
+  description = Some (opened c.media pool Caller offer now).offer_sent;
   call = moved c first_row.next (with_offer c.media (opened c.media pool Caller offer now));
   pool = with_pairs pool c.media.number (lowest_free pool now (fresh_needed c.media Caller offer));
   changes = [];

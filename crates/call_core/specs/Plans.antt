@@ -3,6 +3,7 @@ use Rattle.std.specs.Prelude.{◌≡◌, ℕ, ◌||◌, Bool, true, false, is_no
 use Rattle.std.specs.List.{list_any}
 use Rattle.port_pool.specs.declared.changes.Change.{Change}
 use Rattle.port_pool.specs.Pool.{Contents, changes_of, with_changes, with_pairs, without_call, without_others}
+use Rattle.sdp.specs.declared.description.Description.{Description}
 use Rattle.call_media.specs.declared.answering.PlannedAnswer.{PlannedAnswer}
 use Rattle.call_media.specs.declared.session.OpenOffer.{OpenOffer}
 use Rattle.call_media.specs.declared.state.CallMedia.{CallMedia}
@@ -21,9 +22,11 @@ use Rattle.call_core.specs.declared.signal.Signal.TheVariants as signals
 use Rattle.call_core.specs.declared.stage.Stage.{Stage}
 use Rattle.call_core.specs.Calls.{after, awaits_answer, has_session, holds_in}
 
--- What a call does: the actions in order, the call and the pool after it, and the changes of the relay table.
+-- What a call does: the actions in order, the offer or the answer that is passed on with them, as the server sends it, the call and
+-- the pool after it, and the changes of the relay table.
 pub record Step : Type 0 where
   pub actions : List Action
+  pub description : Option Description
   pub call : Call
   pub pool : Contents
   pub changes : List Change
@@ -54,9 +57,18 @@ changes_made (Puts p) = p.rows.changes.items
 changes_made Withdraws = []
 changes_made (Ends removals) = removals.items
 
+-- the offer or the answer that is passed on, as the server sends it
+abbrev pub description_sent : MediaPlan → Option Description
+description_sent Keeps = None
+description_sent (Holds p) = Some p.offer.offer_sent
+description_sent (Puts p) = Some p.sent
+description_sent Withdraws = None
+description_sent (Ends removals) = None
+
 abbrev pub carried : Call → Contents → ℕ → Plan → Step
 carried c pool now p = record {
   actions = p.actions;
+  description = description_sent p.media;
   call = after c p.numbers p.next (media_after c.media p.media);
   pool = pool_after c.media pool now p.media;
   changes = changes_made p.media;

@@ -7,6 +7,7 @@ use crate::action::Actions;
 use crate::stage::Standing;
 use call_media::{End, PlannedAnswer, PlannedOffer};
 use port_pool::Change;
+use sdp::Description;
 
 /// What happens to the media of a call, and to the pool beside them.
 #[derive(Drop)]
@@ -21,6 +22,22 @@ pub enum MediaPlan {
     Withdraws,
     /// All pairs rest, and these removals take all rows away.
     Ends(Vec<Change>),
+}
+
+impl MediaPlan {
+    ghost use Rattle.std.specs.Option.{option_copied};
+    ghost use Rattle.call_core.specs.Plans.{description_sent};
+
+    /// The offer or the answer that is passed on, as the server sends it. Takes no memory.
+    pub fn description(&self) -> Option<&Description<'static>>
+        ensures { option_copied result ≡ description_sent self.now }
+    {
+        match self {
+            MediaPlan::Holds(planned) => Some(&planned.offer.offer_sent),
+            MediaPlan::Puts(planned) => Some(&planned.sent),
+            MediaPlan::Keeps | MediaPlan::Withdraws | MediaPlan::Ends(_) => None,
+        }
+    }
 }
 
 /// The numbers of requests that count in the dialogs of a call, if one is sent there.

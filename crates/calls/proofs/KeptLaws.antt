@@ -14,7 +14,10 @@ use Rattle.dialogs.specs.declared.state.Dialog.{Dialog}
 use Rattle.call_media.specs.Serving.{SameFor, SparesOthers}
 use Rattle.calls.specs.declared.standing_call.StandingCall.{StandingCall}
 use Rattle.calls.specs.State.{AreKept, AreServed, HoldsNone, RiseTo}
-use Rattle.calls.specs.Carrying.{pushed, put_call, without_gone}
+use Rattle.calls.specs.declared.change.LegDialog.{LegDialog}
+use Rattle.calls.specs.Carrying.{pushed, without_gone}
+use Rattle.calls.specs.Changes.{beside, with_last, with_leg}
+use Rattle.events.specs.declared.sent.Sent.{Sent}
 
 -- a call that has the same pairs and the same rows at them is served as before
 abbrev pub Spared : Type 0
@@ -257,7 +260,7 @@ either true kept gone also same = refl
 either false kept gone also same = same
 
 pub put_there : (cs : List StandingCall) (place : ℕ) (new : StandingCall) → place < length cs
-    → without_gone (set cs place new) place (slice_get (set cs place new) place) ≡ put_call place new cs
+    → without_gone (set cs place new) place (slice_get (set cs place new) place) ≡ cond (is_some new.call.standing) (set cs place new) (remove cs place)
 put_there cs place new within =
     ap (without_gone (set cs place new) place) (set_read cs place new within)
     ∙ either (is_some new.call.standing) (set cs place new) (remove (set cs place new) place) (remove cs place) (remove_set cs place new)
@@ -265,3 +268,25 @@ put_there cs place new within =
 pub number_kept : (end : End) (d : Dialog) (c : Call) → (with_dialog end d c).number ≡ c.number
 number_kept Caller d c = refl
 number_kept Callee d c = refl
+
+last_kept : (answer : Option Sent) (c : StandingCall) → (with_last answer c).call ≡ c.call
+last_kept None c = refl
+last_kept (Some answer) c = refl
+
+leg_number : (leg : Option LegDialog) (c : StandingCall) → (with_leg leg c).call.number ≡ c.call.number
+leg_number None c = refl
+leg_number (Some leg) c = number_kept leg.end leg.dialog c.call
+
+pub number_beside : (leg : Option LegDialog) (answer : Option Sent) (c : StandingCall) → (beside leg answer c).call.number ≡ c.call.number
+number_beside leg answer c = ap (λ (call : Call). call.number) (last_kept answer (with_leg leg c)) ∙ leg_number leg c
+
+standing_kept : (end : End) (d : Dialog) (c : Call) → (with_dialog end d c).standing ≡ c.standing
+standing_kept Caller d c = refl
+standing_kept Callee d c = refl
+
+leg_standing : (leg : Option LegDialog) (c : StandingCall) → (with_leg leg c).call.standing ≡ c.call.standing
+leg_standing None c = refl
+leg_standing (Some leg) c = standing_kept leg.end leg.dialog c.call
+
+pub standing_beside : (leg : Option LegDialog) (answer : Option Sent) (c : StandingCall) → (beside leg answer c).call.standing ≡ c.call.standing
+standing_beside leg answer c = ap (λ (call : Call). call.standing) (last_kept answer (with_leg leg c)) ∙ leg_standing leg c

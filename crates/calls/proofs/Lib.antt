@@ -1,1 +1,3 @@
 mod KeptLaws
+mod CarryLaws
+mod TimingLaws

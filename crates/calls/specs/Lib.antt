@@ -1,3 +1,5 @@
 pub mod State
 pub mod Finding
 pub mod Carrying
+pub mod Timing
+pub mod Changes

@@ -2,14 +2,29 @@
 use Rattle.std.specs.Prelude.{◌≡◌, ℕ, ◌<◌, ◌≤◌, false, List, [], ◌∷◌}
 use Rattle.port_pool.specs.Pool as pools
 use Rattle.call_core.specs.Calls.{IsServed}
+use Rattle.timers.specs.declared.timers.Timer.{Timer}
+use Rattle.calls.specs.declared.timer_id.CallTimerId.{CallTimerId}
 use Rattle.calls.specs.declared.standing_call.StandingCall.{StandingCall}
 
--- the calls in the order in which they began, the pool, how many calls began, and for how many more there is room
+-- the calls in the order in which they began, the pool, how many calls began, and the timers of calls, the first due first; beside
+-- them for how many calls and timers more there is room
 pub record Contents : Type 0 where
   pub calls : List StandingCall
   pub pool : pools.Contents
   pub begun : ℕ
+  pub timers : List (Timer CallTimerId)
   pub room : ℕ
+  pub timer_room : ℕ
+
+-- all of it but the room
+pub record Standing : Type 0 where
+  pub calls : List StandingCall
+  pub pool : pools.Contents
+  pub begun : ℕ
+  pub timers : List (Timer CallTimerId)
+
+abbrev pub standing : Contents → Standing
+standing s = record { calls = s.calls; pool = s.pool; begun = s.begun; timers = s.timers }
 
 -- the pool serves each of them
 abbrev pub AreServed : pools.Contents → List StandingCall → Type 0

@@ -1,28 +1,69 @@
 //! What is put beside a call that stands. Nothing here takes memory, and where no call stands at the place, nothing changes.
 
 ghost use Rattle.std.specs.Prelude.{◌≡◌, slice_get};
-ghost use Rattle.calls.specs.Carrying.{changed_at, with_answer, with_asked, with_dialog_at};
+ghost use Rattle.port_pool.specs.Pool.{Contents};
+ghost use Rattle.call_core.specs.Calls.{IsServed};
+ghost use Rattle.calls.specs.Carrying.{changed_at, with_asked, with_dialog_at};
+ghost use Rattle.calls.specs.Changes.{beside, with_last, with_leg};
 
-use crate::standing_call::OfferRequest;
+use crate::change::LegDialog;
+use crate::standing_call::{OfferRequest, StandingCall};
 use crate::state::Calls;
-use call_core::End;
-use dialogs::Dialog;
 use events::Sent;
+
+/// What comes beside a call with a plan that it carried out.
+#[derive(Drop)]
+pub(crate) struct Beside {
+    /// The dialog that is put in place of the one with its end.
+    pub leg: Option<LegDialog>,
+    /// The 200 that goes again.
+    pub answer: Option<Sent>,
+}
 
 fn let_go<T: Drop>(_value: T) {}
 
+fn put_leg_in(call: &mut StandingCall, leg: Option<LegDialog>)
+    ensures call { call.new ≡ with_leg leg call.old }
+    ensures serves { (pool : Contents) → IsServed call.old.call pool → IsServed call.new.call pool }
+{
+    match leg {
+        None => {}
+        Some(LegDialog { end, dialog }) => call.call.put_dialog(end, dialog),
+    }
+}
+
+fn put_last(call: &mut StandingCall, answer: Option<Sent>)
+    ensures call { call.new ≡ with_last answer call.old }
+    ensures serves { (pool : Contents) → IsServed call.old.call pool → IsServed call.new.call pool }
+{
+    match answer {
+        None => {}
+        Some(answer) => call.answer = Some(answer),
+    }
+}
+
+pub(crate) fn put_beside(call: &mut StandingCall, kept: Beside)
+    ensures call { call.new ≡ beside kept.leg kept.answer call.old }
+    ensures serves { (pool : Contents) → IsServed call.old.call pool → IsServed call.new.call pool }
+{
+    let Beside { leg, answer } = kept;
+    put_leg_in(call, leg);
+    put_last(call, answer);
+}
+
 impl Calls {
-    /// Puts this dialog in place of the one with this end: the callee's first, or one that took a request in its order or has
+    /// Puts this dialog in place of the one with its end: the callee's first, or one that took a request in its order or has
     /// another target (RFC 3261 section 12.2).
-    pub fn put_dialog(&mut self, place: usize, end: End, dialog: Dialog)
-        ensures calls { self.new.calls ≡ changed_at (with_dialog_at end dialog) place self.old.calls (slice_get self.old.calls place) }
+    pub(crate) fn put_leg(&mut self, place: usize, leg: LegDialog)
+        ensures calls { self.new.calls ≡ changed_at (with_dialog_at leg.end leg.dialog) place self.old.calls (slice_get self.old.calls place) }
         ensures pool { self.new.pool ≡ self.old.pool }
         ensures begun { self.new.begun ≡ self.old.begun }
-        ensures room { self.new.room ≡ self.old.room }
+        ensures timers { self.new.timers ≡ self.old.timers }
     {
         if place >= self.calls.len() {
-            return let_go(dialog);
+            return let_go(leg);
         }
+        let LegDialog { end, dialog } = leg;
         self.calls[place].call.put_dialog(end, dialog);
     }
 
@@ -31,24 +72,13 @@ impl Calls {
         ensures calls { self.new.calls ≡ changed_at (with_asked asked) place self.old.calls (slice_get self.old.calls place) }
         ensures pool { self.new.pool ≡ self.old.pool }
         ensures begun { self.new.begun ≡ self.old.begun }
+        ensures timers { self.new.timers ≡ self.old.timers }
         ensures room { self.new.room ≡ self.old.room }
+        ensures timer_room { self.new.timer_room ≡ self.old.timer_room }
     {
         if place >= self.calls.len() {
             return;
         }
         self.calls[place].asked = asked;
-    }
-
-    /// Puts the 200 that goes again, or none.
-    pub fn put_answer(&mut self, place: usize, answer: Option<Sent>)
-        ensures calls { self.new.calls ≡ changed_at (with_answer answer) place self.old.calls (slice_get self.old.calls place) }
-        ensures pool { self.new.pool ≡ self.old.pool }
-        ensures begun { self.new.begun ≡ self.old.begun }
-        ensures room { self.new.room ≡ self.old.room }
-    {
-        if place >= self.calls.len() {
-            return let_go(answer);
-        }
-        self.calls[place].answer = answer;
     }
 }

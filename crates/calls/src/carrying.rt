@@ -1,24 +1,26 @@
-//! Plans that are carried out, and what is put beside a call. Nothing here takes memory.
+//! Plans that are carried out. Nothing here takes memory.
 
-ghost use Rattle.std.specs.Prelude.{◌≡◌, ◌≢◌, ◌+◌, ◌-◌, ◌<◌, ◌≤◌, ◌^◌, ◌++◌, ◌∷◌, [], ℕ, List, Option, Some, None, IsOk, is_some, slice_get, slice_set, vec_len};
+ghost use Rattle.std.specs.Prelude.{◌≡◌, ◌+◌, ◌<◌, ◌≤◌, ◌^◌, length, Some, slice_get, vec_len};
 ghost use Rattle.std.specs.Vec.{vec_capacity};
 ghost use Rattle.port_pool.specs.Changes.{LeadFrom};
-ghost use Rattle.call_core.specs.Calls.{IsServed, with_dialog};
+ghost use Rattle.call_core.specs.Calls.{IsServed};
 ghost use Rattle.call_core.specs.Plans.{IsPlanned, carried};
 ghost use Rattle.call_media.specs.Serving.{SparesOthers};
-ghost use Rattle.calls.specs.State.{AreKept};
-ghost use Rattle.calls.specs.declared.standing_call.StandingCall.{StandingCall};
-ghost use Rattle.calls.specs.Carrying.{Did, IsPlannedAt, begun_by, carried_at, pushed, with_step, without_gone};
+ghost use Rattle.calls.specs.Carrying.{Did, IsPlannedAt, pushed, with_step, without_gone};
+ghost use Rattle.calls.specs.Changes.{after_first_step, beside, carries};
+ghost use Rattle.calls.specs.State.{standing};
 
+use crate::beside::{Beside, put_beside};
 use crate::standing_call::StandingCall;
 use crate::state::Calls;
+use crate::timing::take_plan;
 use call_core::{Done, Plan, spared_call_is_served};
 use port_pool::{Change, Pool};
 use std::alloc::Global;
 
 fn let_go<T: Drop>(_value: T) {}
 
-/// A plan carried out by a call that stands on the list.
+/// A plan carried out by a call.
 fn carry_out_in(
     call: &mut StandingCall,
     alloc: Global,
@@ -40,23 +42,13 @@ fn carry_out_in(
     changes
 }
 
-/// Takes the call at this place off the list where it stands nowhere any more.
-fn take_off(calls: &mut Vec<StandingCall>, place: usize)
-    requires { place < vec_len calls.old }
-    ensures items { calls.new.items ≡ without_gone calls.old.items place (slice_get calls.old.items place) }
-    ensures room { vec_capacity calls.old - vec_len calls.old ≤ vec_capacity calls.new - vec_len calls.new }
-{
-    if calls[place].call.standing().is_none() {
-        let_go(calls.remove(place));
-    }
-}
-
-/// A plan carried out by the call at this place, which stands there afterwards too.
+/// A plan carried out by the call at this place, which stands there afterwards too, with what comes beside it.
 fn carry_out_there(
     calls: &mut Vec<StandingCall>,
     pool: &mut Pool,
     alloc: Global,
     place: usize,
+    kept: Beside,
     plan: Plan,
     now: u64,
 ) -> Vec<Change>
@@ -64,13 +56,26 @@ fn carry_out_there(
     requires served { (c : StandingCall) → slice_get calls.old.items place ≡ Some c → IsServed c.call pool.old }
     requires planned { IsPlannedAt calls.old.items pool.old place now plan }
     ensures done { (c : StandingCall) → slice_get calls.old.items place ≡ Some c →
-        Did calls.old.items pool.old place now plan c calls.new.items pool.new result.items }
+        Did calls.old.items pool.old place now plan c
+        (beside kept.leg kept.answer (with_step c (carried c.call pool.old now plan)))
+        calls.new.items pool.new result.items }
     ensures leads { LeadFrom pool.old.rows pool.new.rows result.items }
     ensures len { vec_len calls.new ≡ vec_len calls.old }
-    ensures room { vec_capacity calls.new ≡ vec_capacity calls.old }
 {
     let call = &mut calls[place];
-    carry_out_in(call, alloc, plan, pool, now)
+    let changes = carry_out_in(call, alloc, plan, pool, now);
+    put_beside(call, kept);
+    changes
+}
+
+/// Takes the call at this place off the list where it stands nowhere any more.
+fn take_off(calls: &mut Vec<StandingCall>, place: usize)
+    requires { place < vec_len calls.old }
+    ensures { calls.new.items ≡ without_gone calls.old.items place (slice_get calls.old.items place) }
+{
+    if calls[place].call.standing().is_none() {
+        let_go(calls.remove(place));
+    }
 }
 
 /// A call that begins, with its plan carried out, behind the others.
@@ -104,41 +109,66 @@ fn begin_in(
 }
 
 impl Calls {
-    /// Carries out what was planned for the call at this place, and answers the changes of the relay table, by rising port; a call
-    /// that is gone then is taken off the list. Where no call stands at the place, nothing is done.
-    pub fn carry_out(&mut self, alloc: Global, place: usize, plan: Plan, now: u64) -> Vec<Change>
-        requires { IsPlannedAt self.old.calls self.old.pool place now plan }
-        ensures calls { self.new.calls ≡ (carried_at self.old.calls self.old.pool place now plan).calls }
-        ensures pool { self.new.pool ≡ (carried_at self.old.calls self.old.pool place now plan).pool }
-        ensures changes { result.items ≡ (carried_at self.old.calls self.old.pool place now plan).changes }
+    /// Carries out what was planned for the call at this place, with what comes beside it, and answers the changes of the relay
+    /// table, by rising port; a call that is gone then is taken off the list. Where no call stands at the place, nothing is done.
+    pub(crate) fn carry_out(
+        &mut self,
+        alloc: Global,
+        place: usize,
+        kept: Beside,
+        plan: Plan,
+        now: u64,
+    ) -> Vec<Change>
+        requires planned { IsPlannedAt self.old.calls self.old.pool place now plan }
+        requires room { length plan.actions ≤ self.old.timer_room }
+        ensures standing { standing self.new
+            ≡ (carries (standing self.old) now place kept.leg kept.answer plan (slice_get self.old.calls place)).standing }
+        ensures changes { result.items
+            ≡ (carries (standing self.old) now place kept.leg kept.answer plan (slice_get self.old.calls place)).changes }
         ensures leads { LeadFrom self.old.pool.rows self.new.pool.rows result.items }
-        ensures begun { self.new.begun ≡ self.old.begun }
-        ensures room { self.old.room ≤ self.new.room }
     {
         spared_call_is_served();
         if place >= self.calls.len() {
+            let_go(kept);
             let_go(plan);
             return Vec::new(alloc);
         }
-        let changes = carry_out_there(&mut self.calls, &mut self.pool, alloc, place, plan, now);
+        let number = self.calls[place].call.number();
+        take_plan(&mut self.timers, now, number, &plan);
+        let changes = carry_out_there(
+            &mut self.calls,
+            &mut self.pool,
+            alloc,
+            place,
+            kept,
+            plan,
+            now,
+        );
         take_off(&mut self.calls, place);
         changes
     }
 
     /// Begins a call, of the number that comes next, with its first plan carried out; answers the changes of the relay table.
-    pub fn begin(&mut self, alloc: Global, call: StandingCall, plan: Plan, now: u64) -> Vec<Change>
+    pub(crate) fn begin(
+        &mut self,
+        alloc: Global,
+        call: StandingCall,
+        plan: Plan,
+        now: u64,
+    ) -> Vec<Change>
         requires room { 0 < self.old.room }
+        requires timer_room { length plan.actions ≤ self.old.timer_room }
         requires number { call.call.number ≡ self.old.begun + 1 }
         requires few { self.old.begun + 1 < 2 ^ 64 }
         requires serves { IsServed call.call self.old.pool }
         requires planned { IsPlanned call.call self.old.pool now plan }
-        ensures calls { self.new.calls ≡ (begun_by self.old call (carried call.call self.old.pool now plan)).calls }
-        ensures pool { self.new.pool ≡ (begun_by self.old call (carried call.call self.old.pool now plan)).pool }
-        ensures changes { result.items ≡ (begun_by self.old call (carried call.call self.old.pool now plan)).changes }
+        ensures standing { standing self.new
+            ≡ (after_first_step (standing self.old) now call (carried call.call self.old.pool now plan)).standing }
+        ensures changes { result.items ≡ (carried call.call self.old.pool now plan).changes }
         ensures leads { LeadFrom self.old.pool.rows self.new.pool.rows result.items }
-        ensures begun { self.new.begun ≡ self.old.begun + 1 }
     {
         spared_call_is_served();
+        take_plan(&mut self.timers, now, call.call.number(), &plan);
         let changes = begin_in(&mut self.calls, &mut self.pool, alloc, call, plan, now);
         self.begun += 1;
         changes

@@ -2,11 +2,12 @@
 
 ghost use Rattle.std.specs.Prelude.{◌≡◌};
 ghost use Rattle.std.specs.Option.{option_copied};
-ghost use Rattle.calls.specs.Finding.{has_number, has_tag, is_of_end, is_tag_in, place_by_end, place_by_number, place_by_tag};
+ghost use Rattle.call_core.specs.Calls.{holds_in};
+ghost use Rattle.calls.specs.Finding.{awaits_ack, awaits_this_ack, has_number, has_open_offer, has_tag, is_cancellable, is_of_end, is_tag_in, place_by_ack, place_by_end, place_by_number, place_by_offer, place_by_tag};
 
 use crate::standing_call::StandingCall;
 use crate::state::Calls;
-use call_core::End;
+use call_core::{End, Stage, Standing};
 use dialogs::Dialog;
 use sip_message::Request;
 
@@ -16,6 +17,43 @@ fn is_of_end(call: &StandingCall, end: End, request: &Request<'_>) -> bool
     match call.call.dialog(end) {
         None => false,
         Some(dialog) => dialog.id.is_of_request(request),
+    }
+}
+
+fn is_cancellable(standing: Option<Standing>) -> bool
+    ensures { result ≡ holds_in is_cancellable standing }
+{
+    match standing {
+        None => false,
+        Some(standing) => matches!(standing.stage, Stage::Asked(_) | Stage::Reasked(..)),
+    }
+}
+
+fn has_open_offer(call: &StandingCall, id: usize) -> bool
+    ensures { result ≡ has_open_offer id call.now }
+{
+    call.asked.id == id && is_cancellable(call.call.standing())
+}
+
+fn awaits_ack(stage: Stage) -> bool
+    ensures { result ≡ awaits_ack stage }
+{
+    matches!(
+        stage,
+        Stage::Answered(_) | Stage::Reanswered(_) | Stage::Ending(_)
+    )
+}
+
+fn awaits_this_ack(call: &StandingCall, request: &Request<'_>) -> bool
+    ensures { result ≡ awaits_this_ack request.now.parts call.now }
+{
+    match call.call.standing() {
+        None => false,
+        Some(standing) => {
+            awaits_ack(standing.stage)
+                && request.parts.cseq.number == call.asked.number
+                && is_of_end(call, standing.offerer, request)
+        }
     }
 }
 
@@ -46,6 +84,18 @@ fn place_by_end(calls: &[StandingCall], end: End, request: &Request<'_>) -> Opti
     calls.iter().position(|call| is_of_end(call, end, request))
 }
 
+fn place_by_offer(calls: &[StandingCall], id: usize) -> Option<usize>
+    ensures { result ≡ place_by_offer id calls.now }
+{
+    calls.iter().position(|call| has_open_offer(call, id))
+}
+
+fn place_by_ack(calls: &[StandingCall], request: &Request<'_>) -> Option<usize>
+    ensures { result ≡ place_by_ack request.now.parts calls.now }
+{
+    calls.iter().position(|call| awaits_this_ack(call, request))
+}
+
 fn place_by_tag(calls: &[StandingCall], tag: &[u8]) -> Option<usize>
     ensures { result ≡ place_by_tag tag.now calls.now }
 {
@@ -64,6 +114,21 @@ impl Calls {
         ensures { result ≡ place_by_end end request.now.parts self.now.calls }
     {
         place_by_end(&self.calls, end, request)
+    }
+
+    /// The place of the call whose INVITE came with this transaction and has no final response: a CANCEL of it changes something
+    /// (RFC 3261 section 9.2).
+    pub fn place_by_offer(&self, id: usize) -> Option<usize>
+        ensures { result ≡ place_by_offer id self.now.calls }
+    {
+        place_by_offer(&self.calls, id)
+    }
+
+    /// The place of the call in which a 2xx to an INVITE waits for this ACK (RFC 3261 section 13.3.1.4).
+    pub fn place_by_ack(&self, request: &Request<'_>) -> Option<usize>
+        ensures { result ≡ place_by_ack request.now.parts self.now.calls }
+    {
+        place_by_ack(&self.calls, request)
     }
 
     /// The place of the call of which this is the server's own tag: that of the leg to the callee, or of the dialog with the

@@ -5,9 +5,15 @@
 
 mod beside;
 mod carrying;
+mod change;
+mod entering;
 mod finding;
 mod standing_call;
 mod state;
+mod timer_id;
+mod timing;
 
+pub use change::{CallChange, LegDialog};
 pub use standing_call::{OfferRequest, StandingCall};
 pub use state::Calls;
+pub use timer_id::CallTimerId;

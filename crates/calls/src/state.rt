@@ -1,15 +1,17 @@
 //! The calls that stand, with their pool.
 
-ghost use Rattle.std.specs.Prelude.{◌≡◌, ◌+◌, ◌<◌, ◌≤◌, ◌*◌, ◌%◌, ℕ, [], IfOk, IfSome, IsOk, OnOk, false, slice_get};
+ghost use Rattle.std.specs.Prelude.{◌≡◌, ◌+◌, ◌<◌, ◌≤◌, ◌*◌, ◌%◌, ℕ, [], IfOk, IfSome, false, slice_get};
 ghost use Rattle.std.specs.Option.{option_copied};
 ghost use Rattle.port_pool.specs.Limits.{least_port, last_port, most_pairs};
 ghost use Rattle.port_pool.specs.Pool.{is_port_of, new_pool};
 ghost use Rattle.call_core.specs.Calls.{IsServed};
 
 use crate::standing_call::StandingCall;
+use crate::timer_id::CallTimerId;
 use port_pool::Pool;
 use std::alloc::{AllocError, Global};
 use std::marker::Model;
+use timers::Timers;
 
 /// The calls that stand, in the order in which they began, and the pool that serves them.
 #[derive(Drop)]
@@ -18,6 +20,7 @@ pub struct Calls {
     pub(crate) pool: Pool,
     /// How many calls began.
     pub(crate) begun: u64,
+    pub(crate) timers: Timers<CallTimerId>,
 }
 
 impl Model for Calls {
@@ -31,7 +34,7 @@ impl Model for Calls {
 
     ghost coded = { Prim.hlevel (codes, coded_contents) };
 
-    ghost view = { λ c. record { calls = c.calls.items; pool = c.pool; begun = c.begun; room = vec_capacity c.calls - vec_len c.calls } };
+    ghost view = { λ c. record { calls = c.calls.items; pool = c.pool; begun = c.begun; timers = c.timers.timers; room = vec_capacity c.calls - vec_len c.calls; timer_room = c.timers.room } };
 
     ghost invariant = { λ c. AreKept c.calls.items c.pool c.begun };
 }
@@ -53,12 +56,14 @@ impl Calls {
         ensures calls { IfOk result (λ c. c.calls ≡ []) }
         ensures pool { IfOk result (λ c. c.pool ≡ new_pool first pairs) }
         ensures begun { IfOk result (λ c. c.begun ≡ 0) }
+        ensures timers { IfOk result (λ c. c.timers ≡ []) }
     {
         let pool = Pool::new(alloc, first, pairs)?;
         Ok(Calls {
             calls: Vec::new(alloc),
             pool,
             begun: 0,
+            timers: Timers::new(alloc),
         })
     }
 
@@ -91,17 +96,5 @@ impl Calls {
         ensures served { IfSome result (λ c. IsServed c.now.call self.now.pool) }
     {
         call_at(self.calls.as_slice(), place)
-    }
-
-    /// Makes room for so many calls more. A refusal (no memory) leaves the calls as they were.
-    pub fn reserve(&mut self, more: usize) -> Result<(), AllocError>
-        ensures calls { self.new.calls ≡ self.old.calls }
-        ensures pool { self.new.pool ≡ self.old.pool }
-        ensures begun { self.new.begun ≡ self.old.begun }
-        ensures ok { OnOk result (more ≤ self.new.room) }
-        ensures enough { more ≤ self.old.room → IsOk result }
-        ensures room { self.old.room ≤ self.new.room }
-    {
-        self.calls.reserve(more)
     }
 }

@@ -1,12 +1,14 @@
 -- Transactions by their numbers: place i has the transaction with the number i, or none.
 use Rattle.std.specs.Prelude.{ℕ, Bool, true, false, not, ◌&&◌, List, codes, Option, Some, None, position, is_none, count_by}
 use Rattle.std.specs.List.{position_or_len, slice_index_or}
+use Rattle.sip_uri.specs.Binding.{same_text}
 use Rattle.sip_message.specs.declared.message.Parts.{Parts}
+use Rattle.transaction_machines.specs.declared.invite_client.InviteClient.TheVariants.{Calling, Proceeding, Completed, Accepted}
 use Rattle.transaction_machines.specs.declared.state.State.{State}
 use Rattle.transaction_machines.specs.declared.state.State.TheVariants.{InviteClient, InviteServer, OtherClient, OtherServer}
 use Rattle.transactions.specs.declared.transaction.Transaction.{Transaction}
 use Rattle.transaction_machines.specs.Machines.{is_server}
-use Rattle.sip_message.specs.Words.{is_method}
+use Rattle.sip_message.specs.Words.{is_method, tag_value}
 use Rattle.transactions.specs.Matching.{is_copy, is_reply, is_merged_with, same_top}
 
 -- the transaction of a number
@@ -63,3 +65,21 @@ is_serving (Some t) = is_server t.state
 -- how many server transactions there are
 abbrev pub serving : List (Option Transaction) → ℕ
 serving slots = count_by is_serving slots
+
+-- an INVITE of the server's own that has no final response
+abbrev pub awaits_final : State → Bool
+awaits_final (InviteClient (Calling interval abandoned)) = true
+awaits_final (InviteClient Proceeding) = true
+awaits_final (InviteClient Completed) = false
+awaits_final (InviteClient Accepted) = false
+awaits_final (InviteServer state) = false
+awaits_final (OtherClient state) = false
+awaits_final (OtherServer state) = false
+
+unfoldable pub is_waiting_invite : List ℕ → Option Transaction → Bool
+is_waiting_invite tag None = false
+is_waiting_invite tag (Some t) = awaits_final t.state && same_text (tag_value t.parts.from.params) (Some tag)
+
+-- the INVITE of the server's own with this tag in From that has no final response
+abbrev pub waiting_invite : List (Option Transaction) → List ℕ → Option ℕ
+waiting_invite slots tag = position (is_waiting_invite tag) slots

@@ -3,12 +3,14 @@
 ghost use Rattle.std.specs.Prelude.{◌≡◌, ◌+◌, ◌<◌, ◌^◌, is_none, count_by, position, if◌then◌else◌};
 ghost use Rattle.std.specs.List.{list_any};
 ghost use Rattle.std.specs.Option.{option_copied};
-ghost use Rattle.transactions.specs.Slots.{at, is_asked, is_answered, is_named, is_named_invite, is_merged, is_serving, free_number, named};
+ghost use Rattle.transactions.specs.Slots.{at, is_asked, is_answered, is_named, is_named_invite, is_merged, is_serving, is_waiting_invite, free_number, named, waiting_invite, awaits_final};
 
 use crate::matching::{is_copy, is_merged_with, is_reply, same_top};
 use crate::transaction::Transaction;
-use sip_message::{Parts, is_method};
-use transaction_machines::{State, is_server};
+use sip_message::{Parts, is_method, tag_value};
+use sip_uri::same_text;
+use text::Text;
+use transaction_machines::{InviteClient, State, is_server};
 
 /// The transaction of a number.
 pub(crate) fn transaction_at(slots: &[Option<Transaction>], id: usize) -> Option<&Transaction>
@@ -133,6 +135,38 @@ pub(crate) fn any_merged(slots: &[Option<Transaction>], parts: &Parts) -> bool
     ensures { result ≡ list_any (is_merged parts.now) slots.now }
 {
     slots.iter().any(|slot| is_merged(slot, parts))
+}
+
+fn awaits_final(state: State) -> bool
+    ensures { result ≡ awaits_final state }
+{
+    matches!(
+        state,
+        State::InviteClient(InviteClient::Calling(..) | InviteClient::Proceeding)
+    )
+}
+
+#[tactic(auto, unfolding(crate::specs::Slots::is_waiting_invite))]
+fn is_waiting_invite(slot: &Option<Transaction>, tag: &Text<'_>) -> bool
+    ensures { result ≡ is_waiting_invite tag.now slot.now }
+{
+    match slot {
+        None => false,
+        Some(transaction) => {
+            awaits_final(transaction.state)
+                && same_text(
+                    tag_value(transaction.parts.from.params.as_slice()),
+                    Some(tag),
+                )
+        }
+    }
+}
+
+/// The INVITE of the server's own with this tag in From that has no final response.
+pub(crate) fn waiting_invite(slots: &[Option<Transaction>], tag: &Text<'_>) -> Option<usize>
+    ensures { result ≡ waiting_invite slots.now tag.now }
+{
+    slots.iter().position(|slot| is_waiting_invite(slot, tag))
 }
 
 #[tactic(auto, unfolding(crate::specs::Slots::is_serving))]

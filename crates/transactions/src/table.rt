@@ -10,7 +10,7 @@ ghost use Rattle.sip_writing.specs.Writing.{message_text};
 ghost use Rattle.sip_writing.specs.WritingMessage.{IsWrittenMessage};
 ghost use Rattle.sip_message.specs.declared.message.Message.TheVariants as Kinds;
 ghost use Rattle.transactions.specs.Limits.{most_served};
-ghost use Rattle.transactions.specs.Slots.{at, named, serving, is_serving};
+ghost use Rattle.transactions.specs.Slots.{at, named, serving, is_serving, waiting_invite};
 ghost use Rattle.transactions.specs.Transactions.{outgoing};
 ghost use Rattle.sip_message.specs.Words.{class_of};
 ghost use Rattle.transactions.specs.Contents.{line_at, reception_of, IsNew, RefusesMessage, answer_input, after_answer, answer_sent, RefusesAnswer, after_abandon, RefusesAbandon, fired_of, after_fire, is_due, RefusesFire, merged};
@@ -22,7 +22,7 @@ use crate::error::TableError;
 use crate::foreseeing::{Foreseen, ForeseenFire};
 use crate::matching::has_to_tag;
 use crate::outcome::{Fired, Outgoing, Reception, Started};
-use crate::slots::{any_merged, free_number, named, transaction_at};
+use crate::slots::{any_merged, free_number, named, transaction_at, waiting_invite};
 use crate::stopping::{has_come, moment};
 use crate::transaction::{TimerId, Transaction};
 use sip_message::{Message, Request, Response, class_of, is_method};
@@ -30,6 +30,7 @@ use sip_uri::Addr;
 use sip_writing::{write_request, write_response};
 use std::alloc::{AllocError, Global};
 use std::marker::Model;
+use text::Text;
 use timers::{Timer, Timers};
 use transaction_machines::{Input, advance, is_server};
 
@@ -240,6 +241,14 @@ impl Table {
         ensures { result ≡ named self.now.slots request.now.parts }
     {
         named(&self.slots, &request.parts)
+    }
+
+    /// The INVITE of the server's own with this tag in From that has no final response: the one that `cancel_of` and `abandons` are
+    /// for. Takes no memory.
+    pub fn waiting_invite(&self, tag: &Text<'_>) -> Option<usize>
+        ensures { result ≡ waiting_invite self.now.slots tag.now }
+    {
+        waiting_invite(&self.slots, tag)
     }
 
     /// Whether another server transaction has the tag of From, Call-ID, number and method of a request without tag in

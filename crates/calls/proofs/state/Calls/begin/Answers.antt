@@ -1,4 +1,4 @@
-use Rattle.std.proofs.Common.{◌≡◌, ◌+◌, List, subst, sym}
+use Rattle.std.proofs.Common.{◌+◌, List, subst, sym}
 use Rattle.calls.specs.declared.standing_call.StandingCall.{StandingCall}
 use Rattle.calls.specs.Carrying.{with_step}
 use Rattle.calls.specs.State.{AreKept}

@@ -1,4 +1,4 @@
-use Rattle.std.proofs.Common.{◌≡◌, [], List, subst, sym}
+use Rattle.std.proofs.Common.{[], List, subst, sym}
 use Rattle.port_pool.specs.Pool as pools
 use Rattle.calls.specs.declared.standing_call.StandingCall.{StandingCall}
 use Rattle.calls.specs.State.{AreKept}

@@ -1,5 +1,4 @@
-use Rattle.std.proofs.Common.{◌≡◌, ◌∙◌, ◌<◌, ap, arith, length, refl, set, sym}
-use Rattle.std.specs.Prelude.{slice_get}
+use Rattle.std.proofs.Common.{◌<◌, ap, arith, length, refl, sym}
 use Rattle.calls.specs.Carrying.{changed_at, with_asked}
 use Rattle.calls.proofs.KeptLaws.{kept_put, read_at, served_at}
 use Rattle.calls.proofs.state.Calls.put_asked.Goals as goal

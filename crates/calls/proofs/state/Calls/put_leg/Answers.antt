@@ -1,9 +1,8 @@
-use Rattle.std.proofs.Common.{◌≡◌, ◌∙◌, ◌<◌, ap, arith, length, refl, set, sym}
-use Rattle.std.specs.Prelude.{slice_get}
+use Rattle.std.proofs.Common.{◌∙◌, ◌<◌, ap, arith, length, set, sym}
 use Rattle.call_core.specs.declared.call.Call.{Call}
 use Rattle.calls.specs.Carrying.{changed_at, with_call, with_dialog_at}
 use Rattle.calls.proofs.KeptLaws.{kept_put, read_at, served_at, number_kept}
-use Rattle.calls.proofs.state.Calls.put_dialog.Goals as goal
+use Rattle.calls.proofs.state.Calls.put_leg.Goals as goal
 
 pub invariant_of-self : goal.invariant_of-self
 invariant_of-self c =
@@ -12,7 +11,7 @@ invariant_of-self c =
     let within : c.args.place < length cs = omega (arith, c.if-place-len.false, c.len.ensures, c.self.inside.calls.ok.0) in
     let here = read_at cs c.args.place stood within c.index_mut.ensures.value in
     let served = served_at c.self.inside.pool cs c.args.place stood c.self.invariant.served here in
-    kept_put cs c.args.place stood _ c.self.inside.pool c.self.inside.begun c.self.invariant here (ap (λ (call : Call). call.number) c.put_dialog.ensures.call ∙ number_kept c.args.end c.args.dialog stood.call) (c.put_dialog.ensures.serves c.self.inside.pool served)
+    kept_put cs c.args.place stood _ c.self.inside.pool c.self.inside.begun c.self.invariant here (ap (λ (call : Call). call.number) c.put_dialog.ensures.call ∙ number_kept c.args.leg.end c.args.leg.dialog stood.call) (c.put_dialog.ensures.serves c.self.inside.pool served)
 
 pub returns-clause-calls : goal.returns-clause-calls
 returns-clause-calls c =
@@ -20,4 +19,4 @@ returns-clause-calls c =
     let stood = c.index_mut.result.now in
     let within : c.args.place < length cs = omega (arith, c.if-place-len.false, c.len.ensures, c.self.inside.calls.ok.0) in
     let here = read_at cs c.args.place stood within c.index_mut.ensures.value in
-    rw (← c.self.view_is) (ap (λ (call : Call). set cs c.args.place (with_call call stood)) c.put_dialog.ensures.call ∙ sym (ap (changed_at (with_dialog_at c.args.end c.args.dialog) c.args.place cs) here))
+    rw (← c.self.view_is) (ap (λ (call : Call). set cs c.args.place (with_call call stood)) c.put_dialog.ensures.call ∙ sym (ap (changed_at (with_dialog_at c.args.leg.end c.args.leg.dialog) c.args.place cs) here))

@@ -1,0 +1,6 @@
+pub mod Speaking
+pub mod Places
+pub mod Requests
+pub mod Responses
+pub mod Content
+pub mod Reach

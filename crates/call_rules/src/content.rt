@@ -1,0 +1,145 @@
+//! What the body of a message is by its header fields, and what it describes.
+
+ghost use Rattle.std.specs.Prelude.{◌≡◌, map, None, Some, IfOk};
+ghost use Rattle.std.specs.List.{list_all};
+ghost use Rattle.sdp.specs.Reading.{description_of};
+ghost use Rattle.call_rules.specs.Content.{coding_rule, content_rule, described, described_by, has_description_type, if_read, is_identity, is_uncoded, is_uncoded_by};
+
+use sdp::{Description, DescriptionError, read_description};
+use sip_message::{FieldValue, Header, content_type, values_named};
+use std::alloc::{AllocError, Global};
+use text::{pieces, trimmed};
+
+/// Why a body is not taken (RFC 3261 section 8.2.3).
+#[derive(Clone, Copy)]
+pub enum ContentRule {
+    /// Its type is not that of a description (section 20.15).
+    Type,
+    /// It is coded (section 20.12).
+    Encoding,
+}
+
+fn is_identity(coding: &[u8]) -> bool
+    ensures { result ≡ is_identity coding.now }
+{
+    trimmed(coding).eq_ignore_ascii_case(b"identity")
+}
+
+fn are_identities(codings: &[&[u8]]) -> bool
+    ensures { result ≡ list_all is_identity (map (λ c. c.now) codings.now) }
+{
+    for coding in codings {
+        if !is_identity(coding) {
+            return false;
+        }
+    }
+    true
+}
+
+/// Whether a Content-Encoding of this value leaves the body as it is.
+fn is_uncoded_by(alloc: Global, value: &FieldValue<'_>) -> Result<bool, AllocError>
+    ensures { IfOk result (λ b. b ≡ is_uncoded_by value.now) }
+{
+    let text = value.text(alloc)?;
+    let codings = pieces(alloc, text.as_bytes(), b',')?;
+    Ok(are_identities(&codings))
+}
+
+fn is_uncoded_by_each(alloc: Global, values: &[&FieldValue<'_>]) -> Result<bool, AllocError>
+    ensures { IfOk result (λ b. b ≡ list_all is_uncoded_by (map (λ v. v.now) values.now)) }
+{
+    for value in values {
+        if !is_uncoded_by(alloc, value)? {
+            return Ok(false);
+        }
+    }
+    Ok(true)
+}
+
+fn is_uncoded(alloc: Global, headers: &[Header<'_>]) -> Result<bool, AllocError>
+    ensures { IfOk result (λ b. b ≡ is_uncoded headers.now) }
+{
+    let values = values_named(alloc, headers, b"Content-Encoding")?;
+    is_uncoded_by_each(alloc, &values)
+}
+
+/// Whether Content-Type is that of a description, or does not stand.
+fn has_description_type(alloc: Global, headers: &[Header<'_>]) -> Result<bool, AllocError>
+    ensures { IfOk result (λ b. b ≡ has_description_type headers.now) }
+{
+    match content_type(alloc, headers)? {
+        Some(range) => Ok(range.as_bytes() == b"application/sdp".as_slice()),
+        None => Ok(true),
+    }
+}
+
+fn coding_rule(alloc: Global, headers: &[Header<'_>]) -> Result<Option<ContentRule>, AllocError>
+    ensures { IfOk result (λ rule. rule ≡ coding_rule headers.now) }
+{
+    if is_uncoded(alloc, headers)? {
+        return Ok(None);
+    }
+    Ok(Some(ContentRule::Encoding))
+}
+
+/// Why the body of a message with these header fields is not taken, if it is not: its type is looked at first. A body whose type
+/// is not named counts as a description.
+#[tactic(auto, unfolding(crate::specs::Content::content_rule))]
+pub fn content_rule(
+    alloc: Global,
+    headers: &[Header<'_>],
+) -> Result<Option<ContentRule>, AllocError>
+    ensures { IfOk result (λ rule. rule ≡ content_rule headers.now) }
+{
+    if !has_description_type(alloc, headers)? {
+        return Ok(Some(ContentRule::Type));
+    }
+    coding_rule(alloc, headers)
+}
+
+fn kept(
+    alloc: Global,
+    description: &Description<'_>,
+) -> Result<Option<Description<'static>>, AllocError>
+    ensures { IfOk result (λ d. d ≡ Some description.now) }
+{
+    Ok(Some(description.keep(alloc)?))
+}
+
+/// The description that the body is, kept; none where it is none.
+fn description_read(alloc: Global, body: &[u8]) -> Result<Option<Description<'static>>, AllocError>
+    ensures { IfOk result (λ d. d ≡ if_read (description_of body.now)) }
+{
+    match read_description(alloc, body) {
+        Ok(description) => kept(alloc, &description),
+        Err(DescriptionError::OutOfMemory) => Err(AllocError),
+        Err(_) => Ok(None),
+    }
+}
+
+fn described_by(
+    alloc: Global,
+    rule: Option<ContentRule>,
+    body: &[u8],
+) -> Result<Option<Description<'static>>, AllocError>
+    ensures { IfOk result (λ d. d ≡ described_by rule body.now) }
+{
+    match rule {
+        None => description_read(alloc, body),
+        Some(_) => Ok(None),
+    }
+}
+
+/// What the body of a message with these header fields describes, with bytes of its own; none where there is no body, where it is
+/// not taken, and where it can't be read.
+#[tactic(auto, unfolding(crate::specs::Content::described))]
+pub fn described(
+    alloc: Global,
+    headers: &[Header<'_>],
+    body: &[u8],
+) -> Result<Option<Description<'static>>, AllocError>
+    ensures { IfOk result (λ d. d ≡ described headers.now body.now) }
+{
+    let rule = content_rule(alloc, headers)?;
+    described_by(alloc, rule, body)
+}

@@ -1,0 +1,14 @@
+//! What a request inside a call, a response to a request of the server's, the end of such a request's time, and a body ask of the
+//! calls that stand, before one of them takes it. Everything here only looks: no call changes, and nothing is sent.
+#![tactic(auto)]
+
+mod content;
+mod reach;
+mod requests;
+mod responses;
+mod speaking;
+
+pub use content::{ContentRule, content_rule, described};
+pub use reach::{contact_address, is_reached, is_unreachable};
+pub use requests::{DialogRule, dialog_rule, with_remote_number};
+pub use responses::{ResponseRule, response_rule, timeout_rule};

@@ -1,0 +1,104 @@
+-- What changes among the calls, as values.
+use Rattle.std.specs.Prelude.{◌≡◌, ℕ, ◌+◌, ◌<◌, ◌≤◌, List, [], length, is_some, slice_get, slice_set, Option, Some, None, if◌then◌else◌}
+use Rattle.std.specs.List.{remove}
+use Rattle.port_pool.specs.declared.changes.Change.{Change}
+use Rattle.call_core.specs.declared.plan.Plan.{Plan}
+use Rattle.call_core.specs.Calls.{IsServed}
+use Rattle.call_core.specs.Plans.{IsPlanned, Step, carried}
+use Rattle.events.specs.declared.sent.Sent.{Sent}
+use Rattle.calls.specs.declared.change.CallChange.{CallChange}
+use Rattle.calls.specs.declared.change.CallChange.TheVariants.{Unchanged, Begins, Carries, Puts}
+use Rattle.calls.specs.declared.change.LegDialog.{LegDialog}
+use Rattle.calls.specs.declared.standing_call.StandingCall.{StandingCall}
+use Rattle.calls.specs.Carrying.{changed_at, pushed, with_answer, with_dialog_at, with_step}
+use Rattle.calls.specs.State.{Contents, Standing}
+use Rattle.calls.specs.Timing.{same_timer, timers_after}
+use Rattle.calls.specs.declared.timer_id.CallTimerId.{CallTimerId}
+use Rattle.timers.specs.Queue.{without}
+
+-- the calls afterwards, and the changes of the relay table
+pub record Outcome : Type 0 where
+  pub standing : Standing
+  pub changes : List Change
+
+abbrev pub unchanged : Standing → Outcome
+unchanged s = record { standing = s; changes = [] }
+
+-- ---- a call that stands
+
+abbrev pub with_leg : Option LegDialog → StandingCall → StandingCall
+with_leg None c = c
+with_leg (Some leg) c = with_dialog_at leg.end leg.dialog c
+
+-- a 200 that is new is the one that goes again
+abbrev pub with_last : Option Sent → StandingCall → StandingCall
+with_last None c = c
+with_last (Some answer) c = with_answer (Some answer) c
+
+abbrev pub beside : Option LegDialog → Option Sent → StandingCall → StandingCall
+beside leg answer c = with_last answer (with_leg leg c)
+
+-- the call at this place did this, and has these beside it; one that is gone is taken off the list
+abbrev pub after_step : Standing → ℕ → ℕ → Option LegDialog → Option Sent → StandingCall → Step → Outcome
+after_step s now place leg answer c step = record {
+  standing = record {
+    calls = if is_some step.call.standing then slice_set s.calls place (beside leg answer (with_step c step)) else remove s.calls place;
+    pool = step.pool;
+    begun = s.begun;
+    timers = timers_after now c.call.number step s.timers;
+  };
+  changes = step.changes;
+}
+
+abbrev pub carries : Standing → ℕ → ℕ → Option LegDialog → Option Sent → Plan → Option StandingCall → Outcome
+carries s now place leg answer plan None = unchanged s
+carries s now place leg answer plan (Some c) = after_step s now place leg answer c (carried c.call s.pool now plan)
+
+-- ---- a call that begins, behind the others
+
+abbrev pub after_first_step : Standing → ℕ → StandingCall → Step → Outcome
+after_first_step s now c step = record {
+  standing = record {
+    calls = pushed (with_step c step) s.calls;
+    pool = step.pool;
+    begun = s.begun + 1;
+    timers = timers_after now c.call.number step s.timers;
+  };
+  changes = step.changes;
+}
+
+-- ---- a dialog alone
+
+abbrev pub with_calls : List StandingCall → Standing → Standing
+with_calls calls s = record { calls = calls; pool = s.pool; begun = s.begun; timers = s.timers }
+
+abbrev pub puts : Standing → ℕ → LegDialog → Outcome
+puts s place leg =
+    unchanged (with_calls (changed_at (with_dialog_at leg.end leg.dialog) place s.calls (slice_get s.calls place)) s)
+
+-- ---- what a change comes to, at this moment
+
+abbrev pub entered : Standing → ℕ → CallChange → Outcome
+entered s now Unchanged = unchanged s
+entered s now (Begins c plan) = after_first_step s now c (carried c.call s.pool now plan)
+entered s now (Carries place leg answer plan) = carries s now place leg answer plan (slice_get s.calls place)
+entered s now (Puts place leg) = puts s place leg
+
+-- a change was planned on these calls, at this moment: so it can be entered
+abbrev pub FitsChange : Standing → ℕ → CallChange → Type 0
+FitsChange s now Unchanged = Unit {0}
+FitsChange s now (Begins c plan) = (c.call.number ≡ s.begun + 1) × IsServed c.call s.pool × IsPlanned c.call s.pool now plan
+FitsChange s now (Carries place leg answer plan) = (c : StandingCall) → slice_get s.calls place ≡ Some c → IsPlanned c.call s.pool now plan
+FitsChange s now (Puts place leg) = Unit {0}
+
+-- there is room for it
+abbrev pub HasRoom : Contents → CallChange → Type 0
+HasRoom s Unchanged = Unit {0}
+HasRoom s (Begins c plan) = (0 < s.room) × (length plan.actions ≤ s.timer_room)
+HasRoom s (Carries place leg answer plan) = length plan.actions ≤ s.timer_room
+HasRoom s (Puts place leg) = Unit {0}
+
+-- ---- a timer that fires
+
+abbrev pub without_timer : CallTimerId → Standing → Standing
+without_timer fired s = record { calls = s.calls; pool = s.pool; begun = s.begun; timers = without same_timer s.timers fired }
