@@ -1,12 +1,14 @@
 -- Events that are only counted, and those that are looked at further.
-use Rattle.std.proofs.Common.{◌≡◌, ℕ, ◌<◌, ◌^◌, Bool, true, false, cond, nat_le, List, ◌++◌, Option, Some, None, refl, sym, ap, ◌∙◌}
+use Rattle.std.proofs.Common.{◌≡◌, ℕ, ◌<◌, ◌^◌, Bool, true, false, cond, nat_le, List, [], ◌++◌, Option, Some, None, refl, sym, ap, ◌∙◌}
 use Rattle.std.proofs.Math.Nat.{add-zero}
 use Rattle.std.proofs.lemmas.Bool.{leb-false}
 use Rattle.std.proofs.lemmas.List.{append-nil}
 use Rattle.events.specs.declared.event.Event.{Event}
 use Rattle.agent.specs.declared.taken.Taken.{Taken}
 use Rattle.events.specs.declared.sent.Sent.{Sent}
-use Rattle.agent.specs.Plan.{Plan, nothing}
+use Rattle.agent.specs.CallRows.{of_plan}
+use Rattle.agent.specs.Effect.{Effect}
+use Rattle.agent.specs.Plan.{nothing}
 use Rattle.agent.specs.Rows.{after, moment_after, only_counts, row, row_by, what_row}
 use Rattle.agent.specs.State.{Contents, after_count, after_event, moment_at, moments_end, most_tokens}
 use Rattle.agent.specs.Tally.{counted}
@@ -37,21 +39,21 @@ pub after_looked : (s : Contents) (e : Event) → only_counts s e ≡ None →
     after s e ≡ after_event s (moment_at s e.now) (what_row s (moment_at s e.now) e.salt e.what)
 after_looked s e h = ap (λ m. after_event s m (row s e)) (moment_of s e h) ∙ ap (after_event s (moment_at s e.now)) (looked s e h)
 
-only_counted : (s : Contents) (e : Event) (taken : Taken) → only_counts s e ≡ Some taken → row s e ≡ nothing taken
+only_counted : (s : Contents) (e : Event) (taken : Taken) → only_counts s e ≡ Some taken → row s e ≡ of_plan s (nothing taken)
 unfolding row
 only_counted s e taken h = ap (row_by s e) h
 
-pub answer_counted : (s : Contents) (e : Event) (taken : Taken) → only_counts s e ≡ Some taken → taken ≡ (row s e).taken
-answer_counted s e taken h = sym (ap (λ (p : Plan). p.taken) (only_counted s e taken h))
+pub answer_counted : (s : Contents) (e : Event) (taken : Taken) → only_counts s e ≡ Some taken → taken ≡ (row s e).plan.taken
+answer_counted s e taken h = sym (ap (λ (x : Effect). x.plan.taken) (only_counted s e taken h))
 
-pub sends_counted : (s : Contents) (e : Event) (taken : Taken) (sent : List Sent) → only_counts s e ≡ Some taken → sent ≡ sent ++ (row s e).sends
+pub sends_counted : (s : Contents) (e : Event) (taken : Taken) (sent : List Sent) → only_counts s e ≡ Some taken → sent ≡ sent ++ (row s e).plan.sends
 sends_counted s e taken sent h =
-    sym (append-nil sent) ∙ ap (λ (more : List Sent). sent ++ more) (sym (ap (λ (p : Plan). p.sends) (only_counted s e taken h)))
+    sym (append-nil sent) ∙ ap (λ (more : List Sent). sent ++ more) (sym (ap (λ (x : Effect). x.plan.sends) (only_counted s e taken h)))
 
-counted_alone : (s : Contents) (m : ℕ) (taken : Taken) → after_event s m (nothing taken) ≡ after_count s m taken
+counted_alone : (s : Contents) (m : ℕ) (taken : Taken) → after_event s m (of_plan s (nothing taken)) ≡ after_count s m taken
 unfolding after_event
 counted_alone s m taken =
-    let with_tokens : ℕ → Contents = λ n. record { registrar = s.registrar; table = s.table; least = s.least; moment = m; tokens = n; tally = counted s.tally taken } in
+    let with_tokens : ℕ → Contents = λ n. record { registrar = s.registrar; table = s.table; calls = s.calls; acks = s.acks; changes = []; server = s.server; range = s.range; least = s.least; moment = m; tokens = n; tally = counted s.tally taken } in
     ap with_tokens (add-zero s.tokens)
 
 pub after_counted : (s : Contents) (e : Event) (taken : Taken) → only_counts s e ≡ Some taken →

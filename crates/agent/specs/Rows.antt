@@ -1,5 +1,5 @@
 -- What each event comes to: one row for each answer of the transactions and each rule.
-use Rattle.std.specs.Prelude.{ℕ, ◌+◌, ◌&&◌, Bool, true, false, nat_le, nat_lt, List, [], ◌∷◌, length, map, codes, Option, Some, None, is_some, option_map, option_and_then, unwrap_or, Result, Ok, Err, if◌then◌else◌}
+use Rattle.std.specs.Prelude.{ℕ, ◌+◌, ◌&&◌, ◌||◌, Bool, true, false, nat_le, nat_lt, List, [], ◌∷◌, length, map, min, codes, Option, Some, None, is_some, option_map, option_and_then, unwrap_or, Result, Ok, Err, if◌then◌else◌}
 use Rattle.sip_uri.specs.declared.uri.Addr.{Addr}
 use Rattle.sip_message.specs.declared.error.MessageError.{MessageError}
 use Rattle.sip_message.specs.declared.error.MessageError.TheVariants as faults
@@ -18,7 +18,7 @@ use Rattle.registrar.specs.declared.binding.Binding.{Binding}
 use Rattle.registrar.specs.declared.refusal.Refusal.{Refusal}
 use Rattle.registrar.specs.Registrar.{answer_of, PlanContents, plan_of, rules_of}
 use Rattle.timers.specs.declared.timers.Timer.{Timer}
-use Rattle.timers.specs.Queue.{first_due}
+use Rattle.timers.specs.Queue.{first, first_due}
 use Rattle.transactions.specs.declared.change.Entry.{Entry}
 use Rattle.transactions.specs.declared.outcome.Fired.{Fired}
 use Rattle.transactions.specs.declared.outcome.Fired.TheVariants as fires
@@ -49,87 +49,38 @@ use Rattle.agent.specs.State.{Contents, after_event, moment_at, moments_end, mos
 use Rattle.responses.specs.Tags.{joined_tags, required_tags}
 use Rattle.responses.specs.Tokens.{token}
 use Rattle.responses.specs.Words.{has_fit_branch, is_method}
-
--- ---- a request that begins a transaction
-
--- the one token that a response makes, where To has no tag
-abbrev pub fresh_tag : Contents → Setting → List ℕ
-fresh_tag s e = token e.salt (s.tokens + 1)
-
-abbrev pub tags_made : Request → ℕ
-tags_made r = if has_tag r.parts.to.params then 0 else 1
-
--- a response to request r in transaction id, with its tag
-abbrev pub responds_in : Contents → Setting → Request → List Entry → ℕ → ℕ → List Header → Option PlanContents → Plan
-responds_in s e r begun id status further registration =
-    answers begun id (answer_address r.parts.vias e.source)
-    (responds r.parts e.source status (fresh_tag s e) further) registration (tags_made r)
-
--- the tag that the responses to a request have
-abbrev pub tag_of : Result Message MessageError → Option (List ℕ)
-tag_of (Ok (Kinds.Request r)) = None
-tag_of (Ok (Kinds.Response r)) = tag_value r.parts.to.params
-tag_of (Err fault) = None
-
-abbrev pub tag_in : Option (List ℕ) → Option (List ℕ)
-tag_in sent = option_and_then (λ bytes. tag_of (message_of bytes)) sent
-
--- the tag in what a transaction sent last
-abbrev pub tag_sent : Contents → ℕ → List ℕ
-tag_sent s id = unwrap_or (option_and_then (λ (t : Transaction). tag_in t.last) (at s.table.slots id)) stateless
-
--- 200 to a CANCEL, with the tag of the responses to the request that it names (RFC 3261 section 9.2)
-abbrev pub cancels : Contents → Setting → Request → List Entry → ℕ → ℕ → Plan
-cancels s e r begun id other =
-    answers begun id (answer_address r.parts.vias e.source)
-    (responds r.parts e.source 200 (tag_sent s other) []) None 0
-
-abbrev pub unsupported : Request → Header
-unsupported r = named (codes "Unsupported") (joined_tags (required_tags r.headers))
-
--- why a REGISTER is refused (section 10.3)
-abbrev pub not_registered : Contents → Setting → Request → List Entry → ℕ → Refusal → Plan
-not_registered s e r begun id refusal = responds_in s e r begun id (status_of refusal) (refusal_headers s.least refusal) None
-
--- a REGISTER: all the bindings that its user then has, or why it is refused
-abbrev pub registers_by : Contents → Setting → Request → List Entry → ℕ → Option (List ℕ) → Result (List Binding) Refusal → Plan
-registers_by s e r begun id user (Ok bindings) =
-    responds_in s e r begun id 200 (map (contact_header e.now) bindings) (option_map (λ u. plan_of u bindings) user)
-registers_by s e r begun id user (Err refusal) = not_registered s e r begun id refusal
-
-unfoldable pub registers : Contents → Setting → Request → List Entry → ℕ → Plan
-registers s e r begun id =
-    let register = register_of (rules_of s.registrar) r in
-    registers_by s e r begun id register.user (answer_of s.registrar register e.now)
-
-unfoldable pub rule_row : Contents → Setting → Request → List Entry → ℕ → Rule → Plan
-rule_row s e r begun id (rules.CancelOf other) = cancels s e r begun id other
-rule_row s e r begun id (rules.Refusal status) = responds_in s e r begun id status [] None
-rule_row s e r begun id rules.MethodUnoffered = responds_in s e r begun id 405 (allow ∷ []) None
-rule_row s e r begun id rules.ExtensionRefused = responds_in s e r begun id 420 (unsupported r ∷ []) None
-rule_row s e r begun id rules.MethodsListed = responds_in s e r begun id 200 (allow ∷ []) None
-rule_row s e r begun id rules.Registration = registers s e r begun id
+use Rattle.sip_message.specs.declared.message.Response.{Response}
+use Rattle.calls.specs.Changes.{unchanged}
+use Rattle.calls.specs.declared.timer_id.CallTimerId.{CallTimerId}
+use Rattle.call_rules.specs.Reach.{is_unreachable}
+use Rattle.agent.specs.Effect.{Effect, alone, without_ack}
+use Rattle.agent.specs.Replies.{reply_row}
+use Rattle.agent.specs.CallRows.{ack_row, call_row, call_timer_row, of_plan, response_row, timeout_row}
 
 -- ---- what the transactions make of a message
 
 -- a request or an ACK, by what the transactions say of it
-unfoldable pub request_by : Contents → Setting → Request → List Entry → Verdict → Option Outgoing → Plan
+abbrev pub rule_row : Contents → Setting → Request → List Entry → ℕ → Rule → Effect
+rule_row s e r begun id (rules.Alone reply) = of_plan s (reply_row s e r begun id reply)
+rule_row s e r begun id (rules.Call rule) = call_row s e r begun id rule
+
+unfoldable pub request_by : Contents → Setting → Request → List Entry → Verdict → Option Outgoing → Effect
 request_by s e r begun (verdicts.New id) send = rule_row s e r begun id (request_rule s r e.now)
-request_by s e r begun verdicts.Repeat send = moves begun send
-request_by s e r begun verdicts.Swallowed send = moves begun send
-request_by s e r begun (verdicts.Up id) send = nothing (Dropped Ack)
-request_by s e r begun verdicts.Stray send = nothing (Dropped Ack)
+request_by s e r begun verdicts.Repeat send = of_plan s (moves begun send)
+request_by s e r begun verdicts.Swallowed send = of_plan s (moves begun send)
+request_by s e r begun (verdicts.Up id) send = ack_row s e r begun
+request_by s e r begun verdicts.Stray send = ack_row s e r begun
 
-unfoldable pub response_by : List Entry → Verdict → Option Outgoing → Plan
-response_by begun (verdicts.New id) send = nothing (Dropped Stray)
-response_by begun verdicts.Repeat send = moves begun send
-response_by begun verdicts.Swallowed send = moves begun send
-response_by begun (verdicts.Up id) send = moves begun send
-response_by begun verdicts.Stray send = nothing (Dropped Stray)
+unfoldable pub response_by : Contents → Setting → Response → List Entry → Verdict → Option Outgoing → Effect
+response_by s e r begun (verdicts.New id) send = of_plan s (nothing (Dropped Stray))
+response_by s e r begun verdicts.Repeat send = of_plan s (moves begun send)
+response_by s e r begun verdicts.Swallowed send = of_plan s (moves begun send)
+response_by s e r begun (verdicts.Up id) send = response_row s e r begun send id
+response_by s e r begun verdicts.Stray send = of_plan s (nothing (Dropped Stray))
 
-abbrev pub received_by : Contents → Setting → Message → List Entry → Verdict → Option Outgoing → Plan
+abbrev pub received_by : Contents → Setting → Message → List Entry → Verdict → Option Outgoing → Effect
 received_by s e (Kinds.Request r) begun verdict send = request_by s e r begun verdict send
-received_by s e (Kinds.Response r) begun verdict send = response_by begun verdict send
+received_by s e (Kinds.Response r) begun verdict send = response_by s e r begun verdict send
 
 abbrev pub begins : Verdict → Bool
 begins (verdicts.New id) = true
@@ -142,9 +93,9 @@ begins verdicts.Stray = false
 abbrev pub is_full : Contents → Reception → Bool
 is_full s reception = begins reception.verdict && nat_le most_served (serving s.table.slots)
 
-unfoldable pub received : Contents → Setting → Message → Plan
+unfoldable pub received : Contents → Setting → Message → Effect
 received s e message =
-    if is_full s (reception_of s.table message) then nothing Shed
+    if is_full s (reception_of s.table message) then of_plan s (nothing Shed)
     else received_by s e message (change_of s.table message e.source ∷ []) (reception_of s.table message).verdict (reception_of s.table message).send
 
 -- ---- a branch that does not begin as it has to
@@ -162,8 +113,16 @@ abbrev pub parts_of : Message → Parts
 parts_of (Kinds.Request r) = r.parts
 parts_of (Kinds.Response r) = r.parts
 
-unfoldable pub read_row : Contents → Setting → Message → Plan
-read_row s e message = if has_fit_branch (parts_of message).vias then received s e message else unfit_branch e message
+-- a 2xx that says no address to go on with is no one's (the server's own)
+abbrev pub is_unreachable_message : Message → Bool
+is_unreachable_message (Kinds.Request r) = false
+is_unreachable_message (Kinds.Response r) = is_unreachable r
+
+abbrev pub fit_row : Contents → Setting → Message → Effect
+fit_row s e message = if is_unreachable_message message then of_plan s (nothing (Dropped Stray)) else received s e message
+
+unfoldable pub read_row : Contents → Setting → Message → Effect
+read_row s e message = if has_fit_branch (parts_of message).vias then fit_row s e message else of_plan s (unfit_branch e message)
 
 -- ---- a datagram that can't be read
 
@@ -177,30 +136,34 @@ unread_row e bytes faults.TooLong = nothing (Dropped (Unread faults.TooLong))
 unread_row e bytes faults.Version = unread_by e faults.Version 505 (answerable_of bytes)
 unread_row e bytes fault = unread_by e fault 400 (answerable_of bytes)
 
-abbrev pub by_reading : Contents → Setting → List ℕ → Result Message MessageError → Plan
+abbrev pub by_reading : Contents → Setting → List ℕ → Result Message MessageError → Effect
 by_reading s e bytes (Ok message) = read_row s e message
-by_reading s e bytes (Err fault) = unread_row e bytes fault
+by_reading s e bytes (Err fault) = of_plan s (unread_row e bytes fault)
 
-unfoldable pub datagram_row : Contents → Setting → List ℕ → Plan
+unfoldable pub datagram_row : Contents → Setting → List ℕ → Effect
 datagram_row s e bytes = by_reading s e bytes (message_of bytes)
 
--- ---- a timer
+-- ---- a timer of a transaction
 
-abbrev pub fired_send : Fired → Option Outgoing
-fired_send (fires.Send out) = Some out
-fired_send fires.TimedOut = None
-fired_send fires.Ended = None
+-- the ACK of an INVITE whose transaction ends goes no more
+abbrev pub ends : Contents → TimerId → Effect
+ends s timer = record { plan = moves (fire_of timer ∷ []) None; calls = unchanged s.calls; acks = without_ack timer.id s.acks }
 
-abbrev pub fires_by : TimerId → Option Fired → Plan
-fires_by timer None = nothing Idle
-fires_by timer (Some fired) = moves (fire_of timer ∷ []) (fired_send fired)
+abbrev pub fires_by : Contents → Setting → TimerId → Option Fired → Effect
+fires_by s e timer None = of_plan s (nothing Idle)
+fires_by s e timer (Some (fires.Send out)) = of_plan s (moves (fire_of timer ∷ []) (Some out))
+fires_by s e timer (Some fires.TimedOut) = timeout_row s e timer
+fires_by s e timer (Some fires.Ended) = ends s timer
 
-unfoldable pub timer_row : Contents → TimerId → Plan
-timer_row s timer = fires_by timer (fired_of (at s.table.slots timer.id) timer.kind)
+unfoldable pub timer_row : Contents → Setting → TimerId → Effect
+timer_row s e timer = fires_by s e timer (fired_of (at s.table.slots timer.id) timer.kind)
 
-abbrev pub due_row : Contents → Option (Timer TimerId) → Plan
-due_row s None = nothing Idle
-due_row s (Some timer) = timer_row s timer.key
+-- the one that is due first; at equal moments that of a transaction
+abbrev pub due_row : Contents → Setting → Option (Timer TimerId) → Option (Timer CallTimerId) → Effect
+due_row s e None None = of_plan s (nothing Idle)
+due_row s e (Some timer) None = timer_row s e timer.key
+due_row s e None (Some other) = call_timer_row s e other.key
+due_row s e (Some timer) (Some other) = if nat_le timer.at other.at then timer_row s e timer.key else call_timer_row s e other.key
 
 -- ---- an event
 
@@ -208,7 +171,7 @@ due_row s (Some timer) = timer_row s timer.key
 abbrev pub what_counts : Contents → ℕ → What → Option Taken
 what_counts s now (whats.Datagram source bytes) =
     if nat_lt greatest_datagram (length bytes) then Some (Dropped (Unread faults.TooLong)) else None
-what_counts s now whats.Due = if is_some (first_due s.table.timers now) then None else Some Idle
+what_counts s now whats.Due = if is_some (first_due s.table.timers now) || is_some (first_due s.calls.timers now) then None else Some Idle
 
 -- an event that is only counted takes no memory
 unfoldable pub only_counts : Contents → Event → Option Taken
@@ -224,18 +187,36 @@ moment_after s e = if nat_le moments_end e.now then s.moment else moment_at s e.
 abbrev pub setting : ℕ → ℕ → Addr → Setting
 setting now salt source = record { now = now; salt = salt; source = source }
 
-unfoldable pub what_row : Contents → ℕ → ℕ → What → Plan
-what_row s now salt (whats.Datagram source bytes) = datagram_row s (setting now salt source) bytes
-what_row s now salt whats.Due = due_row s (first_due s.table.timers now)
+-- a timer has no source
+abbrev pub no_source : Addr
+no_source = record { ip = 0 ∷ 0 ∷ 0 ∷ 0 ∷ []; port = 0 }
 
-abbrev pub row_by : Contents → Event → Option Taken → Plan
-row_by s e (Some taken) = nothing taken
+unfoldable pub what_row : Contents → ℕ → ℕ → What → Effect
+what_row s now salt (whats.Datagram source bytes) = datagram_row s (setting now salt source) bytes
+what_row s now salt whats.Due = due_row s (setting now salt no_source) (first_due s.table.timers now) (first_due s.calls.timers now)
+
+abbrev pub row_by : Contents → Event → Option Taken → Effect
+row_by s e (Some taken) = of_plan s (nothing taken)
 row_by s e None = what_row s (moment_at s e.now) e.salt e.what
 
 -- what an event comes to
-unfoldable pub row : Contents → Event → Plan
+unfoldable pub row : Contents → Event → Effect
 row s e = row_by s e (only_counts s e)
 
 -- the agent after it
 abbrev pub after : Contents → Event → Contents
 after s e = after_event s (moment_after s e) (row s e)
+
+-- ---- when something is due
+
+abbrev pub earlier : Option ℕ → Option ℕ → Option ℕ
+earlier None other = other
+earlier (Some one) None = Some one
+earlier (Some one) (Some other) = Some (min one other)
+
+abbrev pub moment_of_first : {K : Type 0} → List (Timer K) → Option ℕ
+moment_of_first timers = option_map (λ t. t.at) (first timers)
+
+-- the least moment at which something is due
+abbrev pub next_due : Contents → Option ℕ
+next_due s = earlier (moment_of_first s.table.timers) (moment_of_first s.calls.timers)

@@ -1,16 +1,24 @@
 //! The agent, and its step.
 
-ghost use Rattle.std.specs.Prelude.{◌≡◌, ◌<◌, ◌≤◌, ◌^◌, ◌++◌, [], IfOk, OnOk, OnErr, None, option_map};
-ghost use Rattle.timers.specs.Queue.{first};
-ghost use Rattle.agent.specs.Rows.{after, moment_after, only_counts, row, what_row};
+ghost use Rattle.std.specs.Prelude.{◌≡◌, ◌<◌, ◌≤◌, ◌^◌, ◌++◌, [], IfOk, OnOk, OnErr, None};
+ghost use Rattle.port_pool.specs.Holdings.{holder_at};
+ghost use Rattle.agent.specs.Effect.{Fits, effect};
+ghost use Rattle.agent.specs.Rows.{after, moment_after, next_due, only_counts, row, what_row};
 ghost use Rattle.agent.specs.State.{after_count, after_event};
 
-use crate::commit::{commit, enter};
+use crate::acks::{KeptAck, keep};
+use crate::commit::{commit, enter, stop};
+use crate::doing::Doing;
 use crate::plan::Plan;
 use crate::taken::Taken;
 use crate::tally::Tally;
+use crate::timing::earlier;
+use calls::{Calls, StandingCall};
 use events::{Event, Sent};
+use offer_answer::OwnRange;
+use port_pool::{Change, RelayTable};
 use registrar::Registrar;
+use sip_uri::Addr;
 use std::alloc::{AllocError, Global};
 use std::marker::Model;
 use transactions::Table;
@@ -21,6 +29,15 @@ pub struct Agent {
     pub(crate) alloc: Global,
     pub(crate) registrar: Registrar,
     pub(crate) table: Table,
+    pub(crate) calls: Calls,
+    /// The ACKs of 2xx that go again.
+    pub(crate) acks: Vec<KeptAck>,
+    /// What the last event changed in the relay table.
+    pub(crate) changes: Vec<Change>,
+    /// Where the server is reached.
+    pub(crate) server: Addr,
+    /// The server's address and relay ports.
+    pub(crate) range: OwnRange,
     /// The seconds that a binding has to last at least.
     pub(crate) least: u32,
     /// The greatest moment so far, in milliseconds.
@@ -31,13 +48,18 @@ pub struct Agent {
 }
 
 impl Model for Agent {
+    ghost use Rattle.std.specs.Coded.{codes};
+    ghost use Rattle.port_pool.specs.Pool.{coded_contents};
+    ghost use Rattle.calls.specs.State.{standing};
     ghost use Rattle.agent.specs.State.{Contents, IsCounted};
 
     ghost Value = { Contents };
 
-    ghost view = { λ a. record { registrar = a.registrar; table = a.table; least = a.least; moment = a.moment; tokens = a.tokens; tally = a.tally } };
+    ghost coded = { Prim.hlevel (codes, coded_contents) };
 
-    ghost invariant = { λ a. IsCounted a.moment a.tokens };
+    ghost view = { λ a. record { registrar = a.registrar; table = a.table; calls = standing a.calls; acks = a.acks.items; changes = a.changes.items; server = a.server; range = a.range; least = a.least; moment = a.moment; tokens = a.tokens; tally = a.tally } };
+
+    ghost invariant = { λ a. IsCounted a.moment a.tokens a.calls.begun a.range };
 }
 
 impl Agent {
@@ -48,19 +70,47 @@ impl Agent {
         self.tally
     }
 
+    /// The calls that stand, in the order in which they began. Takes no memory.
+    pub fn calls(&self) -> &[StandingCall]
+        ensures { result.now ≡ self.now.calls.calls }
+    {
+        self.calls.as_slice()
+    }
+
+    /// The relay table. Takes no memory.
+    pub fn relay(&self) -> &RelayTable
+        ensures { result.now ≡ self.now.calls.pool.rows }
+    {
+        self.calls.pool().table()
+    }
+
+    /// The changes that the last event made in the relay table, by rising port; an event that was lost is none. Takes no memory.
+    pub fn changes(&self) -> &[Change]
+        ensures { result.now ≡ self.now.changes }
+    {
+        &self.changes
+    }
+
+    /// The number of the call that holds the pair of this port, used or reserved. Takes no memory.
+    pub fn holder(&self, port: u16) -> Option<u64>
+        ensures { result ≡ holder_at self.now.calls.pool.holdings port }
+    {
+        self.calls.pool().holder(port)
+    }
+
     /// The least moment at which something is due, in milliseconds, if anything is. Takes no memory.
     pub fn next_due(&self) -> Option<u64>
-        ensures { result ≡ option_map (λ t. t.at) (first self.now.table.timers) }
+        ensures { result ≡ next_due self.now }
     {
-        self.table.next()
+        earlier(self.table.next(), self.calls.next_due())
     }
 
     /// Takes an event: what it answers, sends and changes is its row. Where memory is refused, the agent and the list are as
     /// before, and the event counts as not come. An event that is only counted takes no memory.
     #[tactic(auto, using(crate::proofs::StepLaws::sends_counted, crate::proofs::StepLaws::after_counted))]
     pub fn step(&mut self, event: &Event, sent: &mut Vec<Sent>) -> Result<Taken, AllocError>
-        ensures answer { IfOk result (λ taken. taken ≡ (row self.old event.entry.now).taken) }
-        ensures sends { OnOk result (sent.new.items ≡ sent.old.items ++ (row self.old event.entry.now).sends) }
+        ensures answer { IfOk result (λ taken. taken ≡ (row self.old event.entry.now).plan.taken) }
+        ensures sends { OnOk result (sent.new.items ≡ sent.old.items ++ (row self.old event.entry.now).plan.sends) }
         ensures agent { OnOk result (self.new ≡ after self.old event.entry.now) }
         ensures lost { OnErr result (self.new ≡ self.old) }
         ensures unsent { OnErr result (sent.new.items ≡ sent.old.items) }
@@ -78,38 +128,56 @@ impl Agent {
     #[tactic(auto, using(crate::proofs::StepLaws::early, crate::proofs::StepLaws::few, crate::proofs::StepLaws::looked, crate::proofs::StepLaws::after_looked))]
     fn carry_on(&mut self, event: &Event, sent: &mut Vec<Sent>) -> Result<Taken, AllocError>
         requires { only_counts self.old event.now ≡ None }
-        ensures answer { IfOk result (λ taken. taken ≡ (row self.old event.entry.now).taken) }
-        ensures sends { OnOk result (sent.new.items ≡ sent.old.items ++ (row self.old event.entry.now).sends) }
+        ensures answer { IfOk result (λ taken. taken ≡ (row self.old event.entry.now).plan.taken) }
+        ensures sends { OnOk result (sent.new.items ≡ sent.old.items ++ (row self.old event.entry.now).plan.sends) }
         ensures agent { OnOk result (self.new ≡ after self.old event.entry.now) }
         ensures lost { OnErr result (self.new ≡ self.old) }
         ensures unsent { OnErr result (sent.new.items ≡ sent.old.items) }
     {
         let now = self.moment.max(event.now);
-        let plan = self.what_row(now, event.salt, &event.what)?;
-        self.carry_out(plan, sent, now)
+        let doing = self.what_row(now, event.salt, &event.what)?;
+        self.carry_out(doing, sent, now)
     }
 
     #[tactic(auto, unfolding(crate::specs::State::after_event))]
-    fn carry_out(&mut self, plan: Plan, sent: &mut Vec<Sent>, now: u64) -> Result<Taken, AllocError>
+    fn carry_out(
+        &mut self,
+        doing: Doing,
+        sent: &mut Vec<Sent>,
+        now: u64,
+    ) -> Result<Taken, AllocError>
         requires moment { now < 2 ^ 60 }
         requires few { self.old.tokens < 2 ^ 63 }
-        ensures answer { IfOk result (λ taken. taken ≡ plan.taken) }
-        ensures sends { OnOk result (sent.new.items ≡ sent.old.items ++ plan.sends) }
-        ensures agent { OnOk result (self.new ≡ after_event self.old now plan) }
+        requires fits { Fits self.old.calls now doing }
+        ensures answer { IfOk result (λ taken. taken ≡ doing.plan.taken) }
+        ensures sends { OnOk result (sent.new.items ≡ sent.old.items ++ doing.plan.sends) }
+        ensures agent { OnOk result (self.new ≡ after_event self.old now (effect self.old.calls self.old.acks now doing)) }
         ensures lost { OnErr result (self.new ≡ self.old) }
         ensures unsent { OnErr result (sent.new.items ≡ sent.old.items) }
     {
+        let Doing {
+            plan,
+            calls,
+            fired,
+            acks,
+            made,
+        } = doing;
         let Plan {
             taken,
             changes,
             sends,
             registration,
-            made,
+            made: alone,
         } = plan;
+        self.calls.reserve_for(&calls)?;
+        self.acks.reserve(1)?;
         commit(&mut self.table, sent, changes, sends, now)?;
         enter(&mut self.registrar, registration);
+        stop(&mut self.calls, fired);
+        self.changes = self.calls.enter(self.alloc, calls, now);
+        keep(&mut self.acks, acks);
         self.moment = now;
-        self.tokens += u64::from(made);
+        self.tokens += made + u64::from(alone);
         self.tally = self.tally.with(taken);
         Ok(taken)
     }

@@ -1,9 +1,12 @@
 //! What a step does to the agent's parts and to the list of what is sent: all of it or nothing.
 
-ghost use Rattle.std.specs.Prelude.{◌≡◌, ◌<◌, ◌^◌, ◌++◌, OnOk, OnErr};
+ghost use Rattle.std.specs.Prelude.{◌≡◌, ◌<◌, ◌≤◌, ◌^◌, ◌++◌, OnOk, OnErr};
+ghost use Rattle.calls.specs.State.{standing};
+ghost use Rattle.agent.specs.Effect.{fired_off};
 ghost use Rattle.transactions.specs.Changes.{entered_all};
 ghost use Rattle.agent.specs.State.{registered_by};
 
+use calls::{CallTimerId, Calls};
 use events::Sent;
 use registrar::Registrar;
 use std::alloc::AllocError;
@@ -40,5 +43,16 @@ pub(crate) fn enter(registrar: &mut Registrar, registration: Option<registrar::P
     match registration {
         None => {}
         Some(plan) => registrar.carry_out(plan),
+    }
+}
+
+/// The timer that fired is set no more. Takes no memory.
+pub(crate) fn stop(calls: &mut Calls, fired: Option<CallTimerId>)
+    ensures standing { standing calls.new ≡ fired_off fired (standing calls.old) }
+    ensures room { calls.old.room ≤ calls.new.room }
+    ensures timer_room { calls.old.timer_room ≤ calls.new.timer_room }
+{
+    if let Some(timer) = fired {
+        calls.stop_timer(timer);
     }
 }

@@ -3,12 +3,15 @@
 ghost use Rattle.std.specs.Prelude.{◌≡◌, [], IfOk, IfErr, OnOk};
 ghost use Rattle.configuration.specs.Rules.{KeepsRules};
 ghost use Rattle.registrar.specs.Registrar.{StandsAfter};
-ghost use Rattle.agent.specs.State.{IsNew, RefusesConfig, rules_by};
+ghost use Rattle.agent.specs.State.{IsNew, RefusesConfig, range_of, rules_by, server_of};
 
 use crate::agent::Agent;
 use crate::tally::Tally;
+use calls::Calls;
 use configuration::{Config, ConfigError, check};
+use offer_answer::OwnRange;
 use registrar::Registrar;
+use sip_uri::Addr;
 use std::alloc::{AllocError, Global};
 use text::{Text, Texts};
 use transactions::Table;
@@ -39,6 +42,26 @@ fn registrar_of(alloc: Global, config: &Config) -> Result<Registrar, AllocError>
     )
 }
 
+fn server_of(config: &Config) -> Addr
+    ensures { result ≡ server_of config.now }
+{
+    Addr {
+        ip: config.ip,
+        port: config.sip_port,
+    }
+}
+
+fn range_of(config: &Config) -> OwnRange
+    requires { KeepsRules config.now }
+    ensures { result ≡ range_of config.now }
+{
+    OwnRange {
+        ip: config.ip,
+        first: config.relay_first,
+        last: config.relay_first + (2 * config.relay_pairs - 1),
+    }
+}
+
 impl Agent {
     /// An agent that nothing has happened to. The configuration keeps the rules, or the first that it breaks is told.
     #[tactic(auto, using(crate::proofs::ConfigLaws::refuses))]
@@ -49,10 +72,16 @@ impl Agent {
     {
         check(config)?;
         let registrar = registrar_of(alloc, config)?;
+        let calls = Calls::new(alloc, config.relay_first, config.relay_pairs)?;
         Ok(Agent {
             alloc,
             registrar,
             table: Table::new(alloc),
+            calls,
+            acks: Vec::new(alloc),
+            changes: Vec::new(alloc),
+            server: server_of(config),
+            range: range_of(config),
             least: config.min_expires,
             moment: 0,
             tokens: 0,

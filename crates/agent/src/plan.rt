@@ -42,7 +42,7 @@ pub(crate) fn one_change(alloc: Global, change: Change) -> Result<Vec<Change>, A
     Ok(changes)
 }
 
-fn sends_of(alloc: Global, out: Option<Outgoing>) -> Result<Vec<Sent>, AllocError>
+pub(crate) fn sends_of(alloc: Global, out: Option<Outgoing>) -> Result<Vec<Sent>, AllocError>
     ensures { IfOk result (λ sends. sends.items ≡ goes out) }
 {
     match out {

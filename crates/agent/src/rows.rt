@@ -1,304 +1,267 @@
-//! What the rules do for a request that begins a transaction. Each makes values and changes nothing.
+//! What a datagram comes to, up to the rules: whether it can be read, its branch, and what the transactions say of it.
 
-ghost use Rattle.std.specs.Prelude.{◌≡◌, ◌<◌, ◌^◌, ◌∷◌, [], ℕ, List, Option, Result, IfOk, None, Some, Ok, unwrap_or};
-ghost use Rattle.std.specs.Option.{option_copied};
-ghost use Rattle.sip_message.specs.Read.{message_of};
-ghost use Rattle.sip_writing.specs.Reply.{answer_address};
-ghost use Rattle.registrar.specs.declared.binding.Binding.{Binding};
-ghost use Rattle.registrar.specs.Registering.{AllLast};
-ghost use Rattle.registrar.specs.Registrar.{Fails};
-ghost use Rattle.responses.specs.Responding.{allow, stateless};
-ghost use Rattle.agent.specs.Rows.{cancels, fresh_tag, not_registered, registers, registers_by, responds_in, rule_row, tag_in, tag_of, tag_sent, tags_made, unsupported};
-ghost use Rattle.agent.specs.Plan.{answers};
+ghost use Rattle.std.specs.Prelude.{◌≡◌, ◌<◌, ◌^◌, ◌∷◌, [], ℕ, IfOk};
+ghost use Rattle.agent.specs.Rules.{request_rule};
+ghost use Rattle.agent.specs.Plan.{moves, nothing};
+ghost use Rattle.agent.specs.Effect.{Fits, effect};
+ghost use Rattle.agent.specs.CallRows.{of_plan};
+ghost use Rattle.agent.specs.Rows.{datagram_row, fit_row, is_unreachable_message, parts_of, read_row, received, received_by, request_by, response_by, rule_row, what_row};
 
 use crate::agent::Agent;
-use crate::letting_go::{let_message_go, let_response_go};
-use crate::plan::Plan;
+use crate::doing::Doing;
+use crate::letting_go::let_message_go;
+use crate::plan::{Plan, one_change};
 use crate::rule::Rule;
 use crate::setting::Setting;
-use registrar::Refusal;
-use responses::{
-    STATELESS, allow_header, contact_headers, refusal_headers, register_of, response_with,
-    status_of, token, unsupported_header,
-};
-use sip_message::{
-    Header, Message, MessageError, Request, Response, has_tag, read_message, tag_value,
-};
-use sip_writing::reply_address;
+use crate::taken::{Taken, Why};
+use crate::unread::{unfit_branch, unread_row};
+use call_rules::is_unreachable;
+use events::What;
+use responses::has_fit_branch;
+use sip_message::{Message, Parts, Request, Response, read_message};
+use sip_uri::Addr;
 use std::alloc::{AllocError, Global};
-use text::Text;
-use transactions::{Change, Transaction};
+use transactions::{Change, Foreseen, Outgoing, Reception, TableError, Verdict};
 
-/// The tag of To in a response, as a text of its own.
-fn tag_of(alloc: Global, message: &Message<'_>) -> Result<Option<Text<'static>>, AllocError>
-    ensures { IfOk result (λ tag. tag ≡ tag_of (Ok message.now)) }
+/// A timer has no source.
+const NO_SOURCE: Addr = Addr {
+    ip: [0, 0, 0, 0],
+    port: 0,
+};
+
+fn is_unreachable_message(alloc: Global, message: &Message<'_>) -> Result<bool, AllocError>
+    ensures { IfOk result (λ is. is ≡ is_unreachable_message message.now) }
 {
     match message {
-        Message::Request(_) => Ok(None),
-        Message::Response(response) => {
-            kept_text(alloc, tag_value(response.parts.to.params.as_slice()))
-        }
+        Message::Request(_) => Ok(false),
+        Message::Response(response) => is_unreachable(alloc, response),
     }
 }
 
-fn kept_text(alloc: Global, text: Option<&Text<'_>>) -> Result<Option<Text<'static>>, AllocError>
-    ensures { IfOk result (λ kept. kept ≡ option_copied text.entry) }
+fn parts_of<'m, 'a>(message: &'m Message<'a>) -> &'m Parts<'a>
+    ensures { result.now ≡ parts_of message.now }
 {
-    match text {
-        None => Ok(None),
-        Some(text) => Ok(Some(text.keep(alloc)?)),
+    match message {
+        Message::Request(request) => &request.parts,
+        Message::Response(response) => &response.parts,
     }
-}
-
-/// The tag of To in bytes that a transaction sent.
-fn tag_in_bytes(alloc: Global, bytes: &[u8]) -> Result<Option<Text<'static>>, AllocError>
-    ensures { IfOk result (λ tag. tag ≡ tag_of (message_of bytes.now)) }
-{
-    match read_message(alloc, bytes) {
-        Ok(message) => {
-            let tag = tag_of(alloc, &message);
-            let_message_go(message);
-            tag
-        }
-        Err(MessageError::OutOfMemory) => Err(AllocError),
-        Err(MessageError::TooLong) => Ok(None),
-        Err(MessageError::Version) => Ok(None),
-        Err(MessageError::StartLine) => Ok(None),
-        Err(MessageError::HeaderLine) => Ok(None),
-        Err(MessageError::Missing(_)) => Ok(None),
-        Err(MessageError::Unreadable(_)) => Ok(None),
-        Err(MessageError::Short) => Ok(None),
-    }
-}
-
-fn tag_in(alloc: Global, transaction: &Transaction) -> Result<Option<Text<'static>>, AllocError>
-    ensures { IfOk result (λ tag. tag ≡ tag_in transaction.now.last) }
-{
-    match &transaction.last {
-        None => Ok(None),
-        Some(bytes) => tag_in_bytes(alloc, bytes.as_bytes()),
-    }
-}
-
-fn or_stateless(alloc: Global, tag: Option<Text<'static>>) -> Result<Text<'static>, AllocError>
-    ensures { IfOk result (λ t. t ≡ unwrap_or tag.entry stateless) }
-{
-    match tag {
-        None => Text::from_slice(alloc, STATELESS),
-        Some(tag) => Ok(tag),
-    }
-}
-
-/// How many tokens a response to this request makes.
-fn tags_made(request: &Request<'_>) -> u8
-    ensures { result ≡ tags_made request.now }
-{
-    if has_tag(request.parts.to.params.as_slice()) {
-        0
-    } else {
-        1
-    }
-}
-
-/// The plan of a response, which is let go.
-fn answers(
-    alloc: Global,
-    e: Setting,
-    request: &Request<'_>,
-    begun: Vec<Change>,
-    id: usize,
-    response: Response<'static>,
-    made: u8,
-) -> Result<Plan, AllocError>
-    ensures { IfOk result (λ p. p ≡ answers begun.items id (answer_address request.now.parts.vias e.source) response.entry None made) }
-{
-    let to = reply_address(&request.parts, e.source);
-    let plan = Plan::answers(alloc, begun, id, to, &response, made);
-    let_response_go(response);
-    plan
 }
 
 impl Agent {
-    /// The first token of an event.
-    fn fresh_tag(&self, e: Setting) -> Result<Text<'static>, AllocError>
-        ensures { IfOk result (λ t. t ≡ fresh_tag self.now e) }
-    {
-        token(self.alloc, e.salt, self.tokens + 1)
-    }
-
-    /// The tag in what a transaction sent last.
-    fn tag_sent(&self, id: usize) -> Result<Text<'static>, AllocError>
-        ensures { IfOk result (λ t. t ≡ tag_sent self.now id) }
-    {
-        match self.table.transaction(id) {
-            None => or_stateless(self.alloc, None),
-            Some(transaction) => or_stateless(self.alloc, tag_in(self.alloc, transaction)?),
-        }
-    }
-
-    /// A response with a tag of its own.
-    fn responds_in(
-        &self,
-        e: Setting,
-        request: &Request<'_>,
-        begun: Vec<Change>,
-        id: usize,
-        status: u16,
-        further: Vec<Header<'static>>,
-    ) -> Result<Plan, AllocError>
-        ensures { IfOk result (λ p. p ≡ responds_in self.now e request.now begun.items id status further.entry.items None) }
-    {
-        let tag = self.fresh_tag(e)?;
-        let parts = &request.parts;
-        let response = response_with(self.alloc, parts, e.source, status, tag.as_bytes(), further)?;
-        answers(
-            self.alloc,
-            e,
-            request,
-            begun,
-            id,
-            response,
-            tags_made(request),
-        )
-    }
-
-    fn cancels(
-        &self,
-        e: Setting,
-        request: &Request<'_>,
-        begun: Vec<Change>,
-        id: usize,
-        other: usize,
-    ) -> Result<Plan, AllocError>
-        ensures { IfOk result (λ p. p ≡ cancels self.now e request.now begun.items id other) }
-    {
-        let tag = self.tag_sent(other)?;
-        let further = Vec::new(self.alloc);
-        let parts = &request.parts;
-        let response = response_with(self.alloc, parts, e.source, 200, tag.as_bytes(), further)?;
-        answers(self.alloc, e, request, begun, id, response, 0)
-    }
-
-    fn registered(
-        &self,
-        e: Setting,
-        request: &Request<'_>,
-        begun: Vec<Change>,
-        id: usize,
-        plan: registrar::Plan,
-    ) -> Result<Plan, AllocError>
-        requires { AllLast e.now plan.bindings }
-        ensures { IfOk result (λ p. p ≡ registers_by self.now e request.now begun.items id (Some plan.user) (Ok plan.bindings)) }
-    {
-        let further = contact_headers(self.alloc, plan.bindings(), e.now)?;
-        let planned = self.responds_in(e, request, begun, id, 200, further)?;
-        Ok(planned.with_registration(plan))
-    }
-
-    fn not_registered(
-        &self,
-        e: Setting,
-        request: &Request<'_>,
-        begun: Vec<Change>,
-        id: usize,
-        refusal: Refusal,
-    ) -> Result<Plan, AllocError>
-        ensures { IfOk result (λ p. p ≡ not_registered self.now e request.now begun.items id refusal) }
-    {
-        let further = refusal_headers(self.alloc, self.least, refusal)?;
-        self.responds_in(e, request, begun, id, status_of(refusal), further)
-    }
-
-    /// A REGISTER for which this is the registrar's answer, or for which memory ran out.
-    fn refused(
-        &self,
-        e: Setting,
-        request: &Request<'_>,
-        begun: Vec<Change>,
-        id: usize,
-        refusal: Refusal,
-    ) -> Result<Plan, AllocError>
-        ensures { (user : Option (List ℕ)) (answer : Result (List Binding) Refusal) → Fails refusal answer →
-            IfOk result (λ p. p ≡ registers_by self.now e request.now begun.items id user answer) }
-    {
-        match refusal {
-            Refusal::OutOfMemory => Err(AllocError),
-            Refusal::UnknownUser => self.not_registered(e, request, begun, id, refusal),
-            Refusal::StarMisused => self.not_registered(e, request, begun, id, refusal),
-            Refusal::TooBrief => self.not_registered(e, request, begun, id, refusal),
-            Refusal::OutOfOrder => self.not_registered(e, request, begun, id, refusal),
-            Refusal::TooManyBindings => self.not_registered(e, request, begun, id, refusal),
-            Refusal::BadContact => self.not_registered(e, request, begun, id, refusal),
-        }
-    }
-
-    #[tactic(auto, unfolding(crate::specs::Rows::registers))]
-    fn registers(
-        &self,
-        e: Setting,
-        request: &Request<'_>,
-        begun: Vec<Change>,
-        id: usize,
-    ) -> Result<Plan, AllocError>
-        requires { e.now < 2 ^ 60 }
-        ensures { IfOk result (λ p. p ≡ registers self.now e request.now begun.items id) }
-    {
-        let register = register_of(self.alloc, &self.registrar, request)?;
-        match self.registrar.plan(&register, e.now) {
-            Ok(plan) => self.registered(e, request, begun, id, plan),
-            Err(refusal) => self.refused(e, request, begun, id, refusal),
-        }
-    }
-
-    fn lists_methods(
-        &self,
-        e: Setting,
-        request: &Request<'_>,
-        begun: Vec<Change>,
-        id: usize,
-        status: u16,
-    ) -> Result<Plan, AllocError>
-        ensures { IfOk result (λ p. p ≡ responds_in self.now e request.now begun.items id status (allow ∷ []) None) }
-    {
-        let further = allow_header(self.alloc)?;
-        self.responds_in(e, request, begun, id, status, further)
-    }
-
-    fn refuses_extensions(
-        &self,
-        e: Setting,
-        request: &Request<'_>,
-        begun: Vec<Change>,
-        id: usize,
-    ) -> Result<Plan, AllocError>
-        ensures { IfOk result (λ p. p ≡ responds_in self.now e request.now begun.items id 420 (unsupported request.now ∷ []) None) }
-    {
-        let further = unsupported_header(self.alloc, request.headers.as_slice())?;
-        self.responds_in(e, request, begun, id, 420, further)
-    }
-
-    /// What a rule does for a request that began transaction `id`.
-    #[tactic(auto, unfolding(crate::specs::Rows::rule_row))]
-    pub(crate) fn rule_row(
+    /// What is done for a request that began transaction `id`, by its rule.
+    fn rule_row(
         &self,
         e: Setting,
         request: &Request<'_>,
         begun: Vec<Change>,
         id: usize,
         rule: Rule,
-    ) -> Result<Plan, AllocError>
-        requires { e.now < 2 ^ 60 }
-        ensures { IfOk result (λ p. p ≡ rule_row self.now e request.now begun.items id rule) }
+    ) -> Result<Doing, AllocError>
+        requires early { e.now < 2 ^ 60 }
+        requires few { self.now.tokens < 2 ^ 63 }
+        ensures row { IfOk result (λ d. effect self.now.calls self.now.acks e.now d ≡ rule_row self.now e request.now begun.items id rule) }
+        ensures fits { IfOk result (Fits self.now.calls e.now) }
     {
         match rule {
-            Rule::CancelOf(other) => self.cancels(e, request, begun, id, other),
-            Rule::Refusal(status) => {
-                self.responds_in(e, request, begun, id, status, Vec::new(self.alloc))
+            Rule::Alone(reply) => Ok(Doing::alone(self.reply_row(e, request, begun, id, reply)?)),
+            Rule::Call(rule) => self.call_row(e, request, begun, id, rule),
+        }
+    }
+
+    fn ruled_row(
+        &self,
+        e: Setting,
+        request: &Request<'_>,
+        begun: Vec<Change>,
+        id: usize,
+    ) -> Result<Doing, AllocError>
+        requires early { e.now < 2 ^ 60 }
+        requires few { self.now.tokens < 2 ^ 63 }
+        ensures row { IfOk result (λ d. effect self.now.calls self.now.acks e.now d ≡ rule_row self.now e request.now begun.items id (request_rule self.now request.now e.now)) }
+        ensures fits { IfOk result (Fits self.now.calls e.now) }
+    {
+        let rule = self.request_rule(request, e.now)?;
+        self.rule_row(e, request, begun, id, rule)
+    }
+
+    pub(crate) fn moves_row(
+        &self,
+        begun: Vec<Change>,
+        send: Option<Outgoing>,
+    ) -> Result<Doing, AllocError>
+        ensures row { (now : ℕ) → IfOk result (λ d. effect self.now.calls self.now.acks now d ≡ of_plan self.now (moves begun.items send)) }
+        ensures fits { (now : ℕ) → IfOk result (Fits self.now.calls now) }
+    {
+        Ok(Doing::alone(Plan::moves(self.alloc, begun, send)?))
+    }
+
+    pub(crate) fn drops_row(&self, taken: Taken) -> Doing
+        ensures row { (now : ℕ) → effect self.now.calls self.now.acks now result ≡ of_plan self.now (nothing taken) }
+        ensures fits { (now : ℕ) → Fits self.now.calls now result }
+    {
+        Doing::alone(Plan::nothing(self.alloc, taken))
+    }
+
+    /// What a request comes to, by what the transactions say of it.
+    #[tactic(auto, unfolding(crate::specs::Rows::request_by))]
+    fn request_by(
+        &self,
+        e: Setting,
+        request: &Request<'_>,
+        begun: Vec<Change>,
+        verdict: Verdict,
+        send: Option<Outgoing>,
+    ) -> Result<Doing, AllocError>
+        requires early { e.now < 2 ^ 60 }
+        requires few { self.now.tokens < 2 ^ 63 }
+        ensures row { IfOk result (λ d. effect self.now.calls self.now.acks e.now d ≡ request_by self.now e request.now begun.items verdict send) }
+        ensures fits { IfOk result (Fits self.now.calls e.now) }
+    {
+        match verdict {
+            Verdict::New(id) => self.ruled_row(e, request, begun, id),
+            Verdict::Repeat => self.moves_row(begun, send),
+            Verdict::Swallowed => self.moves_row(begun, send),
+            Verdict::Up(_) => self.ack_row(e, request, begun),
+            Verdict::Stray => self.ack_row(e, request, begun),
+        }
+    }
+
+    /// What a response comes to, by what the transactions say of it.
+    #[tactic(auto, unfolding(crate::specs::Rows::response_by))]
+    fn response_by(
+        &self,
+        e: Setting,
+        response: &Response<'_>,
+        begun: Vec<Change>,
+        verdict: Verdict,
+        send: Option<Outgoing>,
+    ) -> Result<Doing, AllocError>
+        requires early { e.now < 2 ^ 60 }
+        requires few { self.now.tokens < 2 ^ 63 }
+        ensures row { IfOk result (λ d. effect self.now.calls self.now.acks e.now d ≡ response_by self.now e response.now begun.items verdict send) }
+        ensures fits { IfOk result (Fits self.now.calls e.now) }
+    {
+        match verdict {
+            Verdict::New(_) => Ok(self.drops_row(Taken::Dropped(Why::Stray))),
+            Verdict::Repeat => self.moves_row(begun, send),
+            Verdict::Swallowed => self.moves_row(begun, send),
+            Verdict::Up(id) => self.response_row(e, response, begun, send, id),
+            Verdict::Stray => Ok(self.drops_row(Taken::Dropped(Why::Stray))),
+        }
+    }
+
+    fn received_by(
+        &self,
+        e: Setting,
+        message: &Message<'_>,
+        begun: Vec<Change>,
+        verdict: Verdict,
+        send: Option<Outgoing>,
+    ) -> Result<Doing, AllocError>
+        requires early { e.now < 2 ^ 60 }
+        requires few { self.now.tokens < 2 ^ 63 }
+        ensures row { IfOk result (λ d. effect self.now.calls self.now.acks e.now d ≡ received_by self.now e message.now begun.items verdict send) }
+        ensures fits { IfOk result (Fits self.now.calls e.now) }
+    {
+        match message {
+            Message::Request(request) => self.request_by(e, request, begun, verdict, send),
+            Message::Response(response) => self.response_by(e, response, begun, verdict, send),
+        }
+    }
+
+    fn foreseen(
+        &self,
+        e: Setting,
+        message: &Message<'_>,
+        foreseen: Foreseen,
+    ) -> Result<Doing, AllocError>
+        requires early { e.now < 2 ^ 60 }
+        requires few { self.now.tokens < 2 ^ 63 }
+        ensures row { IfOk result (λ d. effect self.now.calls self.now.acks e.now d ≡ received_by self.now e message.now (foreseen.change ∷ []) foreseen.reception.verdict foreseen.reception.send) }
+        ensures fits { IfOk result (Fits self.now.calls e.now) }
+    {
+        let Foreseen { reception, change } = foreseen;
+        let Reception { verdict, send, .. } = reception;
+        let begun = one_change(self.alloc, change)?;
+        self.received_by(e, message, begun, verdict, send)
+    }
+
+    #[tactic(auto, unfolding(crate::specs::Rows::received), using(crate::proofs::RoomLaws::has_room, crate::proofs::RoomLaws::has_none))]
+    fn received(&self, e: Setting, message: &Message<'_>) -> Result<Doing, AllocError>
+        requires early { e.now < 2 ^ 60 }
+        requires few { self.now.tokens < 2 ^ 63 }
+        ensures row { IfOk result (λ d. effect self.now.calls self.now.acks e.now d ≡ received self.now e message.now) }
+        ensures fits { IfOk result (Fits self.now.calls e.now) }
+    {
+        match self.table.foresee(message, e.source) {
+            Ok(foreseen) => self.foreseen(e, message, foreseen),
+            Err(TableError::Full) => Ok(self.drops_row(Taken::Shed)),
+            Err(TableError::OutOfMemory) => Err(AllocError),
+            Err(TableError::Unknown | TableError::AfterFinal) => unreachable!(),
+        }
+    }
+
+    fn fit_row(&self, e: Setting, message: &Message<'_>) -> Result<Doing, AllocError>
+        requires early { e.now < 2 ^ 60 }
+        requires few { self.now.tokens < 2 ^ 63 }
+        ensures row { IfOk result (λ d. effect self.now.calls self.now.acks e.now d ≡ fit_row self.now e message.now) }
+        ensures fits { IfOk result (Fits self.now.calls e.now) }
+    {
+        if is_unreachable_message(self.alloc, message)? {
+            return Ok(self.drops_row(Taken::Dropped(Why::Stray)));
+        }
+        self.received(e, message)
+    }
+
+    #[tactic(auto, unfolding(crate::specs::Rows::read_row))]
+    fn read_row(&self, e: Setting, message: &Message<'_>) -> Result<Doing, AllocError>
+        requires early { e.now < 2 ^ 60 }
+        requires few { self.now.tokens < 2 ^ 63 }
+        ensures row { IfOk result (λ d. effect self.now.calls self.now.acks e.now d ≡ read_row self.now e message.now) }
+        ensures fits { IfOk result (Fits self.now.calls e.now) }
+    {
+        if !has_fit_branch(&parts_of(message).vias) {
+            return Ok(Doing::alone(unfit_branch(self.alloc, e, message)?));
+        }
+        self.fit_row(e, message)
+    }
+
+    /// What a datagram comes to.
+    #[tactic(auto, unfolding(crate::specs::Rows::datagram_row))]
+    fn datagram_row(&self, e: Setting, bytes: &[u8]) -> Result<Doing, AllocError>
+        requires early { e.now < 2 ^ 60 }
+        requires few { self.now.tokens < 2 ^ 63 }
+        ensures row { IfOk result (λ d. effect self.now.calls self.now.acks e.now d ≡ datagram_row self.now e bytes.now) }
+        ensures fits { IfOk result (Fits self.now.calls e.now) }
+    {
+        match read_message(self.alloc, bytes) {
+            Ok(message) => {
+                let doing = self.read_row(e, &message);
+                let_message_go(message);
+                doing
             }
-            Rule::MethodUnoffered => self.lists_methods(e, request, begun, id, 405),
-            Rule::ExtensionRefused => self.refuses_extensions(e, request, begun, id),
-            Rule::MethodsListed => self.lists_methods(e, request, begun, id, 200),
-            Rule::Registration => self.registers(e, request, begun, id),
+            Err(fault) => Ok(Doing::alone(unread_row(self.alloc, e, bytes, fault)?)),
+        }
+    }
+
+    /// What an event of the moment `now`, in milliseconds, comes to.
+    #[tactic(auto, unfolding(crate::specs::Rows::what_row))]
+    pub(crate) fn what_row(&self, now: u64, salt: u64, what: &What) -> Result<Doing, AllocError>
+        requires early { now < 2 ^ 60 }
+        requires few { self.now.tokens < 2 ^ 63 }
+        ensures row { IfOk result (λ d. effect self.now.calls self.now.acks now d ≡ what_row self.now now salt what.now) }
+        ensures fits { IfOk result (Fits self.now.calls now) }
+    {
+        match what {
+            What::Datagram { source, bytes } => {
+                let source = *source;
+                self.datagram_row(Setting { now, salt, source }, bytes.as_bytes())
+            }
+            What::Due => self.due_row(Setting {
+                now,
+                salt,
+                source: NO_SOURCE,
+            }),
         }
     }
 }

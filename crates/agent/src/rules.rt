@@ -1,22 +1,35 @@
-//! Which rule a request falls under that begins a transaction: the order of checks. Only the look at its Contact takes memory.
+//! Which rule a request falls under that begins a transaction: the order of checks.
 
-ghost use Rattle.std.specs.Prelude.{◌≡◌, IfOk};
+ghost use Rattle.std.specs.Prelude.{◌≡◌, ◌||◌, IfOk, Option, codes, is_some, not};
 ghost use Rattle.std.specs.Option.{option_copied};
-ghost use Rattle.agent.specs.Rules.{callee_rule, cancel_line, contact_address, contact_line, declined_line, dialog_line, extension_line, first_call_rule, hops_line, invite_rule, known_rule, merged_line, offered_rule, options_line, register_line, request_rule, route_line, tagged_line, target_rule, unknown_line, user_rule};
+ghost use Rattle.sdp.specs.declared.description.Description.{Description};
+ghost use Rattle.sip_message.specs.Words.{tag_value};
+ghost use Rattle.responses.specs.Words.{is_method};
+ghost use Rattle.calls.specs.Finding.{place_by_offer};
+ghost use Rattle.agent.specs.Rules.{callee_rule, cancel_line, cancels, contact_line, declined_line, described_rule, dialog_line, extension_line, first_call_rule, hops_line, invite_rule, known_rule, merged_line, of_dialog, offer_rule, offered_rule, options_line, refused, register_line, request_rule, route_line, target_rule, unknown_line, user_rule};
 
 use crate::agent::Agent;
-use crate::rule::Rule;
+use crate::rule::{CallRule, Reply, Rule};
+use call_rules::{ContentRule, DialogRule, contact_address, content_rule, described, dialog_rule};
 use responses::{has_header, is_declined_method, is_method, is_offered_method};
-use sip_message::{ContactValue, Request, contact_values, tag_value};
-use sip_uri::{Addr, Uri, address_of};
+use sip_message::{Request, contact_values, tag_value};
+use sip_uri::Uri;
 use std::alloc::{AllocError, Global};
 use text::Text;
+
+fn let_go<T: Drop>(_value: T) {}
+
+fn refused(status: u16) -> Rule
+    ensures { result ≡ refused status }
+{
+    Rule::Alone(Reply::Refusal(status))
+}
 
 fn declined_line(request: &Request<'_>) -> Option<Rule>
     ensures { result ≡ declined_line request.now }
 {
     if is_declined_method(request) {
-        Some(Rule::MethodUnoffered)
+        Some(Rule::Alone(Reply::MethodUnoffered))
     } else {
         None
     }
@@ -28,7 +41,7 @@ fn unknown_line(request: &Request<'_>) -> Option<Rule>
     if is_offered_method(request) {
         None
     } else {
-        Some(Rule::Refusal(501))
+        Some(refused(501))
     }
 }
 
@@ -36,7 +49,7 @@ fn extension_line(request: &Request<'_>) -> Option<Rule>
     ensures { result ≡ extension_line request.now }
 {
     if has_header(b"Require", request.headers.as_slice()) {
-        Some(Rule::ExtensionRefused)
+        Some(Rule::Alone(Reply::ExtensionRefused))
     } else {
         None
     }
@@ -46,7 +59,7 @@ fn route_line(request: &Request<'_>) -> Option<Rule>
     ensures { result ≡ route_line request.now }
 {
     if has_header(b"Record-Route", request.headers.as_slice()) {
-        Some(Rule::Refusal(400))
+        Some(refused(400))
     } else {
         None
     }
@@ -56,7 +69,7 @@ fn options_line(request: &Request<'_>) -> Option<Rule>
     ensures { result ≡ options_line request.now }
 {
     if is_method(b"OPTIONS", request) {
-        Some(Rule::MethodsListed)
+        Some(Rule::Alone(Reply::MethodsListed))
     } else {
         None
     }
@@ -66,28 +79,7 @@ fn register_line(request: &Request<'_>) -> Option<Rule>
     ensures { result ≡ register_line request.now }
 {
     if is_method(b"REGISTER", request) {
-        Some(Rule::Registration)
-    } else {
-        None
-    }
-}
-
-/// There is no dialog yet, so BYE and UPDATE stand in none.
-fn dialog_line(request: &Request<'_>) -> Option<Rule>
-    ensures { result ≡ dialog_line request.now }
-{
-    if is_method(b"INVITE", request) {
-        None
-    } else {
-        Some(Rule::Refusal(481))
-    }
-}
-
-fn tagged_line(request: &Request<'_>) -> Option<Rule>
-    ensures { result ≡ tagged_line request.now }
-{
-    if tag_value(request.parts.to.params.as_slice()).is_some() {
-        Some(Rule::Refusal(481))
+        Some(Rule::Alone(Reply::Registration))
     } else {
         None
     }
@@ -97,22 +89,9 @@ fn hops_line(request: &Request<'_>) -> Option<Rule>
     ensures { result ≡ hops_line request.now }
 {
     if request.max_forwards == 0 {
-        Some(Rule::Refusal(483))
+        Some(refused(483))
     } else {
         None
-    }
-}
-
-/// The address of the one contact.
-fn contact_address(values: &[ContactValue<'_>]) -> Option<Addr>
-    ensures { result ≡ contact_address values.now }
-{
-    let [value] = values else {
-        return None;
-    };
-    match value {
-        ContactValue::Address(name) => address_of(&name.uri),
-        ContactValue::Star | ContactValue::Unreadable => None,
     }
 }
 
@@ -123,17 +102,61 @@ fn contact_line(alloc: Global, request: &Request<'_>) -> Result<Option<Rule>, Al
     if contact_address(&values).is_some() {
         return Ok(None);
     }
-    Ok(Some(Rule::Refusal(400)))
+    Ok(Some(refused(400)))
 }
 
-/// Calls are not carried yet: a callee that is there is not asked.
-fn target_rule(target: Option<&Uri<'static>>) -> Rule
-    ensures { result ≡ target_rule (option_copied target.entry) }
+/// What can be read of an offer.
+fn described_rule(rule: Option<ContentRule>, described: bool) -> Rule
+    ensures { (offer : Option Description) → is_some offer ≡ described → result ≡ described_rule rule offer }
+{
+    match rule {
+        Some(ContentRule::Type) => Rule::Alone(Reply::TypeRefused),
+        Some(ContentRule::Encoding) => Rule::Alone(Reply::EncodingRefused),
+        None if described => Rule::Call(CallRule::Begins),
+        None => refused(488),
+    }
+}
+
+fn offer_rule(alloc: Global, request: &Request<'_>) -> Result<Rule, AllocError>
+    ensures { IfOk result (λ rule. rule ≡ offer_rule request.now) }
+{
+    let headers = request.headers.as_slice();
+    let rule = content_rule(alloc, headers)?;
+    let offer = described(alloc, headers, request.body.as_bytes())?;
+    let is_described = offer.is_some();
+    let_go(offer);
+    Ok(described_rule(rule, is_described))
+}
+
+fn target_rule(
+    alloc: Global,
+    request: &Request<'_>,
+    target: Option<&Uri<'static>>,
+) -> Result<Rule, AllocError>
+    ensures { IfOk result (λ rule. rule ≡ target_rule request.now (option_copied target.entry)) }
 {
     match target {
-        None => Rule::Refusal(480),
-        Some(_) => Rule::Refusal(500),
+        None => Ok(refused(480)),
+        Some(_) => offer_rule(alloc, request),
     }
+}
+
+fn of_dialog(rule: DialogRule) -> Rule
+    ensures { result ≡ of_dialog rule }
+{
+    match rule {
+        DialogRule::NoDialog => refused(481),
+        DialogRule::OldNumber { .. } => refused(500),
+        DialogRule::Leaves { place, end } => Rule::Call(CallRule::Leaves(place, end)),
+        DialogRule::Offers { place, end } => Rule::Call(CallRule::Offers(place, end)),
+        DialogRule::Plain { place, end } => Rule::Call(CallRule::Refreshes(place, end)),
+    }
+}
+
+fn is_of_dialog(request: &Request<'_>) -> bool
+    ensures { result ≡ (not (is_method (codes "INVITE") request.now) || is_some (tag_value request.now.parts.to.params)) }
+{
+    !is_method(b"INVITE", request) || tag_value(request.parts.to.params.as_slice()).is_some()
 }
 
 impl Agent {
@@ -144,43 +167,72 @@ impl Agent {
             return None;
         }
         match self.table.cancels(request) {
-            None => Some(Rule::Refusal(481)),
-            Some(id) => Some(Rule::CancelOf(id)),
+            None => Some(refused(481)),
+            Some(id) => Some(self.cancels_rule(id)),
         }
+    }
+
+    fn cancels_rule(&self, id: usize) -> Rule
+        ensures { result ≡ cancels id (place_by_offer id self.now.calls.calls) }
+    {
+        match self.calls.place_by_offer(id) {
+            None => Rule::Alone(Reply::CancelOf(id)),
+            Some(place) => Rule::Call(CallRule::Cancels(place)),
+        }
+    }
+
+    fn dialog_line(&self, request: &Request<'_>) -> Option<Rule>
+        ensures { result ≡ dialog_line self.now request.now }
+    {
+        if !is_of_dialog(request) {
+            return None;
+        }
+        Some(of_dialog(dialog_rule(&self.calls, request)))
     }
 
     fn merged_line(&self, request: &Request<'_>) -> Option<Rule>
         ensures { result ≡ merged_line self.now request.now }
     {
         if self.table.merged(request) {
-            Some(Rule::Refusal(482))
+            Some(refused(482))
         } else {
             None
         }
     }
 
-    fn known_rule(&self, user: &Text<'_>, now: u64, known: bool) -> Rule
-        ensures { result ≡ known_rule self.now user.now now known }
+    fn known_rule(
+        &self,
+        request: &Request<'_>,
+        user: &Text<'_>,
+        now: u64,
+        known: bool,
+    ) -> Result<Rule, AllocError>
+        ensures { IfOk result (λ rule. rule ≡ known_rule self.now request.now user.now now known) }
     {
         if !known {
-            return Rule::Refusal(404);
+            return Ok(refused(404));
         }
-        target_rule(self.registrar.target(user, now))
+        target_rule(self.alloc, request, self.registrar.target(user, now))
     }
 
-    fn user_rule(&self, user: Option<&Text<'_>>, now: u64) -> Rule
-        ensures { result ≡ user_rule self.now now (option_copied user.entry) }
+    fn user_rule(
+        &self,
+        request: &Request<'_>,
+        user: Option<&Text<'_>>,
+        now: u64,
+    ) -> Result<Rule, AllocError>
+        ensures { IfOk result (λ rule. rule ≡ user_rule self.now request.now now (option_copied user.entry)) }
     {
         match user {
-            None => Rule::Refusal(404),
-            Some(user) => self.known_rule(user, now, self.registrar.knows(user)),
+            None => Ok(refused(404)),
+            Some(user) => self.known_rule(request, user, now, self.registrar.knows(user)),
         }
     }
 
-    fn callee_rule(&self, request: &Request<'_>, now: u64) -> Rule
-        ensures { result ≡ callee_rule self.now request.now now }
+    fn callee_rule(&self, request: &Request<'_>, now: u64) -> Result<Rule, AllocError>
+        ensures { IfOk result (λ rule. rule ≡ callee_rule self.now request.now now) }
     {
-        self.user_rule(self.registrar.user_of(&request.uri), now)
+        self.user_rule(request, self.registrar.user_of(&request.uri), now)
     }
 
     fn first_call_rule(&self, request: &Request<'_>, now: u64) -> Result<Rule, AllocError>
@@ -191,7 +243,7 @@ impl Agent {
         }
         match contact_line(self.alloc, request)? {
             Some(rule) => Ok(rule),
-            None => Ok(self.callee_rule(request, now)),
+            None => self.callee_rule(request, now),
         }
     }
 
@@ -199,10 +251,7 @@ impl Agent {
     fn invite_rule(&self, request: &Request<'_>, now: u64) -> Result<Rule, AllocError>
         ensures { IfOk result (λ rule. rule ≡ invite_rule self.now request.now now) }
     {
-        if let Some(rule) = dialog_line(request) {
-            return Ok(rule);
-        }
-        if let Some(rule) = tagged_line(request) {
+        if let Some(rule) = self.dialog_line(request) {
             return Ok(rule);
         }
         self.first_call_rule(request, now)

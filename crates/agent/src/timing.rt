@@ -1,18 +1,22 @@
 //! Events that are only counted, and timers that fire.
 
-ghost use Rattle.std.specs.Prelude.{◌≡◌, nat_le, IfOk, IsTrue, if◌then◌else◌};
+ghost use Rattle.std.specs.Prelude.{◌≡◌, ◌<◌, ◌^◌, ◌∷◌, [], nat_le, IfOk, IsTrue, Some, if◌then◌else◌};
 ghost use Rattle.transactions.specs.Contents.{is_due};
-ghost use Rattle.agent.specs.Rows.{due_row, fired_send, only_counts, timer_row, what_counts};
+ghost use Rattle.transactions.specs.Changes.{fire_of};
+ghost use Rattle.agent.specs.Effect.{Fits, effect};
+ghost use Rattle.agent.specs.Rows.{due_row, earlier, fires_by, only_counts, timer_row, what_counts};
 ghost use Rattle.agent.specs.State.{after_count, moment_at, moments_end};
 ghost use Rattle.timers.specs.Queue.{first_due};
 
 use crate::agent::Agent;
+use crate::doing::Doing;
 use crate::plan::{Plan, one_change};
+use crate::setting::Setting;
 use crate::taken::{Taken, Why};
 use events::{Event, What};
 use sip_message::MessageError;
 use std::alloc::AllocError;
-use transactions::{Fired, ForeseenFire, Outgoing, TableError, TimerId};
+use transactions::{Change, Fired, ForeseenFire, TableError, TimerId};
 
 /// Moments end here, in milliseconds.
 const MOMENTS_END: u64 = 1 << 60;
@@ -23,13 +27,14 @@ const MOST_TOKENS: u64 = 1 << 63;
 /// Bytes of a datagram at most.
 const MAX_DATAGRAM: usize = 16_384;
 
-/// What a timer that fired sends.
-fn fired_send(fired: Fired) -> Option<Outgoing>
-    ensures { result ≡ fired_send fired }
+/// The lesser of two moments, of those that are there. Takes no memory.
+pub(crate) fn earlier(one: Option<u64>, other: Option<u64>) -> Option<u64>
+    ensures { result ≡ earlier one other }
 {
-    match fired {
-        Fired::Send(out) => Some(out),
-        Fired::TimedOut | Fired::Ended => None,
+    match (one, other) {
+        (None, other) => other,
+        (one, None) => one,
+        (Some(one), Some(other)) => Some(one.min(other)),
     }
 }
 
@@ -45,7 +50,7 @@ impl Agent {
                 None
             }
             What::Due => {
-                if self.table.first_due(now).is_some() {
+                if self.table.first_due(now).is_some() || self.calls.first_due(now).is_some() {
                     return None;
                 }
                 Some(Taken::Idle)
@@ -75,32 +80,67 @@ impl Agent {
         if now < MOMENTS_END {
             self.moment = self.moment.max(now);
         }
+        self.changes = Vec::new(self.alloc);
         self.tally = self.tally.with(taken);
     }
 
-    /// What the timer that is due first comes to.
-    pub(crate) fn due_row(&self, now: u64) -> Result<Plan, AllocError>
-        ensures { IfOk result (λ p. p ≡ due_row self.now (first_due self.now.table.timers now)) }
+    /// What the timer that is due first comes to; at equal moments that of a transaction goes first.
+    pub(crate) fn due_row(&self, e: Setting) -> Result<Doing, AllocError>
+        requires early { e.now < 2 ^ 60 }
+        requires few { self.now.tokens < 2 ^ 63 }
+        ensures row { IfOk result (λ d. effect self.now.calls self.now.acks e.now d ≡ due_row self.now e (first_due self.now.table.timers e.now) (first_due self.now.calls.timers e.now)) }
+        ensures fits { IfOk result (Fits self.now.calls e.now) }
     {
-        match self.table.first_due(now) {
-            None => Ok(Plan::nothing(self.alloc, Taken::Idle)),
-            Some(timer) => self.timer_row(timer.key, now),
+        match (self.table.first_due(e.now), self.calls.first_due(e.now)) {
+            (None, None) => Ok(Doing::alone(Plan::nothing(self.alloc, Taken::Idle))),
+            (Some(timer), None) => self.timer_row(e, timer.key),
+            (None, Some(other)) => self.call_timer_row(e, other.key),
+            (Some(timer), Some(other)) => {
+                if timer.at <= other.at {
+                    self.timer_row(e, timer.key)
+                } else {
+                    self.call_timer_row(e, other.key)
+                }
+            }
         }
     }
 
     #[tactic(auto, unfolding(crate::specs::Rows::timer_row))]
-    fn timer_row(&self, timer: TimerId, now: u64) -> Result<Plan, AllocError>
-        requires { IsTrue (is_due self.now.table timer now) }
-        ensures { IfOk result (λ p. p ≡ timer_row self.now timer) }
+    fn timer_row(&self, e: Setting, timer: TimerId) -> Result<Doing, AllocError>
+        requires early { e.now < 2 ^ 60 }
+        requires few { self.now.tokens < 2 ^ 63 }
+        requires due { IsTrue (is_due self.now.table timer e.now) }
+        ensures row { IfOk result (λ d. effect self.now.calls self.now.acks e.now d ≡ timer_row self.now e timer) }
+        ensures fits { IfOk result (Fits self.now.calls e.now) }
     {
-        match self.table.foresee_fire(timer, now) {
+        match self.table.foresee_fire(timer, e.now) {
             Ok(foreseen) => {
                 let ForeseenFire { fired, change } = foreseen;
                 let begun = one_change(self.alloc, change)?;
-                Plan::moves(self.alloc, begun, fired_send(fired))
+                self.fires_by(e, timer, begun, fired)
             }
             Err(TableError::OutOfMemory) => Err(AllocError),
             Err(TableError::Unknown | TableError::AfterFinal | TableError::Full) => unreachable!(),
+        }
+    }
+
+    fn fires_by(
+        &self,
+        e: Setting,
+        timer: TimerId,
+        begun: Vec<Change>,
+        fired: Fired,
+    ) -> Result<Doing, AllocError>
+        requires early { e.now < 2 ^ 60 }
+        requires few { self.now.tokens < 2 ^ 63 }
+        requires begun { begun.items ≡ fire_of timer ∷ [] }
+        ensures row { IfOk result (λ d. effect self.now.calls self.now.acks e.now d ≡ fires_by self.now e timer (Some fired)) }
+        ensures fits { IfOk result (Fits self.now.calls e.now) }
+    {
+        match fired {
+            Fired::Send(out) => Ok(Doing::alone(Plan::moves(self.alloc, begun, Some(out))?)),
+            Fired::TimedOut => self.timeout_row(e, timer, begun),
+            Fired::Ended => Ok(Doing::ends(Plan::moves(self.alloc, begun, None)?, timer.id)),
         }
     }
 }

@@ -6,6 +6,7 @@ ghost use Rattle.sip_message.specs.AnswerableParts.{answerable_of};
 ghost use Rattle.sip_message.specs.Faults.{Fails};
 ghost use Rattle.sip_message.specs.Read.{message_of};
 ghost use Rattle.sip_writing.specs.Reply.{answer_address};
+ghost use Rattle.agent.specs.CallRows.{of_plan};
 ghost use Rattle.agent.specs.Plan.{replies};
 ghost use Rattle.responses.specs.Responding.{responds, stateless};
 ghost use Rattle.agent.specs.Rows.{datagram_row, unfit_branch, unfit_request, unread_by};
@@ -88,7 +89,7 @@ pub(crate) fn unread_row(
     fault: MessageError,
 ) -> Result<Plan, AllocError>
     requires { Fails fault (message_of datagram.now) }
-    ensures { (s : Contents) → IfOk result (λ p. p ≡ datagram_row s e datagram.now) }
+    ensures { (s : Contents) → IfOk result (λ p. of_plan s p ≡ datagram_row s e datagram.now) }
 {
     match fault {
         MessageError::OutOfMemory => Err(AllocError),

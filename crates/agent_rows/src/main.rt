@@ -1,12 +1,16 @@
 //! Days of the example office: each line of standard input names a script of data/, which is played on an agent to which nothing
-//! has happened. Prints what is sent, in the form of scripts; then a line with how the events were answered (in the order of
-//! `Tally`) and the moment of the next timer.
+//! has happened. Prints what is sent, in the form of scripts; then, moment by moment, what changed in the relay table; the calls that
+//! stand, the rows of the relay table, and who holds the example's ports; and a line with how the events were answered (in the order
+//! of `Tally`) and the moment of the next timer. An event that is lost for want of memory is taken once more.
 #![tactic(auto)]
 
 use agent::{Agent, Tally};
+use call_core::Phase;
+use calls::StandingCall;
 use configuration::{ConfigError, example_config};
 use events::{Event, Sent};
-use scripts::{ScriptError, put_sent, read_script};
+use port_pool::{Change, RelayTable};
+use scripts::{ScriptError, put_call, put_hop, put_sent, read_script};
 use std::alloc::{AllocError, Global};
 use std::fs::Files;
 use std::io::Write;
@@ -54,19 +58,129 @@ fn put_summary(alloc: Global, out: &mut Vec<u8>, agent: &Agent) -> Result<(), Al
     put_next(alloc, out, agent.next_due())
 }
 
-/// Plays the events, and puts down what is sent.
+// ---- calls, rows and pairs
+
+fn phase_word(phase: Option<Phase>) -> &'static [u8] {
+    match phase {
+        None => b"nowhere",
+        Some(Phase::Asked) => b"asked",
+        Some(Phase::Cancelling) => b"cancelling",
+        Some(Phase::Answered) => b"answered",
+        Some(Phase::Settled) => b"settled",
+        Some(Phase::Reasked) => b"reasked",
+        Some(Phase::Reanswered) => b"reanswered",
+        Some(Phase::Updating) => b"updating",
+        Some(Phase::Ending) => b"ending",
+    }
+}
+
+fn put_calls(out: &mut Vec<u8>, calls: &[StandingCall]) -> Result<(), AllocError> {
+    for call in calls {
+        put_call(out, call.call.number(), phase_word(call.call.phase()))?;
+    }
+    Ok(())
+}
+
+fn put_hop_at(out: &mut Vec<u8>, relay: &RelayTable, port: u16) -> Result<(), AllocError> {
+    match relay.hop(port) {
+        None => Ok(()),
+        Some(hop) => put_hop(out, port, hop),
+    }
+}
+
+fn put_hops(out: &mut Vec<u8>, relay: &RelayTable) -> Result<(), AllocError> {
+    for port in 40000..40016 {
+        put_hop_at(out, relay, port)?;
+    }
+    Ok(())
+}
+
+fn put_holder(
+    alloc: Global,
+    out: &mut Vec<u8>,
+    agent: &Agent,
+    port: u16,
+) -> Result<(), AllocError> {
+    match agent.holder(port) {
+        None => Ok(()),
+        Some(number) => {
+            let words = format!(in alloc; "held {port} {number}\n")?;
+            put_words(out, words.as_str())
+        }
+    }
+}
+
+fn put_holders(alloc: Global, out: &mut Vec<u8>, agent: &Agent) -> Result<(), AllocError> {
+    for port in 40000..40016 {
+        put_holder(alloc, out, agent, port)?;
+    }
+    Ok(())
+}
+
+fn put_change(alloc: Global, out: &mut Vec<u8>, change: Change) -> Result<(), AllocError> {
+    match change {
+        Change::Put(port, hop) => {
+            put_words(out, "put ")?;
+            put_hop(out, port, hop)
+        }
+        Change::Remove(port) => {
+            let words = format!(in alloc; "remove {port}\n")?;
+            put_words(out, words.as_str())
+        }
+    }
+}
+
+fn put_changes(
+    alloc: Global,
+    out: &mut Vec<u8>,
+    now: u64,
+    changes: &[Change],
+) -> Result<(), AllocError> {
+    for change in changes {
+        let words = format!(in alloc; "at {now} ")?;
+        put_words(out, words.as_str())?;
+        put_change(alloc, out, *change)?;
+    }
+    Ok(())
+}
+
+// ---- a day
+
+/// Takes an event; where it is lost, once more.
+fn step(agent: &mut Agent, event: &Event, sent: &mut Vec<Sent>) -> Result<(), AllocError> {
+    if agent.step(event, sent).is_err() {
+        agent.step(event, sent)?;
+    }
+    Ok(())
+}
+
+fn play_event(
+    alloc: Global,
+    out: &mut Vec<u8>,
+    changed: &mut Vec<u8>,
+    agent: &mut Agent,
+    event: &Event,
+) -> Result<(), AllocError> {
+    let mut sent = Vec::new(alloc);
+    step(agent, event, &mut sent)?;
+    put_all_sent(out, &sent)?;
+    put_changes(alloc, changed, event.now, agent.changes())
+}
+
 fn play(
     alloc: Global,
     out: &mut Vec<u8>,
     agent: &mut Agent,
     events: &[Event],
 ) -> Result<(), AllocError> {
+    let mut changed = Vec::new(alloc);
     for event in events {
-        let mut sent = Vec::new(alloc);
-        agent.step(event, &mut sent)?;
-        put_all_sent(out, &sent)?;
+        play_event(alloc, out, &mut changed, agent, event)?;
     }
-    Ok(())
+    out.append(&mut changed)?;
+    put_calls(out, agent.calls())?;
+    put_hops(out, agent.relay())?;
+    put_holders(alloc, out, agent)
 }
 
 fn play_day(alloc: Global, out: &mut Vec<u8>, events: &[Event]) -> Result<(), AllocError> {

@@ -1,3 +1,4 @@
 pub mod InputLaws
 pub mod WordLaws
 pub mod ReplayLaws
+pub mod StateLaws

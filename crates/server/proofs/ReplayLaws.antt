@@ -19,7 +19,8 @@ use Rattle.server.specs.declared.fault.Fault.{Fault}
 use Rattle.server.specs.declared.fault.Fault.TheVariants.{Input, Config as ConfigFault, Output, OutOfMemory}
 use Rattle.server.specs.Faults.{config_fault}
 use Rattle.server.specs.Leaves.{Leaves, IsOfConfig, IsOfOffice, IsOfReading}
-use Rattle.server.specs.Replay.{after_all, run_text, sends_of, text_of, Day, EventLeaves, IsOffice, IsScript, Replays, ReplayLeaves, RunLeaves, WritesFirst}
+use Rattle.server.specs.Replay.{after_all, day_text, run_text, sends_of, text_of, Day, EventLeaves, IsOffice, IsScript, Replays, ReplayLeaves, RunLeaves, WritesFirst}
+use Rattle.server.specs.State.{state_text}
 use Rattle.server.proofs.InputLaws.{appends_kept, appends_more, keeps_same}
 
 -- ---- offices
@@ -56,13 +57,13 @@ of_office file OutOfMemory h = tt
 
 -- ---- a run, and one event more
 
-pub text_more : (agent : Contents) (es : List Event) (e : Event) → run_text agent (es ++ e ∷ []) ≡ run_text agent es ++ text_of (row (after_all agent es) e).sends
-text_more agent [] e = ap text_of (append-nil (row agent e).sends)
+pub text_more : (agent : Contents) (es : List Event) (e : Event) → run_text agent (es ++ e ∷ []) ≡ run_text agent es ++ text_of (row (after_all agent es) e).plan.sends
+text_more agent [] e = ap text_of (append-nil (row agent e).plan.sends)
 text_more agent (x ∷ es) e =
-    flat_map-append sent_text (row agent x).sends (sends_of (after agent x) (es ++ e ∷ []))
-    ∙ ap (λ (t : List ℕ). text_of (row agent x).sends ++ t) (text_more (after agent x) es e)
-    ∙ sym (append_assoc (text_of (row agent x).sends) (run_text (after agent x) es) (text_of (row (after_all (after agent x) es) e).sends))
-    ∙ ap (λ (t : List ℕ). t ++ text_of (row (after_all (after agent x) es) e).sends) (sym (flat_map-append sent_text (row agent x).sends (sends_of (after agent x) es)))
+    flat_map-append sent_text (row agent x).plan.sends (sends_of (after agent x) (es ++ e ∷ []))
+    ∙ ap (λ (t : List ℕ). text_of (row agent x).plan.sends ++ t) (text_more (after agent x) es e)
+    ∙ sym (append_assoc (text_of (row agent x).plan.sends) (run_text (after agent x) es) (text_of (row (after_all (after agent x) es) e).plan.sends))
+    ∙ ap (λ (t : List ℕ). t ++ text_of (row (after_all (after agent x) es) e).plan.sends) (sym (flat_map-append sent_text (row agent x).plan.sends (sends_of (after agent x) es)))
 
 pub after_more : (agent : Contents) (es : List Event) (e : Event) → after_all agent (es ++ e ∷ []) ≡ after (after_all agent es) e
 after_more agent [] e = refl
@@ -85,8 +86,29 @@ stopped_at (Err x) agent events i e held now held_after is h k =
 
 -- ---- the whole
 
+-- behind all that was sent stands what there is at the end
+pub day_told : (r : Result (Unit {0}) Fault) (agent at_end : Contents) (events : List Event) (held now held_after : Option (List ℕ))
+    → at_end ≡ after_all agent events → Appends held now (run_text agent events) → OnOk r (Appends now held_after (state_text at_end))
+    → OnOk r (Appends held held_after (day_text agent events))
+day_told (Ok done) agent at_end events held now held_after is h k =
+    appends_more held now held_after (run_text agent events) (state_text (after_all agent events)) h
+    (subst (λ (s : Contents). Appends now held_after (state_text s)) is k)
+day_told (Err e) agent at_end events held now held_after is h k = tt
+
+day_stopped : (agent : Contents) (events : List Event) (e : Fault) (held now held_after : Option (List ℕ))
+    → Appends held now (run_text agent events) → EventLeaves e now held_after → RunLeaves agent events e held held_after
+day_stopped agent events e held now held_after h k =
+    subst (λ (es : List Event). RunLeaves agent es e held held_after) (append-nil events) (stopped agent events [] e held now held_after h k)
+
+-- what stands at the end could not be written
+pub day_not_told : (r : Result (Unit {0}) Fault) (agent : Contents) (events : List Event) (held now held_after : Option (List ℕ))
+    → Appends held now (run_text agent events) → IfErr r (λ e. EventLeaves e now held_after)
+    → IfErr r (λ e. RunLeaves agent events e held held_after)
+day_not_told (Ok done) agent events held now held_after h k = tt
+day_not_told (Err e) agent events held now held_after h k = day_stopped agent events e held now held_after h k
+
 pub replayed : (r : Result (Unit {0}) Fault) (config : Option (Option (List ℕ))) (script held held_after : Option (List ℕ)) (day : Day config script)
-    → OnOk r (Appends held held_after (run_text day.agent day.events)) → OnOk r (Replays config script held held_after)
+    → OnOk r (Appends held held_after (day_text day.agent day.events)) → OnOk r (Replays config script held held_after)
 replayed (Ok done) config script held held_after day h = (day, h)
 replayed (Err e) config script held held_after day h = tt
 

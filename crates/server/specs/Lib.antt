@@ -1,5 +1,6 @@
 pub mod Input
 pub mod Once
+pub mod State
 pub mod Replay
 pub mod Leaves
 pub mod Faults

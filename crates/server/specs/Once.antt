@@ -25,7 +25,7 @@ bytes_of sent = flat_map (λ s. s.bytes) sent
 
 -- these bytes are what an office of the example sends for the datagram, to which nothing has happened
 abbrev pub SendsFor : List ℕ → List Sent → Type 0
-SendsFor datagram sent = (agent : Contents) × IsNew example agent × (sent ≡ (row agent (single datagram)).sends)
+SendsFor datagram sent = (agent : Contents) × IsNew example agent × (sent ≡ (row agent (single datagram)).plan.sends)
 
 -- all that the reader had was taken, and what is sent for the kept bytes was written behind what the writer held
 abbrev pub Answers : Option (List ℕ) → Option (List ℕ) → Option (List ℕ) → Option (List ℕ) → Type 0

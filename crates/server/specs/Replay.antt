@@ -1,5 +1,5 @@
 -- What `replay` writes for a script: the text of all that the agent sends, event by event, on an office to which nothing has
--- happened.
+-- happened, and what stands at the end.
 use Rattle.std.specs.Prelude.{◌≡◌, ◌≢◌, ℕ, List, [], ◌∷◌, ◌++◌, ◌⊎◌, fold, Option, Some, None}
 use Rattle.std.specs.List.{flat_map}
 use Rattle.std.specs.Io.KnownBytes.{Appends, Keeps}
@@ -12,6 +12,7 @@ use Rattle.scripts.specs.Grammar.{ReadsScript}
 use Rattle.scripts.specs.Writing.{sent_text}
 use Rattle.agent.specs.Rows.{after, row}
 use Rattle.agent.specs.State.{Contents, IsNew}
+use Rattle.server.specs.State.{state_text}
 use Rattle.server.specs.declared.fault.Fault.{Fault}
 use Rattle.server.specs.declared.fault.Fault.TheVariants.{Input, Config as ConfigFault, Output, OutOfMemory}
 
@@ -24,7 +25,7 @@ after_all agent events = fold after agent events
 -- what it sends at them, in order
 abbrev pub sends_of : Contents → List Event → List Sent
 sends_of agent [] = []
-sends_of agent (e ∷ es) = (row agent e).sends ++ sends_of (after agent e) es
+sends_of agent (e ∷ es) = (row agent e).plan.sends ++ sends_of (after agent e) es
 
 -- the text of what is sent
 abbrev pub text_of : List Sent → List ℕ
@@ -32,6 +33,10 @@ text_of sent = flat_map sent_text sent
 
 abbrev pub run_text : Contents → List Event → List ℕ
 run_text agent events = text_of (sends_of agent events)
+
+-- the same, and behind it what stands at the end
+abbrev pub day_text : Contents → List Event → List ℕ
+day_text agent events = run_text agent events ++ state_text (after_all agent events)
 
 -- ---- what is read
 
@@ -60,9 +65,9 @@ pub record Day (config : Option (Option (List ℕ))) (script : Option (List ℕ)
   pub new : IsNew office agent
   pub told : IsScript script events
 
--- the text of all that is sent was written behind what the writer held
+-- the text of all that is sent was written behind what the writer held, and behind it the lines of what stands at the end
 abbrev pub Replays : Option (Option (List ℕ)) → Option (List ℕ) → Option (List ℕ) → Option (List ℕ) → Type 0
-Replays config script held held_after = (day : Day config script) × Appends held held_after (run_text day.agent day.events)
+Replays config script held held_after = (day : Day config script) × Appends held held_after (day_text day.agent day.events)
 
 -- the text of what is sent at the first of these events was written, and nothing else
 abbrev pub WritesFirst : Contents → List Event → Option (List ℕ) → Option (List ℕ) → Type 0

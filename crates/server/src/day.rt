@@ -6,12 +6,14 @@ ghost use Rattle.configuration.specs.Rules.{first_broken};
 ghost use Rattle.agent.specs.Rows.{after, row};
 ghost use Rattle.server.specs.Faults.{script_fault, unread_config};
 ghost use Rattle.server.specs.Leaves.{IsOfConfig, IsOfOffice, IsOfReading};
-ghost use Rattle.server.specs.Replay.{after_all, run_text, text_of, EventLeaves, IsOffice, IsScript, Replays, ReplayLeaves, RunLeaves};
+ghost use Rattle.server.specs.State.{state_text};
+ghost use Rattle.server.specs.Replay.{after_all, day_text, run_text, text_of, EventLeaves, IsOffice, IsScript, Replays, ReplayLeaves, RunLeaves};
 
 use crate::fault::Fault;
 use crate::input::read_whole;
 use crate::making::{agent_of, config_fault};
 use crate::output::write_out;
+use crate::state::put_state;
 use agent::Agent;
 use configuration::{Config, example_config, read_config};
 use events::{Event, Sent};
@@ -97,7 +99,7 @@ fn play_event<W: Write>(
     writer: &mut W,
 ) -> Result<(), Fault>
     ensures agent { OnOk result (agent.new ≡ after agent.old event.entry.now) }
-    ensures written { OnOk result (Appends (W.contents writer.old) (W.contents writer.new) (text_of (row agent.old event.entry.now).sends)) }
+    ensures written { OnOk result (Appends (W.contents writer.old) (W.contents writer.new) (text_of (row agent.old event.entry.now).plan.sends)) }
     ensures refused { IfErr result (λ e. EventLeaves e (W.contents writer.old) (W.contents writer.new)) }
 {
     let mut sent = Vec::new(alloc);
@@ -123,8 +125,33 @@ fn play<W: Write>(
     Ok(())
 }
 
+/// Writes the calls that stand, and the rows of the relay table.
+fn write_state<W: Write>(alloc: Global, agent: &Agent, writer: &mut W) -> Result<(), Fault>
+    ensures written { OnOk result (Appends (W.contents writer.old) (W.contents writer.new) (state_text agent.now)) }
+    ensures refused { IfErr result (λ e. EventLeaves e (W.contents writer.old) (W.contents writer.new)) }
+{
+    let mut text = Vec::new(alloc);
+    put_state(&mut text, agent)?;
+    write_out(writer, text.as_slice())
+}
+
+/// Takes the events in order, writes the text of what is sent at each, and behind all what stands then.
+fn play_day<W: Write>(
+    alloc: Global,
+    agent: &mut Agent,
+    events: &[Event],
+    writer: &mut W,
+) -> Result<(), Fault>
+    ensures written { OnOk result (Appends (W.contents writer.old) (W.contents writer.new) (day_text agent.old events.now)) }
+    ensures refused { IfErr result (λ e. RunLeaves agent.old events.now e (W.contents writer.old) (W.contents writer.new)) }
+{
+    play(alloc, agent, events, writer)?;
+    write_state(alloc, agent, writer)
+}
+
 /// Reads a configuration, if there is a file of one, then a whole script, and writes the text of all that the office sends at its
-/// events, one event after the other. An event that memory is refused for ends the run behind what was sent before it.
+/// events, one event after the other, and behind it the calls that stand and the rows of the relay table. An event that memory is
+/// refused for ends the run behind what was sent before it.
 pub fn replay<C: Read + Drop, S: Read + Drop, W: Write>(
     alloc: Global,
     config: Option<C>,
@@ -137,5 +164,5 @@ pub fn replay<C: Read + Drop, S: Read + Drop, W: Write>(
     let office = office_of(alloc, config)?;
     let events = events_of(alloc, script)?;
     let mut agent = agent_of(alloc, &office)?;
-    play(alloc, &mut agent, &events, writer)
+    play_day(alloc, &mut agent, &events, writer)
 }

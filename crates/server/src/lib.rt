@@ -1,5 +1,5 @@
 //! The call server between the bytes of its files and streams: what a command line asks, what is sent for a datagram, and what
-//! is sent at the events of a script.
+//! is sent at the events of a script, with what stands at their end.
 #![tactic(auto)]
 
 mod command_line;
@@ -11,6 +11,7 @@ mod making;
 mod output;
 mod shelf;
 mod single;
+mod state;
 mod words;
 
 pub use command_line::run;

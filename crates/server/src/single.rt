@@ -3,8 +3,9 @@
 ghost use Rattle.std.specs.Prelude.{◌≡◌, ◌++◌, IfErr, IfOk, OnOk};
 ghost use Rattle.std.specs.Io.KnownBytes.{Appends};
 ghost use Rattle.configuration.specs.Example.{example};
+ghost use Rattle.agent.specs.Rows.{row};
 ghost use Rattle.agent.specs.State.{IsNew};
-ghost use Rattle.server.specs.Once.{Answers, SendsFor, bytes_of};
+ghost use Rattle.server.specs.Once.{Answers, SendsFor, bytes_of, single};
 ghost use Rattle.server.specs.Leaves.{Leaves};
 
 use crate::fault::Fault;
@@ -34,22 +35,42 @@ fn example_agent(alloc: Global) -> Result<Agent, Fault>
     agent_of(alloc, &config)
 }
 
-fn sent_for(alloc: Global, datagram: Vec<u8>) -> Result<Vec<Sent>, Fault>
-    ensures sent { IfOk result (λ sent. SendsFor datagram.items sent.items) }
-    ensures refused { IfErr result (λ e. e ≡ Fault.OutOfMemory) }
+/// The datagram as an event.
+fn single(datagram: Vec<u8>) -> Event
+    ensures { result ≡ single datagram.items }
 {
-    let mut agent = example_agent(alloc)?;
-    let event = Event {
+    Event {
         now: 0,
         salt: 1,
         what: What::Datagram {
             source: SOURCE,
             bytes: Text::from_vec(datagram),
         },
-    };
+    }
+}
+
+/// What an agent sends at an event.
+fn sends_at(alloc: Global, agent: &mut Agent, event: &Event) -> Result<Vec<Sent>, AllocError>
+    ensures { IfOk result (λ sent. sent.items ≡ (row agent.old event.entry.now).plan.sends) }
+{
     let mut sent = Vec::new(alloc);
-    agent.step(&event, &mut sent)?;
+    agent.step(event, &mut sent)?;
     Ok(sent)
+}
+
+fn let_go<T: Drop>(_value: T) {}
+
+/// What the example office sends for a datagram.
+fn sent_for(alloc: Global, datagram: Vec<u8>) -> Result<Vec<Sent>, Fault>
+    ensures sent { IfOk result (λ sent. SendsFor datagram.items sent.items) }
+    ensures refused { IfErr result (λ e. e ≡ Fault.OutOfMemory) }
+{
+    let mut agent = example_agent(alloc)?;
+    let event = single(datagram);
+    let sent = sends_at(alloc, &mut agent, &event);
+    let_go(event);
+    let_go(agent);
+    Ok(sent?)
 }
 
 /// The bytes of what is sent, one behind the other.

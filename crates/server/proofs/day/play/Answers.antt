@@ -25,7 +25,7 @@ loop-event-preserved g c =
     record {
       agent = c.in_ok-play_event.ensures.agent ∙ ap (λ (a : Contents). after a e) agent_is ∙ sym (after_more c.args.agent.now done e) ∙ ap (after_all c.args.agent.now) (sym more);
       written = subst (λ (t : List ℕ). Appends (g.W.Write.contents c.args.writer.now) (g.W.Write.contents c.play_event.new.writer) t)
-          (ap (λ (a : Contents). run_text c.args.agent.now done ++ text_of (row a e).sends) agent_is ∙ sym sent_more ∙ ap (run_text c.args.agent.now) (sym more))
-          (appends_more (g.W.Write.contents c.args.writer.now) (g.W.Write.contents c.loop-event.writer) (g.W.Write.contents c.play_event.new.writer) (run_text c.args.agent.now done) (text_of (row c.loop-event.agent e).sends)
+          (ap (λ (a : Contents). run_text c.args.agent.now done ++ text_of (row a e).plan.sends) agent_is ∙ sym sent_more ∙ ap (run_text c.args.agent.now) (sym more))
+          (appends_more (g.W.Write.contents c.args.writer.now) (g.W.Write.contents c.loop-event.writer) (g.W.Write.contents c.play_event.new.writer) (run_text c.args.agent.now done) (text_of (row c.loop-event.agent e).plan.sends)
           c.loop-event.invariant.written c.in_ok-play_event.ensures.written);
     }

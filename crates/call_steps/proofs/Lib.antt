@@ -1,0 +1,3 @@
+mod SceneLaws
+mod ContactLaws
+mod StepLaws

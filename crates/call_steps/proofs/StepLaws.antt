@@ -1,0 +1,92 @@
+-- What was planned for a call comes to its row.
+use Rattle.std.proofs.Common.{◌≡◌, ℕ, ◌+◌, List, Option, Some, None, unwrap_or, refl, ap, sym, ◌∙◌, subst, rules}
+use Rattle.std.specs.Prelude.{slice_get}
+use Rattle.sip_uri.specs.declared.uri.Addr.{Addr}
+use Rattle.sip_uri.specs.declared.uri.Uri.{Uri}
+use Rattle.sip_message.specs.declared.message.Request.{Request}
+use Rattle.sip_message.specs.Contact.{contacts_of}
+use Rattle.sdp.specs.declared.description.Description.{Description}
+use Rattle.dialogs.specs.Making.{callees_dialog, reached_at}
+use Rattle.transactions.specs.Contents as transactions
+use Rattle.call_core.specs.declared.call.Call.{Call}
+use Rattle.call_core.specs.declared.input.Input.{Input}
+use Rattle.call_core.specs.declared.input.Input.TheVariants as inputs
+use Rattle.call_core.specs.declared.plan.Plan.{Plan}
+use Rattle.call_core.specs.declared.refusal.CallRefusal.TheVariants.{OutOfMemory}
+use Rattle.call_core.specs.Refusals.{RefusesInput}
+use Rattle.port_pool.specs.Pool.{Contents}
+use Rattle.call_core.specs.CallRows.{call_row, first_call_row}
+use Rattle.call_core.specs.Calls.{new_call}
+use Rattle.call_core.specs.Plans.{IsPlanned, Step, carried}
+use Rattle.calls.specs.State.{Standing}
+use Rattle.calls.specs.Changes.{carries}
+use Rattle.calls.specs.declared.change.LegDialog.{LegDialog}
+use Rattle.calls.specs.declared.standing_call.StandingCall.{StandingCall}
+use Rattle.call_steps.specs.declared.messages.StepMessages.{StepMessages}
+use Rattle.call_steps.specs.declared.occasion.Occasion.{Occasion}
+use Rattle.call_steps.specs.Effects.{no_effect, with_messages}
+use Rattle.call_steps.specs.Rows.{begins_as, begins_with, begun, does, first_messages, first_row, messages_of, standing_as, takes_by, takes_row}
+use Rattle.call_steps.specs.Scenes.{fresh}
+use Rattle.call_steps.specs.Values.{AskerValue}
+
+-- ---- a call that stands
+
+pub takes_as_planned : (calls : Standing) (table : transactions.Contents) (o : Occasion) (place : ℕ) (input : Input) (leg : Option LegDialog) (request : Option AskerValue) (hops : ℕ)
+    (c : StandingCall) (plan : Plan) (said : StepMessages) → slice_get calls.calls place ≡ Some c
+    → carried c.call calls.pool o.now plan ≡ call_row c.call input calls.pool o.now
+    → said ≡ messages_of table o leg request hops c (carried c.call calls.pool o.now plan)
+    → with_messages (carries calls o.now place leg said.answer plan (slice_get calls.calls place)) said
+    ≡ takes_row calls table o place input leg request hops
+unfolding takes_row
+takes_as_planned calls table o place input leg request hops c plan said at row says =
+    rw (at, says) (ap (λ (step : Step). does calls table o place leg request hops c step) row)
+
+pub takes_nothing : (calls : Standing) (table : transactions.Contents) (o : Occasion) (place : ℕ) (input : Input) (leg : Option LegDialog) (request : Option AskerValue) (hops : ℕ)
+    → slice_get calls.calls place ≡ None → takes_by calls table o place input leg request hops None ≡ takes_row calls table o place input leg request hops
+unfolding takes_row
+takes_nothing calls table o place input leg request hops none = rw none refl
+
+-- a plan for the call that stands at a place is one for any call that stands there
+pub planned_there : (calls : Standing) (place now : ℕ) (c : StandingCall) (plan : Plan) → slice_get calls.calls place ≡ Some c → IsPlanned c.call calls.pool now plan
+    → (d : StandingCall) → slice_get calls.calls place ≡ Some d → IsPlanned d.call calls.pool now plan
+planned_there calls place now c plan at planned d at_d =
+    subst (λ (e : StandingCall). IsPlanned e.call calls.pool now plan) (ap (λ (o : Option StandingCall). unwrap_or o c) (sym at ∙ at_d)) planned
+
+-- ---- a call that begins
+
+abbrev pub asked_with : Request → ℕ → Addr → List ℕ → AskerValue
+asked_with request id source tag = record { id = id; parts = request.parts; source = source; tag = tag }
+
+abbrev pub standing_with : Call → List ℕ → Request → ℕ → Addr → StandingCall
+standing_with call tag request id source = record { call = call; callee_tag = tag; asked = record { id = id; source = source; number = request.parts.cseq.number }; answer = None }
+
+pub begins_as_planned : (calls : Standing) (o : Occasion) (request : Request) (id : ℕ) (source : Addr) (target : Uri) (offer : Description) (call : Call) (plan : Plan) (said : StepMessages)
+    → reached_at (contacts_of request.headers) ≡ Some call.caller.target
+    → call ≡ new_call (calls.begun + 1) o.range (callees_dialog request (fresh o 1) call.caller.target)
+    → carried call calls.pool o.now plan ≡ first_call_row call offer calls.pool o.now
+    → said ≡ first_messages o request id source target (carried call calls.pool o.now plan)
+    → begun calls o (standing_as call o request id source) (carried call calls.pool o.now plan) said ≡ first_row calls o request id source target offer
+unfolding first_row
+begins_as_planned calls o request id source target offer call plan said reached is row says =
+    rw (reached, says) (ap (λ (step : Step). begins_with calls o request id source target (standing_as call o request id source) step) row
+    ∙ ap (λ (c : Call). begins_as calls o request id source target offer (standing_as c o request id source)) is)
+
+pub begins_nothing : (calls : Standing) (o : Occasion) (request : Request) (id : ℕ) (source : Addr) (target : Uri) (offer : Description)
+    → reached_at (contacts_of request.headers) ≡ None → no_effect calls ≡ first_row calls o request id source target offer
+unfolding first_row
+begins_nothing calls o request id source target offer none = rw none refl
+
+-- ---- any input may be refused for want of memory
+
+pub lacks_memory : (c : Call) (pool : Contents) (input : Input) (now : ℕ) → RefusesInput c pool input now OutOfMemory
+lacks_memory c pool (inputs.Offer x method offer) now = search rules
+lacks_memory c pool (inputs.Provisional status) now = search rules
+lacks_memory c pool (inputs.Answer answer) now = search rules
+lacks_memory c pool (inputs.Refusal status) now = search rules
+lacks_memory c pool inputs.TimedOut now = search rules
+lacks_memory c pool inputs.Ack now = search rules
+lacks_memory c pool inputs.Cancel now = search rules
+lacks_memory c pool (inputs.Bye end) now = search rules
+lacks_memory c pool inputs.Limit now = search rules
+lacks_memory c pool inputs.Repeat now = search rules
+lacks_memory c pool inputs.Wait now = search rules

@@ -1,0 +1,83 @@
+-- What actions are dressed with, as values. The dressing itself is told of references: a value stands for each reference to it.
+use Rattle.std.specs.Prelude.{ℕ, List, Option, option_map}
+use Rattle.std.specs.Option.{option_copied}
+use Rattle.std.specs.Borrow.{Bor}
+use Rattle.sip_uri.specs.declared.uri.Addr.{Addr}
+use Rattle.sip_message.specs.declared.message.Parts.{Parts}
+use Rattle.sdp.specs.declared.description.Description.{Description}
+use Rattle.events.specs.declared.sent.Sent.{Sent}
+use Rattle.dialogs.specs.declared.state.Dialog.{Dialog}
+use Rattle.transactions.specs.declared.transaction.Transaction.{Transaction}
+use Rattle.call_core.specs.declared.action.Action.{Action}
+use Rattle.legs.specs.declared.scene.Asker.{Asker}
+use Rattle.legs.specs.declared.scene.Scene.{Scene}
+use Rattle.legs.specs.Dressed.{Dressed}
+use Rattle.legs.specs.Dressing.{dressed}
+
+-- a request of an end's, which waits for a response of the server's: the number of its transaction, where it came from, and the
+-- tag that To has in its responses
+pub record AskerValue : Type 0 where
+  pub id : ℕ
+  pub parts : Parts
+  pub source : Addr
+  pub tag : List ℕ
+
+-- all that actions may need
+pub record SceneValue : Type 0 where
+  pub server : Addr
+  pub salt : ℕ
+  pub tokens : ℕ
+  pub offer : Option AskerValue
+  pub request : Option AskerValue
+  pub caller : Option Dialog
+  pub callee : Option Dialog
+  pub passed : Option Transaction
+  pub description : Option Description
+  pub again : Option Sent
+  pub hops : ℕ
+
+-- ---- from references to values, and back
+
+abbrev pub asker_value : Asker → AskerValue
+asker_value a = record { id = a.id; parts = a.parts.now; source = a.source; tag = a.tag.now }
+
+abbrev pub scene_value : Scene → SceneValue
+scene_value s = record {
+  server = s.server;
+  salt = s.salt;
+  tokens = s.tokens;
+  offer = option_map asker_value s.offer;
+  request = option_map asker_value s.request;
+  caller = option_copied s.caller;
+  callee = option_copied s.callee;
+  passed = option_copied s.passed;
+  description = option_copied s.description;
+  again = option_copied s.again;
+  hops = s.hops;
+}
+
+-- a reference to this value: where it points tells nothing
+abbrev pub lent : {X : Type 0} → X → Bor X
+lent x = record { ref_ptr = (0, 0); now = x }
+
+abbrev pub lent_asker : AskerValue → Asker
+lent_asker a = record { id = a.id; parts = lent a.parts; source = a.source; tag = lent a.tag }
+
+abbrev pub lent_scene : SceneValue → Scene
+lent_scene s = record {
+  server = s.server;
+  salt = s.salt;
+  tokens = s.tokens;
+  offer = option_map lent_asker s.offer;
+  request = option_map lent_asker s.request;
+  caller = option_map lent s.caller;
+  callee = option_map lent s.callee;
+  passed = option_map lent s.passed;
+  description = option_map lent s.description;
+  again = option_map lent s.again;
+  hops = s.hops;
+}
+
+-- these actions as messages
+abbrev pub dressed_in : SceneValue → List Action → Dressed
+dressed_in s actions = dressed (lent_scene s) s.tokens actions

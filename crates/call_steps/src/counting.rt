@@ -1,0 +1,55 @@
+//! A request in a dialog counts its number there (RFC 3261 section 12.2.2).
+
+ghost use Rattle.std.specs.Prelude.{◌≡◌, IfOk};
+ghost use Rattle.std.specs.Option.{option_copied};
+ghost use Rattle.call_steps.specs.Rows.{counts, counts_by, counts_in};
+
+use call_core::End;
+use calls::{Calls, LegDialog, StandingCall};
+use dialogs::Dialog;
+use std::alloc::{AllocError, Global};
+
+fn counts_in(
+    alloc: Global,
+    end: End,
+    number: u32,
+    dialog: Option<&Dialog>,
+) -> Result<Option<LegDialog>, AllocError>
+    ensures { IfOk result (λ leg. leg ≡ counts_in end number (option_copied dialog.entry)) }
+{
+    let Some(dialog) = dialog else {
+        return Ok(None);
+    };
+    let mut dialog = dialog.copy(alloc)?;
+    dialog.remote_number = Some(number);
+    Ok(Some(LegDialog { end, dialog }))
+}
+
+fn counts_by(
+    alloc: Global,
+    end: End,
+    number: u32,
+    call: Option<&StandingCall>,
+) -> Result<Option<LegDialog>, AllocError>
+    ensures { IfOk result (λ leg. leg ≡ counts_by end number (option_copied call.entry)) }
+{
+    match call {
+        None => Ok(None),
+        Some(call) => counts_in(alloc, end, number, call.call.dialog(end)),
+    }
+}
+
+/// The dialog of the call at this place with this end, once a request with this number was taken in it, whatever that is answered; none
+/// where no call stands, or has no such dialog. Nothing changes.
+#[tactic(auto, unfolding(crate::specs::Rows::counts))]
+pub fn counts(
+    alloc: Global,
+    calls: &Calls,
+    place: usize,
+    end: End,
+    number: u32,
+) -> Result<Option<LegDialog>, AllocError>
+    ensures { IfOk result (λ leg. leg ≡ counts calls.now.calls place end number) }
+{
+    counts_by(alloc, end, number, calls.get(place))
+}

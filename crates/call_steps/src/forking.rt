@@ -1,0 +1,102 @@
+//! A 2xx that no call takes.
+
+ghost use Rattle.std.specs.Prelude.{◌≡◌, ◌<◌, ◌≤◌, ◌^◌, ℕ, IfOk};
+ghost use Rattle.sip_message.specs.Contact.{contacts_of};
+ghost use Rattle.dialogs.specs.Making.{reached_at};
+ghost use Rattle.calls.specs.Changes.{FitsChange, entered};
+ghost use Rattle.calls.specs.State.{Standing};
+ghost use Rattle.call_steps.specs.Effects.{effect};
+ghost use Rattle.call_steps.specs.Rows.{fork_messages, fork_row, forked};
+ghost use Rattle.call_steps.specs.Scenes.{fork_scene};
+ghost use Rattle.call_steps.specs.Values.{scene_value};
+
+use crate::answering::callee_dialog;
+use crate::call_step::CallStep;
+use crate::messages::{StepMessages, messages};
+use crate::occasion::Occasion;
+use call_core::{Action, End};
+use calls::CallChange;
+use dialogs::Dialog;
+use legs::Scene;
+use sip_message::Response;
+use std::alloc::{AllocError, Global};
+use transactions::Transaction;
+
+fn let_go<T: Drop>(_value: T) {}
+
+/// What the messages in this dialog are dressed with.
+fn fork_scene(o: Occasion, leg: &Dialog) -> Scene<'_, 'static>
+    ensures scene { scene_value result ≡ fork_scene o leg.now }
+    ensures tokens { result.tokens ≡ o.tokens }
+{
+    Scene {
+        server: o.server,
+        salt: o.salt,
+        tokens: o.tokens,
+        offer: None,
+        request: None,
+        caller: None,
+        callee: Some(leg),
+        passed: None,
+        description: None,
+        again: None,
+        hops: 0,
+    }
+}
+
+fn fork_messages(alloc: Global, o: Occasion, leg: &Dialog) -> Result<StepMessages, AllocError>
+    requires few { o.tokens ≤ 2 ^ 63 }
+    ensures messages { IfOk result (λ m. m ≡ fork_messages o leg.now) }
+    ensures few { IfOk result (λ m. m.dressed.made ≤ 2) }
+{
+    let scene = fork_scene(o, leg);
+    messages(
+        alloc,
+        &scene,
+        None,
+        &[Action::Ack(End::Callee), Action::Bye(End::Callee)],
+    )
+}
+
+/// No call changes.
+fn forked(said: StepMessages) -> CallStep
+    ensures row { (calls : Standing) (now : ℕ) → effect calls now result ≡ forked calls said }
+    ensures fits { (calls : Standing) (now : ℕ) → FitsChange calls now result.change }
+    ensures begun { (calls : Standing) (now : ℕ) → (entered calls now result.change).standing.begun ≡ calls.begun }
+    ensures dressed { result.dressed ≡ said.dressed }
+{
+    let StepMessages {
+        dressed,
+        answer,
+        ack,
+    } = said;
+    let_go(answer);
+    CallStep {
+        change: CallChange::Unchanged,
+        dressed,
+        ack,
+    }
+}
+
+/// What a 2xx comes to that no call takes, to an INVITE of the server's own: ACK, and BYE behind it, in the dialog that it makes (RFC
+/// 3261 section 13.2.2.4); nothing, where its Contact doesn't say where the callee is reached. No call changes.
+#[tactic(auto, unfolding(crate::specs::Rows::fork_row))]
+pub fn fork(
+    alloc: Global,
+    o: Occasion,
+    asked: &Transaction,
+    response: &Response<'_>,
+) -> Result<CallStep, AllocError>
+    requires few { o.tokens ≤ 2 ^ 63 }
+    ensures row { (calls : Standing) (now : ℕ) → IfOk result (λ step. effect calls now step ≡ fork_row calls o asked.now.parts response.now) }
+    ensures fits { (calls : Standing) (now : ℕ) → IfOk result (λ step. FitsChange calls now step.change) }
+    ensures few { IfOk result (λ step. step.dressed.made < 2 ^ 63) }
+    ensures begun { (calls : Standing) (now : ℕ) → IfOk result (λ step. (entered calls now step.change).standing.begun ≡ calls.begun) }
+{
+    let Some(leg) = callee_dialog(alloc, asked, response)? else {
+        return Ok(CallStep::nothing(alloc));
+    };
+    let said = fork_messages(alloc, o, &leg);
+    let_go(leg);
+    Ok(forked(said?))
+}
