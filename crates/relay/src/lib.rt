@@ -1,0 +1,21 @@
+//! The relay table as media threads see it: one writer publishes lists of changes, and each worker looks ports up in the
+//! table that was published last, without waiting.
+#![tactic(auto)]
+
+mod board;
+mod changes;
+mod forwarding;
+mod published;
+mod rule;
+mod serve;
+mod socket;
+mod viewer;
+mod worker;
+
+pub use board::{Board, Refused, Unopened};
+pub use changes::Changes;
+pub use forwarding::{Out, forward};
+pub use serve::serve_media;
+pub use socket::{MediaSocket, SocketFault};
+pub use viewer::{Sight, Sighted, Stamp, TableReader, Viewer};
+pub use worker::{Turn, Worker};

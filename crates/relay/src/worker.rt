@@ -1,0 +1,78 @@
+//! A worker: it takes a datagram, looks its port up, and sends it on.
+ghost use Rattle.std.specs.Prelude.{◌≡◌, IfOk, MatchResult, OnErr, true};
+ghost use Rattle.relay.specs.Lists.{table_after};
+ghost use Rattle.relay.specs.Lists.{StartsWith};
+
+use crate::socket::{MediaSocket, SocketFault};
+use crate::viewer::{Stamp, Viewer};
+use std::alloc::{AllocError, Global};
+
+/// The largest datagram.
+const DATAGRAM: usize = 65_536;
+
+/// What a turn did.
+#[derive(Clone, Copy, Debug, PartialEq, Eq)]
+pub enum Turn {
+    /// No datagram was there.
+    Idle,
+    Sent,
+    /// The datagram's port has no row.
+    NoRow,
+    /// The board is closed.
+    Closed,
+}
+
+/// A viewer, its sockets, and a buffer for one datagram.
+#[derive(Drop)]
+pub struct Worker<S, V = Viewer> {
+    pub viewer: V,
+    pub socket: S,
+    buffer: Vec<u8>,
+}
+
+impl<S: MediaSocket> Worker<S> {
+    ghost use Rattle.relay.specs.Datagrams.{Does};
+
+    /// Takes the buffer. Where memory is refused, both come back.
+    pub fn new(alloc: Global, viewer: Viewer, socket: S) -> Result<Worker<S>, (Viewer, S)>
+        ensures { MatchResult result (λ w. (w.viewer ≡ viewer) × (w.socket ≡ socket)) (λ r. r ≡ (viewer, socket)) }
+    {
+        match vec![in alloc; 0; DATAGRAM] {
+            Ok(buffer) => Ok(Worker {
+                viewer,
+                socket,
+                buffer,
+            }),
+            Err(_) => Err((viewer, socket)),
+        }
+    }
+
+    /// Takes one datagram, if one is there, and sends it on by the row that is seen at its port.
+    pub fn turn(&mut self) -> Result<Turn, SocketFault>
+        ensures did { IfOk result (λ t. Does (table_after self.new.viewer) (S.taken self.old.socket) (S.taken self.new.socket) (S.sent self.old.socket) (S.sent self.new.socket) t) }
+        ensures fault { OnErr result (S.failed self.new.socket ≡ true) }
+        ensures nothing { OnErr result (S.sent self.new.socket ≡ S.sent self.old.socket) }
+        ensures closed { IfOk result (λ t. t ≡ Turn.Closed → self.new.viewer ≡ self.old.viewer) }
+        ensures later { StartsWith self.new.viewer self.old.viewer }
+    {
+        let Some((port, length)) = self.socket.receive(self.buffer.as_mut_slice())? else {
+            return Ok(Turn::Idle);
+        };
+        let Some((_, row)) = self.viewer.route(port) else {
+            return Ok(Turn::Closed);
+        };
+        let Some(hop) = row else {
+            return Ok(Turn::NoRow);
+        };
+        let bytes = &self.buffer.as_slice()[..length];
+        self.socket.send(hop.from, hop.to, bytes)?;
+        Ok(Turn::Sent)
+    }
+
+    /// Tells the viewer of what the stamp stands for.
+    pub fn learn(&mut self, stamp: Stamp)
+        ensures socket { self.new.socket ≡ self.old.socket }
+    {
+        self.viewer.learn(stamp);
+    }
+}
