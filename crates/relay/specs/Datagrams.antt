@@ -5,6 +5,8 @@ use Rattle.sip_uri.specs.declared.uri.Addr.{Addr}
 use Rattle.port_pool.specs.declared.hop.Hop.{Hop}
 use Rattle.port_pool.specs.RelayTable.{Rows}
 use Rattle.relay.specs.declared.worker.Turn.{Turn}
+use Rattle.relay.specs.declared.worker.TurnFault.{TurnFault}
+use Rattle.relay.specs.declared.worker.TurnFault.TheVariants.{Receive, Send}
 use Rattle.relay.specs.declared.worker.Turn.TheVariants.{Idle, Sent, NoRow, Closed}
 
 -- what came in, at a relay port
@@ -29,3 +31,8 @@ module _ (rows : Rows) (taken taken' : List Taken) (sent sent' : List Forwarded)
   Does Sent = (d : Taken) × (hop : Hop) × (taken' ≡ taken ++ d ∷ []) × (get rows d.port ≡ Some hop) × (sent' ≡ sent ++ forwarded d hop ∷ [])
   Does NoRow = (d : Taken) × (taken' ≡ taken ++ d ∷ []) × (get rows d.port ≡ None) × (sent' ≡ sent)
   Does Closed = (d : Taken) × (taken' ≡ taken ++ d ∷ []) × (sent' ≡ sent)
+
+-- What a turn that failed took: nothing, or one datagram that has a row.
+abbrev pub Loses : Rows → List Taken → List Taken → TurnFault → Type 0
+Loses rows taken taken' Receive = taken' ≡ taken
+Loses rows taken taken' Send = (d : Taken) × (hop : Hop) × (taken' ≡ taken ++ d ∷ []) × (get rows d.port ≡ Some hop)

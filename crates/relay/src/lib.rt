@@ -18,4 +18,4 @@ pub use forwarding::{Out, forward};
 pub use serve::serve_media;
 pub use socket::{MediaSocket, SocketFault};
 pub use viewer::{Sight, Sighted, Stamp, TableReader, Viewer};
-pub use worker::{Turn, Worker};
+pub use worker::{Turn, TurnFault, Worker};

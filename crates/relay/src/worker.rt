@@ -1,11 +1,12 @@
 //! A worker: it takes a datagram, looks its port up, and sends it on.
-ghost use Rattle.std.specs.Prelude.{◌≡◌, IfOk, MatchResult, OnErr, true};
+ghost use Rattle.std.specs.Prelude.{◌≡◌, ◌≤◌, ◌⊎◌, length, IfOk, IfErr, MatchResult, OnErr, true};
 ghost use Rattle.relay.specs.Lists.{table_after};
-ghost use Rattle.relay.specs.Lists.{StartsWith};
+ghost use Rattle.relay.specs.Lists.{StartsWith, BeginAlike};
 
-use crate::socket::{MediaSocket, SocketFault};
+use crate::socket::MediaSocket;
 use crate::viewer::{Stamp, Viewer};
-use std::alloc::{AllocError, Global};
+use std::alloc::Global;
+use thiserror::Error;
 
 /// The largest datagram.
 const DATAGRAM: usize = 65_536;
@@ -22,6 +23,17 @@ pub enum Turn {
     Closed,
 }
 
+/// Why a turn ended early. Nothing was sent.
+#[derive(Clone, Copy, Debug, PartialEq, Eq, Error)]
+pub enum TurnFault {
+    /// No datagram was taken.
+    #[error("a datagram could not be received")]
+    Receive,
+    /// The datagram that was taken is lost.
+    #[error("a datagram could not be sent")]
+    Send,
+}
+
 /// A viewer, its sockets, and a buffer for one datagram.
 #[derive(Drop)]
 pub struct Worker<S, V = Viewer> {
@@ -31,7 +43,7 @@ pub struct Worker<S, V = Viewer> {
 }
 
 impl<S: MediaSocket> Worker<S> {
-    ghost use Rattle.relay.specs.Datagrams.{Does};
+    ghost use Rattle.relay.specs.Datagrams.{Does, Loses};
 
     /// Takes the buffer. Where memory is refused, both come back.
     pub fn new(alloc: Global, viewer: Viewer, socket: S) -> Result<Worker<S>, (Viewer, S)>
@@ -48,15 +60,18 @@ impl<S: MediaSocket> Worker<S> {
     }
 
     /// Takes one datagram, if one is there, and sends it on by the row that is seen at its port.
-    pub fn turn(&mut self) -> Result<Turn, SocketFault>
+    pub fn turn(&mut self) -> Result<Turn, TurnFault>
         ensures did { IfOk result (λ t. Does (table_after self.new.viewer) (S.taken self.old.socket) (S.taken self.new.socket) (S.sent self.old.socket) (S.sent self.new.socket) t) }
+        ensures lost { IfErr result (λ f. Loses (table_after self.new.viewer) (S.taken self.old.socket) (S.taken self.new.socket) f) }
         ensures fault { OnErr result (S.failed self.new.socket ≡ true) }
         ensures nothing { OnErr result (S.sent self.new.socket ≡ S.sent self.old.socket) }
         ensures closed { IfOk result (λ t. t ≡ Turn.Closed → self.new.viewer ≡ self.old.viewer) }
         ensures later { StartsWith self.new.viewer self.old.viewer }
     {
-        let Some((port, length)) = self.socket.receive(self.buffer.as_mut_slice())? else {
-            return Ok(Turn::Idle);
+        let (port, length) = match self.socket.receive(self.buffer.as_mut_slice()) {
+            Ok(Some(found)) => found,
+            Ok(None) => return Ok(Turn::Idle),
+            Err(_) => return Err(TurnFault::Receive),
         };
         let Some((_, row)) = self.viewer.route(port) else {
             return Ok(Turn::Closed);
@@ -65,12 +80,17 @@ impl<S: MediaSocket> Worker<S> {
             return Ok(Turn::NoRow);
         };
         let bytes = &self.buffer.as_slice()[..length];
-        self.socket.send(hop.from, hop.to, bytes)?;
-        Ok(Turn::Sent)
+        match self.socket.send(hop.from, hop.to, bytes) {
+            Ok(()) => Ok(Turn::Sent),
+            Err(_) => Err(TurnFault::Send),
+        }
     }
 
     /// Tells the viewer of what the stamp stands for.
     pub fn learn(&mut self, stamp: Stamp)
+        ensures one { (self.new.viewer ≡ self.old.viewer) ⊎ (self.new.viewer ≡ stamp) }
+        ensures number { (length self.old.viewer ≤ length self.new.viewer) × (length stamp ≤ length self.new.viewer) }
+        ensures both { BeginAlike self.old.viewer stamp → StartsWith self.new.viewer self.old.viewer × StartsWith self.new.viewer stamp }
         ensures socket { self.new.socket ≡ self.old.socket }
     {
         self.viewer.learn(stamp);
