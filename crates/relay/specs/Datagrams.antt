@@ -36,3 +36,7 @@ module _ (rows : Rows) (taken taken' : List Taken) (sent sent' : List Forwarded)
 abbrev pub Loses : Rows → List Taken → List Taken → TurnFault → Type 0
 Loses rows taken taken' Receive = taken' ≡ taken
 Loses rows taken taken' Send = (d : Taken) × (hop : Hop) × (taken' ≡ taken ++ d ∷ []) × (get rows d.port ≡ Some hop)
+
+-- one datagram more was taken
+abbrev pub TakesOne : List Taken → List Taken → Type 0
+TakesOne taken taken' = (d : Taken) × (taken' ≡ taken ++ d ∷ [])

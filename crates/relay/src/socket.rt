@@ -36,5 +36,6 @@ pub trait MediaSocket {
     /// Waits until a datagram may be there, for a tenth of a second at most.
     fn wait(&mut self) -> Result<(), SocketFault>
         ensures taken { taken self.new ≡ taken self.old }
-        ensures sent { sent self.new ≡ sent self.old };
+        ensures sent { sent self.new ≡ sent self.old }
+        ensures failed { failed self.new ≡ is_err result };
 }
