@@ -1,5 +1,5 @@
 -- The datagrams of a media socket.
-use Rattle.std.specs.Prelude.{◌≡◌, ℕ, List, [], ◌∷◌, ◌++◌, Option, Some, None}
+use Rattle.std.specs.Prelude.{◌≡◌, ℕ, List, [], ◌∷◌, ◌++◌, Some, None}
 use Rattle.std.specs.FinMap.{get}
 use Rattle.sip_uri.specs.declared.uri.Addr.{Addr}
 use Rattle.port_pool.specs.declared.hop.Hop.{Hop}
