@@ -9,7 +9,7 @@ use Rattle.calls.specs.declared.change.CallChange.TheVariants.{Unchanged, Begins
 pub room_kept : (s s_after : Contents) (change : CallChange) → s.room ≤ s_after.room → s.timer_room ≤ s_after.timer_room → HasRoom s change → HasRoom s_after change
 room_kept s s_after Unchanged more timers h = tt
 room_kept s s_after (Begins c plan) more timers h = (omega (arith, more, h.0), omega (arith, timers, h.1))
-room_kept s s_after (Carries place leg answer plan) more timers h = omega (arith, timers, h)
+room_kept s s_after (Carries place kept plan) more timers h = omega (arith, timers, h)
 room_kept s s_after (Puts place leg) more timers h = tt
 
 -- the same calls

@@ -4,5 +4,6 @@ mod ConfigLaws
 mod CallLaws
 mod TraceLaws
 mod FirstLaws
+mod OfferLaws
 mod EnterLaws
 mod PlanLaws

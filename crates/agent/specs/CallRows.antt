@@ -22,8 +22,17 @@ use Rattle.transactions.specs.Changes.{fire_of}
 use Rattle.transactions.specs.Slots.{at}
 use Rattle.call_media.specs.declared.end.End.{End}
 use Rattle.call_media.specs.declared.end.End.TheVariants.{Caller}
+use Rattle.call_media.specs.Ends.{other}
 use Rattle.call_media.specs.Offers.{fresh_needed}
-use Rattle.call_core.specs.Calls.{new_media}
+use Rattle.call_media.specs.Sessions.{previous}
+use Rattle.call_core.specs.declared.call.Call.{Call}
+use Rattle.call_core.specs.declared.clash.Clash.{Clash}
+use Rattle.call_core.specs.declared.clash.Clash.TheVariants.{Glare, SecondOffer}
+use Rattle.call_core.specs.declared.refusal.CallRefusal.{CallRefusal}
+use Rattle.call_core.specs.declared.refusal.CallRefusal.TheVariants as refusals
+use Rattle.call_core.specs.declared.signal.OfferMethod.{OfferMethod}
+use Rattle.call_core.specs.declared.signal.OfferMethod.TheVariants.{Invite, Update}
+use Rattle.call_core.specs.Calls.{dialog_of, has_number_left, new_media}
 use Rattle.call_core.specs.declared.action.CallTimer.{CallTimer}
 use Rattle.call_core.specs.declared.action.CallTimer.TheVariants as timers
 use Rattle.call_core.specs.declared.input.Input.{Input}
@@ -37,12 +46,17 @@ use Rattle.calls.specs.declared.timer_id.CallTimerId.{CallTimerId}
 use Rattle.legs.specs.Messages.{contact}
 use Rattle.responses.specs.Responding.{responds, stateless}
 use Rattle.call_rules.specs.Content.{described}
+use Rattle.call_rules.specs.declared.content.ContentRule.{ContentRule}
+use Rattle.call_rules.specs.declared.content.ContentRule.TheVariants as content
+use Rattle.call_rules.specs.declared.offers.OfferRule.{OfferRule}
+use Rattle.call_rules.specs.declared.offers.OfferRule.TheVariants as asked
+use Rattle.call_rules.specs.Offers.{offer_rule, plain_rule}
 use Rattle.call_rules.specs.Responses.{response_rule, timeout_rule}
 use Rattle.call_rules.specs.declared.responses.ResponseRule.{ResponseRule}
 use Rattle.call_rules.specs.declared.responses.ResponseRule.TheVariants as rule
 use Rattle.call_steps.specs.declared.occasion.Occasion.{Occasion}
 use Rattle.call_steps.specs.Effects as steps
-use Rattle.call_steps.specs.Rows.{answers_leg, counts, first_row, fork_row, takes_row}
+use Rattle.call_steps.specs.Rows.{answers_leg, counts, first_row, fork_row, late_row, offers_row, refreshes, takes_row}
 use Rattle.call_steps.specs.Scenes.{offerer_tag}
 use Rattle.call_steps.specs.Values.{AskerValue}
 use Rattle.agent.specs.declared.acks.KeptAck.{KeptAck}
@@ -53,7 +67,10 @@ use Rattle.agent.specs.declared.taken.Taken.TheVariants.{Done, Dropped}
 use Rattle.agent.specs.declared.taken.Why.TheVariants.{Ack}
 use Rattle.agent.specs.Effect.{Effect, alone, without_ack}
 use Rattle.agent.specs.Plan.{Plan, answers, goes, moves, nothing}
-use Rattle.agent.specs.Replies.{responds_in}
+use Rattle.agent.specs.Replies.{reply_row, responds_in}
+use Rattle.agent.specs.declared.rule.Reply.{Reply}
+use Rattle.agent.specs.declared.rule.Reply.TheVariants.{Refusal, RetryLater, TypeRefused, EncodingRefused}
+use Rattle.responses.specs.Words.{is_method}
 use Rattle.agent.specs.State.{Contents}
 
 -- what no call has to do with
@@ -90,7 +107,7 @@ with_step acks begun send id step = record {
 -- the call at this place takes an input that no request waits for
 abbrev pub takes : Contents → Setting → List Entry → Option Outgoing → Option ℕ → ℕ → Input → Option LegDialog → Effect
 takes s e begun send id place input leg =
-    with_step s.acks begun send id (takes_row s.calls s.table (occasion s e) place input leg None 0)
+    with_step s.acks begun send id (takes_row s.calls s.table (occasion s e) place input leg None)
 
 -- the call at this place takes an input, whose request began transaction `id` and is answered with this tag
 abbrev pub asker : Request → Setting → ℕ → List ℕ → AskerValue
@@ -98,7 +115,7 @@ asker r e id tag = record { id = id; parts = r.parts; source = e.source; tag = t
 
 abbrev pub takes_request : Contents → Setting → Request → List Entry → ℕ → ℕ → Input → Option LegDialog → List ℕ → Effect
 takes_request s e r begun id place input leg tag =
-    with_step s.acks begun None None (takes_row s.calls s.table (occasion s e) place input leg (Some (asker r e id tag)) 0)
+    with_step s.acks begun None None (takes_row s.calls s.table (occasion s e) place input leg (Some (asker r e id tag)))
 
 -- ---- a first INVITE
 
@@ -159,19 +176,105 @@ abbrev pub counted : Contents → Request → ℕ → End → Plan → Effect
 counted s r place end plan =
     record { plan = plan; calls = unchanged (puts_if s.calls place (counts s.calls.calls place end r.parts.cseq.number)); acks = s.acks }
 
--- 200 to an UPDATE says where the server is reached (RFC 3311 section 5.2)
-abbrev pub refreshes : Contents → Setting → Request → List Entry → ℕ → Plan
-refreshes s e r begun id = responds_in s e r begun id 200 (contact s.server ∷ []) None
+-- it is answered by the server itself
+abbrev pub refuses : Contents → Setting → Request → List Entry → ℕ → ℕ → End → Reply → Effect
+refuses s e r begun id place end reply = counted s r place end (reply_row s e r begun id reply)
 
--- BYE: the call takes it (section 15.1.2). An offer inside a call is answered 500: it is not carried yet
+-- ---- an offer inside a call
+
+abbrev pub clash_reply : Clash → Reply
+clash_reply SecondOffer = RetryLater
+clash_reply Glare = Refusal 491
+
+abbrev pub content_reply : ContentRule → Reply
+content_reply content.Type = TypeRefused
+content_reply content.Encoding = EncodingRefused
+
+-- None: the call takes it
+abbrev pub offer_reply : OfferRule → Option Reply
+offer_reply asked.NoDialog = Some (Refusal 481)
+offer_reply (asked.Crosses clash) = Some (clash_reply clash)
+offer_reply asked.NoHops = Some (Refusal 483)
+offer_reply asked.Unreached = Some (Refusal 400)
+offer_reply (asked.Content rule) = Some (content_reply rule)
+offer_reply asked.Passes = None
+
+-- why the call itself refuses it, but for want of memory
+abbrev pub refusal_reply : CallRefusal → Option Reply
+refusal_reply refusals.OutOfMemory = None
+refusal_reply (refusals.Crosses clash) = Some (clash_reply clash)
+refusal_reply refusals.Undescribed = Some (Refusal 488)
+refusal_reply (refusals.Unfit fault) = Some (Refusal 488)
+refusal_reply refusals.NoPorts = Some (Refusal 503)
+refusal_reply refusals.NumberAtItsEnd = Some (Refusal 500)
+
+-- INVITE or UPDATE
+abbrev pub offer_method : Request → OfferMethod
+offer_method r = if is_method (codes "INVITE") r then Invite else Update
+
+-- the call at this place passes it on
+abbrev pub passes : Contents → Setting → Request → List Entry → ℕ → ℕ → End → Description → Effect
+passes s e r begun id place end offer =
+    with_step s.acks begun None None
+    (offers_row s.calls s.table (occasion s e) place (inputs.Offer end (offer_method r) (Some offer)) end r id e.source)
+
+abbrev pub is_unfit : Call → End → Description → Bool
+is_unfit c end offer = is_some (offer_fault c.media.range offer (previous end c.media.session))
+
+abbrev pub has_pairs_for : Contents → ℕ → Call → End → Description → Bool
+has_pairs_for s now c end offer = nat_le (fresh_needed c.media end offer) (length (free_pairs now s.calls.pool.holdings))
+
+-- it is none that the end may make or the relay carries: 488 (RFC 3264 section 8); too few pairs are free: 503; no number is left for a
+-- request to the end across: 500
+abbrev pub passes_if : Contents → Setting → Request → List Entry → ℕ → ℕ → End → Call → Description → Effect
+passes_if s e r begun id place end c offer =
+    if is_unfit c end offer then refuses s e r begun id place end (Refusal 488)
+    else if has_pairs_for s e.now c end offer
+    then (if has_number_left (dialog_of (other end) c) then passes s e r begun id place end offer
+    else refuses s e r begun id place end (Refusal 500))
+    else refuses s e r begun id place end (Refusal 503)
+
+-- an offer without a description that can be read: 488
+abbrev pub passes_in : Contents → Setting → Request → List Entry → ℕ → ℕ → End → Call → Option Description → Effect
+passes_in s e r begun id place end c None = refuses s e r begun id place end (Refusal 488)
+passes_in s e r begun id place end c (Some offer) = passes_if s e r begun id place end c offer
+
+abbrev pub passes_at : Contents → Setting → Request → List Entry → ℕ → ℕ → End → Option StandingCall → Effect
+passes_at s e r begun id place end None = refuses s e r begun id place end (Refusal 481)
+passes_at s e r begun id place end (Some c) = passes_in s e r begun id place end c.call (described r.headers r.body)
+
+abbrev pub offers_by : Contents → Setting → Request → List Entry → ℕ → ℕ → End → Option Reply → Effect
+offers_by s e r begun id place end (Some reply) = refuses s e r begun id place end reply
+offers_by s e r begun id place end None = passes_at s e r begun id place end (slice_get s.calls.calls place)
+
+unfoldable pub offers : Contents → Setting → Request → List Entry → ℕ → ℕ → End → Effect
+offers s e r begun id place end = offers_by s e r begun id place end (offer_reply (offer_rule s.calls.calls r place end))
+
+-- ---- an UPDATE without an offer: 200, which says where the server is reached (RFC 3311 section 5.2)
+
+abbrev pub okay_plan : Contents → Setting → Request → List Entry → ℕ → Plan
+okay_plan s e r begun id = responds_in s e r begun id 200 (contact s.server ∷ []) None
+
+abbrev pub refreshes_by : Contents → Setting → Request → List Entry → ℕ → ℕ → End → Option Reply → Effect
+refreshes_by s e r begun id place end (Some reply) = refuses s e r begun id place end reply
+refreshes_by s e r begun id place end None = record {
+  plan = okay_plan s e r begun id;
+  calls = unchanged (puts_if s.calls place (refreshes s.calls.calls place end r));
+  acks = s.acks;
+}
+
+unfoldable pub refreshes_at : Contents → Setting → Request → List Entry → ℕ → ℕ → End → Effect
+refreshes_at s e r begun id place end = refreshes_by s e r begun id place end (offer_reply (plain_rule s.calls.calls r place end))
+
+-- ---- a request that a call has to do with. BYE: section 15.1.2
 unfoldable pub call_row : Contents → Setting → Request → List Entry → ℕ → CallRule → Effect
 call_row s e r begun id calls.Begins = begins s e r begun id
 call_row s e r begun id (calls.Cancels place) =
     takes_request s e r begun id place inputs.Cancel None (tag_at (slice_get s.calls.calls place))
 call_row s e r begun id (calls.Leaves place end) =
     takes_request s e r begun id place (inputs.Bye end) (counts s.calls.calls place end r.parts.cseq.number) stateless
-call_row s e r begun id (calls.Offers place end) = counted s r place end (responds_in s e r begun id 500 [] None)
-call_row s e r begun id (calls.Refreshes place end) = counted s r place end (refreshes s e r begun id)
+call_row s e r begun id (calls.Offers place end) = offers s e r begun id place end
+call_row s e r begun id (calls.Refreshes place end) = refreshes_at s e r begun id place end
 
 -- ---- ACK (section 13.3.1.4)
 
@@ -203,9 +306,10 @@ abbrev pub responds_by : Contents → Setting → Response → List Entry → Op
 responds_by s e r begun send id asked rule.Silent = of_plan s (moves begun send)
 responds_by s e r begun send id asked (rule.Provisional place status) = takes s e begun send None place (inputs.Provisional status) None
 responds_by s e r begun send id asked (rule.Answer place) =
-    takes s e begun send (Some id) place (inputs.Answer (described r.headers r.body)) (answers_leg asked.parts r)
+    takes s e begun send (Some id) place (inputs.Answer (described r.headers r.body)) (answers_leg s.calls.calls place asked.parts r)
 responds_by s e r begun send id asked (rule.Again place) = of_plan s (acks_again s begun id)
 responds_by s e r begun send id asked rule.Fork = with_step s.acks begun send None (fork_row s.calls (occasion s e) asked.parts r)
+responds_by s e r begun send id asked rule.AckAlone = with_step s.acks begun send None (late_row s.calls (occasion s e) asked.parts r)
 responds_by s e r begun send id asked (rule.Refusal place status) = takes s e begun send None place (inputs.Refusal status) None
 
 abbrev pub response_by_asked : Contents → Setting → Response → List Entry → Option Outgoing → ℕ → Option Transaction → Effect

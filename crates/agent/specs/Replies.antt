@@ -25,6 +25,7 @@ use Rattle.responses.specs.Registering.{register_of}
 use Rattle.responses.specs.Responding.{allow, contact_header, refusal_headers, status_of, responds, stateless}
 use Rattle.responses.specs.Tags.{joined_tags, required_tags}
 use Rattle.responses.specs.Tokens.{token}
+use Rattle.legs.specs.Messages.{retry_after}
 
 -- ---- a request that begins a transaction
 
@@ -88,6 +89,7 @@ registers s e r begun id =
 unfoldable pub reply_row : Contents → Setting → Request → List Entry → ℕ → Reply → Plan
 reply_row s e r begun id (reply.CancelOf other) = cancels s e r begun id other
 reply_row s e r begun id (reply.Refusal status) = responds_in s e r begun id status [] None
+reply_row s e r begun id reply.RetryLater = responds_in s e r begun id 500 (retry_after ∷ []) None
 reply_row s e r begun id reply.MethodUnoffered = responds_in s e r begun id 405 (allow ∷ []) None
 reply_row s e r begun id reply.ExtensionRefused = responds_in s e r begun id 420 (unsupported r ∷ []) None
 reply_row s e r begun id reply.MethodsListed = responds_in s e r begun id 200 (allow ∷ []) None

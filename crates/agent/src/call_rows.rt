@@ -10,7 +10,7 @@ ghost use Rattle.call_steps.specs.Effects as steps;
 ghost use Rattle.call_steps.specs.Effects.{with_timers};
 ghost use Rattle.call_steps.specs.Rows.{takes_row};
 ghost use Rattle.call_steps.specs.Values.{asker_value};
-ghost use Rattle.agent.specs.CallRows.{are_full, asker, begins, begins_by, call_row, counted, first_by, occasion, of_plan, refreshes, tag_at, takes, takes_request, target, target_by, unless_full};
+ghost use Rattle.agent.specs.CallRows.{are_full, asker, begins, begins_by, call_row, counted, first_by, occasion, of_plan, tag_at, takes, takes_request, target, target_by, unless_full};
 ghost use Rattle.agent.specs.Effect.{CanEnter, Fits, effect};
 ghost use Rattle.agent.specs.declared.rule.CallRule.TheVariants as rules;
 ghost use Rattle.agent.specs.Replies.{responds_in};
@@ -25,10 +25,10 @@ use call_core::{CallRefusal, CallTimer, End, Input};
 use call_rules::{ResponseRule, described, response_rule, timeout_rule};
 use call_steps::{CallStep, Occasion, counts, first_call, offerer_tag};
 use calls::{CallTimerId, LegDialog, StandingCall};
-use legs::{Asker, contact_header};
+use legs::Asker;
 use responses::STATELESS;
 use sdp::Description;
-use sip_message::{Header, Request};
+use sip_message::Request;
 use sip_uri::Uri;
 use std::alloc::{AllocError, Global};
 use text::Text;
@@ -47,15 +47,6 @@ fn tag_at(call: Option<&StandingCall>) -> &[u8]
         None => STATELESS,
         Some(call) => offerer_tag(&call.call),
     }
-}
-
-/// The list of one header field.
-fn one_header(alloc: Global, header: Header<'static>) -> Result<Vec<Header<'static>>, AllocError>
-    ensures { IfOk result (λ headers. headers.items ≡ header.entry ∷ []) }
-{
-    let mut headers = Vec::new(alloc);
-    headers.push(header)?;
-    Ok(headers)
 }
 
 fn asker<'m, 'a>(request: &'m Request<'a>, e: Setting, id: usize, tag: &'m [u8]) -> Asker<'m, 'a>
@@ -94,7 +85,7 @@ impl Agent {
     ) -> Result<CallStep, AllocError>
         requires few { self.now.tokens < 2 ^ 63 }
         ensures row { (timers : List (Timer CallTimerId)) → IfOk result (λ step. steps.effect (with_timers timers self.now.calls) e.now step
-            ≡ takes_row (with_timers timers self.now.calls) self.now.table (occasion self.now e) place input.now leg (option_map asker_value request.entry) 0) }
+            ≡ takes_row (with_timers timers self.now.calls) self.now.table (occasion self.now e) place input.now leg (option_map asker_value request.entry)) }
         ensures can { (timers : List (Timer CallTimerId)) → IfOk result (CanEnter (with_timers timers self.now.calls) e.now) }
     {
         let o = self.occasion(e);
@@ -107,7 +98,6 @@ impl Agent {
             input,
             leg,
             request,
-            0,
         ) {
             Ok(step) => Ok(step),
             Err(_) => Err(AllocError),
@@ -288,7 +278,7 @@ impl Agent {
     // ---- a request in a dialog
 
     /// The dialog of this request counts its number, whatever it is answered.
-    fn counted(
+    pub(crate) fn counted(
         &self,
         request: &Request<'_>,
         place: usize,
@@ -306,20 +296,6 @@ impl Agent {
             request.parts.cseq.number,
         )?;
         Ok(Doing::puts(plan, place, leg))
-    }
-
-    fn refreshes(
-        &self,
-        e: Setting,
-        request: &Request<'_>,
-        begun: Vec<Change>,
-        id: usize,
-    ) -> Result<Plan, AllocError>
-        ensures { IfOk result (λ p. p ≡ refreshes self.now e request.now begun.items id) }
-    {
-        let header = contact_header(self.alloc, self.server)?;
-        let further = one_header(self.alloc, header)?;
-        self.responds_in(e, request, begun, id, 200, further)
     }
 
     #[tactic(auto, unfolding(crate::specs::CallRows::call_row))]
@@ -372,40 +348,6 @@ impl Agent {
         )
     }
 
-    #[tactic(auto, unfolding(crate::specs::CallRows::call_row))]
-    fn refuses_offer(
-        &self,
-        e: Setting,
-        request: &Request<'_>,
-        begun: Vec<Change>,
-        id: usize,
-        place: usize,
-        end: End,
-    ) -> Result<Doing, AllocError>
-        ensures row { IfOk result (λ d. effect self.now.calls self.now.acks e.now d ≡ call_row self.now e request.now begun.items id (rules.Offers place end)) }
-        ensures fits { IfOk result (Fits self.now.calls e.now) }
-    {
-        let plan = self.responds_in(e, request, begun, id, 500, Vec::new(self.alloc))?;
-        self.counted(request, place, end, plan)
-    }
-
-    #[tactic(auto, unfolding(crate::specs::CallRows::call_row))]
-    fn refreshes_at(
-        &self,
-        e: Setting,
-        request: &Request<'_>,
-        begun: Vec<Change>,
-        id: usize,
-        place: usize,
-        end: End,
-    ) -> Result<Doing, AllocError>
-        ensures row { IfOk result (λ d. effect self.now.calls self.now.acks e.now d ≡ call_row self.now e request.now begun.items id (rules.Refreshes place end)) }
-        ensures fits { IfOk result (Fits self.now.calls e.now) }
-    {
-        let plan = self.refreshes(e, request, begun, id)?;
-        self.counted(request, place, end, plan)
-    }
-
     /// What a call does for a request that began transaction `id`.
     #[tactic(auto, unfolding(crate::specs::CallRows::call_row))]
     pub(crate) fn call_row(
@@ -417,6 +359,7 @@ impl Agent {
         rule: CallRule,
     ) -> Result<Doing, AllocError>
         requires few { self.now.tokens < 2 ^ 63 }
+        requires moment { e.now < 2 ^ 60 }
         ensures row { IfOk result (λ d. effect self.now.calls self.now.acks e.now d ≡ call_row self.now e request.now begun.items id rule) }
         ensures fits { IfOk result (Fits self.now.calls e.now) }
     {
@@ -424,7 +367,7 @@ impl Agent {
             CallRule::Begins => self.begins(e, request, begun, id),
             CallRule::Cancels(place) => self.cancels_offer(e, request, begun, id, place),
             CallRule::Leaves(place, end) => self.leaves(e, request, begun, id, place, end),
-            CallRule::Offers(place, end) => self.refuses_offer(e, request, begun, id, place, end),
+            CallRule::Offers(place, end) => self.offers(e, request, begun, id, place, end),
             CallRule::Refreshes(place, end) => self.refreshes_at(e, request, begun, id, place, end),
         }
     }

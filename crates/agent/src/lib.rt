@@ -9,6 +9,7 @@ mod commit;
 mod doing;
 mod letting_go;
 mod making;
+mod offer_rows;
 mod plan;
 mod replies;
 mod response_rows;

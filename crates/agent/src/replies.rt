@@ -17,6 +17,7 @@ use crate::letting_go::{let_message_go, let_response_go};
 use crate::plan::Plan;
 use crate::rule::Reply;
 use crate::setting::Setting;
+use legs::retry_alone;
 use registrar::Refusal;
 use responses::{
     STATELESS, allow_header, contact_headers, refusal_headers, register_of, response_with,
@@ -312,6 +313,10 @@ impl Agent {
             Reply::CancelOf(other) => self.cancels(e, request, begun, id, other),
             Reply::Refusal(status) => {
                 self.responds_in(e, request, begun, id, status, Vec::new(self.alloc))
+            }
+            Reply::RetryLater => {
+                let further = retry_alone(self.alloc)?;
+                self.responds_in(e, request, begun, id, 500, further)
             }
             Reply::MethodUnoffered => self.lists_methods(e, request, begun, id, 405),
             Reply::TypeRefused => self.refuses_body(

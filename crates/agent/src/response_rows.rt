@@ -5,7 +5,7 @@ ghost use Rattle.std.specs.Option.{option_copied};
 ghost use Rattle.transactions.specs.Changes.{fire_of};
 ghost use Rattle.call_core.specs.declared.input.Input.TheVariants as inputs;
 ghost use Rattle.call_rules.specs.Content.{described};
-ghost use Rattle.call_steps.specs.Rows.{answers_leg, fork_row};
+ghost use Rattle.call_steps.specs.Rows.{answers_leg, fork_row, late_row};
 ghost use Rattle.agent.specs.CallRows.{ack_row, acks_again, again, call_timer_at, call_timer_row, occasion, of_plan, response_by_asked, response_row, responds_by, takes, timed_out, timed_out_at, timeout_row, timer_input, times_responses, with_step, without_call_timer};
 ghost use Rattle.agent.specs.Effect.{Fits, effect};
 
@@ -17,7 +17,7 @@ use crate::setting::Setting;
 use crate::taken::{Taken, Why};
 use call_core::{CallTimer, Input};
 use call_rules::{ResponseRule, described, response_rule, timeout_rule};
-use call_steps::{answers_leg, fork};
+use call_steps::{answers_leg, fork, late_ack};
 use calls::CallTimerId;
 use events::Sent;
 use sip_message::{Request, Response};
@@ -105,10 +105,10 @@ impl Agent {
     ) -> Result<Doing, AllocError>
         requires few { self.now.tokens < 2 ^ 63 }
         ensures row { IfOk result (λ d. effect self.now.calls self.now.acks e.now d
-            ≡ takes self.now e before.begun.items before.send before.id place (inputs.Answer (described response.now.headers response.now.body)) (answers_leg asked.now.parts response.now)) }
+            ≡ takes self.now e before.begun.items before.send before.id place (inputs.Answer (described response.now.headers response.now.body)) (answers_leg self.now.calls.calls place asked.now.parts response.now)) }
         ensures fits { IfOk result (Fits self.now.calls e.now) }
     {
-        let leg = answers_leg(self.alloc, asked, response)?;
+        let leg = answers_leg(self.alloc, &self.calls, place, asked, response)?;
         let headers = response.headers.as_slice();
         let answer = Input::Answer(described(self.alloc, headers, response.body.as_bytes())?);
         let doing = self.takes(e, before, place, &answer, leg);
@@ -130,6 +130,23 @@ impl Agent {
         ensures fits { IfOk result (Fits self.now.calls e.now) }
     {
         let step = fork(self.alloc, self.occasion(e), asked, response)?;
+        Doing::of_step(before, step)
+    }
+
+    /// A 2xx to a later INVITE, whose call is gone.
+    fn acks_late(
+        &self,
+        e: Setting,
+        response: &Response<'_>,
+        before: Before,
+        asked: &Transaction,
+    ) -> Result<Doing, AllocError>
+        requires few { self.now.tokens < 2 ^ 63 }
+        ensures row { IfOk result (λ d. effect self.now.calls self.now.acks e.now d
+            ≡ with_step self.now.acks before.begun.items before.send before.id (late_row self.now.calls (occasion self.now e) asked.now.parts response.now)) }
+        ensures fits { IfOk result (Fits self.now.calls e.now) }
+    {
+        let step = late_ack(self.alloc, self.occasion(e), asked, response)?;
         Doing::of_step(before, step)
     }
 
@@ -159,6 +176,9 @@ impl Agent {
             }
             ResponseRule::Again { .. } => Ok(Doing::alone(self.acks_again(begun, id)?)),
             ResponseRule::Fork => self.forks(e, response, Before::sending(begun, send), asked),
+            ResponseRule::AckAlone => {
+                self.acks_late(e, response, Before::sending(begun, send), asked)
+            }
             ResponseRule::Refusal { place, status } => {
                 let before = Before::sending(begun, send);
                 self.takes(e, before, place, &Input::Refusal(status), None)

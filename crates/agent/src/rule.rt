@@ -18,6 +18,8 @@ pub enum Reply {
     CancelOf(usize),
     /// A refusal with this status.
     Refusal(u16),
+    /// 500, with when the request may come again.
+    RetryLater,
     /// 405, with the methods that are offered.
     MethodUnoffered,
     /// 415, with the type of body that is taken.
@@ -41,8 +43,8 @@ pub enum CallRule {
     Cancels(usize),
     /// A BYE of this end.
     Leaves(usize, End),
-    /// An offer inside the call, which is not carried yet: 500.
+    /// An offer of this end inside the call.
     Offers(usize, End),
-    /// An UPDATE without an offer: 200.
+    /// An UPDATE of this end without an offer.
     Refreshes(usize, End),
 }

@@ -1,6 +1,7 @@
 -- A call: its two dialogs, where it stands, and its media.
 use Rattle.std.specs.Prelude.{◌≡◌, ℕ, Bool, true, false, nat_lt, is_some, Option, Some, None, option_map}
 use Rattle.port_pool.specs.Pool.{Contents}
+use Rattle.sip_uri.specs.declared.uri.Uri.{Uri}
 use Rattle.offer_answer.specs.declared.range.OwnRange.{OwnRange}
 use Rattle.call_media.specs.declared.end.End.{End}
 use Rattle.call_media.specs.declared.end.End.TheVariants.{Caller, Callee}
@@ -70,6 +71,14 @@ dialog_of Callee c = c.callee
 abbrev pub with_dialog : End → Dialog → Call → Call
 with_dialog Caller d c = record { number = c.number; standing = c.standing; media = c.media; caller = d; callee = c.callee }
 with_dialog Callee d c = record { number = c.number; standing = c.standing; media = c.media; caller = c.caller; callee = Some d }
+
+-- an end that is reached elsewhere (RFC 3261 section 12.2.2)
+abbrev pub to_target : Uri → Dialog → Dialog
+to_target target d = record d { target = target }
+
+abbrev pub with_target : End → Uri → Call → Call
+with_target Caller target c = record { number = c.number; standing = c.standing; media = c.media; caller = to_target target c.caller; callee = c.callee }
+with_target Callee target c = record { number = c.number; standing = c.standing; media = c.media; caller = c.caller; callee = option_map (to_target target) c.callee }
 
 -- the number of an INVITE or UPDATE that is sent to this end
 abbrev pub number_to : End → Call → Option ℕ

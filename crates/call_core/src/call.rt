@@ -1,16 +1,17 @@
 //! A call.
 
-ghost use Rattle.std.specs.Prelude.{◌≡◌, ◌≢◌, ℕ, false, None};
+ghost use Rattle.std.specs.Prelude.{◌≡◌, ◌≢◌, ℕ, false, None, option_map};
 ghost use Rattle.std.specs.Option.{option_copied};
 ghost use Rattle.port_pool.specs.Pool.{Contents, is_port_of};
 ghost use Rattle.offer_answer.specs.Direct.{hold_address};
-ghost use Rattle.call_core.specs.Calls.{IsServed, clash_in, clash_without_offer_in, dialog_of, has_session, holds_in, new_call, phase_in, with_dialog};
+ghost use Rattle.call_core.specs.Calls.{IsServed, clash_in, clash_without_offer_in, dialog_of, has_session, holds_in, new_call, phase_in, to_target, with_dialog, with_target};
 
 use crate::clash::{Clash, clash_at, clash_without_offer};
 use crate::stage::{Phase, Standing};
 use call_media::{CallMedia, End, OpenOffer, Session};
 use dialogs::Dialog;
 use offer_answer::OwnRange;
+use sip_uri::Uri;
 
 /// A call: where it stands, its media, and the dialogs with its two ends.
 #[derive(Drop)]
@@ -22,6 +23,15 @@ pub struct Call {
     pub(crate) caller: Dialog,
     /// None before the callee's first 2xx.
     pub(crate) callee: Option<Dialog>,
+}
+
+/// The other side of this dialog is reached at this target from now on.
+fn put_target_in(dialog: &mut Option<Dialog>, target: Uri<'static>)
+    ensures { dialog.new ≡ option_map (to_target target.entry) dialog.old }
+{
+    if let Some(dialog) = dialog {
+        dialog.target = target;
+    }
 }
 
 impl Call {
@@ -81,6 +91,17 @@ impl Call {
         match end {
             End::Caller => self.caller = dialog,
             End::Callee => drop(self.callee.replace(dialog)),
+        }
+    }
+
+    /// The end is reached at this target from now on, where there is a dialog with it (RFC 3261 section 12.2.2). Takes no memory.
+    pub fn put_target(&mut self, end: End, target: Uri<'static>)
+        ensures call { self.new ≡ with_target end target.entry self.old }
+        ensures serves { (pool : Contents) → IsServed self.old pool → IsServed self.new pool }
+    {
+        match end {
+            End::Caller => self.caller.target = target,
+            End::Callee => put_target_in(&mut self.callee, target),
         }
     }
 

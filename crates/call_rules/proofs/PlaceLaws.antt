@@ -15,12 +15,12 @@ use Rattle.call_core.specs.Calls.{dialog_of}
 use Rattle.calls.specs.declared.standing_call.StandingCall.{StandingCall}
 use Rattle.calls.specs.Finding.{place_by_end}
 use Rattle.call_rules.specs.declared.requests.DialogRule.TheVariants.{OldNumber, Leaves, Offers, Plain, NoDialog}
-use Rattle.call_rules.specs.declared.responses.ResponseRule.TheVariants.{Silent, Again, Fork}
+use Rattle.call_rules.specs.declared.responses.ResponseRule.TheVariants.{Silent, Again, Fork, AckAlone}
 use Rattle.call_rules.specs.Places.{StandsAt, StandsIfAny}
 use Rattle.call_rules.specs.Requests as requests
 use Rattle.call_rules.specs.Requests.{counted_rule, has_left, in_dialog, of_callee, of_caller}
 use Rattle.call_rules.specs.Responses as responses
-use Rattle.call_rules.specs.Responses.{asked_end, at_place, callless_rule, further_rule, is_of_known_dialog, is_open, late_rule, open_at, open_rule, place_if_open}
+use Rattle.call_rules.specs.Responses.{asked_end, at_place, callless_rule, further_rule, is_first, is_of_known_dialog, is_open, late_rule, open_at, open_rule, place_if_open}
 use Rattle.call_rules.specs.Speaking.{is_acknowledged, is_bye, is_offer, may_offer}
 
 -- ---- requests
@@ -68,10 +68,11 @@ open_there standing place status there classes.Success = there
 open_there standing place status there classes.Failure = there
 
 callless_there : (standing : List StandingCall) (asked : Parts) (r : Response) → responses.NamesCall standing (callless_rule asked r)
-callless_there standing asked r = step (is_acknowledged asked r) where
-  step : (b : Bool) → responses.NamesCall standing (cond b Fork Silent)
-  step true = tt
-  step false = tt
+callless_there standing asked r = step (is_acknowledged asked r) (is_first asked) where
+  step : (late first : Bool) → responses.NamesCall standing (cond late (cond first Fork AckAlone) Silent)
+  step true true = tt
+  step true false = tt
+  step false first = tt
 
 late_there : (standing : List StandingCall) (asked : Parts) (r : Response) (place : ℕ) (c : StandingCall) → StandsAt standing place
     → responses.NamesCall standing (late_rule asked r place c)

@@ -4,3 +4,4 @@ pub mod Requests
 pub mod Responses
 pub mod Content
 pub mod Reach
+pub mod Offers

@@ -1,6 +1,6 @@
 -- Which rule a response to a request of the server's own falls under, and the end of its time (RFC 3261 sections 9.1, 13.2.2 and
 -- 17.1, RFC 3311).
-use Rattle.std.specs.Prelude.{ℕ, ◌==◌, ◌&&◌, ◌||◌, Bool, true, false, List, slice_get, Option, Some, None, if◌then◌else◌}
+use Rattle.std.specs.Prelude.{ℕ, ◌==◌, ◌&&◌, ◌||◌, Bool, true, false, List, length, slice_get, Option, Some, None, if◌then◌else◌}
 use Rattle.sip_message.specs.declared.message.Parts.{Parts}
 use Rattle.sip_message.specs.declared.message.Response.{Response}
 use Rattle.sip_message.specs.declared.words.Class.{Class}
@@ -18,7 +18,7 @@ use Rattle.dialogs.specs.declared.state.Dialog.{Dialog}
 use Rattle.calls.specs.declared.standing_call.StandingCall.{StandingCall}
 use Rattle.calls.specs.Finding.{is_text, place_by_tag}
 use Rattle.call_rules.specs.declared.responses.ResponseRule.{ResponseRule}
-use Rattle.call_rules.specs.declared.responses.ResponseRule.TheVariants.{Silent, Provisional, Answer, Again, Fork, Refusal}
+use Rattle.call_rules.specs.declared.responses.ResponseRule.TheVariants.{Silent, Provisional, Answer, Again, Fork, AckAlone, Refusal}
 use Rattle.call_rules.specs.Places.{StandsAt}
 use Rattle.call_rules.specs.Speaking.{is_acknowledged, may_offer}
 
@@ -89,9 +89,16 @@ further_rule asked r place c = if is_of_known_dialog asked r c (asked_end asked 
 abbrev pub late_rule : Parts → Response → ℕ → StandingCall → ResponseRule
 late_rule asked r place c = if is_acknowledged asked r then further_rule asked r place c else Silent
 
--- the call is gone
+-- the call is gone: the dialog of its first INVITE, which has no tag in To and the first number, is ended too; that of a later one has
+-- ended with the call
+abbrev pub is_first : Parts → Bool
+is_first asked = length (tag_text asked.to.params) == 0 && asked.cseq.number == 1
+
+abbrev pub gone_rule : Parts → ResponseRule
+gone_rule asked = if is_first asked then Fork else AckAlone
+
 abbrev pub callless_rule : Parts → Response → ResponseRule
-callless_rule asked r = if is_acknowledged asked r then Fork else Silent
+callless_rule asked r = if is_acknowledged asked r then gone_rule asked else Silent
 
 -- ---- the rule
 
@@ -119,6 +126,7 @@ NamesCall standing (Provisional place status) = StandsAt standing place
 NamesCall standing (Answer place) = StandsAt standing place
 NamesCall standing (Again place) = StandsAt standing place
 NamesCall standing Fork = Unit {0}
+NamesCall standing AckAlone = Unit {0}
 NamesCall standing (Refusal place status) = StandsAt standing place
 
 -- ---- no final response came in time (sections 17.1.1.2 and 17.1.2.2): the call that waits for it

@@ -46,7 +46,7 @@ fn is_lost(values: &[ContactValue<'_>]) -> bool
     }
 }
 
-fn leaves_unreached(parts: &Parts<'_>, values: &[ContactValue<'_>]) -> bool
+pub(crate) fn leaves_unreached(parts: &Parts<'_>, values: &[ContactValue<'_>]) -> bool
     ensures { result ≡ leaves_unreached parts.now values.now }
 {
     if is_invite(parts) {

@@ -7,7 +7,7 @@ ghost use Rattle.call_core.specs.Calls.{awaits_answer};
 ghost use Rattle.call_media.specs.Ends.{is_same};
 ghost use Rattle.calls.specs.Finding.{is_text, place_by_tag};
 ghost use Rattle.call_rules.specs.Places.{StandsIfAny};
-ghost use Rattle.call_rules.specs.Responses.{NamesCall, asked_end, asked_place, at_place, awaits_final, callless_rule, further_rule, has_their_tag, in_call, is_cancelling, is_first_to, is_last_in, is_of_known_dialog, is_open, is_open_at, is_open_in, late_rule, open_at, open_rule, place_if_open, response_rule, timeout_rule};
+ghost use Rattle.call_rules.specs.Responses.{NamesCall, asked_end, asked_place, at_place, awaits_final, callless_rule, further_rule, gone_rule, has_their_tag, in_call, is_cancelling, is_first, is_first_to, is_last_in, is_of_known_dialog, is_open, is_open_at, is_open_in, late_rule, open_at, open_rule, place_if_open, response_rule, timeout_rule};
 
 use crate::speaking::{is_acknowledged, may_offer};
 use call_core::{End, Stage, Standing};
@@ -27,8 +27,11 @@ pub enum ResponseRule {
     Answer { place: usize },
     /// A 2xx to an INVITE that comes again: its ACK goes again (RFC 3261 section 13.2.2.4).
     Again { place: usize },
-    /// A 2xx to an INVITE of another dialog than the call has, or whose call is gone: its dialog is ended (section 13.2.2.4).
+    /// A 2xx to the first INVITE of a call, of another dialog than the call has, or whose call is gone: its dialog is ended (section
+    /// 13.2.2.4).
     Fork,
+    /// A 2xx to a later INVITE, whose call is gone: the dialog has ended, and its ACK goes (section 13.2.2.4).
+    AckAlone,
     /// 300 to 699, while the call waits.
     Refusal { place: usize, status: u16 },
 }
@@ -182,11 +185,27 @@ fn late_rule(
     }
 }
 
+fn is_first(asked: &Parts<'_>) -> bool
+    ensures { result ≡ is_first asked.now }
+{
+    tag_text(asked.to.params.as_slice()).is_empty() && asked.cseq.number == 1
+}
+
+fn gone_rule(asked: &Parts<'_>) -> ResponseRule
+    ensures { result ≡ gone_rule asked.now }
+{
+    if is_first(asked) {
+        ResponseRule::Fork
+    } else {
+        ResponseRule::AckAlone
+    }
+}
+
 fn callless_rule(asked: &Parts<'_>, response: &Response<'_>) -> ResponseRule
     ensures { result ≡ callless_rule asked.now response.now }
 {
     if is_acknowledged(asked, response) {
-        ResponseRule::Fork
+        gone_rule(asked)
     } else {
         ResponseRule::Silent
     }

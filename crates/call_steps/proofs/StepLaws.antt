@@ -8,6 +8,7 @@ use Rattle.sip_message.specs.Contact.{contacts_of}
 use Rattle.sdp.specs.declared.description.Description.{Description}
 use Rattle.dialogs.specs.Making.{callees_dialog, reached_at}
 use Rattle.transactions.specs.Contents as transactions
+use Rattle.call_media.specs.declared.end.End.{End}
 use Rattle.call_core.specs.declared.call.Call.{Call}
 use Rattle.call_core.specs.declared.input.Input.{Input}
 use Rattle.call_core.specs.declared.input.Input.TheVariants as inputs
@@ -25,26 +26,45 @@ use Rattle.calls.specs.declared.standing_call.StandingCall.{StandingCall}
 use Rattle.call_steps.specs.declared.messages.StepMessages.{StepMessages}
 use Rattle.call_steps.specs.declared.occasion.Occasion.{Occasion}
 use Rattle.call_steps.specs.Effects.{no_effect, with_messages}
-use Rattle.call_steps.specs.Rows.{begins_as, begins_with, begun, does, first_messages, first_row, messages_of, standing_as, takes_by, takes_row}
+use Rattle.call_steps.specs.Rows.{begins_as, begins_with, begun, counts, does, first_messages, first_row, messages_of, offer_coming, offer_request, offers_row, put_with, standing_as, takes_by, takes_row}
 use Rattle.call_steps.specs.Scenes.{fresh}
-use Rattle.call_steps.specs.Values.{AskerValue}
+use Rattle.call_steps.specs.Values.{AskerValue, ComingValue, without_offer}
 
 -- ---- a call that stands
 
-pub takes_as_planned : (calls : Standing) (table : transactions.Contents) (o : Occasion) (place : ℕ) (input : Input) (leg : Option LegDialog) (request : Option AskerValue) (hops : ℕ)
+pub does_as_planned : (calls : Standing) (table : transactions.Contents) (o : Occasion) (place : ℕ) (input : Input) (w : ComingValue)
     (c : StandingCall) (plan : Plan) (said : StepMessages) → slice_get calls.calls place ≡ Some c
     → carried c.call calls.pool o.now plan ≡ call_row c.call input calls.pool o.now
-    → said ≡ messages_of table o leg request hops c (carried c.call calls.pool o.now plan)
-    → with_messages (carries calls o.now place leg said.answer plan (slice_get calls.calls place)) said
-    ≡ takes_row calls table o place input leg request hops
-unfolding takes_row
-takes_as_planned calls table o place input leg request hops c plan said at row says =
-    rw (at, says) (ap (λ (step : Step). does calls table o place leg request hops c step) row)
+    → said ≡ messages_of table o w c (carried c.call calls.pool o.now plan)
+    → with_messages (carries calls o.now place (put_with w said) plan (slice_get calls.calls place)) said
+    ≡ does calls table o place w c (call_row c.call input calls.pool o.now)
+does_as_planned calls table o place input w c plan said at row says =
+    rw (at, says) (ap (λ (step : Step). does calls table o place w c step) row)
 
-pub takes_nothing : (calls : Standing) (table : transactions.Contents) (o : Occasion) (place : ℕ) (input : Input) (leg : Option LegDialog) (request : Option AskerValue) (hops : ℕ)
-    → slice_get calls.calls place ≡ None → takes_by calls table o place input leg request hops None ≡ takes_row calls table o place input leg request hops
+pub takes_there : (calls : Standing) (table : transactions.Contents) (o : Occasion) (place : ℕ) (input : Input) (leg : Option LegDialog) (request : Option AskerValue)
+    (c : StandingCall) → slice_get calls.calls place ≡ Some c
+    → does calls table o place (without_offer leg request) c (call_row c.call input calls.pool o.now) ≡ takes_row calls table o place input leg request
 unfolding takes_row
-takes_nothing calls table o place input leg request hops none = rw none refl
+takes_there calls table o place input leg request c at = rw at refl
+
+pub takes_nothing : (calls : Standing) (table : transactions.Contents) (o : Occasion) (place : ℕ) (input : Input) (leg : Option LegDialog) (request : Option AskerValue)
+    → slice_get calls.calls place ≡ None → takes_by calls table o place input leg request None ≡ takes_row calls table o place input leg request
+unfolding takes_row
+takes_nothing calls table o place input leg request none = rw none refl
+
+-- ---- an offer inside a call
+
+pub offers_there : (calls : Standing) (table : transactions.Contents) (o : Occasion) (place : ℕ) (input : Input) (end : End) (request : Request) (id : ℕ) (source : Addr)
+    (c : StandingCall) → slice_get calls.calls place ≡ Some c
+    → does calls table o place (offer_coming (counts calls.calls place end request.parts.cseq.number) end request id source c) c (call_row c.call input calls.pool o.now)
+    ≡ offers_row calls table o place input end request id source
+unfolding offers_row
+offers_there calls table o place input end request id source c at = rw at refl
+
+pub offers_nothing : (calls : Standing) (table : transactions.Contents) (o : Occasion) (place : ℕ) (input : Input) (end : End) (request : Request) (id : ℕ) (source : Addr)
+    → slice_get calls.calls place ≡ None → no_effect calls ≡ offers_row calls table o place input end request id source
+unfolding offers_row
+offers_nothing calls table o place input end request id source none = rw none refl
 
 -- a plan for the call that stands at a place is one for any call that stands there
 pub planned_there : (calls : Standing) (place now : ℕ) (c : StandingCall) (plan : Plan) → slice_get calls.calls place ≡ Some c → IsPlanned c.call calls.pool now plan
@@ -58,7 +78,7 @@ abbrev pub asked_with : Request → ℕ → Addr → List ℕ → AskerValue
 asked_with request id source tag = record { id = id; parts = request.parts; source = source; tag = tag }
 
 abbrev pub standing_with : Call → List ℕ → Request → ℕ → Addr → StandingCall
-standing_with call tag request id source = record { call = call; callee_tag = tag; asked = record { id = id; source = source; number = request.parts.cseq.number }; answer = None }
+standing_with call tag request id source = record { call = call; callee_tag = tag; asked = offer_request request id source; target = None; answer = None }
 
 pub begins_as_planned : (calls : Standing) (o : Occasion) (request : Request) (id : ℕ) (source : Addr) (target : Uri) (offer : Description) (call : Call) (plan : Plan) (said : StepMessages)
     → reached_at (contacts_of request.headers) ≡ Some call.caller.target

@@ -10,23 +10,18 @@ use Rattle.call_media.specs.declared.end.End.{End}
 use Rattle.call_media.specs.declared.end.End.TheVariants.{Caller, Callee}
 use Rattle.call_media.specs.Ends.{other}
 use Rattle.call_core.specs.declared.call.Call.{Call}
-use Rattle.call_core.specs.declared.stage.Standing.{Standing}
 use Rattle.call_core.specs.Calls.{dialog_of, with_dialog}
+use Rattle.calls.specs.Carrying.{offerer_of}
 use Rattle.calls.specs.declared.change.LegDialog.{LegDialog}
 use Rattle.calls.specs.declared.standing_call.StandingCall.{StandingCall}
 use Rattle.call_steps.specs.declared.occasion.Occasion.{Occasion}
-use Rattle.call_steps.specs.Values.{AskerValue, SceneValue}
+use Rattle.call_steps.specs.Values.{AskerValue, ComingValue, SceneValue}
 
 -- the token that is so many-th of those that the step makes
 abbrev pub fresh : Occasion → ℕ → List ℕ
 fresh o nth = token o.salt (o.tokens + nth)
 
 -- ---- dialogs
-
--- the end whose offer was taken last; the caller's before the first
-abbrev pub offerer_of : Option Standing → End
-offerer_of None = Caller
-offerer_of (Some s) = s.offerer
 
 abbrev pub tag_or : List ℕ → Option Dialog → List ℕ
 tag_or tag None = tag
@@ -66,21 +61,26 @@ abbrev pub asker_by : StandingCall → Option Transaction → Option AskerValue
 asker_by c None = None
 asker_by c (Some t) = Some (record { id = c.asked.id; parts = t.parts; source = c.asked.source; tag = offerer_tag c.call })
 
+-- the offer that comes with the event, or the one before
+abbrev pub asker_in : Option AskerValue → StandingCall → Option Transaction → Option AskerValue
+asker_in None c t = asker_by c t
+asker_in (Some asker) c t = Some asker
+
 -- ---- the scene of a call that stands, with what comes with the event, and the description that is passed on
 
-abbrev pub scene : transactions.Contents → Occasion → Option LegDialog → Option AskerValue → ℕ → StandingCall → Option Description → SceneValue
-scene table o leg request hops c description = record {
+abbrev pub scene : transactions.Contents → Occasion → ComingValue → StandingCall → Option Description → SceneValue
+scene table o w c description = record {
   server = o.server;
   salt = o.salt;
   tokens = o.tokens;
-  offer = asker_by c (at table.slots c.asked.id);
-  request = request;
-  caller = dialog_in Caller leg c.call;
-  callee = dialog_in Callee leg c.call;
+  offer = asker_in w.offer c (at table.slots c.asked.id);
+  request = w.request;
+  caller = dialog_in Caller w.leg c.call;
+  callee = dialog_in Callee w.leg c.call;
   passed = at_id table.slots (passed_id table c);
   description = description;
   again = c.answer;
-  hops = hops;
+  hops = w.hops;
 }
 
 -- ---- the scene of a call that begins, behind the three tokens of its tags and of the new leg's Call-ID

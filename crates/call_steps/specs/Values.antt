@@ -1,5 +1,5 @@
 -- What actions are dressed with, as values. The dressing itself is told of references: a value stands for each reference to it.
-use Rattle.std.specs.Prelude.{ℕ, List, Option, option_map}
+use Rattle.std.specs.Prelude.{ℕ, List, Option, None, option_map}
 use Rattle.std.specs.Option.{option_copied}
 use Rattle.std.specs.Borrow.{Bor}
 use Rattle.sip_uri.specs.declared.uri.Addr.{Addr}
@@ -9,10 +9,13 @@ use Rattle.events.specs.declared.sent.Sent.{Sent}
 use Rattle.dialogs.specs.declared.state.Dialog.{Dialog}
 use Rattle.transactions.specs.declared.transaction.Transaction.{Transaction}
 use Rattle.call_core.specs.declared.action.Action.{Action}
+use Rattle.calls.specs.declared.change.LegDialog.{LegDialog}
+use Rattle.calls.specs.declared.standing_call.TakenOffer.{TakenOffer}
 use Rattle.legs.specs.declared.scene.Asker.{Asker}
 use Rattle.legs.specs.declared.scene.Scene.{Scene}
 use Rattle.legs.specs.Dressed.{Dressed}
 use Rattle.legs.specs.Dressing.{dressed}
+use Rattle.call_steps.specs.declared.coming.Coming.{Coming}
 
 -- a request of an end's, which waits for a response of the server's: the number of its transaction, where it came from, and the
 -- tag that To has in its responses
@@ -21,6 +24,19 @@ pub record AskerValue : Type 0 where
   pub parts : Parts
   pub source : Addr
   pub tag : List ℕ
+
+-- what comes with an event to a call: a dialog that is put in place of one of the call's; the request that offers, where one comes; a
+-- request that gets a 200 now; the hops of an offer; and the offer that is taken
+pub record ComingValue : Type 0 where
+  pub leg : Option LegDialog
+  pub offer : Option AskerValue
+  pub request : Option AskerValue
+  pub hops : ℕ
+  pub taken : Option TakenOffer
+
+-- no offer comes
+abbrev pub without_offer : Option LegDialog → Option AskerValue → ComingValue
+without_offer leg request = record { leg = leg; offer = None; request = request; hops = 0; taken = None }
 
 -- all that actions may need
 pub record SceneValue : Type 0 where
@@ -40,6 +56,15 @@ pub record SceneValue : Type 0 where
 
 abbrev pub asker_value : Asker → AskerValue
 asker_value a = record { id = a.id; parts = a.parts.now; source = a.source; tag = a.tag.now }
+
+abbrev pub coming_value : Coming → ComingValue
+coming_value w = record {
+  leg = w.leg;
+  offer = option_map asker_value w.offer;
+  request = option_map asker_value w.request;
+  hops = w.hops;
+  taken = w.taken;
+}
 
 abbrev pub scene_value : Scene → SceneValue
 scene_value s = record {

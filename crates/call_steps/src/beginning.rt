@@ -216,6 +216,7 @@ fn begins(
         call,
         callee_tag,
         asked,
+        target: None,
         answer: None,
     };
     Ok(step_of(call, plan, said))

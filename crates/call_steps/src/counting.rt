@@ -2,11 +2,14 @@
 
 ghost use Rattle.std.specs.Prelude.{◌≡◌, IfOk};
 ghost use Rattle.std.specs.Option.{option_copied};
-ghost use Rattle.call_steps.specs.Rows.{counts, counts_by, counts_in};
+ghost use Rattle.call_steps.specs.Rows.{counts, counts_by, counts_in, leg_at, refreshes};
 
+use crate::answering::to_target;
 use call_core::End;
 use calls::{Calls, LegDialog, StandingCall};
-use dialogs::Dialog;
+use dialogs::{Dialog, contact_uri};
+use sip_message::Request;
+use sip_uri::Uri;
 use std::alloc::{AllocError, Global};
 
 fn counts_in(
@@ -52,4 +55,36 @@ pub fn counts(
     ensures { IfOk result (λ leg. leg ≡ counts calls.now.calls place end number) }
 {
     counts_by(alloc, end, number, calls.get(place))
+}
+
+/// The other side of this dialog is reached at this target.
+fn leg_at(target: Option<Uri<'static>>, leg: Option<LegDialog>) -> Option<LegDialog>
+    ensures { result ≡ leg_at target.entry leg }
+{
+    let Some(target) = target else {
+        return leg;
+    };
+    let LegDialog { end, dialog } = leg?;
+    Some(LegDialog {
+        end,
+        dialog: to_target(dialog, target),
+    })
+}
+
+/// The dialog of the call at this place with this end, once an UPDATE without an offer was taken in it: it counts the number, and its
+/// other side is reached from then on where the UPDATE says, if it says so (RFC 3311 section 5.1); none where no call stands, or has
+/// no such dialog. Nothing changes.
+#[tactic(auto, unfolding(crate::specs::Rows::refreshes))]
+pub fn refreshes(
+    alloc: Global,
+    calls: &Calls,
+    place: usize,
+    end: End,
+    request: &Request<'_>,
+) -> Result<Option<LegDialog>, AllocError>
+    ensures { IfOk result (λ leg. leg ≡ refreshes calls.now.calls place end request.now) }
+{
+    let target = contact_uri(alloc, request.headers.as_slice())?;
+    let leg = counts(alloc, calls, place, end, request.parts.cseq.number)?;
+    Ok(leg_at(target, leg))
 }

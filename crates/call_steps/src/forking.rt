@@ -1,12 +1,12 @@
 //! A 2xx that no call takes.
 
-ghost use Rattle.std.specs.Prelude.{◌≡◌, ◌<◌, ◌≤◌, ◌^◌, ℕ, IfOk};
+ghost use Rattle.std.specs.Prelude.{◌≡◌, ◌<◌, ◌≤◌, ◌^◌, ℕ, IfOk, option_map};
 ghost use Rattle.sip_message.specs.Contact.{contacts_of};
 ghost use Rattle.dialogs.specs.Making.{reached_at};
 ghost use Rattle.calls.specs.Changes.{FitsChange, entered};
 ghost use Rattle.calls.specs.State.{Standing};
 ghost use Rattle.call_steps.specs.Effects.{effect};
-ghost use Rattle.call_steps.specs.Rows.{fork_messages, fork_row, forked};
+ghost use Rattle.call_steps.specs.Rows.{fork_messages, fork_row, forked, late_messages, late_row, later_dialog, with_their_tag};
 ghost use Rattle.call_steps.specs.Scenes.{fork_scene};
 ghost use Rattle.call_steps.specs.Values.{scene_value};
 
@@ -16,10 +16,11 @@ use crate::messages::{StepMessages, messages};
 use crate::occasion::Occasion;
 use call_core::{Action, End};
 use calls::CallChange;
-use dialogs::Dialog;
+use dialogs::{Dialog, DialogId};
 use legs::Scene;
-use sip_message::Response;
+use sip_message::{Response, tag_text};
 use std::alloc::{AllocError, Global};
+use text::Text;
 use transactions::Transaction;
 
 fn let_go<T: Drop>(_value: T) {}
@@ -97,6 +98,84 @@ pub fn fork(
         return Ok(CallStep::nothing(alloc));
     };
     let said = fork_messages(alloc, o, &leg);
+    let_go(leg);
+    Ok(forked(said?))
+}
+
+fn with_their_tag(dialog: Dialog, tag: Text<'static>) -> Dialog
+    ensures { result ≡ with_their_tag tag.entry dialog }
+{
+    let Dialog {
+        id,
+        ours,
+        theirs,
+        target,
+        local_number,
+        remote_number,
+    } = dialog;
+    let DialogId {
+        call_id,
+        ours: our_tag,
+        theirs: former,
+    } = id;
+    let_go(former);
+    Dialog {
+        id: DialogId {
+            call_id,
+            ours: our_tag,
+            theirs: tag,
+        },
+        ours,
+        theirs,
+        target,
+        local_number,
+        remote_number,
+    }
+}
+
+/// The dialog of a later INVITE, whose own tag To has.
+fn later_dialog(
+    alloc: Global,
+    asked: &Transaction,
+    response: &Response<'_>,
+) -> Result<Option<Dialog>, AllocError>
+    ensures { IfOk result (λ d. d ≡ option_map (later_dialog asked.now.parts response.now) (reached_at (contacts_of response.now.headers))) }
+{
+    let tag = Text::from_slice(alloc, tag_text(asked.parts.to.params.as_slice()))?;
+    let Some(dialog) = callee_dialog(alloc, asked, response)? else {
+        return Ok(None);
+    };
+    Ok(Some(with_their_tag(dialog, tag)))
+}
+
+fn late_messages(alloc: Global, o: Occasion, leg: &Dialog) -> Result<StepMessages, AllocError>
+    requires few { o.tokens ≤ 2 ^ 63 }
+    ensures messages { IfOk result (λ m. m ≡ late_messages o leg.now) }
+    ensures few { IfOk result (λ m. m.dressed.made ≤ 1) }
+{
+    let scene = fork_scene(o, leg);
+    messages(alloc, &scene, None, &[Action::Ack(End::Callee)])
+}
+
+/// What a 2xx comes to, to a later INVITE of the server's own, whose call is gone: ACK alone, with that INVITE's own To (RFC 3261
+/// section 13.2.2.4); nothing, where its Contact doesn't say where its sender is reached. No call changes.
+#[tactic(auto, unfolding(crate::specs::Rows::late_row))]
+pub fn late_ack(
+    alloc: Global,
+    o: Occasion,
+    asked: &Transaction,
+    response: &Response<'_>,
+) -> Result<CallStep, AllocError>
+    requires few { o.tokens ≤ 2 ^ 63 }
+    ensures row { (calls : Standing) (now : ℕ) → IfOk result (λ step. effect calls now step ≡ late_row calls o asked.now.parts response.now) }
+    ensures fits { (calls : Standing) (now : ℕ) → IfOk result (λ step. FitsChange calls now step.change) }
+    ensures few { IfOk result (λ step. step.dressed.made < 2 ^ 63) }
+    ensures begun { (calls : Standing) (now : ℕ) → IfOk result (λ step. (entered calls now step.change).standing.begun ≡ calls.begun) }
+{
+    let Some(leg) = later_dialog(alloc, asked, response)? else {
+        return Ok(CallStep::nothing(alloc));
+    };
+    let said = late_messages(alloc, o, &leg);
     let_go(leg);
     Ok(forked(said?))
 }

@@ -5,18 +5,21 @@
 mod answering;
 mod beginning;
 mod call_step;
+mod coming;
 mod counting;
 mod forking;
 mod messages;
 mod occasion;
+mod offering;
 mod scene;
 mod taking;
 
 pub use answering::answers_leg;
 pub use beginning::first_call;
 pub use call_step::CallStep;
-pub use counting::counts;
-pub use forking::fork;
+pub use counting::{counts, refreshes};
+pub use forking::{fork, late_ack};
 pub use occasion::Occasion;
+pub use offering::offers;
 pub use scene::offerer_tag;
 pub use taking::takes;

@@ -7,13 +7,14 @@ ghost use Rattle.transactions.specs.Slots.{at};
 ghost use Rattle.call_core.specs.Calls.{dialog_of};
 ghost use Rattle.call_core.specs.Plans.{carried};
 ghost use Rattle.call_steps.specs.Rows.{messages_of};
-ghost use Rattle.call_steps.specs.Scenes.{asker_by, at_id, dialog_in, offerer_of, offerer_tag, passed_id, scene, tag_or, tag_to, tag_with};
-ghost use Rattle.call_steps.specs.Values.{asker_value, scene_value};
+ghost use Rattle.call_steps.specs.Scenes.{asker_by, asker_in, at_id, dialog_in, offerer_tag, passed_id, scene, tag_or, tag_to, tag_with};
+ghost use Rattle.call_steps.specs.Values.{asker_value, coming_value, scene_value};
 
+use crate::coming::Coming;
 use crate::messages::{StepMessages, messages};
 use crate::occasion::Occasion;
-use call_core::{Call, End, Plan, Standing};
-use calls::{LegDialog, StandingCall};
+use call_core::{Call, End, Plan};
+use calls::{LegDialog, StandingCall, offerer_of};
 use dialogs::Dialog;
 use legs::{Asker, Scene};
 use sdp::Description;
@@ -22,16 +23,6 @@ use text::Text;
 use transactions::{Table, Transaction};
 
 // ---- dialogs
-
-/// The end whose offer was taken last; the caller's before the first.
-fn offerer_of(standing: Option<Standing>) -> End
-    ensures { result ≡ offerer_of standing }
-{
-    match standing {
-        None => End::Caller,
-        Some(standing) => standing.offerer,
-    }
-}
 
 fn caller_tag(call: &Call) -> &Text<'static>
     ensures { result.now ≡ call.now.caller.id.ours }
@@ -51,7 +42,7 @@ fn tag_or<'c>(tag: &'c Text<'static>, dialog: Option<&'c Dialog>) -> &'c Text<'s
     }
 }
 
-fn tag_with(call: &Call, end: End) -> &Text<'static>
+pub(crate) fn tag_with(call: &Call, end: End) -> &Text<'static>
     ensures { result.now ≡ tag_with end call.now }
 {
     match end {
@@ -125,17 +116,23 @@ fn asker_by<'c, 'a>(
     })
 }
 
-// ---- the scene
-
-/// What comes with an event to a call.
-#[derive(Clone, Copy)]
-pub(crate) struct With<'m, 'a> {
-    pub leg: Option<&'m LegDialog>,
-    pub request: Option<Asker<'m, 'a>>,
-    pub hops: u8,
+/// The offer that comes with the event, or the one before.
+fn asker_in<'c, 'a>(
+    asker: Option<Asker<'c, 'a>>,
+    call: &'c StandingCall,
+    transaction: Option<&'c Transaction>,
+) -> Option<Asker<'c, 'a>>
+    ensures { option_map asker_value result ≡ asker_in (option_map asker_value asker.entry) call.now (option_copied transaction.entry) }
+{
+    match asker {
+        None => asker_by(call, transaction),
+        Some(asker) => Some(asker),
+    }
 }
 
-/// The request that waits for a response, lent again.
+// ---- the scene
+
+/// A request, lent again.
 fn asker_again<'s, 'a>(asker: &'s Option<Asker<'_, 'a>>) -> Option<Asker<'s, 'a>>
     ensures { option_map asker_value result ≡ option_map asker_value asker.now }
 {
@@ -148,68 +145,54 @@ fn asker_again<'s, 'a>(asker: &'s Option<Asker<'_, 'a>>) -> Option<Asker<'s, 'a>
     })
 }
 
-impl<'m, 'a> With<'m, 'a> {
-    /// This dialog and this request, and the hops of an offer.
-    pub(crate) fn of(
-        leg: &'m Option<LegDialog>,
-        request: &'m Option<Asker<'_, 'a>>,
-        hops: u8,
-    ) -> With<'m, 'a>
-        ensures leg { option_copied result.leg ≡ leg.now }
-        ensures request { option_map asker_value result.request ≡ option_map asker_value request.now }
-        ensures hops { result.hops ≡ hops }
-    {
-        With {
-            leg: leg.as_ref(),
-            request: asker_again(request),
-            hops,
-        }
-    }
-}
-
 /// What the messages of a plan are dressed with, where this INVITE was passed on and still waits for a final response.
 fn scene<'m, 'a>(
     table: &'m Table,
     o: Occasion,
-    with: With<'m, 'a>,
+    coming: &'m Coming<'_, 'a>,
     call: &'m StandingCall,
     description: Option<&'m Description<'a>>,
     passed: Option<usize>,
 ) -> Scene<'m, 'a>
     requires passed { passed ≡ passed_id table.now call.now }
-    ensures scene { scene_value result ≡ scene table.now o (option_copied with.entry.leg) (option_map asker_value with.entry.request) with.entry.hops call.now (option_copied description.entry) }
+    ensures scene { scene_value result ≡ scene table.now o (coming_value coming.now) call.now (option_copied description.entry) }
     ensures tokens { result.tokens ≡ o.tokens }
 {
+    let leg = coming.leg.as_ref();
     Scene {
         server: o.server,
         salt: o.salt,
         tokens: o.tokens,
-        offer: asker_by(call, table.transaction(call.asked.id)),
-        request: with.request,
-        caller: dialog_in(&call.call, with.leg, End::Caller),
-        callee: dialog_in(&call.call, with.leg, End::Callee),
+        offer: asker_in(
+            asker_again(&coming.offer),
+            call,
+            table.transaction(call.asked.id),
+        ),
+        request: asker_again(&coming.request),
+        caller: dialog_in(&call.call, leg, End::Caller),
+        callee: dialog_in(&call.call, leg, End::Callee),
         passed: transaction_at(table, passed),
         description,
         again: call.answer.as_ref(),
-        hops: with.hops,
+        hops: coming.hops,
     }
 }
 
 /// The messages of what was planned for a call.
-pub(crate) fn messages_of<'m, 'a>(
+pub(crate) fn messages_of(
     alloc: Global,
-    table: &'m Table,
+    table: &Table,
     o: Occasion,
-    with: With<'m, 'a>,
-    call: &'m StandingCall,
-    plan: &'m Plan,
+    coming: &Coming<'_, '_>,
+    call: &StandingCall,
+    plan: &Plan,
 ) -> Result<StepMessages, AllocError>
     requires few { o.tokens ≤ 2 ^ 63 }
-    ensures messages { (pool : Contents) (now : ℕ) → IfOk result (λ m. m ≡ messages_of table.now o (option_copied with.entry.leg) (option_map asker_value with.entry.request) with.entry.hops call.now
+    ensures messages { (pool : Contents) (now : ℕ) → IfOk result (λ m. m ≡ messages_of table.now o (coming_value coming.now) call.now
         (carried call.now.call pool now plan.now)) }
     ensures few { IfOk result (λ m. m.dressed.made ≤ length plan.now.actions) }
 {
     let passed = passed_id(table, call);
-    let scene = scene(table, o, with, call, plan.media.description(), passed);
+    let scene = scene(table, o, coming, call, plan.media.description(), passed);
     messages(alloc, &scene, passed, plan.actions.as_slice())
 }

@@ -1,13 +1,13 @@
 //! A call that stands takes an input.
 
-ghost use Rattle.std.specs.Prelude.{◌≡◌, ◌<◌, ◌≤◌, ◌^◌, ℕ, IfErr, IfOk, List, Some, length, option_map, slice_get};
+ghost use Rattle.std.specs.Prelude.{◌≡◌, ◌<◌, ◌≤◌, ◌^◌, ℕ, IfErr, IfOk, OnOk, List, Some, length, option_map, slice_get};
 ghost use Rattle.port_pool.specs.Pool.{Contents};
 ghost use Rattle.call_core.specs.declared.call.Call.{Call};
 ghost use Rattle.call_core.specs.declared.input.Input.{Input};
 ghost use Rattle.call_core.specs.CallRows.{call_row};
 ghost use Rattle.call_core.specs.Calls.{IsServed};
 ghost use Rattle.call_core.specs.Plans.{IsPlanned, carried};
-ghost use Rattle.call_core.specs.Refusals.{RefusesInput};
+ghost use Rattle.call_core.specs.Refusals.{MayTakeIn, RefusesInput};
 ghost use Rattle.timers.specs.declared.timers.Timer.{Timer};
 ghost use Rattle.calls.specs.declared.timer_id.CallTimerId.{CallTimerId};
 ghost use Rattle.calls.specs.Changes.{FitsChange, carries, entered};
@@ -15,15 +15,16 @@ ghost use Rattle.calls.specs.declared.change.CallChange.TheVariants.{Carries};
 ghost use Rattle.calls.specs.State.{Standing, standing};
 ghost use Rattle.call_steps.specs.Effects.{effect, with_messages, with_timers};
 ghost use Rattle.call_steps.specs.Refusals.{RefusesTaken};
-ghost use Rattle.call_steps.specs.Rows.{messages_of, takes_row};
-ghost use Rattle.call_steps.specs.Values.{asker_value};
+ghost use Rattle.call_steps.specs.Rows.{does, messages_of, put_with, takes_row};
+ghost use Rattle.call_steps.specs.Values.{asker_value, coming_value};
 
 use crate::call_step::CallStep;
+use crate::coming::Coming;
 use crate::messages::StepMessages;
 use crate::occasion::Occasion;
-use crate::scene::{With, messages_of};
+use crate::scene::messages_of;
 use call_core::{CallRefusal, Input, Plan};
-use calls::{CallChange, Calls, LegDialog, StandingCall};
+use calls::{Beside, CallChange, Calls, LegDialog, StandingCall};
 use legs::Asker;
 use port_pool::Pool;
 use std::alloc::{AllocError, Global};
@@ -38,13 +39,14 @@ struct PlannedStep {
     said: StepMessages,
 }
 
-/// The call at this place does this, with the messages that it comes to.
-fn step_of(place: usize, leg: Option<LegDialog>, planned: PlannedStep) -> CallStep
+/// The call at this place does this, with the messages that it comes to, and with what comes with the event beside it.
+fn step_of(place: usize, coming: Coming<'_, '_>, planned: PlannedStep) -> CallStep
     ensures row { (calls : Standing) (now : ℕ) → effect calls now result
-        ≡ with_messages (carries calls now place leg planned.said.answer planned.plan (slice_get calls.calls place)) planned.said }
-    ensures change { result.change ≡ Carries place leg planned.said.answer planned.plan }
+        ≡ with_messages (carries calls now place (put_with (coming_value coming.entry) planned.said) planned.plan (slice_get calls.calls place)) planned.said }
+    ensures change { result.change ≡ Carries place (put_with (coming_value coming.entry) planned.said) planned.plan }
     ensures dressed { result.dressed ≡ planned.said.dressed }
 {
+    let Coming { leg, taken, .. } = coming;
     let PlannedStep { plan, said } = planned;
     let StepMessages {
         dressed,
@@ -54,32 +56,12 @@ fn step_of(place: usize, leg: Option<LegDialog>, planned: PlannedStep) -> CallSt
     CallStep {
         change: CallChange::Carries {
             place,
-            leg,
-            answer,
+            beside: Beside { leg, taken, answer },
             plan,
         },
         dressed,
         ack,
     }
-}
-
-/// The messages of what was planned for a call, with the dialog and the request that come with the event.
-fn said_for(
-    alloc: Global,
-    table: &Table,
-    o: Occasion,
-    leg: &Option<LegDialog>,
-    request: &Option<Asker<'_, '_>>,
-    hops: u8,
-    call: &StandingCall,
-    plan: &Plan,
-) -> Result<StepMessages, AllocError>
-    requires few { o.tokens ≤ 2 ^ 63 }
-    ensures messages { (pool : Contents) (now : ℕ) → IfOk result (λ m. m ≡ messages_of table.now o leg.now (option_map asker_value request.now) hops call.now
-        (carried call.now.call pool now plan.now)) }
-    ensures few { IfOk result (λ m. m.dressed.made ≤ length plan.now.actions) }
-{
-    messages_of(alloc, table, o, With::of(leg, request, hops), call, plan)
 }
 
 /// What a call does for an input.
@@ -93,6 +75,7 @@ fn plan_for(
     requires served { IsServed call.now.call pool.now }
     ensures row { IfOk result (λ p. carried call.now.call pool.now now p ≡ call_row call.now.call input.now pool.now now) }
     ensures planned { IfOk result (λ p. IsPlanned call.now.call pool.now now p) }
+    ensures may { OnOk result (MayTakeIn call.now.call call.now.call.standing pool.now input.now now) }
     ensures refused { IfErr result (RefusesInput call.now.call pool.now input.now now) }
 {
     call.call.plan_take(alloc, input, pool, now)
@@ -103,21 +86,19 @@ fn with_messages(
     alloc: Global,
     table: &Table,
     o: Occasion,
-    leg: &Option<LegDialog>,
-    request: &Option<Asker<'_, '_>>,
-    hops: u8,
+    coming: &Coming<'_, '_>,
     call: &StandingCall,
     plan: Plan,
 ) -> Result<PlannedStep, CallRefusal>
     requires few { o.tokens ≤ 2 ^ 63 }
     ensures plan { IfOk result (λ p. p.plan ≡ plan) }
-    ensures said { (pool : Contents) (now : ℕ) → IfOk result (λ p. p.said ≡ messages_of table.now o leg.now (option_map asker_value request.now) hops call.now
+    ensures said { (pool : Contents) (now : ℕ) → IfOk result (λ p. p.said ≡ messages_of table.now o (coming_value coming.now) call.now
         (carried call.now.call pool now p.plan)) }
     ensures few { IfOk result (λ p. p.said.dressed.made < 2 ^ 63) }
     // For want of memory, for which any input may be refused.
     ensures refused { (c : Call) (pool : Contents) (input : Input) (now : ℕ) → IfErr result (RefusesInput c pool input now) }
 {
-    match said_for(alloc, table, o, leg, request, hops, call, &plan) {
+    match messages_of(alloc, table, o, coming, call, &plan) {
         Ok(said) => Ok(PlannedStep { plan, said }),
         Err(_) => {
             let_go(plan);
@@ -133,72 +114,60 @@ fn plan_step(
     table: &Table,
     o: Occasion,
     input: &Input<'_>,
-    leg: &Option<LegDialog>,
-    request: &Option<Asker<'_, '_>>,
-    hops: u8,
+    coming: &Coming<'_, '_>,
     call: &StandingCall,
 ) -> Result<PlannedStep, CallRefusal>
     requires few { o.tokens ≤ 2 ^ 63 }
     requires served { IsServed call.now.call pool.now }
     ensures row { IfOk result (λ p. carried call.now.call pool.now o.now p.plan ≡ call_row call.now.call input.now pool.now o.now) }
     ensures planned { IfOk result (λ p. IsPlanned call.now.call pool.now o.now p.plan) }
-    ensures said { IfOk result (λ p. p.said ≡ messages_of table.now o leg.now (option_map asker_value request.now) hops call.now (carried call.now.call pool.now o.now p.plan)) }
+    ensures said { IfOk result (λ p. p.said ≡ messages_of table.now o (coming_value coming.now) call.now (carried call.now.call pool.now o.now p.plan)) }
     ensures few { IfOk result (λ p. p.said.dressed.made < 2 ^ 63) }
+    ensures may { OnOk result (MayTakeIn call.now.call call.now.call.standing pool.now input.now o.now) }
     ensures refused { IfErr result (RefusesInput call.now.call pool.now input.now o.now) }
 {
     match plan_for(alloc, pool, o.now, input, call) {
-        Ok(plan) => with_messages(alloc, table, o, leg, request, hops, call, plan),
+        Ok(plan) => with_messages(alloc, table, o, coming, call, plan),
         Err(refusal) => Err(refusal),
     }
 }
 
 /// The call at this place takes an input.
-#[tactic(auto, using(crate::proofs::StepLaws::takes_as_planned, crate::proofs::StepLaws::planned_there))]
-fn takes_at(
+#[tactic(auto, using(crate::proofs::StepLaws::does_as_planned, crate::proofs::StepLaws::planned_there))]
+pub(crate) fn takes_at(
     alloc: Global,
     calls: &Calls,
     table: &Table,
     o: Occasion,
     place: usize,
     input: &Input<'_>,
-    leg: Option<LegDialog>,
-    request: &Option<Asker<'_, '_>>,
-    hops: u8,
+    coming: Coming<'_, '_>,
     call: &StandingCall,
 ) -> Result<CallStep, CallRefusal>
     requires few { o.tokens ≤ 2 ^ 63 }
     requires there { slice_get calls.now.calls place ≡ Some call.now }
     requires served { IsServed call.now.call calls.now.pool }
     ensures row { (timers : List (Timer CallTimerId)) → IfOk result (λ step. effect (with_timers timers (standing calls.now)) o.now step
-        ≡ takes_row (with_timers timers (standing calls.now)) table.now o place input.now leg (option_map asker_value request.now) hops) }
+        ≡ does (with_timers timers (standing calls.now)) table.now o place (coming_value coming.entry) call.now (call_row call.now.call input.now calls.now.pool o.now)) }
     ensures fits { (timers : List (Timer CallTimerId)) → IfOk result (λ step. FitsChange (with_timers timers (standing calls.now)) o.now step.change) }
     ensures few { IfOk result (λ step. step.dressed.made < 2 ^ 63) }
     ensures begun { (timers : List (Timer CallTimerId)) → IfOk result (λ step. (entered (with_timers timers (standing calls.now)) o.now step.change).standing.begun ≡ calls.now.begun) }
-    ensures refused { IfErr result (RefusesTaken (Some call.now) calls.now.pool input.now o.now) }
+    ensures may { OnOk result (MayTakeIn call.now.call call.now.call.standing calls.now.pool input.now o.now) }
+    ensures refused { IfErr result (RefusesInput call.now.call calls.now.pool input.now o.now) }
 {
-    match plan_step(
-        alloc,
-        calls.pool(),
-        table,
-        o,
-        input,
-        &leg,
-        request,
-        hops,
-        call,
-    ) {
-        Ok(planned) => Ok(step_of(place, leg, planned)),
+    match plan_step(alloc, calls.pool(), table, o, input, &coming, call) {
+        Ok(planned) => Ok(step_of(place, coming, planned)),
         Err(refusal) => {
-            let_go(leg);
+            let_go(coming);
             Err(refusal)
         }
     }
 }
 
-/// What the call at this place does for an input, with the dialog that comes with it (that of a 2xx, or the one that counted a
-/// request), the request that waits for a response, and the hops of an offer that is passed on. An input that is no offer is refused
-/// for want of memory alone. Where no call stands, nothing is done. Nothing changes.
-#[tactic(auto, using(crate::proofs::StepLaws::takes_nothing))]
+/// What the call at this place does for an input that is no offer, with the dialog that comes with it (that of a 2xx, or the one that
+/// counted a request) and the request that waits for a response. It is refused for want of memory alone. Where no call stands,
+/// nothing is done. Nothing changes.
+#[tactic(auto, using(crate::proofs::StepLaws::takes_there, crate::proofs::StepLaws::takes_nothing))]
 pub fn takes(
     alloc: Global,
     calls: &Calls,
@@ -208,24 +177,22 @@ pub fn takes(
     input: &Input<'_>,
     leg: Option<LegDialog>,
     request: Option<Asker<'_, '_>>,
-    hops: u8,
 ) -> Result<CallStep, CallRefusal>
     requires few { o.tokens ≤ 2 ^ 63 }
     // Whatever timers the calls have.
     ensures row { (timers : List (Timer CallTimerId)) → IfOk result (λ step. effect (with_timers timers (standing calls.now)) o.now step
-        ≡ takes_row (with_timers timers (standing calls.now)) table.now o place input.now leg (option_map asker_value request.entry) hops) }
+        ≡ takes_row (with_timers timers (standing calls.now)) table.now o place input.now leg (option_map asker_value request.entry)) }
     ensures fits { (timers : List (Timer CallTimerId)) → IfOk result (λ step. FitsChange (with_timers timers (standing calls.now)) o.now step.change) }
     ensures few { IfOk result (λ step. step.dressed.made < 2 ^ 63) }
     // No call begins.
     ensures begun { (timers : List (Timer CallTimerId)) → IfOk result (λ step. (entered (with_timers timers (standing calls.now)) o.now step.change).standing.begun ≡ calls.now.begun) }
     ensures refused { IfErr result (RefusesTaken (slice_get calls.now.calls place) calls.now.pool input.now o.now) }
 {
+    let coming = Coming::without_offer(leg, request);
     match calls.get(place) {
-        Some(call) => takes_at(
-            alloc, calls, table, o, place, input, leg, &request, hops, call,
-        ),
+        Some(call) => takes_at(alloc, calls, table, o, place, input, coming, call),
         None => {
-            let_go(leg);
+            let_go(coming);
             Ok(CallStep::nothing(alloc))
         }
     }

@@ -7,16 +7,19 @@ use Rattle.port_pool.specs.declared.holdings.Holding.{Holding}
 use Rattle.port_pool.specs.Holdings.{even_of, has_even, is_call, unheld}
 use Rattle.port_pool.specs.Pool as pools
 use Rattle.call_core.specs.declared.call.Call.{Call}
-use Rattle.call_core.specs.Calls.{IsServed, with_dialog}
+use Rattle.call_core.specs.Calls.{IsServed, with_dialog, with_target}
 use Rattle.call_media.specs.declared.end.End.{End}
 use Rattle.call_media.specs.declared.end.End.TheVariants.{Caller, Callee}
 use Rattle.dialogs.specs.declared.state.Dialog.{Dialog}
 use Rattle.call_media.specs.Serving.{SameFor, SparesOthers}
 use Rattle.calls.specs.declared.standing_call.StandingCall.{StandingCall}
+use Rattle.calls.specs.declared.standing_call.TakenOffer.{TakenOffer}
+use Rattle.sip_uri.specs.declared.uri.Uri.{Uri}
 use Rattle.calls.specs.State.{AreKept, AreServed, HoldsNone, RiseTo}
+use Rattle.calls.specs.declared.change.Beside.{Beside}
 use Rattle.calls.specs.declared.change.LegDialog.{LegDialog}
-use Rattle.calls.specs.Carrying.{pushed, without_gone}
-use Rattle.calls.specs.Changes.{beside, with_last, with_leg}
+use Rattle.calls.specs.Carrying.{offerer_of, pushed, reached_call, without_gone}
+use Rattle.calls.specs.Changes.{beside, with_last, with_leg, with_taken_if}
 use Rattle.events.specs.declared.sent.Sent.{Sent}
 
 -- a call that has the same pairs and the same rows at them is served as before
@@ -269,24 +272,52 @@ pub number_kept : (end : End) (d : Dialog) (c : Call) → (with_dialog end d c).
 number_kept Caller d c = refl
 number_kept Callee d c = refl
 
-last_kept : (answer : Option Sent) (c : StandingCall) → (with_last answer c).call ≡ c.call
-last_kept None c = refl
-last_kept (Some answer) c = refl
+number_at : (end : End) (target : Uri) (c : Call) → (with_target end target c).number ≡ c.number
+number_at Caller target c = refl
+number_at Callee target c = refl
+
+number_reached : (target : Option Uri) (c : Call) → (reached_call target c).number ≡ c.number
+number_reached None c = refl
+number_reached (Some target) c = number_at (offerer_of c.standing) target c
+
+last_number : (answer : Option Sent) (c : StandingCall) → (with_last answer c).call.number ≡ c.call.number
+last_number None c = refl
+last_number (Some answer) c = number_reached c.target c.call
+
+taken_kept : (taken : Option TakenOffer) (c : StandingCall) → (with_taken_if taken c).call ≡ c.call
+taken_kept None c = refl
+taken_kept (Some offer) c = refl
 
 leg_number : (leg : Option LegDialog) (c : StandingCall) → (with_leg leg c).call.number ≡ c.call.number
 leg_number None c = refl
 leg_number (Some leg) c = number_kept leg.end leg.dialog c.call
 
-pub number_beside : (leg : Option LegDialog) (answer : Option Sent) (c : StandingCall) → (beside leg answer c).call.number ≡ c.call.number
-number_beside leg answer c = ap (λ (call : Call). call.number) (last_kept answer (with_leg leg c)) ∙ leg_number leg c
+pub number_beside : (put : Beside) (c : StandingCall) → (beside put c).call.number ≡ c.call.number
+number_beside put c =
+    last_number put.answer (with_taken_if put.taken (with_leg put.leg c))
+    ∙ ap (λ (call : Call). call.number) (taken_kept put.taken (with_leg put.leg c)) ∙ leg_number put.leg c
 
 standing_kept : (end : End) (d : Dialog) (c : Call) → (with_dialog end d c).standing ≡ c.standing
 standing_kept Caller d c = refl
 standing_kept Callee d c = refl
 
+standing_at : (end : End) (target : Uri) (c : Call) → (with_target end target c).standing ≡ c.standing
+standing_at Caller target c = refl
+standing_at Callee target c = refl
+
+standing_reached : (target : Option Uri) (c : Call) → (reached_call target c).standing ≡ c.standing
+standing_reached None c = refl
+standing_reached (Some target) c = standing_at (offerer_of c.standing) target c
+
+last_standing : (answer : Option Sent) (c : StandingCall) → (with_last answer c).call.standing ≡ c.call.standing
+last_standing None c = refl
+last_standing (Some answer) c = standing_reached c.target c.call
+
 leg_standing : (leg : Option LegDialog) (c : StandingCall) → (with_leg leg c).call.standing ≡ c.call.standing
 leg_standing None c = refl
 leg_standing (Some leg) c = standing_kept leg.end leg.dialog c.call
 
-pub standing_beside : (leg : Option LegDialog) (answer : Option Sent) (c : StandingCall) → (beside leg answer c).call.standing ≡ c.call.standing
-standing_beside leg answer c = ap (λ (call : Call). call.standing) (last_kept answer (with_leg leg c)) ∙ leg_standing leg c
+pub standing_beside : (put : Beside) (c : StandingCall) → (beside put c).call.standing ≡ c.call.standing
+standing_beside put c =
+    last_standing put.answer (with_taken_if put.taken (with_leg put.leg c))
+    ∙ ap (λ (call : Call). call.standing) (taken_kept put.taken (with_leg put.leg c)) ∙ leg_standing put.leg c

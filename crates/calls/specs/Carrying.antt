@@ -6,30 +6,46 @@ use Rattle.port_pool.specs.declared.changes.Change.{Change}
 use Rattle.call_core.specs.declared.plan.Plan.{Plan}
 use Rattle.call_core.specs.Plans.{IsPlanned, Step, carried}
 use Rattle.call_core.specs.declared.call.Call.{Call}
-use Rattle.call_core.specs.Calls.{IsServed, with_dialog}
+use Rattle.call_core.specs.Calls.{IsServed, with_dialog, with_target}
+use Rattle.call_core.specs.declared.stage.Standing.{Standing}
 use Rattle.call_media.specs.Serving.{SparesOthers}
 use Rattle.call_media.specs.declared.end.End.{End}
+use Rattle.call_media.specs.declared.end.End.TheVariants.{Caller}
+use Rattle.sip_uri.specs.declared.uri.Uri.{Uri}
 use Rattle.dialogs.specs.declared.state.Dialog.{Dialog}
 use Rattle.events.specs.declared.sent.Sent.{Sent}
-use Rattle.calls.specs.declared.standing_call.OfferRequest.{OfferRequest}
+use Rattle.calls.specs.declared.standing_call.TakenOffer.{TakenOffer}
 use Rattle.calls.specs.declared.standing_call.StandingCall.{StandingCall}
 
 -- ---- a call
 
 abbrev pub with_call : Call → StandingCall → StandingCall
-with_call call c = record { call = call; callee_tag = c.callee_tag; asked = c.asked; answer = c.answer }
+with_call call c = record { call = call; callee_tag = c.callee_tag; asked = c.asked; target = c.target; answer = c.answer }
 
 abbrev pub with_step : StandingCall → Step → StandingCall
 with_step c step = with_call step.call c
 
-abbrev pub with_asked : OfferRequest → StandingCall → StandingCall
-with_asked asked c = record { call = c.call; callee_tag = c.callee_tag; asked = asked; answer = c.answer }
+abbrev pub with_taken : TakenOffer → StandingCall → StandingCall
+with_taken o c = record { call = c.call; callee_tag = c.callee_tag; asked = o.asked; target = o.target; answer = c.answer }
 
 abbrev pub with_answer : Option Sent → StandingCall → StandingCall
-with_answer answer c = record { call = c.call; callee_tag = c.callee_tag; asked = c.asked; answer = answer }
+with_answer answer c = record { call = c.call; callee_tag = c.callee_tag; asked = c.asked; target = c.target; answer = answer }
 
 abbrev pub with_dialog_at : End → Dialog → StandingCall → StandingCall
 with_dialog_at end d c = with_call (with_dialog end d c.call) c
+
+-- the end whose offer was taken last; the caller's before the first
+abbrev pub offerer_of : Option Standing → End
+offerer_of None = Caller
+offerer_of (Some s) = s.offerer
+
+-- an offer that is answered with 2xx says where its sender is reached from then on (RFC 3261 section 12.2.2)
+abbrev pub reached_call : Option Uri → Call → Call
+reached_call None call = call
+reached_call (Some target) call = with_target (offerer_of call.standing) target call
+
+abbrev pub with_answered : StandingCall → StandingCall
+with_answered c = record { call = reached_call c.target c.call; callee_tag = c.callee_tag; asked = c.asked; target = None; answer = c.answer }
 
 -- ---- the list of calls
 

@@ -6,11 +6,13 @@ use Rattle.call_core.specs.declared.plan.Plan.{Plan}
 use Rattle.call_core.specs.Calls.{IsServed}
 use Rattle.call_core.specs.Plans.{IsPlanned, Step, carried}
 use Rattle.events.specs.declared.sent.Sent.{Sent}
+use Rattle.calls.specs.declared.change.Beside.{Beside}
 use Rattle.calls.specs.declared.change.CallChange.{CallChange}
 use Rattle.calls.specs.declared.change.CallChange.TheVariants.{Unchanged, Begins, Carries, Puts}
 use Rattle.calls.specs.declared.change.LegDialog.{LegDialog}
 use Rattle.calls.specs.declared.standing_call.StandingCall.{StandingCall}
-use Rattle.calls.specs.Carrying.{changed_at, pushed, with_answer, with_dialog_at, with_step}
+use Rattle.calls.specs.declared.standing_call.TakenOffer.{TakenOffer}
+use Rattle.calls.specs.Carrying.{changed_at, pushed, with_answer, with_answered, with_dialog_at, with_step, with_taken}
 use Rattle.calls.specs.State.{Contents, Standing}
 use Rattle.calls.specs.Timing.{same_timer, timers_after}
 use Rattle.calls.specs.declared.timer_id.CallTimerId.{CallTimerId}
@@ -30,19 +32,23 @@ abbrev pub with_leg : Option LegDialog → StandingCall → StandingCall
 with_leg None c = c
 with_leg (Some leg) c = with_dialog_at leg.end leg.dialog c
 
--- a 200 that is new is the one that goes again
+abbrev pub with_taken_if : Option TakenOffer → StandingCall → StandingCall
+with_taken_if None c = c
+with_taken_if (Some offer) c = with_taken offer c
+
+-- a 200 that is new is the one that goes again, and answers the offer that was taken last
 abbrev pub with_last : Option Sent → StandingCall → StandingCall
 with_last None c = c
-with_last (Some answer) c = with_answer (Some answer) c
+with_last (Some answer) c = with_answer (Some answer) (with_answered c)
 
-abbrev pub beside : Option LegDialog → Option Sent → StandingCall → StandingCall
-beside leg answer c = with_last answer (with_leg leg c)
+abbrev pub beside : Beside → StandingCall → StandingCall
+beside kept c = with_last kept.answer (with_taken_if kept.taken (with_leg kept.leg c))
 
 -- the call at this place did this, and has these beside it; one that is gone is taken off the list
-abbrev pub after_step : Standing → ℕ → ℕ → Option LegDialog → Option Sent → StandingCall → Step → Outcome
-after_step s now place leg answer c step = record {
+abbrev pub after_step : Standing → ℕ → ℕ → Beside → StandingCall → Step → Outcome
+after_step s now place kept c step = record {
   standing = record {
-    calls = if is_some step.call.standing then slice_set s.calls place (beside leg answer (with_step c step)) else remove s.calls place;
+    calls = if is_some step.call.standing then slice_set s.calls place (beside kept (with_step c step)) else remove s.calls place;
     pool = step.pool;
     begun = s.begun;
     timers = timers_after now c.call.number step s.timers;
@@ -50,9 +56,9 @@ after_step s now place leg answer c step = record {
   changes = step.changes;
 }
 
-abbrev pub carries : Standing → ℕ → ℕ → Option LegDialog → Option Sent → Plan → Option StandingCall → Outcome
-carries s now place leg answer plan None = unchanged s
-carries s now place leg answer plan (Some c) = after_step s now place leg answer c (carried c.call s.pool now plan)
+abbrev pub carries : Standing → ℕ → ℕ → Beside → Plan → Option StandingCall → Outcome
+carries s now place kept plan None = unchanged s
+carries s now place kept plan (Some c) = after_step s now place kept c (carried c.call s.pool now plan)
 
 -- ---- a call that begins, behind the others
 
@@ -81,21 +87,21 @@ puts s place leg =
 abbrev pub entered : Standing → ℕ → CallChange → Outcome
 entered s now Unchanged = unchanged s
 entered s now (Begins c plan) = after_first_step s now c (carried c.call s.pool now plan)
-entered s now (Carries place leg answer plan) = carries s now place leg answer plan (slice_get s.calls place)
+entered s now (Carries place kept plan) = carries s now place kept plan (slice_get s.calls place)
 entered s now (Puts place leg) = puts s place leg
 
 -- a change was planned on these calls, at this moment: so it can be entered
 abbrev pub FitsChange : Standing → ℕ → CallChange → Type 0
 FitsChange s now Unchanged = Unit {0}
 FitsChange s now (Begins c plan) = (c.call.number ≡ s.begun + 1) × IsServed c.call s.pool × IsPlanned c.call s.pool now plan
-FitsChange s now (Carries place leg answer plan) = (c : StandingCall) → slice_get s.calls place ≡ Some c → IsPlanned c.call s.pool now plan
+FitsChange s now (Carries place kept plan) = (c : StandingCall) → slice_get s.calls place ≡ Some c → IsPlanned c.call s.pool now plan
 FitsChange s now (Puts place leg) = Unit {0}
 
 -- there is room for it
 abbrev pub HasRoom : Contents → CallChange → Type 0
 HasRoom s Unchanged = Unit {0}
 HasRoom s (Begins c plan) = (0 < s.room) × (length plan.actions ≤ s.timer_room)
-HasRoom s (Carries place leg answer plan) = length plan.actions ≤ s.timer_room
+HasRoom s (Carries place kept plan) = length plan.actions ≤ s.timer_room
 HasRoom s (Puts place leg) = Unit {0}
 
 -- ---- a timer that fires

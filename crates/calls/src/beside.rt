@@ -3,22 +3,13 @@
 ghost use Rattle.std.specs.Prelude.{◌≡◌, slice_get};
 ghost use Rattle.port_pool.specs.Pool.{Contents};
 ghost use Rattle.call_core.specs.Calls.{IsServed};
-ghost use Rattle.calls.specs.Carrying.{changed_at, with_asked, with_dialog_at};
-ghost use Rattle.calls.specs.Changes.{beside, with_last, with_leg};
+ghost use Rattle.calls.specs.Carrying.{changed_at, with_answered, with_dialog_at};
+ghost use Rattle.calls.specs.Changes.{beside, with_last, with_leg, with_taken_if};
 
-use crate::change::LegDialog;
-use crate::standing_call::{OfferRequest, StandingCall};
+use crate::change::{Beside, LegDialog};
+use crate::standing_call::{StandingCall, TakenOffer, offerer_of};
 use crate::state::Calls;
 use events::Sent;
-
-/// What comes beside a call with a plan that it carried out.
-#[derive(Drop)]
-pub(crate) struct Beside {
-    /// The dialog that is put in place of the one with its end.
-    pub leg: Option<LegDialog>,
-    /// The 200 that goes again.
-    pub answer: Option<Sent>,
-}
 
 fn let_go<T: Drop>(_value: T) {}
 
@@ -32,22 +23,51 @@ fn put_leg_in(call: &mut StandingCall, leg: Option<LegDialog>)
     }
 }
 
+fn put_taken(call: &mut StandingCall, taken: Option<TakenOffer>)
+    ensures call { call.new ≡ with_taken_if taken call.old }
+    ensures serves { (pool : Contents) → IsServed call.old.call pool → IsServed call.new.call pool }
+{
+    match taken {
+        None => {}
+        Some(TakenOffer { asked, target }) => {
+            call.asked = asked;
+            call.target = target;
+        }
+    }
+}
+
+/// The offerer is reached where its offer said.
+fn put_target(call: &mut StandingCall)
+    ensures call { call.new ≡ with_answered call.old }
+    ensures serves { (pool : Contents) → IsServed call.old.call pool → IsServed call.new.call pool }
+{
+    let end = offerer_of(call.call.standing());
+    match call.target.take() {
+        None => {}
+        Some(target) => call.call.put_target(end, target),
+    }
+}
+
 fn put_last(call: &mut StandingCall, answer: Option<Sent>)
     ensures call { call.new ≡ with_last answer call.old }
     ensures serves { (pool : Contents) → IsServed call.old.call pool → IsServed call.new.call pool }
 {
     match answer {
         None => {}
-        Some(answer) => call.answer = Some(answer),
+        Some(answer) => {
+            put_target(call);
+            call.answer = Some(answer);
+        }
     }
 }
 
 pub(crate) fn put_beside(call: &mut StandingCall, kept: Beside)
-    ensures call { call.new ≡ beside kept.leg kept.answer call.old }
+    ensures call { call.new ≡ beside kept call.old }
     ensures serves { (pool : Contents) → IsServed call.old.call pool → IsServed call.new.call pool }
 {
-    let Beside { leg, answer } = kept;
+    let Beside { leg, taken, answer } = kept;
     put_leg_in(call, leg);
+    put_taken(call, taken);
     put_last(call, answer);
 }
 
@@ -65,20 +85,5 @@ impl Calls {
         }
         let LegDialog { end, dialog } = leg;
         self.calls[place].call.put_dialog(end, dialog);
-    }
-
-    /// Puts the offer that was taken last.
-    pub fn put_asked(&mut self, place: usize, asked: OfferRequest)
-        ensures calls { self.new.calls ≡ changed_at (with_asked asked) place self.old.calls (slice_get self.old.calls place) }
-        ensures pool { self.new.pool ≡ self.old.pool }
-        ensures begun { self.new.begun ≡ self.old.begun }
-        ensures timers { self.new.timers ≡ self.old.timers }
-        ensures room { self.new.room ≡ self.old.room }
-        ensures timer_room { self.new.timer_room ≡ self.old.timer_room }
-    {
-        if place >= self.calls.len() {
-            return;
-        }
-        self.calls[place].asked = asked;
     }
 }

@@ -10,7 +10,8 @@ ghost use Rattle.calls.specs.Carrying.{Did, IsPlannedAt, pushed, with_step, with
 ghost use Rattle.calls.specs.Changes.{after_first_step, beside, carries};
 ghost use Rattle.calls.specs.State.{standing};
 
-use crate::beside::{Beside, put_beside};
+use crate::beside::put_beside;
+use crate::change::Beside;
 use crate::standing_call::StandingCall;
 use crate::state::Calls;
 use crate::timing::take_plan;
@@ -57,7 +58,7 @@ fn carry_out_there(
     requires planned { IsPlannedAt calls.old.items pool.old place now plan }
     ensures done { (c : StandingCall) → slice_get calls.old.items place ≡ Some c →
         Did calls.old.items pool.old place now plan c
-        (beside kept.leg kept.answer (with_step c (carried c.call pool.old now plan)))
+        (beside kept (with_step c (carried c.call pool.old now plan)))
         calls.new.items pool.new result.items }
     ensures leads { LeadFrom pool.old.rows pool.new.rows result.items }
     ensures len { vec_len calls.new ≡ vec_len calls.old }
@@ -122,9 +123,9 @@ impl Calls {
         requires planned { IsPlannedAt self.old.calls self.old.pool place now plan }
         requires room { length plan.actions ≤ self.old.timer_room }
         ensures standing { standing self.new
-            ≡ (carries (standing self.old) now place kept.leg kept.answer plan (slice_get self.old.calls place)).standing }
+            ≡ (carries (standing self.old) now place kept plan (slice_get self.old.calls place)).standing }
         ensures changes { result.items
-            ≡ (carries (standing self.old) now place kept.leg kept.answer plan (slice_get self.old.calls place)).changes }
+            ≡ (carries (standing self.old) now place kept plan (slice_get self.old.calls place)).changes }
         ensures leads { LeadFrom self.old.pool.rows self.new.pool.rows result.items }
     {
         spared_call_is_served();

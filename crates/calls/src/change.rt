@@ -1,6 +1,6 @@
 //! What changes among the calls.
 
-use crate::standing_call::StandingCall;
+use crate::standing_call::{StandingCall, TakenOffer};
 use call_core::{End, Plan};
 use dialogs::Dialog;
 use events::Sent;
@@ -12,6 +12,17 @@ pub struct LegDialog {
     pub dialog: Dialog,
 }
 
+/// What is put beside a call with what was planned for it.
+#[derive(Drop)]
+pub struct Beside {
+    /// This dialog is put in place of the one with its end.
+    pub leg: Option<LegDialog>,
+    /// This offer is the one that was taken last.
+    pub taken: Option<TakenOffer>,
+    /// This 200 is the one that goes again. The offerer is reached from then on where its offer said (RFC 3261 section 12.2.2).
+    pub answer: Option<Sent>,
+}
+
 /// What changes among the calls: planned with nothing changed, and entered later on the same values.
 #[derive(Drop)]
 pub enum CallChange {
@@ -19,12 +30,10 @@ pub enum CallChange {
     Unchanged,
     /// This call begins, and does what was planned for it.
     Begins(StandingCall, Plan),
-    /// The call at this place does what was planned for it. Where it still stands then, this dialog is put in place of the one
-    /// before, and this 200 is the one that goes again.
+    /// The call at this place does what was planned for it. Where it still stands then, this is put beside it.
     Carries {
         place: usize,
-        leg: Option<LegDialog>,
-        answer: Option<Sent>,
+        beside: Beside,
         plan: Plan,
     },
     /// This dialog is put in place of the one with its end.

@@ -5,7 +5,6 @@ ghost use Rattle.port_pool.specs.Changes.{LeadFrom};
 ghost use Rattle.calls.specs.Changes.{FitsChange, HasRoom, entered};
 ghost use Rattle.calls.specs.State.{standing};
 
-use crate::beside::Beside;
 use crate::change::CallChange;
 use crate::state::Calls;
 use port_pool::Change;
@@ -44,10 +43,9 @@ impl Calls {
             CallChange::Begins(call, plan) => self.begin(alloc, call, plan, now),
             CallChange::Carries {
                 place,
-                leg,
-                answer,
+                beside,
                 plan,
-            } => self.carry_out(alloc, place, Beside { leg, answer }, plan, now),
+            } => self.carry_out(alloc, place, beside, plan, now),
             CallChange::Puts { place, leg } => {
                 self.put_leg(place, leg);
                 Vec::new(alloc)

@@ -13,7 +13,7 @@ mod state;
 mod timer_id;
 mod timing;
 
-pub use change::{CallChange, LegDialog};
-pub use standing_call::{OfferRequest, StandingCall};
+pub use change::{Beside, CallChange, LegDialog};
+pub use standing_call::{OfferRequest, StandingCall, TakenOffer, offerer_of};
 pub use state::Calls;
 pub use timer_id::CallTimerId;

@@ -1,8 +1,11 @@
 //! A call, with what the server keeps beside it.
 
-use call_core::Call;
+ghost use Rattle.std.specs.Prelude.{◌≡◌};
+ghost use Rattle.calls.specs.Carrying.{offerer_of};
+
+use call_core::{Call, End, Standing};
 use events::Sent;
-use sip_uri::Addr;
+use sip_uri::{Addr, Uri};
 use text::Text;
 
 /// The INVITE or UPDATE of an end that was taken as an offer.
@@ -16,6 +19,24 @@ pub struct OfferRequest {
     pub number: u32,
 }
 
+/// The end whose offer was taken last; the caller's before the first. Takes no memory.
+pub fn offerer_of(standing: Option<Standing>) -> End
+    ensures { result ≡ offerer_of standing }
+{
+    match standing {
+        None => End::Caller,
+        Some(standing) => standing.offerer,
+    }
+}
+
+/// An offer inside a call that was taken.
+#[derive(Drop)]
+pub struct TakenOffer {
+    pub asked: OfferRequest,
+    /// Where its sender says that it is reached, if it says so.
+    pub target: Option<Uri<'static>>,
+}
+
 /// A call, with what the server keeps beside it.
 #[derive(Drop)]
 pub struct StandingCall {
@@ -24,6 +45,8 @@ pub struct StandingCall {
     pub callee_tag: Text<'static>,
     /// The offer that was taken last.
     pub asked: OfferRequest,
+    /// Where the sender of that offer is reached once it is answered with 2xx, if the offer is inside the call and said so.
+    pub target: Option<Uri<'static>>,
     /// The 200 to it, which goes again until its ACK comes.
     pub answer: Option<Sent>,
 }

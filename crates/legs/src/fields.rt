@@ -20,8 +20,8 @@ pub fn contact_header(alloc: Global, server: Addr) -> Result<Header<'static>, Al
     Header::of(alloc, b"Contact", &out)
 }
 
-/// When a request that clashed with another may come again.
-pub(crate) fn retry_alone(alloc: Global) -> Result<Vec<Header<'static>>, AllocError>
+/// When a request that clashed with another may come again: `Retry-After: 5` alone (RFC 3261 sections 14.2 and 20.33).
+pub fn retry_alone(alloc: Global) -> Result<Vec<Header<'static>>, AllocError>
     ensures { IfOk result (λ hs. hs.items ≡ retry_after ∷ []) }
 {
     let mut headers = Vec::new(alloc);

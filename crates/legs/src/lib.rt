@@ -13,7 +13,7 @@ mod scene;
 
 pub use beginning::new_leg;
 pub use dressed::Dressed;
-pub use fields::contact_header;
+pub use fields::{contact_header, retry_alone};
 pub use requests::{ack, bye, offer};
 pub use responding::{answer, okay, provisional, refusal, retry_later, trying};
 pub use scene::{Asker, Scene};

@@ -8,3 +8,6 @@ returns-clause-planned c = c.plan_take.ensures.planned
 
 pub returns-clause-refused : goal.returns-clause-refused
 returns-clause-refused c = c.plan_take.ensures.refused
+
+pub returns-clause-may : goal.returns-clause-may
+returns-clause-may c = c.plan_take.ensures.may

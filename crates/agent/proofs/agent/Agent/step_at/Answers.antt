@@ -9,5 +9,5 @@ use Rattle.agent.proofs.agent.Agent.step_at.Goals as goal
 pub returns-in-Ok-clause-can : goal.returns-in-Ok-clause-can
 returns-in-Ok-clause-can c timers =
     let moment = ap (λ (o : Occasion). o.now) c.occasion-o.ensures in
-    let can = can_enter _ _ c.in-Ok.step _ _ _ _ _ _ _ (c.in-Ok.ensures.row timers) (c.in-Ok.ensures.fits timers) c.in-Ok.ensures.few in
+    let can = can_enter _ _ c.in-Ok.step _ _ _ _ _ _ (c.in-Ok.ensures.row timers) (c.in-Ok.ensures.fits timers) c.in-Ok.ensures.few in
     rw (← c.self.view_is) (subst (λ (now : ℕ). CanEnter (with_timers timers (standing c.self.inside.calls)) now c.in-Ok.step) moment can)

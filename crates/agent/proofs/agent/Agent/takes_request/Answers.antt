@@ -8,7 +8,7 @@ use Rattle.agent.proofs.agent.Agent.takes_request.Goals as goal
 pub returns-clause-row : goal.returns-clause-row
 returns-clause-row c =
     let s = c.args.self.now in
-    let asked = ap (λ (a : AskerValue). takes_row s.calls s.table (occasion s c.args.e) c.args.place c.args.input.now c.args.leg (Some a) 0) c.asker-asker.ensures in
+    let asked = ap (λ (a : AskerValue). takes_row s.calls s.table (occasion s c.args.e) c.args.place c.args.input.now c.args.leg (Some a)) c.asker-asker.ensures in
     stepped_as c.of_step.result s.calls s.acks c.args.e.now _ _ _ _ _ _ _ _ c.alone.ensures.begun c.alone.ensures.send c.alone.ensures.id
     (c.in_ok-step.ensures.row s.calls.timers ∙ asked) (c.of_step.ensures.row s.calls s.acks c.args.e.now)
 

@@ -20,7 +20,7 @@ invariant_of-self c =
     let here = read_at cs c.args.place c.index.result.now within c.index.ensures in
     let did = c.carry_out_there-changes.ensures.done c.index.result.now here in
     subst (λ (after : List StandingCall). AreKept after c.carry_out_there-changes.new.pool c.self.inside.begun) (sym c.take_off.ensures)
-    (kept_carried c.spared_call_is_served.ensures cs c.self.inside.pool c.args.place c.args.now c.self.inside.begun c.args.kept.leg c.args.kept.answer c.args.plan c.index.result.now _ _ _ c.self.invariant here did)
+    (kept_carried c.spared_call_is_served.ensures cs c.self.inside.pool c.args.place c.args.now c.self.inside.begun c.args.kept c.args.plan c.index.result.now _ _ _ c.self.invariant here did)
 
 pub returns-clause-changes : goal.returns-clause-changes
 returns-clause-changes c =
@@ -29,7 +29,7 @@ returns-clause-changes c =
     let here = read_at cs c.args.place c.index.result.now within c.index.ensures in
     let did = c.carry_out_there-changes.ensures.done c.index.result.now here in
     let stood : Standing = record { calls = cs; pool = c.self.inside.pool; begun = c.self.inside.begun; timers = c.self.inside.timers.timers } in
-    rw (← c.self.view_is) (changes_carried stood c.args.place c.args.now c.args.kept.leg c.args.kept.answer c.args.plan c.index.result.now _ _ _ here did)
+    rw (← c.self.view_is) (changes_carried stood c.args.place c.args.now c.args.kept c.args.plan c.index.result.now _ _ _ here did)
 
 pub returns-clause-standing : goal.returns-clause-standing
 returns-clause-standing c =
@@ -41,4 +41,4 @@ returns-clause-standing c =
     let timed = c.take_plan.ensures ∙ ap (λ number. timers_planned c.args.now number c.args.plan c.self.inside.timers.timers) c.number-number.ensures in
     let after : Standing = record { calls = cs; pool = c.carry_out_there-changes.new.pool; begun = c.self.inside.begun; timers = c.take_plan.new.timers.timers } in
     rw (← c.self.view_is) (ap (λ (calls : List StandingCall). with_calls calls after) c.take_off.ensures
-    ∙ standing_carried stood c.args.place c.args.now c.args.kept.leg c.args.kept.answer c.args.plan c.index.result.now _ _ _ _ within here did timed)
+    ∙ standing_carried stood c.args.place c.args.now c.args.kept c.args.plan c.index.result.now _ _ _ _ within here did timed)
