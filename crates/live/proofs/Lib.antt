@@ -1,0 +1,3 @@
+pub mod SendLaws
+pub mod CallTables
+pub mod TableLaws

@@ -1,0 +1,4 @@
+pub mod Arrivals
+pub mod Salts
+pub mod Sending
+pub mod Turns

@@ -1,0 +1,11 @@
+-- The words of a ChaCha20 stream that a salt is made of (RFC 8439 section 2.4: 10 double rounds a block).
+use Rattle.std.specs.Prelude.{ℕ, ◌+◌, ◌*◌, ◌%◌, ◌^◌}
+use Rattle.rand_chacha.specs.ChaCha.{ChaCha, word_at}
+
+-- the place of the word behind this one
+abbrev pub next_place : ℕ → ℕ
+next_place place = (place + 1) % 2 ^ 68
+
+-- the next two words, the first as the low half
+abbrev pub salt_at : ChaCha → ℕ
+salt_at g = word_at 10 g.key g.stream g.word_pos + word_at 10 g.key g.stream (next_place g.word_pos) * 2 ^ 32

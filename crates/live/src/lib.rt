@@ -1,0 +1,11 @@
+//! The live server between its sockets and its clock: each event goes through the agent, its changes of the relay table are
+//! published, and then what it sends goes out. Sockets, clock and stop flag are handed in.
+#![tactic(auto)]
+
+mod salt;
+mod turn;
+mod wire;
+
+pub use salt::{next_salt, salts_of};
+pub use turn::{Turned, live_turn};
+pub use wire::{Wire, WireFault};

@@ -1,0 +1,26 @@
+//! The salts of events, drawn from the configured key.
+
+ghost use Rattle.std.specs.Prelude.{◌≡◌};
+ghost use Rattle.rand_chacha.specs.ChaCha.{key_of};
+ghost use Rattle.live.specs.Salts.{next_place, salt_at};
+
+use rand_chacha::ChaCha20Rng;
+use rand_core::SeedableRng;
+use rand_core::utils::next_u64_via_u32;
+
+/// The generator of a key: its stream is the second of the start. Takes no memory.
+pub fn salts_of(key: [u8; 32], start: u64) -> ChaCha20Rng
+    ensures { result ≡ record { key = key_of key; stream = start; word_pos = 0 } }
+{
+    let mut salts = ChaCha20Rng::from_seed(key);
+    salts.set_stream(start);
+    salts
+}
+
+/// The next two words of the stream, the first as the low half. Takes no memory.
+pub fn next_salt(salts: &mut ChaCha20Rng) -> u64
+    ensures salt { result ≡ salt_at salts.old }
+    ensures place { salts.new ≡ record salts.old { word_pos = next_place (next_place salts.old.word_pos) } }
+{
+    next_u64_via_u32(salts)
+}

@@ -1,0 +1,95 @@
+//! One event of the signalling: the agent's step, then the board, then the wire.
+
+ghost use Rattle.std.specs.Prelude.{◌≡◌, ◌≤◌, ◌∷◌, ◌++◌, [], IfOk, OnOk, OnErr, length};
+ghost use Rattle.agent.specs.Rows.{after, row};
+ghost use Rattle.live.specs.Sending.{Sends};
+ghost use Rattle.live.specs.Turns.{HasTable, published, Turns};
+
+use crate::wire::Wire;
+use agent::{Agent, Taken};
+use events::{Event, Sent};
+use port_pool::Change;
+use relay::{Board, Refused};
+use std::alloc::Global;
+use std::sync::Wait;
+
+/// What became of an event.
+#[derive(Clone, Copy, Debug, PartialEq, Eq)]
+pub enum Turned {
+    /// What the agent answered, and how many datagrams could not be sent.
+    Done(Taken, usize),
+    /// Memory was refused: the event counts as not come.
+    Lost,
+    /// The changes of the relay table could not be published. Nothing was sent.
+    Behind,
+}
+
+// Sends a datagram, and gives how many failed.
+fn send_one<W: Wire>(wire: &mut W, datagram: &Sent) -> usize
+    ensures sends { Sends (W.sent wire.old) (W.sent wire.new) (datagram.now ∷ []) result }
+    ensures bound { result ≤ 1 }
+    ensures taken { W.taken wire.new ≡ W.taken wire.old }
+{
+    match wire.send(datagram.to, datagram.bytes.as_bytes()) {
+        Ok(()) => 0,
+        Err(_) => 1,
+    }
+}
+
+// Sends all of them in order, and gives how many failed.
+fn send_all<W: Wire>(wire: &mut W, datagrams: &[Sent]) -> usize
+    ensures sends { Sends (W.sent wire.old) (W.sent wire.new) datagrams.now result }
+    ensures taken { W.taken wire.new ≡ W.taken wire.old }
+{
+    let mut failed: usize = 0;
+    for datagram in datagrams {
+        failed += send_one(wire, datagram);
+    }
+    failed
+}
+
+// Publishes changes as one list, where there are any.
+fn publish<R: Wait>(
+    rt: &R,
+    alloc: Global,
+    board: &mut Board,
+    changes: &[Change],
+) -> Result<(), Refused>
+    ensures ok { OnOk result (board.new ≡ published board.old changes.now) }
+    ensures err { OnErr result (board.new ≡ board.old) }
+{
+    if changes.is_empty() {
+        return Ok(());
+    }
+    board.publish(rt, alloc, changes)
+}
+
+fn let_go<T: Drop>(_value: T) {}
+
+/// The agent takes an event; then the changes of its relay table are published as one list; then what it sends goes out in
+/// order. A send that fails loses that datagram alone. It waits for look-ups in the table to end.
+pub fn live_turn<W: Wire, R: Wait>(
+    rt: &R,
+    alloc: Global,
+    agent: &mut Agent,
+    board: &mut Board,
+    wire: &mut W,
+    event: &Event,
+) -> Turned
+    requires { HasTable board.old agent.old }
+    ensures turns { Turns event.entry.now agent.old agent.new board.old board.new (W.sent wire.old) (W.sent wire.new) result }
+    ensures taken { W.taken wire.new ≡ W.taken wire.old }
+{
+    let mut sends = Vec::new(alloc);
+    let Ok(taken) = agent.step(event, &mut sends) else {
+        let_go(sends);
+        return Turned::Lost;
+    };
+    if publish(rt, alloc, board, agent.changes()).is_err() {
+        let_go(sends);
+        return Turned::Behind;
+    }
+    let failed = send_all(wire, &sends);
+    let_go(sends);
+    Turned::Done(taken, failed)
+}
