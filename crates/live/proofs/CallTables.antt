@@ -1,5 +1,5 @@
 -- What a call does to the relay table is what its changes say.
-use Rattle.std.proofs.Common.{◌≡◌, ℕ, Bool, true, false, cond, List, Option, Some, None, slice_get, refl}
+use Rattle.std.proofs.Common.{◌≡◌, ℕ, Bool, true, false, cond, Option, Some, None, slice_get, refl}
 use Rattle.port_pool.specs.RelayTable.{Rows, changed_by}
 use Rattle.port_pool.specs.Pool.{Contents}
 use Rattle.sdp.specs.declared.description.Description.{Description}
@@ -28,7 +28,6 @@ use Rattle.calls.specs.State.{Standing}
 use Rattle.calls.specs.declared.change.LegDialog.{LegDialog}
 use Rattle.calls.specs.declared.standing_call.StandingCall.{StandingCall}
 use Rattle.call_steps.specs.declared.occasion.Occasion.{Occasion}
-use Rattle.call_steps.specs.Effects as steps
 use Rattle.call_steps.specs.Rows.{begins_by, first_row, fork_by, fork_row, takes_by, takes_row}
 use Rattle.call_steps.specs.Values.{AskerValue}
 

@@ -2,10 +2,16 @@
 //! published, and then what it sends goes out. Sockets, clock and stop flag are handed in.
 #![tactic(auto)]
 
+mod round;
 mod salt;
+mod serving;
+mod streaks;
 mod turn;
 mod wire;
 
+pub use round::{Round, Signalling, datagram_buffer};
 pub use salt::{next_salt, salts_of};
+pub use serving::{Clock, serve};
+pub use streaks::{End, Streaks};
 pub use turn::{Turned, live_turn};
 pub use wire::{Wire, WireFault};

@@ -1,4 +1,4 @@
-use Rattle.std.proofs.Common.{rules, ◌≡◌, ◌++◌, ◌∙◌, [], List, subst}
+use Rattle.std.proofs.Common.{rules, ◌≡◌, List, subst}
 use Rattle.events.specs.declared.sent.Sent.{Sent}
 use Rattle.agent.specs.Rows.{row}
 use Rattle.live.specs.Sending.{Sends}
