@@ -28,7 +28,7 @@ use Rattle.calls.specs.State.{Standing}
 use Rattle.calls.specs.declared.change.LegDialog.{LegDialog}
 use Rattle.calls.specs.declared.standing_call.StandingCall.{StandingCall}
 use Rattle.call_steps.specs.declared.occasion.Occasion.{Occasion}
-use Rattle.call_steps.specs.Rows.{begins_by, first_row, fork_by, fork_row, takes_by, takes_row}
+use Rattle.call_steps.specs.Rows.{begins_by, counts, first_row, fork_by, fork_row, late_by, late_row, offers_by, offers_row, takes_by, takes_row}
 use Rattle.call_steps.specs.Values.{AskerValue}
 
 -- ---- a step of a call
@@ -96,15 +96,26 @@ first_leads c offer pool now = refl
 abbrev pub LeadsOn : Rows → Outcome → Type 0
 LeadsOn rows o = o.standing.pool.rows ≡ changed_by rows o.changes
 
-takes_by_leads : (calls : Standing) (table : transactions.Contents) (o : Occasion) (place : ℕ) (input : Input) (leg : Option LegDialog) (request : Option AskerValue) (hops : ℕ) (c : Option StandingCall)
-    → LeadsOn calls.pool.rows (takes_by calls table o place input leg request hops c).outcome
-takes_by_leads calls table o place input leg request hops None = refl
-takes_by_leads calls table o place input leg request hops (Some c) = call_leads c.call input calls.pool o.now
+takes_by_leads : (calls : Standing) (table : transactions.Contents) (o : Occasion) (place : ℕ) (input : Input) (leg : Option LegDialog) (request : Option AskerValue) (c : Option StandingCall)
+    → LeadsOn calls.pool.rows (takes_by calls table o place input leg request c).outcome
+takes_by_leads calls table o place input leg request None = refl
+takes_by_leads calls table o place input leg request (Some c) = call_leads c.call input calls.pool o.now
 
-pub takes_leads : (calls : Standing) (table : transactions.Contents) (o : Occasion) (place : ℕ) (input : Input) (leg : Option LegDialog) (request : Option AskerValue) (hops : ℕ)
-    → LeadsOn calls.pool.rows (takes_row calls table o place input leg request hops).outcome
+pub takes_leads : (calls : Standing) (table : transactions.Contents) (o : Occasion) (place : ℕ) (input : Input) (leg : Option LegDialog) (request : Option AskerValue)
+    → LeadsOn calls.pool.rows (takes_row calls table o place input leg request).outcome
 unfolding takes_row
-takes_leads calls table o place input leg request hops = takes_by_leads calls table o place input leg request hops (slice_get calls.calls place)
+takes_leads calls table o place input leg request = takes_by_leads calls table o place input leg request (slice_get calls.calls place)
+
+offers_by_leads : (calls : Standing) (table : transactions.Contents) (o : Occasion) (place : ℕ) (input : Input) (end : End) (request : Request) (id : ℕ) (source : Addr) (leg : Option LegDialog) (c : Option StandingCall)
+    → LeadsOn calls.pool.rows (offers_by calls table o place input end request id source leg c).outcome
+offers_by_leads calls table o place input end request id source leg None = refl
+offers_by_leads calls table o place input end request id source leg (Some c) = call_leads c.call input calls.pool o.now
+
+pub offers_leads : (calls : Standing) (table : transactions.Contents) (o : Occasion) (place : ℕ) (input : Input) (end : End) (request : Request) (id : ℕ) (source : Addr)
+    → LeadsOn calls.pool.rows (offers_row calls table o place input end request id source).outcome
+unfolding offers_row
+offers_leads calls table o place input end request id source =
+    offers_by_leads calls table o place input end request id source (counts calls.calls place end request.parts.cseq.number) (slice_get calls.calls place)
 
 begins_leads : (calls : Standing) (o : Occasion) (request : Request) (id : ℕ) (source : Addr) (target : Uri) (offer : Description) (contact : Option Uri)
     → LeadsOn calls.pool.rows (begins_by calls o request id source target offer contact).outcome
@@ -124,3 +135,11 @@ fork_by_leads calls o asked response (Some target) = refl
 pub fork_leads : (calls : Standing) (o : Occasion) (asked : Parts) (response : Response) → LeadsOn calls.pool.rows (fork_row calls o asked response).outcome
 unfolding fork_row
 fork_leads calls o asked response = fork_by_leads calls o asked response (reached_at (contacts_of response.headers))
+
+late_by_leads : (calls : Standing) (o : Occasion) (asked : Parts) (response : Response) (contact : Option Uri) → LeadsOn calls.pool.rows (late_by calls o asked response contact).outcome
+late_by_leads calls o asked response None = refl
+late_by_leads calls o asked response (Some target) = refl
+
+pub late_leads : (calls : Standing) (o : Occasion) (asked : Parts) (response : Response) → LeadsOn calls.pool.rows (late_row calls o asked response).outcome
+unfolding late_row
+late_leads calls o asked response = late_by_leads calls o asked response (reached_at (contacts_of response.headers))

@@ -1,5 +1,6 @@
 -- The changes that an event makes in the relay table lead from the agent's table before it to that after it.
 use Rattle.std.proofs.Common.{◌≡◌, ◌∙◌, ℕ, nat_le, cond, List, [], ◌∷◌, Option, Some, None, is_some, Result, Ok, Err, refl, sym, ap}
+use Rattle.std.specs.Prelude.{slice_get}
 use Rattle.std.proofs.lemmas.List.Sums.{fold-append}
 use Rattle.std.specs.FinMap.{empty}
 use Rattle.port_pool.specs.declared.changes.Change.{Change}
@@ -31,22 +32,30 @@ use Rattle.calls.specs.State.{Standing}
 use Rattle.calls.specs.Finding.{place_by_ack, place_by_number}
 use Rattle.calls.specs.declared.change.LegDialog.{LegDialog}
 use Rattle.calls.specs.declared.timer_id.CallTimerId.{CallTimerId}
+use Rattle.call_media.specs.declared.end.End.{End}
+use Rattle.call_media.specs.Ends.{other}
+use Rattle.call_core.specs.declared.call.Call.{Call}
+use Rattle.call_core.specs.Calls.{dialog_of, has_number_left}
+use Rattle.calls.specs.declared.standing_call.StandingCall.{StandingCall}
+use Rattle.call_rules.specs.Offers.{offer_rule, plain_rule}
 use Rattle.call_rules.specs.Content.{described}
 use Rattle.call_rules.specs.Responses.{response_rule, timeout_rule}
 use Rattle.call_rules.specs.declared.responses.ResponseRule.{ResponseRule}
 use Rattle.call_rules.specs.declared.responses.ResponseRule.TheVariants as rule
-use Rattle.call_steps.specs.Rows.{counts, first_row}
+use Rattle.call_steps.specs.Rows.{counts, first_row, refreshes}
 use Rattle.events.specs.declared.event.Event.{Event}
 use Rattle.events.specs.declared.event.What.{What}
 use Rattle.events.specs.declared.event.What.TheVariants as whats
 use Rattle.agent.specs.declared.rule.CallRule.{CallRule}
 use Rattle.agent.specs.declared.rule.CallRule.TheVariants as callrules
+use Rattle.agent.specs.declared.rule.Reply.{Reply}
+use Rattle.agent.specs.declared.rule.Reply.TheVariants.{Refusal}
 use Rattle.agent.specs.declared.rule.Rule.{Rule}
 use Rattle.agent.specs.declared.rule.Rule.TheVariants as rules
 use Rattle.agent.specs.declared.taken.Taken.{Taken}
 use Rattle.agent.specs.declared.taken.Taken.TheVariants.{Dropped, Shed}
 use Rattle.agent.specs.declared.taken.Why.TheVariants.{Stray}
-use Rattle.agent.specs.CallRows.{ack_by, ack_row, are_full, begins_by, call_row, call_timer_at, call_timer_row, first_by, has_pairs, of_plan, occasion, puts_if, responds_by, response_by_asked, response_row, target, timed_out, timed_out_at, timeout_row, times_responses, unless_full, with_step, without_call_timer}
+use Rattle.agent.specs.CallRows.{ack_by, ack_row, are_full, begins_by, call_row, call_timer_at, call_timer_row, first_by, has_pairs, has_pairs_for, is_unfit, of_plan, occasion, offer_reply, offers, offers_by, passes, passes_at, passes_if, passes_in, puts_if, refreshes_at, refreshes_by, refuses, responds_by, response_by_asked, response_row, target, timed_out, timed_out_at, timeout_row, times_responses, unless_full, with_step, without_call_timer}
 use Rattle.agent.specs.Effect.{Effect}
 use Rattle.agent.specs.Plan.{moves, nothing}
 use Rattle.agent.specs.Replies.{responds_in}
@@ -56,7 +65,7 @@ use Rattle.agent.specs.State.{Contents, after_event, moment_at}
 use Rattle.responses.specs.Words.{has_fit_branch}
 use Rattle.relay.specs.Lists.{Lists, table_after}
 use Rattle.live.specs.Turns.{HasTable, published}
-use Rattle.live.proofs.CallTables.{by_if, first_row_leads, fork_leads, takes_leads}
+use Rattle.live.proofs.CallTables.{by_if, first_row_leads, fork_leads, late_leads, offers_leads, takes_leads}
 
 abbrev pub Leads : Contents → Effect → Type 0
 Leads s e = e.calls.standing.pool.rows ≡ changed_by s.calls.pool.rows e.calls.changes
@@ -82,13 +91,58 @@ counts_leads : (calls : Standing) (place : ℕ) (leg : Option LegDialog) → (pu
 counts_leads calls place None = refl
 counts_leads calls place (Some leg) = refl
 
+-- ---- an offer inside a call
+
+refuses_leads : (s : Contents) (e : _) (r : Request) (begun : List Entry) (id place : ℕ) (end : End) (reply : Reply) → Leads s (refuses s e r begun id place end reply)
+refuses_leads s e r begun id place end reply = counts_leads s.calls place (counts s.calls.calls place end r.parts.cseq.number)
+
+passes_leads : (s : Contents) (e : _) (r : Request) (begun : List Entry) (id place : ℕ) (end : End) (offer : Description) → Leads s (passes s e r begun id place end offer)
+passes_leads s e r begun id place end offer = offers_leads s.calls s.table (occasion s e) place _ end r id e.source
+
+if_leads : (s : Contents) (e : _) (r : Request) (begun : List Entry) (id place : ℕ) (end : End) (c : Call) (offer : Description) → Leads s (passes_if s e r begun id place end c offer)
+if_leads s e r begun id place end c offer =
+    let refused = λ status. refuses s e r begun id place end (Refusal status) in
+    let told = λ status. refuses_leads s e r begun id place end (Refusal status) in
+    let passed = passes s e r begun id place end offer in
+    let left = has_number_left (dialog_of (other end) c) in
+    let numbered = cond left passed (refused 500) in
+    by_if (Leads s) (is_unfit c end offer) (refused 488) (cond (has_pairs_for s e.now c end offer) numbered (refused 503)) (told 488)
+    (by_if (Leads s) (has_pairs_for s e.now c end offer) numbered (refused 503)
+    (by_if (Leads s) left passed (refused 500) (passes_leads s e r begun id place end offer) (told 500)) (told 503))
+
+in_leads : (s : Contents) (e : _) (r : Request) (begun : List Entry) (id place : ℕ) (end : End) (c : Call) (offer : Option Description) → Leads s (passes_in s e r begun id place end c offer)
+in_leads s e r begun id place end c None = refuses_leads s e r begun id place end (Refusal 488)
+in_leads s e r begun id place end c (Some offer) = if_leads s e r begun id place end c offer
+
+at_leads : (s : Contents) (e : _) (r : Request) (begun : List Entry) (id place : ℕ) (end : End) (c : Option StandingCall) → Leads s (passes_at s e r begun id place end c)
+at_leads s e r begun id place end None = refuses_leads s e r begun id place end (Refusal 481)
+at_leads s e r begun id place end (Some c) = in_leads s e r begun id place end c.call (described r.headers r.body)
+
+offers_by_leads : (s : Contents) (e : _) (r : Request) (begun : List Entry) (id place : ℕ) (end : End) (reply : Option Reply) → Leads s (offers_by s e r begun id place end reply)
+offers_by_leads s e r begun id place end (Some reply) = refuses_leads s e r begun id place end reply
+offers_by_leads s e r begun id place end None = at_leads s e r begun id place end (slice_get s.calls.calls place)
+
+offer_leads : (s : Contents) (e : _) (r : Request) (begun : List Entry) (id place : ℕ) (end : End) → Leads s (offers s e r begun id place end)
+unfolding offers
+offer_leads s e r begun id place end = offers_by_leads s e r begun id place end (offer_reply (offer_rule s.calls.calls r place end))
+
+refreshes_by_leads : (s : Contents) (e : _) (r : Request) (begun : List Entry) (id place : ℕ) (end : End) (reply : Option Reply) → Leads s (refreshes_by s e r begun id place end reply)
+refreshes_by_leads s e r begun id place end (Some reply) = refuses_leads s e r begun id place end reply
+refreshes_by_leads s e r begun id place end None = counts_leads s.calls place (refreshes s.calls.calls place end r)
+
+refresh_leads : (s : Contents) (e : _) (r : Request) (begun : List Entry) (id place : ℕ) (end : End) → Leads s (refreshes_at s e r begun id place end)
+unfolding refreshes_at
+refresh_leads s e r begun id place end = refreshes_by_leads s e r begun id place end (offer_reply (plain_rule s.calls.calls r place end))
+
+-- ---- a request that a call has to do with
+
 call_row_leads : (s : Contents) (e : _) (r : Request) (begun : List Entry) (id : ℕ) (rule : CallRule) → Leads s (call_row s e r begun id rule)
 unfolding call_row
 call_row_leads s e r begun id callrules.Begins = begins_leads s e r begun id (target s r e.now) (described r.headers r.body)
-call_row_leads s e r begun id (callrules.Cancels place) = takes_leads s.calls s.table (occasion s e) place _ _ _ _
-call_row_leads s e r begun id (callrules.Leaves place end) = takes_leads s.calls s.table (occasion s e) place _ _ _ _
-call_row_leads s e r begun id (callrules.Offers place end) = counts_leads s.calls place (counts s.calls.calls place end r.parts.cseq.number)
-call_row_leads s e r begun id (callrules.Refreshes place end) = counts_leads s.calls place (counts s.calls.calls place end r.parts.cseq.number)
+call_row_leads s e r begun id (callrules.Cancels place) = takes_leads s.calls s.table (occasion s e) place _ _ _
+call_row_leads s e r begun id (callrules.Leaves place end) = takes_leads s.calls s.table (occasion s e) place _ _ _
+call_row_leads s e r begun id (callrules.Offers place end) = offer_leads s e r begun id place end
+call_row_leads s e r begun id (callrules.Refreshes place end) = refresh_leads s e r begun id place end
 
 rule_leads : (s : Contents) (e : _) (r : Request) (begun : List Entry) (id : ℕ) (rule : Rule) → Leads s (rule_row s e r begun id rule)
 rule_leads s e r begun id (rules.Alone reply) = refl
@@ -96,7 +150,7 @@ rule_leads s e r begun id (rules.Call rule) = call_row_leads s e r begun id rule
 
 ack_by_leads : (s : Contents) (e : _) (begun : List Entry) (place : Option ℕ) → Leads s (ack_by s e begun place)
 ack_by_leads s e begun None = refl
-ack_by_leads s e begun (Some place) = takes_leads s.calls s.table (occasion s e) place _ _ _ _
+ack_by_leads s e begun (Some place) = takes_leads s.calls s.table (occasion s e) place _ _ _
 
 ack_leads : (s : Contents) (e : _) (r : Request) (begun : List Entry) → Leads s (ack_row s e r begun)
 unfolding ack_row
@@ -115,11 +169,12 @@ request_leads s e r begun verdicts.Stray send = ack_leads s e r begun
 responds_leads : (s : Contents) (e : _) (r : Response) (begun : List Entry) (send : Option Outgoing) (id : ℕ) (asked : Transaction) (by : ResponseRule)
     → Leads s (responds_by s e r begun send id asked by)
 responds_leads s e r begun send id asked rule.Silent = refl
-responds_leads s e r begun send id asked (rule.Provisional place status) = takes_leads s.calls s.table (occasion s e) place _ _ _ _
-responds_leads s e r begun send id asked (rule.Answer place) = takes_leads s.calls s.table (occasion s e) place _ _ _ _
+responds_leads s e r begun send id asked (rule.Provisional place status) = takes_leads s.calls s.table (occasion s e) place _ _ _
+responds_leads s e r begun send id asked (rule.Answer place) = takes_leads s.calls s.table (occasion s e) place _ _ _
 responds_leads s e r begun send id asked (rule.Again place) = refl
 responds_leads s e r begun send id asked rule.Fork = fork_leads s.calls (occasion s e) asked.parts r
-responds_leads s e r begun send id asked (rule.Refusal place status) = takes_leads s.calls s.table (occasion s e) place _ _ _ _
+responds_leads s e r begun send id asked rule.AckAlone = late_leads s.calls (occasion s e) asked.parts r
+responds_leads s e r begun send id asked (rule.Refusal place status) = takes_leads s.calls s.table (occasion s e) place _ _ _
 
 asked_leads : (s : Contents) (e : _) (r : Response) (begun : List Entry) (send : Option Outgoing) (id : ℕ) (asked : Option Transaction)
     → Leads s (response_by_asked s e r begun send id asked)
@@ -167,7 +222,7 @@ datagram_leads s e bytes = reading_leads s e bytes (message_of bytes)
 
 timed_at_leads : (s : Contents) (e : _) (begun : List Entry) (place : Option ℕ) → Leads s (timed_out_at s e begun place)
 timed_at_leads s e begun None = refl
-timed_at_leads s e begun (Some place) = takes_leads s.calls s.table (occasion s e) place _ _ _ _
+timed_at_leads s e begun (Some place) = takes_leads s.calls s.table (occasion s e) place _ _ _
 
 timed_leads : (s : Contents) (e : _) (begun : List Entry) (asked : Option Transaction) → Leads s (timed_out s e begun asked)
 timed_leads s e begun None = refl
@@ -191,7 +246,7 @@ timer_leads s e timer = fires_leads s e timer (fired_of (at s.table.slots timer.
 
 call_timer_at_leads : (s : Contents) (e : _) (timer : CallTimer) (place : Option ℕ) → Leads s (call_timer_at s e timer place)
 call_timer_at_leads s e timer None = refl
-call_timer_at_leads s e timer (Some place) = takes_leads s.calls s.table (occasion s e) place _ _ _ _
+call_timer_at_leads s e timer (Some place) = takes_leads s.calls s.table (occasion s e) place _ _ _
 
 call_timer_leads : (s : Contents) (e : _) (timer : CallTimerId) → Leads s (call_timer_row s e timer)
 unfolding call_timer_row
