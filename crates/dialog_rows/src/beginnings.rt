@@ -1,6 +1,6 @@
 //! How a dialog begins, and what the rows behind ask of it.
 
-ghost use Rattle.std.specs.Prelude.{◌≡◌, IfOk};
+ghost use Rattle.std.specs.Prelude.{◌≡◌};
 ghost use Rattle.sip_message.specs.Grammar.{ReadsMessage};
 ghost use Rattle.sip_message.specs.declared.message.Message.TheVariants as Kinds;
 ghost use Rattle.dialogs.specs.Making.{is_invite};
@@ -8,7 +8,7 @@ ghost use Rattle.dialogs.specs.Making.{is_invite};
 use crate::calls::of_dialog;
 use dialogs::{Dialog, contacts_are_read, dialogs_are_sound, invites_name_a_contact};
 use row_messages::fault_text;
-use rows::said;
+use rows::{answer_of, outcome_after, said};
 use sip_message::{Message, MessageError, Parts, Request, Response, read_message};
 use std::alloc::{AllocError, Global};
 
@@ -16,36 +16,6 @@ use std::alloc::{AllocError, Global};
 #[derive(Drop)]
 pub(crate) struct History {
     dialogs: Vec<Dialog>,
-}
-
-fn no_request(response: Response<'_>) -> MessageError {
-    drop(response);
-    MessageError::StartLine
-}
-
-/// The request that these bytes are.
-pub(crate) fn request_of(alloc: Global, bytes: &[u8]) -> Result<Request<'_>, MessageError>
-    ensures { IfOk result (λ request. ReadsMessage bytes.now (Kinds.Request request)) }
-{
-    match read_message(alloc, bytes)? {
-        Message::Request(request) => Ok(request),
-        Message::Response(response) => Err(no_request(response)),
-    }
-}
-
-fn no_response(request: Request<'_>) -> MessageError {
-    drop(request);
-    MessageError::StartLine
-}
-
-/// The response that these bytes are.
-pub(crate) fn response_of(alloc: Global, bytes: &[u8]) -> Result<Response<'_>, MessageError>
-    ensures { IfOk result (λ response. ReadsMessage bytes.now (Kinds.Response response)) }
-{
-    match read_message(alloc, bytes)? {
-        Message::Request(request) => Err(no_response(request)),
-        Message::Response(response) => Ok(response),
-    }
 }
 
 fn is_invite(parts: &Parts<'_>) -> bool
@@ -70,9 +40,25 @@ fn callee_of(
     Err(MessageError::StartLine)
 }
 
+/// The same of a message, which is no response.
+fn callee_by(
+    alloc: Global,
+    bytes: &[u8],
+    message: &Message<'_>,
+    tag: &[u8],
+) -> Result<Dialog, MessageError>
+    requires { ReadsMessage bytes.now message.now }
+{
+    match message {
+        Message::Request(invite) => callee_of(alloc, bytes, invite, tag),
+        Message::Response(_) => Err(MessageError::StartLine),
+    }
+}
+
 fn callee(alloc: Global, bytes: &[u8], tag: &[u8]) -> Result<Dialog, MessageError> {
-    let invite = request_of(alloc, bytes)?;
-    callee_of(alloc, bytes, &invite, tag)
+    let message = read_message(alloc, bytes)?;
+    let dialog = callee_by(alloc, bytes, &message, tag);
+    outcome_after(message, dialog)
 }
 
 /// The dialog with the sender of a 2xx to an INVITE.
@@ -95,14 +81,51 @@ fn caller_of(
     Err(MessageError::StartLine)
 }
 
-fn caller_by(alloc: Global, invite: &Request<'_>, bytes: &[u8]) -> Result<Dialog, MessageError> {
-    let response = response_of(alloc, bytes)?;
-    caller_of(alloc, invite, bytes, &response)
+/// The same of a message, which is no request.
+fn caller_by(
+    alloc: Global,
+    invite: &Request<'_>,
+    bytes: &[u8],
+    message: &Message<'_>,
+) -> Result<Dialog, MessageError>
+    requires { ReadsMessage bytes.now message.now }
+{
+    match message {
+        Message::Request(_) => Err(MessageError::StartLine),
+        Message::Response(answer) => caller_of(alloc, invite, bytes, answer),
+    }
+}
+
+fn caller_of_taken(
+    alloc: Global,
+    invite: &Request<'_>,
+    taken: &[u8],
+) -> Result<Dialog, MessageError> {
+    let message = read_message(alloc, taken)?;
+    let dialog = caller_by(alloc, invite, taken, &message);
+    outcome_after(message, dialog)
+}
+
+/// The dialog with the sender of what was taken, where what was sent is its INVITE.
+fn caller_of_sent(alloc: Global, sent: &Message<'_>, taken: &[u8]) -> Result<Dialog, MessageError> {
+    match sent {
+        Message::Request(invite) => caller_of_taken(alloc, invite, taken),
+        Message::Response(_) => Err(MessageError::StartLine),
+    }
 }
 
 fn caller(alloc: Global, sent: &[u8], taken: &[u8]) -> Result<Dialog, MessageError> {
-    let invite = request_of(alloc, sent)?;
-    caller_by(alloc, &invite, taken)
+    let message = read_message(alloc, sent)?;
+    let dialog = caller_of_sent(alloc, &message, taken);
+    outcome_after(message, dialog)
+}
+
+/// Calls what has a law for its contract.
+fn laws(alloc: Global) -> Result<String, AllocError> {
+    invites_name_a_contact();
+    dialogs_are_sound();
+    contacts_are_read();
+    said(alloc, "hold")
 }
 
 impl History {
@@ -112,6 +135,13 @@ impl History {
         }
     }
 
+    /// The dialog is kept for the rows behind.
+    fn keep(&mut self, alloc: Global, dialog: Dialog) -> Result<String, AllocError> {
+        self.dialogs.clear();
+        self.dialogs.push(dialog)?;
+        said(alloc, "begun")
+    }
+
     /// The dialog is kept for the rows behind, if there is one.
     fn begin(
         &mut self,
@@ -119,11 +149,21 @@ impl History {
         dialog: Result<Dialog, MessageError>,
     ) -> Result<String, AllocError> {
         match dialog {
-            Ok(dialog) => {
-                self.dialogs = vec![in alloc; dialog]?;
-                said(alloc, "begun")
-            }
+            Ok(dialog) => self.keep(alloc, dialog),
             Err(fault) => fault_text(alloc, fault),
+        }
+    }
+
+    /// What a call on the dialog answers, if there is one.
+    fn of_last(
+        &mut self,
+        alloc: Global,
+        call: &str,
+        args: &[&[u8]],
+    ) -> Result<Option<String>, AllocError> {
+        match self.dialogs.first_mut() {
+            Some(dialog) => of_dialog(alloc, dialog, call, args),
+            None => Ok(None),
         }
     }
 
@@ -134,20 +174,13 @@ impl History {
         call: &str,
         args: &[&[u8]],
     ) -> Result<Option<String>, AllocError> {
-        let answer = match (call, args) {
-            ("laws", []) => {
-                invites_name_a_contact();
-                dialogs_are_sound();
-                contacts_are_read();
-                said(alloc, "hold")
+        match (call, args) {
+            ("laws", []) => answer_of(laws(alloc)),
+            ("as_callee", [bytes, tag]) => answer_of(self.begin(alloc, callee(alloc, bytes, tag))),
+            ("as_caller", [sent, taken]) => {
+                answer_of(self.begin(alloc, caller(alloc, sent, taken)))
             }
-            ("as_callee", [bytes, tag]) => self.begin(alloc, callee(alloc, bytes, tag)),
-            ("as_caller", [sent, taken]) => self.begin(alloc, caller(alloc, sent, taken)),
-            _ => match self.dialogs.first_mut() {
-                Some(dialog) => return of_dialog(alloc, dialog, call, args),
-                None => return Ok(None),
-            },
-        };
-        Ok(Some(answer?))
+            _ => self.of_last(alloc, call, args),
+        }
     }
 }

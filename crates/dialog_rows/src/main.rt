@@ -3,6 +3,8 @@
 
 mod beginnings;
 mod calls;
+mod messages;
+mod requests;
 mod texts;
 
 use crate::beginnings::History;

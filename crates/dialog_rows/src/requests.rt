@@ -1,0 +1,117 @@
+//! Requests in a dialog, as they are sent.
+
+use crate::texts::refusal_text;
+use dialogs::{Dialog, DialogError, Extras, Method, NextRequest};
+use rows::{number, outcome_after, shown};
+use sip_message::{Header, Request, Via};
+use sip_uri::Addr;
+use sip_writing::{server_via, write_request};
+use std::alloc::{AllocError, Global};
+
+/// The server of the rows.
+const SERVER: Addr = Addr {
+    ip: [192, 0, 2, 1],
+    port: 5060,
+};
+
+/// The Via of the rows.
+fn via_of_rows(alloc: Global) -> Result<Via<'static>, AllocError> {
+    server_via(alloc, SERVER, b"2.7")
+}
+
+/// The header fields of a body.
+fn fields_of_body(alloc: Global) -> Result<Vec<Header<'static>>, AllocError> {
+    let mut fields = Vec::new(alloc);
+    fields.push(Header::of(alloc, b"Contact", b"<sip:192.0.2.1:5060>")?)?;
+    fields.push(Header::of(alloc, b"Content-Type", b"application/sdp")?)?;
+    Ok(fields)
+}
+
+/// The header fields behind those that each request has, where there is a body.
+fn further_of(alloc: Global, body: &[u8]) -> Result<Vec<Header<'static>>, AllocError> {
+    if body.is_empty() {
+        return Ok(Vec::new(alloc));
+    }
+    fields_of_body(alloc)
+}
+
+fn request_text(alloc: Global, request: &Request<'_>) -> Result<String, AllocError> {
+    let text = write_request(alloc, request)?;
+    shown(alloc, text.as_bytes())
+}
+
+/// The next request by this Via, with so many hops and this body.
+fn next_by(
+    alloc: Global,
+    dialog: &Dialog,
+    method: Method,
+    via: &Via<'_>,
+    hops: &[u8],
+    body: &[u8],
+) -> Result<NextRequest, DialogError> {
+    let further = further_of(alloc, body)?;
+    let extras = Extras {
+        via,
+        max_forwards: u8::try_from(number(hops)).unwrap_or(0),
+        further: &further,
+        body,
+    };
+    dialog.next_request(alloc, method, &extras)
+}
+
+/// The next request, with so many hops and this body.
+fn next(
+    alloc: Global,
+    dialog: &Dialog,
+    method: Method,
+    hops: &[u8],
+    body: &[u8],
+) -> Result<NextRequest, DialogError> {
+    let via = via_of_rows(alloc)?;
+    let next = next_by(alloc, dialog, method, &via, hops, body);
+    outcome_after(via, next)
+}
+
+/// The request as it is sent, whose number is kept.
+fn kept_text(alloc: Global, dialog: &mut Dialog, next: &NextRequest) -> Result<String, AllocError> {
+    let text = request_text(alloc, &next.request)?;
+    dialog.keep_number(next.number);
+    Ok(text)
+}
+
+/// The next request as it is sent, with so many hops and this body.
+pub(crate) fn next_text(
+    alloc: Global,
+    dialog: &mut Dialog,
+    method: Method,
+    hops: &[u8],
+    body: &[u8],
+) -> Result<String, AllocError> {
+    match next(alloc, dialog, method, hops, body) {
+        Ok(next) => {
+            let text = kept_text(alloc, dialog, &next);
+            outcome_after(next, text)
+        }
+        Err(fault) => refusal_text(alloc, fault),
+    }
+}
+
+/// The ACK of the INVITE with this number.
+fn ack(alloc: Global, dialog: &Dialog, number: u32) -> Result<Request<'static>, AllocError> {
+    let via = via_of_rows(alloc)?;
+    let extras = Extras {
+        via: &via,
+        max_forwards: 70,
+        further: &[],
+        body: b"",
+    };
+    let request = dialog.ack(alloc, number, &extras);
+    outcome_after(via, request)
+}
+
+/// The ACK of the INVITE with this number, as it is sent.
+pub(crate) fn ack_text(alloc: Global, dialog: &Dialog, number: u32) -> Result<String, AllocError> {
+    let request = ack(alloc, dialog, number)?;
+    let text = request_text(alloc, &request);
+    outcome_after(request, text)
+}
