@@ -1,14 +1,14 @@
 //! A scene of the plain call, in which a row's actions are dressed.
 
 use crate::actions::actions_of;
-use dialogs::{Dialog, DialogId};
+use dialogs::Dialog;
 use events::Sent;
 use legs::{Asker, Dressed, Scene, new_leg};
 use row_messages::message_of;
-use rows::{address_words, shown, u32_of, words_of};
+use rows::{answer_of, outcome_after, put_address, put_shown, u32_of};
 use sdp::{Description, read_description};
 use sip_message::{Message, Parts};
-use sip_uri::{Addr, read_uri};
+use sip_uri::{Addr, Uri, read_uri};
 use std::alloc::{AllocError, Global};
 use text::Text;
 
@@ -23,6 +23,15 @@ const CALLER: Addr = Addr {
     ip: [192, 0, 2, 10],
     port: 5060,
 };
+
+/// The URI of the callee.
+const CALLEE: &[u8] = b"sip:101@192.0.2.11";
+
+/// The token of the callee's leg, which its Call-ID begins with.
+const TOKEN: &[u8] = b"0000000000000002.3";
+
+/// The tag of the callee's leg.
+const OUR_TAG: &[u8] = b"0000000000000002.4";
 
 /// The tag of the caller's leg.
 const TAG: &[u8] = b"0000000000000002.2";
@@ -43,70 +52,53 @@ fn asker_of<'m, 'a>(id: usize, messages: &'m [Message<'a>]) -> Option<Asker<'m, 
     })
 }
 
-/// The callee's leg: new where the number is 0, and else after the request with that number, with this tag of theirs.
+/// The leg after the request with this number, if any, with this tag of theirs.
+fn put_request(alloc: Global, leg: &mut Dialog, tag: &[u8], number: u32) -> Result<(), AllocError> {
+    if number > 0 {
+        leg.id.theirs = Text::from_slice(alloc, tag)?;
+        leg.local_number = Some(number);
+    }
+    Ok(())
+}
+
+/// The callee's leg to this target: new where the number is 0, and else after the request with that number, with this tag of
+/// theirs.
+fn leg_to(
+    alloc: Global,
+    caller: &Parts<'_>,
+    target: &Uri<'_>,
+    tag: &[u8],
+    number: u32,
+) -> Result<Vec<Dialog>, AllocError> {
+    let leg = new_leg(alloc, SERVER, caller, target, TOKEN, OUR_TAG)?;
+    let mut legs = vec![in alloc; leg]?;
+    for leg in &mut legs {
+        put_request(alloc, leg, tag, number)?;
+    }
+    Ok(legs)
+}
+
+/// The same to the callee's telephone; none where there is no caller.
 fn leg_of(
     alloc: Global,
     messages: &[Message<'_>],
     tag: &[u8],
     number: u32,
 ) -> Result<Vec<Dialog>, AllocError> {
-    let mut legs = Vec::new(alloc);
-    let Some(message) = messages.first() else {
-        return Ok(legs);
-    };
-    let Ok(target) = read_uri(alloc, b"sip:101@192.0.2.11") else {
-        return Ok(legs);
-    };
-    let token = b"0000000000000002.3";
-    let ours = b"0000000000000002.4";
-    let leg = new_leg(alloc, SERVER, parts_of(message), &target, token, ours)?;
-    legs.push(after_requests(alloc, leg, tag, number)?)?;
-    Ok(legs)
-}
-
-/// The leg after the request with this number, if any, with this tag of theirs.
-fn after_requests(
-    alloc: Global,
-    leg: Dialog,
-    tag: &[u8],
-    number: u32,
-) -> Result<Dialog, AllocError> {
-    if number == 0 {
-        return Ok(leg);
-    }
-    let tag = Text::from_slice(alloc, tag)?;
-    let Dialog {
-        id,
-        ours,
-        theirs,
-        target,
-        ..
-    } = leg;
-    Ok(Dialog {
-        id: with_tag(id, tag),
-        ours,
-        theirs,
-        target,
-        local_number: Some(number),
-        remote_number: None,
-    })
-}
-
-fn with_tag(id: DialogId, theirs: Text<'static>) -> DialogId {
-    let DialogId { call_id, ours, .. } = id;
-    DialogId {
-        call_id,
-        ours,
-        theirs,
+    match (messages.first(), read_uri(alloc, CALLEE)) {
+        (Some(message), Ok(target)) => {
+            let legs = leg_to(alloc, parts_of(message), &target, tag, number);
+            outcome_after(target, legs)
+        }
+        _ => Ok(Vec::new(alloc)),
     }
 }
 
 fn descriptions_of<'a>(alloc: Global, bytes: &'a [u8]) -> Result<Vec<Description<'a>>, AllocError> {
-    let mut descriptions = Vec::new(alloc);
-    if let Ok(description) = read_description(alloc, bytes) {
-        descriptions.push(description)?;
+    match read_description(alloc, bytes) {
+        Ok(description) => Ok(vec![in alloc; description]?),
+        Err(_) => Ok(Vec::new(alloc)),
     }
-    Ok(descriptions)
 }
 
 /// A message in a list of one; none where the bytes are no message.
@@ -117,22 +109,22 @@ fn messages_of<'a>(alloc: Global, bytes: &'a [u8]) -> Vec<Message<'a>> {
     }
 }
 
-fn put_sent(alloc: Global, out: &mut String, sent: &Sent) -> Result<(), AllocError> {
+fn put_sent(out: &mut String, sent: &Sent) -> Result<(), AllocError> {
     out.push_str("; to ")?;
-    out.push_str(address_words(alloc, sent.to)?.as_str())?;
-    out.push_str(" ")?;
-    out.push_str(shown(alloc, sent.bytes.as_bytes())?.as_str())?;
-    Ok(())
+    put_address(out, sent.to)?;
+    out.push(' ')?;
+    put_shown(out, sent.bytes.as_bytes())
 }
 
-fn put_dressed(alloc: Global, out: &mut String, dressed: &Dressed) -> Result<(), AllocError> {
+fn dressed_text(alloc: Global, dressed: &Dressed) -> Result<String, AllocError> {
+    let mut out = String::new(alloc);
     let made = dressed.made;
     let changes = dressed.changes.len();
-    out.push_str(format!(in alloc; "made {made}, changes {changes}")?.as_str())?;
+    write!(out, "made {made}, changes {changes}")?;
     for sent in &dressed.sends {
-        put_sent(alloc, out, sent)?;
+        put_sent(&mut out, sent)?;
     }
-    Ok(())
+    Ok(out)
 }
 
 /// The scene, with this salt, and so many tokens made so far.
@@ -159,8 +151,82 @@ fn scene_of<'m, 'a>(
     }
 }
 
-/// The offer, the request that is answered, the description, the callee's tag and the number of the last request to it, the salt
-/// and the tokens made so far; and then the actions.
+/// What the actions of these words come to.
+fn dressed_words(
+    alloc: Global,
+    scene: &Scene<'_, '_>,
+    words: &[&[u8]],
+) -> Result<Option<String>, AllocError> {
+    if scene.tokens >= 1 << 63 {
+        return Ok(None);
+    }
+    let actions = actions_of(alloc, words)?;
+    let dressed = scene.dress(alloc, &actions)?;
+    let text = dressed_text(alloc, &dressed);
+    answer_of(outcome_after(dressed, text))
+}
+
+/// What a row has besides messages and a description: the callee's tag and the number of the last request to it, the salt and
+/// the tokens made so far; and then the actions.
+#[derive(Drop)]
+struct Rest<'r> {
+    tag: &'r [u8],
+    number: u32,
+    counted: (u64, u64),
+    words: &'r [&'r [u8]],
+}
+
+/// What a row answers with these messages and descriptions.
+fn answer_with(
+    alloc: Global,
+    offers: &[Message<'_>],
+    requests: &[Message<'_>],
+    descriptions: &[Description<'_>],
+    rest: &Rest<'_>,
+) -> Result<Option<String>, AllocError> {
+    let legs = leg_of(alloc, offers, rest.tag, rest.number)?;
+    let scene = scene_of(offers, requests, descriptions, &legs, rest.counted);
+    let answer = dressed_words(alloc, &scene, rest.words);
+    outcome_after(legs, answer)
+}
+
+fn answer_with_description(
+    alloc: Global,
+    offers: &[Message<'_>],
+    requests: &[Message<'_>],
+    description: &[u8],
+    rest: &Rest<'_>,
+) -> Result<Option<String>, AllocError> {
+    let descriptions = descriptions_of(alloc, description)?;
+    let answer = answer_with(alloc, offers, requests, &descriptions, rest);
+    outcome_after(descriptions, answer)
+}
+
+fn answer_with_request(
+    alloc: Global,
+    offers: &[Message<'_>],
+    request: &[u8],
+    description: &[u8],
+    rest: &Rest<'_>,
+) -> Result<Option<String>, AllocError> {
+    let requests = messages_of(alloc, request);
+    let answer = answer_with_description(alloc, offers, &requests, description, rest);
+    outcome_after(requests, answer)
+}
+
+fn answer_with_offer(
+    alloc: Global,
+    offer: &[u8],
+    request: &[u8],
+    description: &[u8],
+    rest: &Rest<'_>,
+) -> Result<Option<String>, AllocError> {
+    let offers = messages_of(alloc, offer);
+    let answer = answer_with_request(alloc, &offers, request, description, rest);
+    outcome_after(offers, answer)
+}
+
+/// What the row's call answers: its words are the offer, the request that is answered, the description, and the rest.
 pub(crate) fn answer_to(alloc: Global, args: &[&[u8]]) -> Result<Option<String>, AllocError> {
     let [
         offer,
@@ -175,16 +241,11 @@ pub(crate) fn answer_to(alloc: Global, args: &[&[u8]]) -> Result<Option<String>,
     else {
         return Ok(None);
     };
-    let offers = messages_of(alloc, offer);
-    let requests = messages_of(alloc, request);
-    let descriptions = descriptions_of(alloc, description)?;
-    let legs = leg_of(alloc, &offers, tag, u32_of(number))?;
-    let actions = actions_of(alloc, words)?;
-    let counted = (u64::from(u32_of(salt)), u64::from(u32_of(tokens)));
-    let scene = scene_of(&offers, &requests, &descriptions, &legs, counted);
-    if scene.tokens >= 1 << 63 {
-        return Ok(None);
-    }
-    let dressed = scene.dress(alloc, &actions)?;
-    Ok(Some(words_of(alloc, dressed, put_dressed)?))
+    let rest = Rest {
+        tag,
+        number: u32_of(number),
+        counted: (u64::from(u32_of(salt)), u64::from(u32_of(tokens))),
+        words,
+    };
+    answer_with_offer(alloc, offer, request, description, &rest)
 }
