@@ -1,7 +1,7 @@
 //! Rows of header fields alone: `Headers`, and how they are looked up.
 
-use crate::message_texts::{contacts_text, headers_text};
-use rows::{said, shown};
+use crate::message_texts::{contacts_text, headers_text, put_value};
+use rows::{answer_of, said, shown};
 use sip_message::{FieldValue, Header, Headers, contact_values, first_value, values_named};
 use sip_uri::put_param;
 use sip_writing::tag_param;
@@ -38,9 +38,9 @@ fn listed_text(alloc: Global, words: &[&[u8]]) -> Result<String, AllocError> {
 }
 
 fn value_text(alloc: Global, value: &FieldValue<'_>) -> Result<String, AllocError> {
-    let mut bytes = Vec::new(alloc);
-    value.put(&mut bytes)?;
-    shown(alloc, &bytes)
+    let mut out = String::new(alloc);
+    put_value(alloc, &mut out, value)?;
+    Ok(out)
 }
 
 fn values_text(alloc: Global, values: &[&FieldValue<'_>]) -> Result<String, AllocError> {
@@ -48,11 +48,11 @@ fn values_text(alloc: Global, values: &[&FieldValue<'_>]) -> Result<String, Allo
         return said(alloc, "none");
     }
     let mut out = String::new(alloc);
-    for value in values {
-        if !out.is_empty() {
+    for (at, value) in values.iter().enumerate() {
+        if at > 0 {
             out.push(' ')?;
         }
-        out.push_str(value_text(alloc, value)?.as_str())?;
+        put_value(alloc, &mut out, value)?;
         out.push(';')?;
     }
     Ok(out)
@@ -91,14 +91,13 @@ pub(crate) fn of_headers(
     call: &str,
     args: &[&[u8]],
 ) -> Result<Option<String>, AllocError> {
-    let answer = match (call, args) {
-        ("tag_param", [tag]) => tag_text(alloc, tag),
-        ("added", words) => added_text(alloc, words),
-        ("listed", words) => listed_text(alloc, words),
-        ("first_value", [name, words @ ..]) => first_text(alloc, name, words),
-        ("values_named", [name, words @ ..]) => named_text(alloc, name, words),
-        ("contact_values", words) => contact_values_text(alloc, words),
-        _ => return Ok(None),
-    };
-    Ok(Some(answer?))
+    match (call, args) {
+        ("tag_param", [tag]) => answer_of(tag_text(alloc, tag)),
+        ("added", words) => answer_of(added_text(alloc, words)),
+        ("listed", words) => answer_of(listed_text(alloc, words)),
+        ("first_value", [name, words @ ..]) => answer_of(first_text(alloc, name, words)),
+        ("values_named", [name, words @ ..]) => answer_of(named_text(alloc, name, words)),
+        ("contact_values", words) => answer_of(contact_values_text(alloc, words)),
+        _ => Ok(None),
+    }
 }

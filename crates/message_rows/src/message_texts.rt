@@ -1,112 +1,172 @@
 //! Messages and their parts as a row writes them.
 
-use rows::{said, shown};
-use sip_message::{ContactValue, Header, Message, Parts, Via};
-use sip_uri::{NameAddr, put_host, put_params, write_name_addr, write_uri};
+use rows::{put_shown, said};
+use sip_message::{ContactValue, FieldValue, Header, Message, Parts, Request, Response, Via};
+use sip_uri::{Host, NameAddr, Param, Uri, put_host, put_params, write_name_addr, write_uri};
 use std::alloc::{AllocError, Global};
 
-/// Kind and start line of a message, how many header fields it has, and how many bytes its body.
-pub(crate) fn summary(alloc: Global, message: &Message<'_>) -> Result<String, AllocError> {
+fn put_uri(alloc: Global, out: &mut String, uri: &Uri<'_>) -> Result<(), AllocError> {
+    let text = write_uri(alloc, uri)?;
+    put_shown(out, text.as_bytes())
+}
+
+fn put_request(alloc: Global, out: &mut String, request: &Request<'_>) -> Result<(), AllocError> {
+    out.push_str("request ")?;
+    put_shown(out, request.method.as_bytes())?;
+    out.push(' ')?;
+    put_uri(alloc, out, &request.uri)?;
+    let hops = request.max_forwards;
+    let headers = request.headers.as_slice().len();
+    let bytes = request.body.as_bytes().len();
+    write!(out, " with {hops} hops, {headers} headers, {bytes} bytes")
+}
+
+fn put_response(out: &mut String, response: &Response<'_>) -> Result<(), AllocError> {
+    let status = response.status;
+    write!(out, "response {status} '")?;
+    put_shown(out, response.reason.as_bytes())?;
+    let headers = response.headers.as_slice().len();
+    let bytes = response.body.as_bytes().len();
+    write!(out, "', {headers} headers, {bytes} bytes")
+}
+
+fn put_message(alloc: Global, out: &mut String, message: &Message<'_>) -> Result<(), AllocError> {
     match message {
-        Message::Request(request) => {
-            let method = shown(alloc, request.method.as_bytes())?;
-            let uri = shown(alloc, write_uri(alloc, &request.uri)?.as_bytes())?;
-            let headers = request.headers.as_slice().len();
-            let bytes = request.body.as_bytes().len();
-            format!(in alloc;
-                "request {method} {uri} with {} hops, {headers} headers, {bytes} bytes",
-                request.max_forwards
-            )
-        }
-        Message::Response(response) => {
-            let reason = shown(alloc, response.reason.as_bytes())?;
-            let headers = response.headers.as_slice().len();
-            let bytes = response.body.as_bytes().len();
-            format!(in alloc;
-                "response {} '{reason}', {headers} headers, {bytes} bytes",
-                response.status
-            )
-        }
+        Message::Request(request) => put_request(alloc, out, request),
+        Message::Response(response) => put_response(out, response),
     }
 }
 
+/// Kind and start line of a message, how many header fields it has, and how many bytes its body.
+pub(crate) fn summary(alloc: Global, message: &Message<'_>) -> Result<String, AllocError> {
+    let mut out = String::new(alloc);
+    put_message(alloc, &mut out, message)?;
+    Ok(out)
+}
+
+fn put_place(
+    alloc: Global,
+    out: &mut String,
+    host: &Host<'_>,
+    port: Option<u16>,
+) -> Result<(), AllocError> {
+    let mut bytes = Vec::new(alloc);
+    put_host(&mut bytes, host)?;
+    put_shown(out, &bytes)?;
+    match port {
+        Some(port) => write!(out, ", port {port}"),
+        None => out.push_str(", port none"),
+    }
+}
+
+fn put_via_params(alloc: Global, out: &mut String, params: &[Param<'_>]) -> Result<(), AllocError> {
+    let mut bytes = Vec::new(alloc);
+    put_params(&mut bytes, params, b';', b';')?;
+    put_shown(out, &bytes)
+}
+
 /// A Via value: sent-by, host, port and parameters.
-fn via_text(alloc: Global, via: &Via<'_>) -> Result<String, AllocError> {
-    let mut host = Vec::new(alloc);
-    put_host(&mut host, &via.host)?;
-    let mut params = Vec::new(alloc);
-    put_params(&mut params, via.params.as_slice(), b';', b';')?;
-    let port = match via.port {
-        Some(port) => format!(in alloc; "{port}")?,
-        None => said(alloc, "none")?,
-    };
-    let sent_by = shown(alloc, via.sent_by.as_bytes())?;
-    let (host, params) = (shown(alloc, &host)?, shown(alloc, &params)?);
-    format!(in alloc; "via {sent_by}, host {host}, port {port}, params {params};")
+fn put_via(alloc: Global, out: &mut String, via: &Via<'_>) -> Result<(), AllocError> {
+    out.push_str("via ")?;
+    put_shown(out, via.sent_by.as_bytes())?;
+    out.push_str(", host ")?;
+    put_place(alloc, out, &via.host, via.port)?;
+    out.push_str(", params ")?;
+    put_via_params(alloc, out, via.params.as_slice())?;
+    out.push(';')
+}
+
+fn put_vias(alloc: Global, out: &mut String, vias: &[Via<'_>]) -> Result<(), AllocError> {
+    for (at, via) in vias.iter().enumerate() {
+        if at > 0 {
+            out.push(' ')?;
+        }
+        put_via(alloc, out, via)?;
+    }
+    Ok(())
 }
 
 /// Via values in order.
 pub(crate) fn vias_text(alloc: Global, vias: &[Via<'_>]) -> Result<String, AllocError> {
     let mut out = String::new(alloc);
-    for via in vias {
-        if !out.is_empty() {
-            out.push(' ')?;
-        }
-        out.push_str(via_text(alloc, via)?.as_str())?;
-    }
+    put_vias(alloc, &mut out, vias)?;
     Ok(out)
 }
 
-/// A name and an address as they are written.
-pub(crate) fn name_text(alloc: Global, name: &NameAddr<'_>) -> Result<String, AllocError> {
-    shown(alloc, write_name_addr(alloc, name)?.as_bytes())
+/// Writes a name and an address.
+fn put_name(alloc: Global, out: &mut String, name: &NameAddr<'_>) -> Result<(), AllocError> {
+    let text = write_name_addr(alloc, name)?;
+    put_shown(out, text.as_bytes())
+}
+
+fn put_named_parts(alloc: Global, out: &mut String, parts: &Parts<'_>) -> Result<(), AllocError> {
+    out.push_str(" from ")?;
+    put_name(alloc, out, &parts.from)?;
+    out.push_str("; to ")?;
+    put_name(alloc, out, &parts.to)?;
+    out.push_str("; call ")?;
+    put_shown(out, parts.call_id.as_bytes())?;
+    let number = parts.cseq.number;
+    write!(out, "; number {number} ")?;
+    put_shown(out, parts.cseq.method.as_bytes())
+}
+
+fn put_texts_received(out: &mut String, parts: &Parts<'_>) -> Result<(), AllocError> {
+    out.push_str("; as ")?;
+    put_shown(out, parts.from_text.as_bytes())?;
+    out.push_str("; ")?;
+    put_shown(out, parts.to_text.as_bytes())?;
+    out.push_str("; ")?;
+    put_shown(out, parts.cseq_text.as_bytes())
 }
 
 /// What an answer repeats: the values, and behind `as` the texts of From, To and CSeq as received.
 pub(crate) fn parts_text(alloc: Global, parts: &Parts<'_>) -> Result<String, AllocError> {
     let mut out = vias_text(alloc, parts.vias.as_slice())?;
-    let from = name_text(alloc, &parts.from)?;
-    let to = name_text(alloc, &parts.to)?;
-    let call_id = shown(alloc, parts.call_id.as_bytes())?;
-    let method = shown(alloc, parts.cseq.method.as_bytes())?;
-    let number = parts.cseq.number;
-    let named = format!(in alloc;
-        " from {from}; to {to}; call {call_id}; number {number} {method}; as "
-    )?;
-    out.push_str(named.as_str())?;
-    let from = shown(alloc, parts.from_text.as_bytes())?;
-    let to = shown(alloc, parts.to_text.as_bytes())?;
-    let cseq = shown(alloc, parts.cseq_text.as_bytes())?;
-    let texts = format!(in alloc; "{from}; {to}; {cseq}")?;
-    out.push_str(texts.as_str())?;
+    put_named_parts(alloc, &mut out, parts)?;
+    put_texts_received(&mut out, parts)?;
     Ok(out)
 }
 
-fn header_text(alloc: Global, header: &Header<'_>) -> Result<String, AllocError> {
-    let name = shown(alloc, header.name.as_bytes())?;
+/// Writes the value of a header field.
+pub(crate) fn put_value(
+    alloc: Global,
+    out: &mut String,
+    value: &FieldValue<'_>,
+) -> Result<(), AllocError> {
     let mut bytes = Vec::new(alloc);
-    header.value.put(&mut bytes)?;
-    let value = shown(alloc, &bytes)?;
-    format!(in alloc; "{name}: {value}\\r\\n")
+    value.put(&mut bytes)?;
+    put_shown(out, &bytes)
+}
+
+fn put_header(alloc: Global, out: &mut String, header: &Header<'_>) -> Result<(), AllocError> {
+    put_shown(out, header.name.as_bytes())?;
+    out.push_str(": ")?;
+    put_value(alloc, out, &header.value)?;
+    out.push_str("\\r\\n")
 }
 
 /// Header fields in order, each on a line of its own.
 pub(crate) fn headers_text(alloc: Global, headers: &[Header<'_>]) -> Result<String, AllocError> {
     let mut out = String::new(alloc);
     for header in headers {
-        out.push_str(header_text(alloc, header)?.as_str())?;
+        put_header(alloc, &mut out, header)?;
     }
     Ok(out)
 }
 
-fn contact_text(alloc: Global, contact: &ContactValue<'_>) -> Result<String, AllocError> {
+fn put_contact(
+    alloc: Global,
+    out: &mut String,
+    contact: &ContactValue<'_>,
+) -> Result<(), AllocError> {
     match contact {
-        ContactValue::Star => said(alloc, "star;"),
+        ContactValue::Star => out.push_str("star;"),
         ContactValue::Address(name) => {
-            let name = name_text(alloc, name)?;
-            format!(in alloc; "{name};")
+            put_name(alloc, out, name)?;
+            out.push(';')
         }
-        ContactValue::Unreadable => said(alloc, "unreadable;"),
+        ContactValue::Unreadable => out.push_str("unreadable;"),
     }
 }
 
@@ -119,11 +179,11 @@ pub(crate) fn contacts_text(
         return said(alloc, "none");
     }
     let mut out = String::new(alloc);
-    for contact in contacts {
-        if !out.is_empty() {
+    for (at, contact) in contacts.iter().enumerate() {
+        if at > 0 {
             out.push(' ')?;
         }
-        out.push_str(contact_text(alloc, contact)?.as_str())?;
+        put_contact(alloc, &mut out, contact)?;
     }
     Ok(out)
 }

@@ -3,10 +3,10 @@
 use crate::header_rows::of_headers;
 use crate::message_texts::{contacts_text, headers_text, parts_text, summary, vias_text};
 use crate::words_rows::{built_text, words_text};
-use row_messages::{fault_text, message_of};
-use rows::{address_of, address_words, number, said, shown, u16_of};
+use row_messages::fault_text;
+use rows::{address_of, address_words, answer_of, number, outcome_after, said, shown, u16_of};
 use sip_message::{
-    Header, Message, MessageError, Parts, Response, Via, Vias, answerable, contacts, one_message,
+    Header, Message, Parts, Response, Via, Vias, answerable, contacts, one_message, read_message,
 };
 use sip_uri::Addr;
 use sip_writing::{
@@ -72,36 +72,32 @@ fn reply_text(
         return said(alloc, "no token");
     }
     let response = reply_to(alloc, parts, source, status, tag)?;
-    response_shown(alloc, &response)
+    let words = response_shown(alloc, &response);
+    outcome_after(response, words)
+}
+
+/// The parts, which are let go behind it.
+fn last_parts_text(alloc: Global, parts: Parts<'_>) -> Result<String, AllocError> {
+    let words = parts_text(alloc, &parts);
+    outcome_after(parts, words)
 }
 
 /// The parts as they are kept.
 fn kept_text(alloc: Global, parts: &Parts<'_>) -> Result<String, AllocError> {
-    let kept = parts.keep(alloc)?;
-    parts_text(alloc, &kept)
+    last_parts_text(alloc, parts.keep(alloc)?)
 }
 
 /// The message as it is kept, written.
 fn kept_shown(alloc: Global, message: &Message<'_>) -> Result<String, AllocError> {
-    let kept = vec![in alloc; message.keep(alloc)?]?;
-    match kept.first() {
-        Some(message) => message_shown(alloc, message),
-        None => said(alloc, "none"),
-    }
+    let kept = message.keep(alloc)?;
+    let words = message_shown(alloc, &kept);
+    outcome_after(kept, words)
 }
 
-/// What can be answered of a request that can't be read, in a list of one, or none.
-fn found(alloc: Global, bytes: &[u8]) -> Result<Vec<Parts<'_>>, AllocError> {
-    match answerable(alloc, bytes)? {
-        Some(parts) => Ok(vec![in alloc; parts]?),
-        None => Ok(Vec::new(alloc)),
-    }
-}
-
+/// What can be answered of a request that can't be read.
 fn found_parts_text(alloc: Global, bytes: &[u8]) -> Result<String, AllocError> {
-    let parts = found(alloc, bytes)?;
-    match parts.first() {
-        Some(parts) => parts_text(alloc, parts),
+    match answerable(alloc, bytes)? {
+        Some(parts) => last_parts_text(alloc, parts),
         None => said(alloc, "nothing"),
     }
 }
@@ -114,9 +110,11 @@ fn found_reply_text(
     status: u16,
     tag: &[u8],
 ) -> Result<String, AllocError> {
-    let parts = found(alloc, bytes)?;
-    match parts.first() {
-        Some(parts) => reply_text(alloc, parts, source, status, tag),
+    match answerable(alloc, bytes)? {
+        Some(parts) => {
+            let words = reply_text(alloc, &parts, source, status, tag);
+            outcome_after(parts, words)
+        }
         None => said(alloc, "nothing"),
     }
 }
@@ -145,31 +143,30 @@ fn of_message(
     more: &[&[u8]],
 ) -> Result<Option<String>, AllocError> {
     let parts = parts_in(message);
-    let answer = match (call, more) {
-        ("read", []) => summary(alloc, message),
-        ("parts", []) => parts_text(alloc, parts),
-        ("kept", []) => kept_text(alloc, parts),
-        ("keep_and_write", []) => kept_shown(alloc, message),
-        ("headers", []) => headers_text(alloc, headers_in(message)),
-        ("body", []) => shown(alloc, body_in(message)),
-        ("contacts", []) => contacts_in(alloc, message),
-        ("words", []) => words_text(alloc, message, parts, headers_in(message)),
+    match (call, more) {
+        ("read", []) => answer_of(summary(alloc, message)),
+        ("parts", []) => answer_of(parts_text(alloc, parts)),
+        ("kept", []) => answer_of(kept_text(alloc, parts)),
+        ("keep_and_write", []) => answer_of(kept_shown(alloc, message)),
+        ("headers", []) => answer_of(headers_text(alloc, headers_in(message))),
+        ("body", []) => answer_of(shown(alloc, body_in(message))),
+        ("contacts", []) => answer_of(contacts_in(alloc, message)),
+        ("words", []) => answer_of(words_text(alloc, message, parts, headers_in(message))),
         ("build", [server, token, tag]) => {
-            built_text(alloc, message, address_of(server), token, tag)
+            answer_of(built_text(alloc, message, address_of(server), token, tag))
         }
-        ("write", []) => message_shown(alloc, message),
-        ("write_by_kind", []) => by_kind_shown(alloc, message),
-        ("via_headers", []) => via_headers_text(alloc, parts.vias.as_slice()),
-        ("vias", []) => listed_vias_text(alloc, &parts.vias),
+        ("write", []) => answer_of(message_shown(alloc, message)),
+        ("write_by_kind", []) => answer_of(by_kind_shown(alloc, message)),
+        ("via_headers", []) => answer_of(via_headers_text(alloc, parts.vias.as_slice())),
+        ("vias", []) => answer_of(listed_vias_text(alloc, &parts.vias)),
         ("reply", [source, code, tag]) => {
-            reply_text(alloc, parts, address_of(source), u16_of(code), tag)
+            answer_of(reply_text(alloc, parts, address_of(source), u16_of(code), tag))
         }
         ("reply_address", [source]) => {
-            address_words(alloc, reply_address(parts, address_of(source)))
+            answer_of(address_words(alloc, reply_address(parts, address_of(source))))
         }
-        _ => return Ok(None),
-    };
-    Ok(Some(answer?))
+        _ => Ok(None),
+    }
 }
 
 /// What a call on the bytes of a message answers.
@@ -179,13 +176,12 @@ fn of_bytes(
     call: &str,
     more: &[&[u8]],
 ) -> Result<Option<String>, AllocError> {
-    let messages = match message_of(alloc, bytes) {
-        Ok(messages) => messages,
-        Err(fault) => return Ok(Some(fault_text(alloc, fault)?)),
-    };
-    match messages.first() {
-        Some(message) => of_message(alloc, message, call, more),
-        None => Ok(None),
+    match read_message(alloc, bytes) {
+        Ok(message) => {
+            let answer = of_message(alloc, &message, call, more);
+            outcome_after(message, answer)
+        }
+        Err(fault) => answer_of(fault_text(alloc, fault)),
     }
 }
 
@@ -224,17 +220,16 @@ fn of_unread(
     call: &str,
     more: &[&[u8]],
 ) -> Result<Option<String>, AllocError> {
-    let answer = match (call, more) {
-        ("answerable", []) => found_parts_text(alloc, bytes),
+    match (call, more) {
+        ("answerable", []) => answer_of(found_parts_text(alloc, bytes)),
         ("answer", [source, code, tag]) => {
-            found_reply_text(alloc, bytes, address_of(source), u16_of(code), tag)
+            answer_of(found_reply_text(alloc, bytes, address_of(source), u16_of(code), tag))
         }
         ("read_repeated", [text, times, back]) => {
-            return of_repeated(alloc, bytes, text, number(times), back);
+            of_repeated(alloc, bytes, text, number(times), back)
         }
-        _ => return of_bytes(alloc, bytes, call, more),
-    };
-    Ok(Some(answer?))
+        _ => of_bytes(alloc, bytes, call, more),
+    }
 }
 
 /// What the row's call answers, if it is one of `sip_message`.
@@ -246,7 +241,7 @@ pub(crate) fn answer(
     match (call, args) {
         ("laws", []) => {
             one_message();
-            Ok(Some(said(alloc, "hold")?))
+            answer_of(said(alloc, "hold"))
         }
         ("tag_param" | "added" | "listed" | "first_value" | "values_named" | "contact_values", _) =>
             { of_headers(alloc, call, args) }

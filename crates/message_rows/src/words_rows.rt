@@ -1,15 +1,15 @@
 //! Rows of words on messages, and of requests that are built.
 
-use rows::{address_words, said, shown};
+use rows::{outcome_after, put_address, put_shown, said, shown};
 use sip_message::{
-    Class, Header, Message, Parts, Request, class_of, content_type, is_method, tag_text, top_branch,
+    Class, Header, Message, Parts, Request, Via, class_of, content_type, is_method, tag_text,
+    top_branch,
 };
 use sip_uri::{Addr, NameAddr, address_of};
 use sip_writing::{
     Draft, build_request, name_with_tag, server_via, write_request, written_is_read,
 };
 use std::alloc::{AllocError, Global};
-use text::Text;
 
 fn class_text(class: Class) -> &'static str {
     match class {
@@ -20,35 +20,40 @@ fn class_text(class: Class) -> &'static str {
 }
 
 /// The class of a response, and the place that a request's URI leads to.
-fn kind_text(alloc: Global, message: &Message<'_>) -> Result<String, AllocError> {
+fn put_kind(out: &mut String, message: &Message<'_>) -> Result<(), AllocError> {
     match message {
         Message::Request(request) => match address_of(&request.uri) {
-            Some(address) => address_words(alloc, address),
-            None => said(alloc, "nowhere"),
+            Some(address) => put_address(out, address),
+            None => out.push_str("nowhere"),
         },
-        Message::Response(response) => said(alloc, class_text(class_of(response.status))),
+        Message::Response(response) => out.push_str(class_text(class_of(response.status))),
     }
 }
 
-fn branch_text(alloc: Global, parts: &Parts<'_>) -> Result<String, AllocError> {
+fn put_branch(out: &mut String, parts: &Parts<'_>) -> Result<(), AllocError> {
     match top_branch(&parts.vias) {
-        Some(branch) => shown(alloc, branch.as_bytes()),
-        None => said(alloc, "none"),
+        Some(branch) => put_shown(out, branch.as_bytes()),
+        None => out.push_str("none"),
     }
 }
 
-fn type_text(alloc: Global, headers: &[Header<'_>]) -> Result<String, AllocError> {
+fn put_type(alloc: Global, out: &mut String, headers: &[Header<'_>]) -> Result<(), AllocError> {
     match content_type(alloc, headers)? {
-        Some(kind) => shown(alloc, kind.as_bytes()),
-        None => said(alloc, "none"),
+        Some(kind) => put_shown(out, kind.as_bytes()),
+        None => out.push_str("none"),
     }
 }
 
-fn ends_text(alloc: Global, parts: &Parts<'_>) -> Result<String, AllocError> {
-    let mut out = shown(alloc, tag_text(parts.from.params.as_slice()))?;
+/// The tags of From and To, and whether the method is INVITE.
+fn put_tags(out: &mut String, parts: &Parts<'_>) -> Result<(), AllocError> {
+    put_shown(out, tag_text(parts.from.params.as_slice()))?;
     out.push('/')?;
-    out.push_str(shown(alloc, tag_text(parts.to.params.as_slice()))?.as_str())?;
-    Ok(out)
+    put_shown(out, tag_text(parts.to.params.as_slice()))?;
+    out.push_str(if is_method(parts, b"INVITE") {
+        "; INVITE"
+    } else {
+        "; other"
+    })
 }
 
 /// Kind, branch, tags, whether the method is INVITE, and type of the body.
@@ -58,34 +63,41 @@ pub(crate) fn words_text(
     parts: &Parts<'_>,
     headers: &[Header<'_>],
 ) -> Result<String, AllocError> {
-    let mut out = kind_text(alloc, message)?;
+    let mut out = String::new(alloc);
+    put_kind(&mut out, message)?;
     out.push_str("; branch ")?;
-    out.push_str(branch_text(alloc, parts)?.as_str())?;
+    put_branch(&mut out, parts)?;
     out.push_str("; tags ")?;
-    out.push_str(ends_text(alloc, parts)?.as_str())?;
-    out.push_str(if is_method(parts, b"INVITE") {
-        "; INVITE; type "
-    } else {
-        "; other; type "
-    })?;
-    out.push_str(type_text(alloc, headers)?.as_str())?;
+    put_tags(&mut out, parts)?;
+    out.push_str("; type ")?;
+    put_type(alloc, &mut out, headers)?;
     Ok(out)
+}
+
+fn request_shown(alloc: Global, request: &Request<'_>) -> Result<String, AllocError> {
+    let text = write_request(alloc, request)?;
+    shown(alloc, text.as_bytes())
+}
+
+/// A request that the server makes, written.
+fn draft_shown(alloc: Global, draft: &Draft<'_, '_>) -> Result<String, AllocError> {
+    let built = build_request(alloc, draft)?;
+    let words = request_shown(alloc, &built);
+    outcome_after(built, words)
 }
 
 /// A request to this URI between these ends, written.
 fn between<'m, 'a>(
     alloc: Global,
     request: &'m Request<'a>,
-    server: Addr,
-    token: &[u8],
+    via: &'m Via<'a>,
     from: &'m NameAddr<'a>,
     to: &'m NameAddr<'a>,
-) -> Result<Text<'static>, AllocError> {
-    let via = server_via(alloc, server, token)?;
+) -> Result<String, AllocError> {
     let draft = Draft {
         method: request.method.as_bytes(),
         uri: &request.uri,
-        via: &via,
+        via,
         max_forwards: request.max_forwards,
         from,
         to,
@@ -94,8 +106,33 @@ fn between<'m, 'a>(
         further: request.headers.as_slice().get(6..).unwrap_or(&[]),
         body: request.body.as_bytes(),
     };
-    let built = build_request(alloc, &draft)?;
-    write_request(alloc, &built)
+    draft_shown(alloc, &draft)
+}
+
+/// A request through this Via from this end to one without a tag, written.
+fn from_end(
+    alloc: Global,
+    request: &Request<'_>,
+    via: &Via<'_>,
+    from: &NameAddr<'_>,
+) -> Result<String, AllocError> {
+    let party = &request.parts.to;
+    let to = name_with_tag(alloc, &party.display, &party.uri, b"")?;
+    let words = between(alloc, request, via, from, &to);
+    outcome_after(to, words)
+}
+
+/// A request through this Via from an end with this tag, written.
+fn through_via(
+    alloc: Global,
+    request: &Request<'_>,
+    via: &Via<'_>,
+    tag: &[u8],
+) -> Result<String, AllocError> {
+    let party = &request.parts.from;
+    let from = name_with_tag(alloc, &party.display, &party.uri, tag)?;
+    let words = from_end(alloc, request, via, &from);
+    outcome_after(from, words)
 }
 
 /// The request as one that the server makes of it, with its header fields from the seventh on: From has this tag, and To
@@ -111,13 +148,7 @@ pub(crate) fn built_text(
     let Message::Request(request) = message else {
         return said(alloc, "no request");
     };
-    let from = name_with_tag(
-        alloc,
-        &request.parts.from.display,
-        &request.parts.from.uri,
-        tag,
-    )?;
-    let to = name_with_tag(alloc, &request.parts.to.display, &request.parts.to.uri, b"")?;
-    let text = between(alloc, request, server, token, &from, &to)?;
-    shown(alloc, text.as_bytes())
+    let via = server_via(alloc, server, token)?;
+    let words = through_via(alloc, request, &via, tag);
+    outcome_after(via, words)
 }
