@@ -101,14 +101,12 @@ passes_leads s e r begun id place end offer = offers_leads s.calls s.table (occa
 
 if_leads : (s : Contents) (e : _) (r : Request) (begun : List Entry) (id place : ℕ) (end : End) (c : Call) (offer : Description) → Leads s (passes_if s e r begun id place end c offer)
 if_leads s e r begun id place end c offer =
-    let refused = λ status. refuses s e r begun id place end (Refusal status) in
-    let told = λ status. refuses_leads s e r begun id place end (Refusal status) in
-    let passed = passes s e r begun id place end offer in
-    let left = has_number_left (dialog_of (other end) c) in
-    let numbered = cond left passed (refused 500) in
-    by_if (Leads s) (is_unfit c end offer) (refused 488) (cond (has_pairs_for s e.now c end offer) numbered (refused 503)) (told 488)
-    (by_if (Leads s) (has_pairs_for s e.now c end offer) numbered (refused 503)
-    (by_if (Leads s) left passed (refused 500) (passes_leads s e r begun id place end offer) (told 500)) (told 503))
+    let numbered = cond (has_number_left (dialog_of (other end) c)) (passes s e r begun id place end offer) (refuses s e r begun id place end (Refusal 500)) in
+    by_if (Leads s) (is_unfit c end offer) (refuses s e r begun id place end (Refusal 488))
+    (cond (has_pairs_for s e.now c end offer) numbered (refuses s e r begun id place end (Refusal 503))) (refuses_leads s e r begun id place end (Refusal 488))
+    (by_if (Leads s) (has_pairs_for s e.now c end offer) numbered (refuses s e r begun id place end (Refusal 503))
+    (by_if (Leads s) (has_number_left (dialog_of (other end) c)) (passes s e r begun id place end offer) (refuses s e r begun id place end (Refusal 500))
+    (passes_leads s e r begun id place end offer) (refuses_leads s e r begun id place end (Refusal 500))) (refuses_leads s e r begun id place end (Refusal 503)))
 
 in_leads : (s : Contents) (e : _) (r : Request) (begun : List Entry) (id place : ℕ) (end : End) (c : Call) (offer : Option Description) → Leads s (passes_in s e r begun id place end c offer)
 in_leads s e r begun id place end c None = refuses_leads s e r begun id place end (Refusal 488)
