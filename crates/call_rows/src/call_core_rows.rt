@@ -4,7 +4,7 @@ use crate::call_media_rows;
 use crate::call_words::{end_of, signal_of, standing_of};
 use crate::whole_calls::call_words;
 use call_core::{
-    Action, Clash, Row, Standing, clash_at, clash_without_offer, first_row, row_at,
+    Action, Clash, Row, Signal, Standing, clash_at, clash_without_offer, first_row, row_at,
     session_is_direct, session_is_of_its_exchange, spared_call_is_served, status_passed_on,
 };
 use rows::{Rows, answer_of, said, u16_of};
@@ -54,6 +54,11 @@ pub(crate) fn clash_words(alloc: Global, clash: Option<Clash>) -> Result<String,
     }
 }
 
+/// The row of a signal, where a call stands so.
+fn row_words_at(alloc: Global, standing: Standing, signal: Signal) -> Result<String, AllocError> {
+    line_words(alloc, row_at(alloc, standing, signal)?)
+}
+
 /// What a call of the table answers where a call stands so.
 fn answer_at(
     alloc: Global,
@@ -61,15 +66,24 @@ fn answer_at(
     call: &str,
     word: &[u8],
 ) -> Result<Option<String>, AllocError> {
-    let words = match (call, signal_of(word)) {
-        ("row_at", Some(signal)) => line_words(alloc, row_at(alloc, standing, signal)?),
-        ("clash_at", None) => clash_words(alloc, clash_at(standing, end_of(word))),
+    match (call, signal_of(word)) {
+        ("row_at", Some(signal)) => answer_of(row_words_at(alloc, standing, signal)),
+        ("clash_at", None) => answer_of(clash_words(alloc, clash_at(standing, end_of(word)))),
         ("clash_without_offer", None) => {
-            clash_words(alloc, clash_without_offer(standing, end_of(word)))
+            answer_of(clash_words(alloc, clash_without_offer(standing, end_of(word))))
         }
-        _ => return Ok(None),
-    };
-    Ok(Some(words?))
+        _ => Ok(None),
+    }
+}
+
+/// The row of the first offer.
+fn first_row_words(alloc: Global) -> Result<String, AllocError> {
+    line_words(alloc, first_row(alloc)?)
+}
+
+fn status_words(alloc: Global, status: u16) -> Result<String, AllocError> {
+    let passed_on = status_passed_on(status);
+    format!(in alloc; "{passed_on}")
 }
 
 /// Calls what has a law for its contract.
@@ -89,10 +103,9 @@ impl Rows for CallCoreRows {
         args: &[&[u8]],
     ) -> Result<Option<String>, AllocError> {
         match (crate_name, call, args) {
-            ("call_core", "first_row", []) => { Ok(Some(line_words(alloc, first_row(alloc)?)?)) }
+            ("call_core", "first_row", []) => answer_of(first_row_words(alloc)),
             ("call_core", "status_passed_on", [status]) => {
-                let status = status_passed_on(u16_of(status));
-                Ok(Some(format!(in alloc; "{status}")?))
+                answer_of(status_words(alloc, u16_of(status)))
             }
             ("call_core", "call", words) => answer_of(call_words(alloc, words)),
             ("call_core", "laws", []) => answer_of(laws(alloc)),

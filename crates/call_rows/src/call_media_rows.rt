@@ -4,7 +4,7 @@ use call_media::{
     Seat, pairs_needed, ports_to_answerer, ports_to_offerer, seated, seats_are_apart, seats_in_use,
 };
 use port_pool::Pair;
-use rows::{said, u16_of};
+use rows::{answer_of, outcome_after, said, u16_of};
 use sdp::{Description, DescriptionError, read_description};
 use std::alloc::{AllocError, Global};
 use text::cut;
@@ -41,27 +41,43 @@ fn pairs_of(alloc: Global, words: &[u8]) -> Result<Vec<Pair>, AllocError> {
     Ok(pairs)
 }
 
-fn put_seat(alloc: Global, out: &mut String, seat: Option<Seat>) -> Result<(), AllocError> {
-    let word = match seat {
-        Some(seat) => format!(in alloc; "{}/{} ", seat.offerer, seat.answerer)?,
-        None => said(alloc, "none ")?,
-    };
-    out.push_str(word.as_str())
+fn put_seat(out: &mut String, seat: Option<Seat>) -> Result<(), AllocError> {
+    match seat {
+        Some(seat) => write!(out, "{}/{} ", seat.offerer, seat.answerer),
+        None => out.push_str("none "),
+    }
+}
+
+fn put_ports_to_offerer(
+    alloc: Global,
+    out: &mut String,
+    seats: &[Option<Seat>],
+) -> Result<(), AllocError> {
+    let ports = ports_to_offerer(alloc, seats)?;
+    write!(out, "told {:?}", ports.as_slice())
+}
+
+fn put_ports_to_answerer(
+    alloc: Global,
+    out: &mut String,
+    seats: &[Option<Seat>],
+) -> Result<(), AllocError> {
+    let ports = ports_to_answerer(alloc, seats)?;
+    write!(out, " and {:?}", ports.as_slice())
+}
+
+/// The pairs of the media, and the ports that each end is told.
+fn put_seats(alloc: Global, out: &mut String, seats: &[Option<Seat>]) -> Result<(), AllocError> {
+    for seat in seats {
+        put_seat(out, *seat)?;
+    }
+    put_ports_to_offerer(alloc, out, seats)?;
+    put_ports_to_answerer(alloc, out, seats)
 }
 
 fn seat_words(alloc: Global, seats: &[Option<Seat>]) -> Result<String, AllocError> {
     let mut out = String::new(alloc);
-    for seat in seats {
-        put_seat(alloc, &mut out, *seat)?;
-    }
-    let to_offerer = ports_to_offerer(alloc, seats)?;
-    let to_answerer = ports_to_answerer(alloc, seats)?;
-    let told = format!(in alloc;
-        "told {:?} and {:?}",
-        to_offerer.as_slice(),
-        to_answerer.as_slice()
-    )?;
-    out.push_str(told.as_str())?;
+    put_seats(alloc, &mut out, seats)?;
     Ok(out)
 }
 
@@ -70,96 +86,87 @@ fn seated_words(
     alloc: Global,
     caller_offers: bool,
     offer: &Description<'_>,
+    kept: &[Option<Seat>],
+    fresh: &[Pair],
+) -> Result<String, AllocError> {
+    let media = offer.media.as_slice();
+    let mut out = String::new(alloc);
+    write!(out, "{} fresh: ", pairs_needed(media, kept))?;
+    let seats = seated(alloc, caller_offers, media, kept, fresh)?;
+    put_seats(alloc, &mut out, &seats)?;
+    Ok(out)
+}
+
+/// The letter and the words of a fault. Want of memory goes up.
+fn fault_words(alloc: Global, fault: DescriptionError) -> Result<String, AllocError> {
+    match fault {
+        DescriptionError::OutOfMemory => Err(AllocError),
+        fault => fault.to_string(alloc),
+    }
+}
+
+/// The pairs of the offer of an end, of these words.
+fn offer_seated(
+    alloc: Global,
+    end: &[u8],
+    offer: &[u8],
     kept: &[u8],
     fresh: &[u8],
 ) -> Result<String, AllocError> {
+    let caller_offers = end == b"caller".as_slice();
     let kept = seats_of(alloc, kept)?;
     let fresh = pairs_of(alloc, fresh)?;
-    let media = offer.media.as_slice();
-    let seats = seated(alloc, caller_offers, media, &kept, &fresh)?;
-    let words = seat_words(alloc, &seats)?;
-    format!(in alloc; "{} fresh: {words}", pairs_needed(media, &kept))
-}
-
-fn read_and_seat(alloc: Global, end: &[u8], texts: &[&[u8]]) -> Result<String, DescriptionError> {
-    let [offer, kept, fresh] = texts else {
-        return Ok(said(alloc, "no such row")?);
-    };
-    let offer = read_description(alloc, offer)?;
-    let caller_offers = end == b"caller".as_slice();
-    Ok(seated_words(alloc, caller_offers, &offer, kept, fresh)?)
-}
-
-/// The offer and the answer of an end, one taken and one sent.
-#[derive(Drop)]
-struct Pairing<'t> {
-    offer: Description<'t>,
-    answer: Description<'t>,
-}
-
-fn read_answer<'t>(
-    alloc: Global,
-    offer: Description<'t>,
-    answer: &'t [u8],
-) -> Result<Pairing<'t>, DescriptionError> {
-    let answer = read_description(alloc, answer)?;
-    Ok(Pairing { offer, answer })
-}
-
-fn read_pairing<'t>(
-    alloc: Global,
-    offer: &'t [u8],
-    answer: &'t [u8],
-) -> Result<Pairing<'t>, DescriptionError> {
-    read_answer(alloc, read_description(alloc, offer)?, answer)
-}
-
-fn in_use_words(
-    alloc: Global,
-    offerer: &Pairing<'_>,
-    answerer: &Pairing<'_>,
-) -> Result<String, AllocError> {
-    let Pairing {
-        offer: ox,
-        answer: sx,
-    } = offerer;
-    let Pairing {
-        offer: oy,
-        answer: sy,
-    } = answerer;
-    let seats = seats_in_use(alloc, ox, sx, oy, sy)?;
-    seat_words(alloc, &seats)
-}
-
-fn read_answerer(
-    alloc: Global,
-    offerer: &Pairing<'_>,
-    oy: &[u8],
-    sy: &[u8],
-) -> Result<String, DescriptionError> {
-    let answerer = read_pairing(alloc, oy, sy)?;
-    Ok(in_use_words(alloc, offerer, &answerer)?)
-}
-
-/// The pairs of a session: its offer taken, answer sent, offer sent and answer taken.
-fn read_in_use(
-    alloc: Global,
-    ox: &[u8],
-    sx: &[u8],
-    oy: &[u8],
-    sy: &[u8],
-) -> Result<String, DescriptionError> {
-    let offerer = read_pairing(alloc, ox, sx)?;
-    read_answerer(alloc, &offerer, oy, sy)
-}
-
-/// What was found, or the letter and the words of the fault.
-fn told(alloc: Global, outcome: Result<String, DescriptionError>) -> Result<String, AllocError> {
-    match outcome {
-        Ok(words) => Ok(words),
-        Err(DescriptionError::OutOfMemory) => Err(AllocError),
-        Err(fault) => fault.to_string(alloc),
+    match read_description(alloc, offer) {
+        Ok(offer) => {
+            let words = seated_words(alloc, caller_offers, &offer, &kept, &fresh);
+            outcome_after(offer, words)
+        }
+        Err(fault) => fault_words(alloc, fault),
     }
+}
+
+/// The descriptions of these texts, in a list that is let go as a whole.
+fn descriptions_of<'t>(
+    alloc: Global,
+    texts: &[&'t [u8]],
+) -> Result<Vec<Description<'t>>, DescriptionError> {
+    let mut descriptions = Vec::new(alloc);
+    for text in texts {
+        descriptions.push(read_description(alloc, text)?)?;
+    }
+    Ok(descriptions)
+}
+
+/// The pairs of a session of four descriptions: its offer taken, answer sent, offer sent and answer taken.
+fn in_use_words(alloc: Global, session: &[Description<'_>]) -> Result<String, AllocError> {
+    match session {
+        [ox, sx, oy, sy] => {
+            let seats = seats_in_use(alloc, ox, sx, oy, sy)?;
+            seat_words(alloc, &seats)
+        }
+        _ => said(alloc, "no session"),
+    }
+}
+
+/// The same of a session of these texts.
+fn session_in_use(alloc: Global, texts: &[&[u8]]) -> Result<String, AllocError> {
+    match descriptions_of(alloc, texts) {
+        Ok(session) => in_use_words(alloc, &session),
+        Err(fault) => fault_words(alloc, fault),
+    }
+}
+
+fn seat_across(alloc: Global, word: &[u8]) -> Result<String, AllocError> {
+    match seat_of(word) {
+        Some(seat) => format!(in alloc; "{:?}", seat.across()),
+        None => said(alloc, "none"),
+    }
+}
+
+/// Calls what has a law for its contract.
+fn laws(alloc: Global) -> Result<String, AllocError> {
+    seats_are_apart();
+    said(alloc, "hold")
 }
 
 /// What a call of `call_media` answers.
@@ -168,18 +175,13 @@ pub(crate) fn answer(
     call: &str,
     args: &[&[u8]],
 ) -> Result<Option<String>, AllocError> {
-    let words = match (call, args) {
-        ("laws", []) => {
-            seats_are_apart();
-            said(alloc, "hold")
+    match (call, args) {
+        ("laws", []) => answer_of(laws(alloc)),
+        ("seated", [end, offer, kept, fresh]) => {
+            answer_of(offer_seated(alloc, end, offer, kept, fresh))
         }
-        ("seated", [end, texts @ ..]) => told(alloc, read_and_seat(alloc, end, texts)),
-        ("seats_in_use", [ox, sx, oy, sy]) => told(alloc, read_in_use(alloc, ox, sx, oy, sy)),
-        ("across", [seat]) => match seat_of(seat) {
-            Some(seat) => format!(in alloc; "{:?}", seat.across()),
-            None => said(alloc, "none"),
-        },
-        _ => return Ok(None),
-    };
-    Ok(Some(words?))
+        ("seats_in_use", [_, _, _, _]) => answer_of(session_in_use(alloc, args)),
+        ("across", [seat]) => answer_of(seat_across(alloc, seat)),
+        _ => Ok(None),
+    }
 }

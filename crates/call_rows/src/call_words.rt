@@ -14,10 +14,25 @@ pub(crate) fn end_of(word: &[u8]) -> End {
 }
 
 fn cancelled_of(word: &[u8]) -> Cancelled {
-    match word {
-        b"waits" => Cancelled::Waits,
-        b"passed_on" => Cancelled::PassedOn,
+    match str::from_utf8(word) {
+        Ok("waits") => Cancelled::Waits,
+        Ok("passed_on") => Cancelled::PassedOn,
         _ => Cancelled::Never,
+    }
+}
+
+fn has_rung(word: &[u8]) -> bool {
+    word == b"rung".as_slice()
+}
+
+/// The stage of a word for a call whose first offer was answered, and of what stands behind it.
+fn later_stage_of(name: &[u8], first: &[u8], second: &[u8]) -> Option<Stage> {
+    match str::from_utf8(name) {
+        Ok("settled") => Some(Stage::Settled),
+        Ok("reasked") => Some(Stage::Reasked(has_rung(first), cancelled_of(second))),
+        Ok("reanswered") => Some(Stage::Reanswered(number(first))),
+        Ok("updating") => Some(Stage::Updating),
+        _ => None,
     }
 }
 
@@ -25,16 +40,12 @@ fn cancelled_of(word: &[u8]) -> Cancelled {
 fn stage_of(word: &[u8]) -> Option<Stage> {
     let (name, rest) = cut_word(word);
     let (first, second) = cut_word(rest);
-    match name {
-        b"asked" => Some(Stage::Asked(first == b"rung".as_slice())),
-        b"cancelling" => Some(Stage::Cancelling(first == b"sent".as_slice())),
-        b"answered" => Some(Stage::Answered(number(first))),
-        b"settled" => Some(Stage::Settled),
-        b"reasked" => Some(Stage::Reasked(first == b"rung".as_slice(), cancelled_of(second))),
-        b"reanswered" => Some(Stage::Reanswered(number(first))),
-        b"updating" => Some(Stage::Updating),
-        b"ending" => Some(Stage::Ending(number(first))),
-        _ => None,
+    match str::from_utf8(name) {
+        Ok("asked") => Some(Stage::Asked(has_rung(first))),
+        Ok("cancelling") => Some(Stage::Cancelling(first == b"sent".as_slice())),
+        Ok("answered") => Some(Stage::Answered(number(first))),
+        Ok("ending") => Some(Stage::Ending(number(first))),
+        _ => later_stage_of(name, first, second),
     }
 }
 
@@ -54,23 +65,37 @@ fn offer_of(rest: &[u8]) -> Signal {
     }
 }
 
+/// The signal of a word for a timer of the call.
+fn clock_signal_of(name: &[u8]) -> Option<Signal> {
+    match str::from_utf8(name) {
+        Ok("limit") => Some(Signal::Limit),
+        Ok("repeat") => Some(Signal::Repeat),
+        Ok("wait") => Some(Signal::Wait),
+        _ => None,
+    }
+}
+
+/// The signal of a word that nothing stands behind.
+fn one_word_signal_of(name: &[u8]) -> Option<Signal> {
+    match str::from_utf8(name) {
+        Ok("fit_answer") => Some(Signal::FitAnswer),
+        Ok("unfit_answer") => Some(Signal::UnfitAnswer),
+        Ok("timed_out") => Some(Signal::TimedOut),
+        Ok("ack") => Some(Signal::Ack),
+        Ok("cancel") => Some(Signal::Cancel),
+        _ => clock_signal_of(name),
+    }
+}
+
 /// The signal of a word and of what stands behind it.
 pub(crate) fn signal_of(word: &[u8]) -> Option<Signal> {
     let (name, rest) = cut_word(word);
-    match name {
-        b"offer" => Some(offer_of(rest)),
-        b"provisional" => Some(Signal::Provisional(u16_of(rest))),
-        b"fit_answer" => Some(Signal::FitAnswer),
-        b"unfit_answer" => Some(Signal::UnfitAnswer),
-        b"refusal" => Some(Signal::Refusal(u16_of(rest))),
-        b"timed_out" => Some(Signal::TimedOut),
-        b"ack" => Some(Signal::Ack),
-        b"cancel" => Some(Signal::Cancel),
-        b"bye" => Some(Signal::Bye(end_of(rest))),
-        b"limit" => Some(Signal::Limit),
-        b"repeat" => Some(Signal::Repeat),
-        b"wait" => Some(Signal::Wait),
-        _ => None,
+    match str::from_utf8(name) {
+        Ok("offer") => Some(offer_of(rest)),
+        Ok("provisional") => Some(Signal::Provisional(u16_of(rest))),
+        Ok("refusal") => Some(Signal::Refusal(u16_of(rest))),
+        Ok("bye") => Some(Signal::Bye(end_of(rest))),
+        _ => one_word_signal_of(name),
     }
 }
 

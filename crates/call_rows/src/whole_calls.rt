@@ -1,7 +1,7 @@
 //! Rows of whole calls: each word of a row is what reaches a new call, a second behind the one before, and what the last of them
 //! does is told.
 
-ghost use Rattle.std.specs.Prelude.{IfOk};
+ghost use Rattle.std.specs.Prelude.{◌≡◌, IfOk, None};
 ghost use Rattle.call_core.specs.Calls.{IsServed};
 
 use crate::call_core_rows::{clash_words, put_actions};
@@ -92,56 +92,88 @@ fn described(alloc: Global, body: Option<&[u8]>) -> Result<Option<Description<'_
 }
 
 impl WholeCall {
+    /// Writes where the call stands.
+    fn put(&self, alloc: Global, out: &mut String) -> Result<(), AllocError> {
+        put_call(alloc, out, &self.call, &self.pool, self.now)
+    }
+
+    fn done_words(&self, alloc: Global, done: &Done) -> Result<String, AllocError> {
+        let mut out = String::new(alloc);
+        put_actions(&mut out, done.actions.as_slice())?;
+        self.put(alloc, &mut out)?;
+        Ok(out)
+    }
+
+    fn refusal_words(&self, alloc: Global, refusal: CallRefusal) -> Result<String, AllocError> {
+        let mut out = String::new(alloc);
+        write!(out, "{refusal}, ")?;
+        self.put(alloc, &mut out)?;
+        Ok(out)
+    }
+
     /// What was done, or why nothing was, and where the call stands behind it.
     fn told(
         &self,
         alloc: Global,
         outcome: Result<Done, CallRefusal>,
     ) -> Result<String, AllocError> {
-        let mut out = String::new(alloc);
         match outcome {
-            Ok(done) => put_actions(&mut out, done.actions.as_slice())?,
-            Err(CallRefusal::OutOfMemory) => return Err(AllocError),
-            Err(refusal) => write!(out, "{refusal}, ")?,
+            Ok(done) => {
+                let words = self.done_words(alloc, &done);
+                outcome_after(done, words)
+            }
+            Err(CallRefusal::OutOfMemory) => Err(AllocError),
+            Err(refusal) => self.refusal_words(alloc, refusal),
         }
-        put_call(alloc, &mut out, &self.call, &self.pool, self.now)?;
-        Ok(out)
     }
 
     /// Where memory ran out, the call and the pool are as they were, so the same is asked once more.
-    fn take(&mut self, alloc: Global, input: &Input<'_>) -> Result<String, AllocError>
+    fn take(&mut self, alloc: Global, input: &Input<'_>) -> Result<Done, CallRefusal>
         requires { IsServed self.old.call self.old.pool }
         ensures { IsServed self.new.call self.new.pool }
     {
-        let mut outcome = self.call.take(alloc, input, &mut self.pool, self.now);
-        if let Err(CallRefusal::OutOfMemory) = outcome {
-            outcome = self.call.take(alloc, input, &mut self.pool, self.now);
+        match self.call.take(alloc, input, &mut self.pool, self.now) {
+            Err(CallRefusal::OutOfMemory) => {
+                self.call.take(alloc, input, &mut self.pool, self.now)
+            }
+            outcome => outcome,
         }
-        self.told(alloc, outcome)
     }
 
-    fn ask(&mut self, alloc: Global, offer: &Description<'_>) -> Result<String, AllocError>
+    fn ask(&mut self, alloc: Global, offer: &Description<'_>) -> Result<Done, CallRefusal>
+        requires serves { IsServed self.old.call self.old.pool }
+        requires nowhere { self.old.call.standing ≡ None }
+        ensures { IsServed self.new.call self.new.pool }
+    {
+        match self.call.ask(alloc, offer, &mut self.pool, self.now) {
+            Err(CallRefusal::OutOfMemory) => {
+                self.call.ask(alloc, offer, &mut self.pool, self.now)
+            }
+            outcome => outcome,
+        }
+    }
+
+    /// What the first offer does; there is no second one.
+    fn asked(&mut self, alloc: Global, offer: &Description<'_>) -> Result<String, AllocError>
         requires { IsServed self.old.call self.old.pool }
         ensures { IsServed self.new.call self.new.pool }
     {
         if self.call.standing().is_some() {
             return said(alloc, "no first offer");
         }
-        let mut outcome = self.call.ask(alloc, offer, &mut self.pool, self.now);
-        if let Err(CallRefusal::OutOfMemory) = outcome {
-            outcome = self.call.ask(alloc, offer, &mut self.pool, self.now);
-        }
+        let outcome = self.ask(alloc, offer);
         self.told(alloc, outcome)
     }
 
-    fn asked(&mut self, alloc: Global, offer: Option<Description<'_>>) -> Result<String, AllocError>
+    /// The same of the description behind the word.
+    fn asked_by(&mut self, alloc: Global, body: Option<&[u8]>) -> Result<String, AllocError>
         requires { IsServed self.old.call self.old.pool }
         ensures { IsServed self.new.call self.new.pool }
     {
-        match offer {
+        match described(alloc, body)? {
             Some(offer) => {
-                let outcome = self.ask(alloc, &offer);
-                outcome_after(offer, outcome)
+                let words = self.asked(alloc, &offer);
+                outcome_after(offer, words)
             }
             None => said(alloc, "no description"),
         }
@@ -152,10 +184,10 @@ impl WholeCall {
         ensures { IsServed self.new.call self.new.pool }
     {
         let outcome = self.take(alloc, &input);
-        outcome_after(input, outcome)
+        self.told(alloc, outcome_after(input, outcome))
     }
 
-    /// A signal, with the description that comes with it.
+    /// What a signal does, with the description that comes with it.
     fn signalled(
         &mut self,
         alloc: Global,
@@ -178,6 +210,16 @@ impl WholeCall {
         }
     }
 
+    /// The callee's dialog, in which the last request of the server had this number.
+    fn put_callee(&mut self, alloc: Global, number: u32) -> Result<String, AllocError>
+        requires { IsServed self.old.call self.old.pool }
+        ensures { IsServed self.new.call self.new.pool }
+    {
+        self.call
+            .put_dialog(End::Callee, dialog(alloc, Some(number)));
+        said(alloc, "there")
+    }
+
     /// What a word does that is no signal.
     fn asked_or_told(
         &mut self,
@@ -189,18 +231,11 @@ impl WholeCall {
         ensures { IsServed self.new.call self.new.pool }
     {
         let (name, rest) = cut_word(word);
-        match name {
-            b"ask" => {
-                let offer = described(alloc, body)?;
-                self.asked(alloc, offer)
-            }
-            b"dialog" => {
-                let dialog = dialog(alloc, Some(u32_of(rest)));
-                self.call.put_dialog(End::Callee, dialog);
-                said(alloc, "there")
-            }
-            b"clash" => clash_words(alloc, self.call.clash(end_of(rest))),
-            b"clash_without_offer" => {
+        match str::from_utf8(name) {
+            Ok("ask") => self.asked_by(alloc, body),
+            Ok("dialog") => self.put_callee(alloc, u32_of(rest)),
+            Ok("clash") => clash_words(alloc, self.call.clash(end_of(rest))),
+            Ok("clash_without_offer") => {
                 clash_words(alloc, self.call.clash_without_offer(end_of(rest)))
             }
             _ => said(alloc, "no such input"),
