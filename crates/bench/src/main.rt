@@ -43,7 +43,7 @@ const PLAIN_CALL: [&str; 7] = [
 ];
 
 /// What becomes of what was read.
-#[derive(Clone, Copy, PartialEq, Eq)]
+#[derive(Clone, Copy)]
 enum More {
     Nothing,
     Description,
@@ -73,9 +73,14 @@ fn is_more_done(alloc: Global, message: &Message<'_>, more: More) -> bool {
     }
 }
 
+/// What a task was about, behind it. In a function of every type the drop is one call, and that of a message is proved once.
+fn let_go<T: Drop>(_value: T) {}
+
 /// What there is to do with a message done; it is dropped behind it.
 fn is_whole_done(alloc: Global, message: Message<'_>, more: More) -> bool {
-    is_more_done(alloc, &message, more)
+    let is_done = is_more_done(alloc, &message, more);
+    let_go(message);
+    is_done
 }
 
 /// Whether a message is read, and what there is to do with it done.
