@@ -1,9 +1,5 @@
 mod RoomLaws
 mod StepLaws
 mod ConfigLaws
-mod CallLaws
 mod TraceLaws
-mod FirstLaws
-mod OfferLaws
 mod EnterLaws
-mod PlanLaws

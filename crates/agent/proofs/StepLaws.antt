@@ -4,13 +4,13 @@ use Rattle.std.proofs.Math.Nat.{add-zero}
 use Rattle.std.proofs.lemmas.Bool.{leb-false}
 use Rattle.std.proofs.lemmas.List.{append-nil}
 use Rattle.events.specs.declared.event.Event.{Event}
-use Rattle.agent.specs.declared.taken.Taken.{Taken}
+use Rattle.plans.specs.declared.taken.Taken.{Taken}
 use Rattle.events.specs.declared.sent.Sent.{Sent}
-use Rattle.agent.specs.CallRows.{of_plan}
-use Rattle.agent.specs.Effect.{Effect}
-use Rattle.agent.specs.Plan.{nothing}
+use Rattle.plans.specs.CallRows.{of_plan}
+use Rattle.plans.specs.Effect.{Effect}
+use Rattle.plans.specs.Plan.{nothing}
 use Rattle.agent.specs.Rows.{after, moment_after, only_counts, row, row_by, what_row}
-use Rattle.agent.specs.State.{Contents, after_count, after_event, moment_at, moments_end, most_tokens}
+use Rattle.agent.specs.State.{Contents, after_count, after_event, moment_at, moments_end, most_tokens, office}
 use Rattle.agent.specs.Tally.{counted}
 
 looked_at : (a b : Bool) (x y : Taken) (w : Option Taken) → cond a (Some x) (cond b (Some y) w) ≡ None → (a ≡ false) × (b ≡ false)
@@ -28,7 +28,7 @@ early s e h = leb-false moments_end e.now (counts s e h).0
 pub few : (s : Contents) (e : Event) → only_counts s e ≡ None → s.tokens < 2 ^ 63
 few s e h = leb-false most_tokens s.tokens (counts s e h).1
 
-pub looked : (s : Contents) (e : Event) → only_counts s e ≡ None → row s e ≡ what_row s (moment_at s e.now) e.salt e.what
+pub looked : (s : Contents) (e : Event) → only_counts s e ≡ None → row s e ≡ what_row (office s) (moment_at s e.now) e.salt e.what
 unfolding row
 looked s e h = ap (row_by s e) h
 
@@ -36,10 +36,10 @@ moment_of : (s : Contents) (e : Event) → only_counts s e ≡ None → moment_a
 moment_of s e h = ap (λ b. cond b s.moment (moment_at s e.now)) (counts s e h).0
 
 pub after_looked : (s : Contents) (e : Event) → only_counts s e ≡ None →
-    after s e ≡ after_event s (moment_at s e.now) (what_row s (moment_at s e.now) e.salt e.what)
+    after s e ≡ after_event s (moment_at s e.now) (what_row (office s) (moment_at s e.now) e.salt e.what)
 after_looked s e h = ap (λ m. after_event s m (row s e)) (moment_of s e h) ∙ ap (after_event s (moment_at s e.now)) (looked s e h)
 
-only_counted : (s : Contents) (e : Event) (taken : Taken) → only_counts s e ≡ Some taken → row s e ≡ of_plan s (nothing taken)
+only_counted : (s : Contents) (e : Event) (taken : Taken) → only_counts s e ≡ Some taken → row s e ≡ of_plan (office s) (nothing taken)
 unfolding row
 only_counted s e taken h = ap (row_by s e) h
 
@@ -50,7 +50,7 @@ pub sends_counted : (s : Contents) (e : Event) (taken : Taken) (sent : List Sent
 sends_counted s e taken sent h =
     sym (append-nil sent) ∙ ap (λ (more : List Sent). sent ++ more) (sym (ap (λ (x : Effect). x.plan.sends) (only_counted s e taken h)))
 
-counted_alone : (s : Contents) (m : ℕ) (taken : Taken) → after_event s m (of_plan s (nothing taken)) ≡ after_count s m taken
+counted_alone : (s : Contents) (m : ℕ) (taken : Taken) → after_event s m (of_plan (office s) (nothing taken)) ≡ after_count s m taken
 unfolding after_event
 counted_alone s m taken =
     let with_tokens : ℕ → Contents = λ n. record { registrar = s.registrar; table = s.table; calls = s.calls; acks = s.acks; changes = []; server = s.server; range = s.range; least = s.least; moment = m; tokens = n; tally = counted s.tally taken } in

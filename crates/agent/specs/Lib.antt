@@ -1,9 +1,5 @@
 pub mod Tally
-pub mod Plan
-pub mod Effect
 pub mod State
 pub mod Rules
-pub mod Replies
-pub mod CallRows
 pub mod Rows
 pub mod Trace

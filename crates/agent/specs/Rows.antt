@@ -35,17 +35,18 @@ use Rattle.transactions.specs.Slots.{at, serving}
 use Rattle.events.specs.declared.event.Event.{Event}
 use Rattle.events.specs.declared.event.What.{What}
 use Rattle.events.specs.declared.event.What.TheVariants as whats
-use Rattle.agent.specs.declared.setting.Setting.{Setting}
+use Rattle.plans.specs.declared.setting.Setting.{Setting}
 use Rattle.agent.specs.declared.rule.Rule.{Rule}
 use Rattle.agent.specs.declared.rule.Rule.TheVariants as rules
-use Rattle.agent.specs.declared.taken.Taken.{Taken}
-use Rattle.agent.specs.declared.taken.Taken.TheVariants.{Dropped, Shed, Idle}
-use Rattle.agent.specs.declared.taken.Why.TheVariants.{Unread, Stray, Ack, NoBranch, Clock, Spent}
-use Rattle.agent.specs.Plan.{Plan, nothing, moves, replies, answers}
+use Rattle.plans.specs.declared.taken.Taken.{Taken}
+use Rattle.plans.specs.declared.taken.Taken.TheVariants.{Dropped, Shed, Idle}
+use Rattle.plans.specs.declared.taken.Why.TheVariants.{Unread, Stray, Ack, NoBranch, Clock, Spent}
+use Rattle.plans.specs.Plan.{Plan, nothing, moves, replies, answers}
 use Rattle.responses.specs.Registering.{register_of}
 use Rattle.responses.specs.Responding.{allow, contact_header, refusal_headers, status_of, responds, stateless}
 use Rattle.agent.specs.Rules.{request_rule}
-use Rattle.agent.specs.State.{Contents, after_event, moment_at, moments_end, most_tokens}
+use Rattle.plans.specs.Office.{Office}
+use Rattle.agent.specs.State.{Contents, after_event, moment_at, moments_end, most_tokens, office}
 use Rattle.responses.specs.Tags.{joined_tags, required_tags}
 use Rattle.responses.specs.Tokens.{token}
 use Rattle.responses.specs.Words.{has_fit_branch, is_method}
@@ -53,32 +54,32 @@ use Rattle.sip_message.specs.declared.message.Response.{Response}
 use Rattle.calls.specs.Changes.{unchanged}
 use Rattle.calls.specs.declared.timer_id.CallTimerId.{CallTimerId}
 use Rattle.call_rules.specs.Reach.{is_unreachable}
-use Rattle.agent.specs.Effect.{Effect, alone, without_ack}
-use Rattle.agent.specs.Replies.{reply_row}
-use Rattle.agent.specs.CallRows.{ack_row, call_row, call_timer_row, of_plan, response_row, timeout_row}
+use Rattle.plans.specs.Effect.{Effect, alone, without_ack}
+use Rattle.plans.specs.Replies.{reply_row}
+use Rattle.plans.specs.CallRows.{ack_row, call_row, call_timer_row, of_plan, response_row, timeout_row}
 
 -- ---- what the transactions make of a message
 
 -- a request or an ACK, by what the transactions say of it
-abbrev pub rule_row : Contents → Setting → Request → List Entry → ℕ → Rule → Effect
+abbrev pub rule_row : Office → Setting → Request → List Entry → ℕ → Rule → Effect
 rule_row s e r begun id (rules.Alone reply) = of_plan s (reply_row s e r begun id reply)
 rule_row s e r begun id (rules.Call rule) = call_row s e r begun id rule
 
-unfoldable pub request_by : Contents → Setting → Request → List Entry → Verdict → Option Outgoing → Effect
+unfoldable pub request_by : Office → Setting → Request → List Entry → Verdict → Option Outgoing → Effect
 request_by s e r begun (verdicts.New id) send = rule_row s e r begun id (request_rule s r e.now)
 request_by s e r begun verdicts.Repeat send = of_plan s (moves begun send)
 request_by s e r begun verdicts.Swallowed send = of_plan s (moves begun send)
 request_by s e r begun (verdicts.Up id) send = ack_row s e r begun
 request_by s e r begun verdicts.Stray send = ack_row s e r begun
 
-unfoldable pub response_by : Contents → Setting → Response → List Entry → Verdict → Option Outgoing → Effect
+unfoldable pub response_by : Office → Setting → Response → List Entry → Verdict → Option Outgoing → Effect
 response_by s e r begun (verdicts.New id) send = of_plan s (nothing (Dropped Stray))
 response_by s e r begun verdicts.Repeat send = of_plan s (moves begun send)
 response_by s e r begun verdicts.Swallowed send = of_plan s (moves begun send)
 response_by s e r begun (verdicts.Up id) send = response_row s e r begun send id
 response_by s e r begun verdicts.Stray send = of_plan s (nothing (Dropped Stray))
 
-abbrev pub received_by : Contents → Setting → Message → List Entry → Verdict → Option Outgoing → Effect
+abbrev pub received_by : Office → Setting → Message → List Entry → Verdict → Option Outgoing → Effect
 received_by s e (Kinds.Request r) begun verdict send = request_by s e r begun verdict send
 received_by s e (Kinds.Response r) begun verdict send = response_by s e r begun verdict send
 
@@ -90,10 +91,10 @@ begins (verdicts.Up id) = false
 begins verdicts.Stray = false
 
 -- there are as many server transactions as there may be
-abbrev pub is_full : Contents → Reception → Bool
+abbrev pub is_full : Office → Reception → Bool
 is_full s reception = begins reception.verdict && nat_le most_served (serving s.table.slots)
 
-unfoldable pub received : Contents → Setting → Message → Effect
+unfoldable pub received : Office → Setting → Message → Effect
 received s e message =
     if is_full s (reception_of s.table message) then of_plan s (nothing Shed)
     else received_by s e message (change_of s.table message e.source ∷ []) (reception_of s.table message).verdict (reception_of s.table message).send
@@ -118,10 +119,10 @@ abbrev pub is_unreachable_message : Message → Bool
 is_unreachable_message (Kinds.Request r) = false
 is_unreachable_message (Kinds.Response r) = is_unreachable r
 
-abbrev pub fit_row : Contents → Setting → Message → Effect
+abbrev pub fit_row : Office → Setting → Message → Effect
 fit_row s e message = if is_unreachable_message message then of_plan s (nothing (Dropped Stray)) else received s e message
 
-unfoldable pub read_row : Contents → Setting → Message → Effect
+unfoldable pub read_row : Office → Setting → Message → Effect
 read_row s e message = if has_fit_branch (parts_of message).vias then fit_row s e message else of_plan s (unfit_branch e message)
 
 -- ---- a datagram that can't be read
@@ -136,30 +137,30 @@ unread_row e bytes faults.TooLong = nothing (Dropped (Unread faults.TooLong))
 unread_row e bytes faults.Version = unread_by e faults.Version 505 (answerable_of bytes)
 unread_row e bytes fault = unread_by e fault 400 (answerable_of bytes)
 
-abbrev pub by_reading : Contents → Setting → List ℕ → Result Message MessageError → Effect
+abbrev pub by_reading : Office → Setting → List ℕ → Result Message MessageError → Effect
 by_reading s e bytes (Ok message) = read_row s e message
 by_reading s e bytes (Err fault) = of_plan s (unread_row e bytes fault)
 
-unfoldable pub datagram_row : Contents → Setting → List ℕ → Effect
+unfoldable pub datagram_row : Office → Setting → List ℕ → Effect
 datagram_row s e bytes = by_reading s e bytes (message_of bytes)
 
 -- ---- a timer of a transaction
 
 -- the ACK of an INVITE whose transaction ends goes no more
-abbrev pub ends : Contents → TimerId → Effect
+abbrev pub ends : Office → TimerId → Effect
 ends s timer = record { plan = moves (fire_of timer ∷ []) None; calls = unchanged s.calls; acks = without_ack timer.id s.acks }
 
-abbrev pub fires_by : Contents → Setting → TimerId → Option Fired → Effect
+abbrev pub fires_by : Office → Setting → TimerId → Option Fired → Effect
 fires_by s e timer None = of_plan s (nothing Idle)
 fires_by s e timer (Some (fires.Send out)) = of_plan s (moves (fire_of timer ∷ []) (Some out))
 fires_by s e timer (Some fires.TimedOut) = timeout_row s e timer
 fires_by s e timer (Some fires.Ended) = ends s timer
 
-unfoldable pub timer_row : Contents → Setting → TimerId → Effect
+unfoldable pub timer_row : Office → Setting → TimerId → Effect
 timer_row s e timer = fires_by s e timer (fired_of (at s.table.slots timer.id) timer.kind)
 
 -- the one that is due first; at equal moments that of a transaction
-abbrev pub due_row : Contents → Setting → Option (Timer TimerId) → Option (Timer CallTimerId) → Effect
+abbrev pub due_row : Office → Setting → Option (Timer TimerId) → Option (Timer CallTimerId) → Effect
 due_row s e None None = of_plan s (nothing Idle)
 due_row s e (Some timer) None = timer_row s e timer.key
 due_row s e None (Some other) = call_timer_row s e other.key
@@ -191,13 +192,13 @@ setting now salt source = record { now = now; salt = salt; source = source }
 abbrev pub no_source : Addr
 no_source = record { ip = 0 ∷ 0 ∷ 0 ∷ 0 ∷ []; port = 0 }
 
-unfoldable pub what_row : Contents → ℕ → ℕ → What → Effect
+unfoldable pub what_row : Office → ℕ → ℕ → What → Effect
 what_row s now salt (whats.Datagram source bytes) = datagram_row s (setting now salt source) bytes
 what_row s now salt whats.Due = due_row s (setting now salt no_source) (first_due s.table.timers now) (first_due s.calls.timers now)
 
 abbrev pub row_by : Contents → Event → Option Taken → Effect
-row_by s e (Some taken) = of_plan s (nothing taken)
-row_by s e None = what_row s (moment_at s e.now) e.salt e.what
+row_by s e (Some taken) = of_plan (office s) (nothing taken)
+row_by s e None = what_row (office s) (moment_at s e.now) e.salt e.what
 
 -- what an event comes to
 unfoldable pub row : Contents → Event → Effect

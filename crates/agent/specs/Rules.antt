@@ -11,8 +11,8 @@ use Rattle.transactions.specs.Contents.{merged}
 use Rattle.transactions.specs.Slots.{named}
 use Rattle.agent.specs.declared.rule.Rule.{Rule}
 use Rattle.agent.specs.declared.rule.Rule.TheVariants.{Alone, Call}
-use Rattle.agent.specs.declared.rule.Reply.TheVariants.{CancelOf, Refusal, MethodUnoffered, TypeRefused, EncodingRefused, ExtensionRefused, MethodsListed, Registration}
-use Rattle.agent.specs.declared.rule.CallRule.TheVariants as calls
+use Rattle.plans.specs.declared.rule.Reply.TheVariants.{CancelOf, Refusal, MethodUnoffered, TypeRefused, EncodingRefused, ExtensionRefused, MethodsListed, Registration}
+use Rattle.plans.specs.declared.rule.CallRule.TheVariants as calls
 use Rattle.sdp.specs.declared.description.Description.{Description}
 use Rattle.calls.specs.declared.standing_call.StandingCall.{StandingCall}
 use Rattle.calls.specs.Finding.{place_by_offer}
@@ -23,7 +23,7 @@ use Rattle.call_rules.specs.declared.content.ContentRule.TheVariants as content
 use Rattle.call_rules.specs.Requests.{dialog_rule}
 use Rattle.call_rules.specs.Content.{content_rule, described}
 use Rattle.call_rules.specs.Reach.{contact_address}
-use Rattle.agent.specs.State.{Contents}
+use Rattle.plans.specs.Office.{Office}
 use Rattle.responses.specs.Words.{is_method, has_header, is_declined_method, is_offered_method}
 
 -- None: the line does not apply
@@ -50,11 +50,11 @@ cancel_rule standing None = refused 481
 cancel_rule standing (Some id) = cancels id (place_by_offer id standing)
 
 -- a CANCEL gets 200 where a request has its branch and sent-by (RFC 3261 section 9.2)
-abbrev pub cancel_line : Contents → Request → Option Rule
+abbrev pub cancel_line : Office → Request → Option Rule
 cancel_line s r = when (is_method (codes "CANCEL") r) (cancel_rule s.calls.calls (named s.table.slots r.parts))
 
 -- a request that came on another way too (section 8.2.2.2)
-abbrev pub merged_line : Contents → Request → Option Rule
+abbrev pub merged_line : Office → Request → Option Rule
 merged_line s r = when (merged s.table r.parts) (refused 482)
 
 -- a method that is known and not offered (section 8.2.1)
@@ -89,7 +89,7 @@ of_dialog (dialog.Offers place end) = Call (calls.Offers place end)
 of_dialog (dialog.Plain place end) = Call (calls.Refreshes place end)
 
 -- a request that is no INVITE, or whose To has a tag, stands in a dialog
-abbrev pub dialog_line : Contents → Request → Option Rule
+abbrev pub dialog_line : Office → Request → Option Rule
 dialog_line s r =
     when (not (is_method (codes "INVITE") r) || is_some (tag_value r.parts.to.params)) (of_dialog (dialog_rule s.calls.calls r))
 
@@ -116,27 +116,27 @@ abbrev pub target_rule : Request → Option Uri → Rule
 target_rule r None = refused 480
 target_rule r (Some target) = offer_rule r
 
-abbrev pub known_rule : Contents → Request → List ℕ → ℕ → Bool → Rule
+abbrev pub known_rule : Office → Request → List ℕ → ℕ → Bool → Rule
 known_rule s r user now false = refused 404
 known_rule s r user now true = target_rule r (target_of (bindings_at s.registrar user now))
 
-abbrev pub user_rule : Contents → Request → ℕ → Option (List ℕ) → Rule
+abbrev pub user_rule : Office → Request → ℕ → Option (List ℕ) → Rule
 user_rule s r now None = refused 404
 user_rule s r now (Some user) = known_rule s r user now (is_known (rules_of s.registrar) user)
 
 -- the user whom the Request-URI names, and where that is (section 16.5)
-abbrev pub callee_rule : Contents → Request → ℕ → Rule
+abbrev pub callee_rule : Office → Request → ℕ → Rule
 callee_rule s r now = user_rule s r now (user_of (rules_of s.registrar) r.uri)
 
-abbrev pub first_call_rule : Contents → Request → ℕ → Rule
+abbrev pub first_call_rule : Office → Request → ℕ → Rule
 first_call_rule s r now = otherwise (hops_line r) (otherwise (contact_line r) (callee_rule s r now))
 
 -- ---- all, in their order
 
-unfoldable pub invite_rule : Contents → Request → ℕ → Rule
+unfoldable pub invite_rule : Office → Request → ℕ → Rule
 invite_rule s r now = otherwise (dialog_line s r) (first_call_rule s r now)
 
-unfoldable pub offered_rule : Contents → Request → ℕ → Rule
+unfoldable pub offered_rule : Office → Request → ℕ → Rule
 offered_rule s r now =
     otherwise (extension_line r)
     (otherwise (route_line r)
@@ -144,7 +144,7 @@ offered_rule s r now =
     (otherwise (register_line r)
     (invite_rule s r now))))
 
-unfoldable pub request_rule : Contents → Request → ℕ → Rule
+unfoldable pub request_rule : Office → Request → ℕ → Rule
 request_rule s r now =
     otherwise (cancel_line s r)
     (otherwise (merged_line s r)

@@ -11,15 +11,16 @@ use Rattle.registrar.specs.Registrar as registrar
 use Rattle.transactions.specs.Contents as transactions
 use Rattle.transactions.specs.Changes.{entered_all}
 use Rattle.agent.specs.declared.tally.Tally.{Tally}
-use Rattle.agent.specs.declared.taken.Taken.{Taken}
+use Rattle.plans.specs.declared.taken.Taken.{Taken}
 use Rattle.sip_uri.specs.declared.uri.Addr.{Addr}
 use Rattle.port_pool.specs.Pool.{new_pool}
 use Rattle.port_pool.specs.declared.changes.Change.{Change}
 use Rattle.offer_answer.specs.declared.range.OwnRange.{OwnRange}
 use Rattle.offer_answer.specs.Direct.{hold_address}
 use Rattle.calls.specs.State.{Standing}
-use Rattle.agent.specs.declared.acks.KeptAck.{KeptAck}
-use Rattle.agent.specs.Effect.{Effect}
+use Rattle.plans.specs.declared.acks.KeptAck.{KeptAck}
+use Rattle.plans.specs.Effect.{Effect}
+use Rattle.plans.specs.Office.{Office}
 use Rattle.agent.specs.Tally.{counted, none_counted}
 
 -- the registrar, the transactions, the calls with their pool, the ACKs that go again, and the changes that the last event made in the
@@ -37,6 +38,19 @@ pub record Contents : Type 0 where
   pub moment : ℕ
   pub tokens : ℕ
   pub tally : Tally
+
+-- what a plan looks at
+abbrev pub office : Contents → Office
+office s = record {
+  registrar = s.registrar;
+  table = s.table;
+  calls = s.calls;
+  acks = s.acks;
+  server = s.server;
+  range = s.range;
+  least = s.least;
+  tokens = s.tokens;
+}
 
 -- a moment that can be counted with
 abbrev pub moments_end : ℕ

@@ -1,8 +1,8 @@
 -- How many events were answered how.
 use Rattle.std.specs.Prelude.{ℕ, ◌+◌, min}
-use Rattle.agent.specs.declared.taken.Taken.{Taken}
-use Rattle.agent.specs.declared.taken.Taken.TheVariants.{Done, Dropped, Shed, Idle}
-use Rattle.agent.specs.declared.taken.Why.TheVariants.{Unread, Stray, Ack, NoBranch, Clock, Spent}
+use Rattle.plans.specs.declared.taken.Taken.{Taken}
+use Rattle.plans.specs.declared.taken.Taken.TheVariants.{Done, Dropped, Shed, Idle}
+use Rattle.plans.specs.declared.taken.Why.TheVariants.{Unread, Stray, Ack, NoBranch, Clock, Spent}
 use Rattle.agent.specs.declared.tally.Tally.{Tally}
 
 -- a count at the greatest number stays there

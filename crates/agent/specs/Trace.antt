@@ -2,7 +2,7 @@
 use Rattle.std.specs.Prelude.{◌≡◌, List, [], ◌∷◌, ◌++◌, fold, map, Option, Some, None}
 use Rattle.events.specs.declared.event.Event.{Event}
 use Rattle.events.specs.declared.sent.Sent.{Sent}
-use Rattle.agent.specs.declared.taken.Taken.{Taken}
+use Rattle.plans.specs.declared.taken.Taken.{Taken}
 use Rattle.agent.specs.Rows.{after, only_counts, row}
 use Rattle.agent.specs.State.{Contents}
 

@@ -2,20 +2,20 @@
 
 ghost use Rattle.std.specs.Prelude.{◌≡◌, ◌<◌, ◌≤◌, ◌^◌, ◌++◌, [], IfOk, OnOk, OnErr, None};
 ghost use Rattle.port_pool.specs.Holdings.{holder_at};
-ghost use Rattle.agent.specs.Effect.{Fits, effect};
+ghost use Rattle.port_pool.specs.RelayTable.{changed_by};
+ghost use Rattle.plans.specs.Effect.{Fits, effect};
 ghost use Rattle.agent.specs.Rows.{after, moment_after, next_due, only_counts, row, what_row};
-ghost use Rattle.agent.specs.State.{after_count, after_event};
+ghost use Rattle.agent.specs.State.{after_count, after_event, office};
 
-use crate::acks::{KeptAck, keep};
+use crate::acks::keep;
 use crate::commit::{commit, enter, stop};
-use crate::doing::Doing;
-use crate::plan::Plan;
-use crate::taken::Taken;
+use crate::rows::what_row;
 use crate::tally::Tally;
 use crate::timing::earlier;
 use calls::{Calls, StandingCall};
 use events::{Event, Sent};
 use offer_answer::OwnRange;
+use plans::{Doing, KeptAck, Office, Plan, Taken};
 use port_pool::{Change, RelayTable};
 use registrar::Registrar;
 use sip_uri::Addr;
@@ -105,6 +105,23 @@ impl Agent {
         earlier(self.table.next(), self.calls.next_due())
     }
 
+    /// What a plan looks at, lent.
+    fn office(&self) -> Office<'_>
+        ensures { result ≡ office self.now }
+    {
+        Office {
+            alloc: self.alloc,
+            registrar: &self.registrar,
+            table: &self.table,
+            calls: &self.calls,
+            acks: &self.acks,
+            server: self.server,
+            range: self.range,
+            least: self.least,
+            tokens: self.tokens,
+        }
+    }
+
     /// Takes an event: what it answers, sends and changes is its row. Where memory is refused, the agent and the list are as
     /// before, and the event counts as not come. An event that is only counted takes no memory.
     #[tactic(auto, using(crate::proofs::StepLaws::sends_counted, crate::proofs::StepLaws::after_counted))]
@@ -112,6 +129,8 @@ impl Agent {
         ensures answer { IfOk result (λ taken. taken ≡ (row self.old event.entry.now).plan.taken) }
         ensures sends { OnOk result (sent.new.items ≡ sent.old.items ++ (row self.old event.entry.now).plan.sends) }
         ensures agent { OnOk result (self.new ≡ after self.old event.entry.now) }
+        // The changes lead from the relay table before to the one after.
+        ensures leads { OnOk result (changed_by self.old.calls.pool.rows self.new.changes ≡ self.new.calls.pool.rows) }
         ensures lost { OnErr result (self.new ≡ self.old) }
         ensures unsent { OnErr result (sent.new.items ≡ sent.old.items) }
         ensures counted { OnErr result (only_counts self.old event.entry.now ≡ None) }
@@ -126,20 +145,23 @@ impl Agent {
     }
 
     #[tactic(auto, using(crate::proofs::StepLaws::early, crate::proofs::StepLaws::few, crate::proofs::StepLaws::looked, crate::proofs::StepLaws::after_looked))]
+    #[inline(never)]
     fn carry_on(&mut self, event: &Event, sent: &mut Vec<Sent>) -> Result<Taken, AllocError>
         requires { only_counts self.old event.now ≡ None }
         ensures answer { IfOk result (λ taken. taken ≡ (row self.old event.entry.now).plan.taken) }
         ensures sends { OnOk result (sent.new.items ≡ sent.old.items ++ (row self.old event.entry.now).plan.sends) }
         ensures agent { OnOk result (self.new ≡ after self.old event.entry.now) }
+        ensures leads { OnOk result (changed_by self.old.calls.pool.rows self.new.changes ≡ self.new.calls.pool.rows) }
         ensures lost { OnErr result (self.new ≡ self.old) }
         ensures unsent { OnErr result (sent.new.items ≡ sent.old.items) }
     {
         let now = self.moment.max(event.now);
-        let doing = self.what_row(now, event.salt, &event.what)?;
+        let doing = what_row(&self.office(), now, event.salt, &event.what)?;
         self.carry_out(doing, sent, now)
     }
 
     #[tactic(auto, unfolding(crate::specs::State::after_event))]
+    #[inline(never)]
     fn carry_out(
         &mut self,
         doing: Doing,
@@ -152,6 +174,7 @@ impl Agent {
         ensures answer { IfOk result (λ taken. taken ≡ doing.plan.taken) }
         ensures sends { OnOk result (sent.new.items ≡ sent.old.items ++ doing.plan.sends) }
         ensures agent { OnOk result (self.new ≡ after_event self.old now (effect self.old.calls self.old.acks now doing)) }
+        ensures leads { OnOk result (changed_by self.old.calls.pool.rows self.new.changes ≡ self.new.calls.pool.rows) }
         ensures lost { OnErr result (self.new ≡ self.old) }
         ensures unsent { OnErr result (sent.new.items ≡ sent.old.items) }
     {

@@ -2,7 +2,7 @@
 
 ghost use Rattle.std.specs.Prelude.{◌≡◌, ◌<◌, ◌≤◌, ◌^◌, ◌++◌, OnOk, OnErr};
 ghost use Rattle.calls.specs.State.{standing};
-ghost use Rattle.agent.specs.Effect.{fired_off};
+ghost use Rattle.plans.specs.Effect.{fired_off};
 ghost use Rattle.transactions.specs.Changes.{entered_all};
 ghost use Rattle.agent.specs.State.{registered_by};
 
@@ -49,6 +49,7 @@ pub(crate) fn enter(registrar: &mut Registrar, registration: Option<registrar::P
 /// The timer that fired is set no more. Takes no memory.
 pub(crate) fn stop(calls: &mut Calls, fired: Option<CallTimerId>)
     ensures standing { standing calls.new ≡ fired_off fired (standing calls.old) }
+    ensures pool { calls.new.pool ≡ calls.old.pool }
     ensures room { calls.old.room ≤ calls.new.room }
     ensures timer_room { calls.old.timer_room ≤ calls.new.timer_room }
 {

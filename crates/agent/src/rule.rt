@@ -1,6 +1,6 @@
 //! The rules for requests that begin a transaction.
 
-use call_core::End;
+use plans::{CallRule, Reply};
 
 /// What is done for a request that begins a transaction.
 #[derive(Clone, Copy, Debug, PartialEq, Eq)]
@@ -9,42 +9,4 @@ pub enum Rule {
     Alone(Reply),
     /// A call takes it, or begins with it.
     Call(CallRule),
-}
-
-/// A final response to a request that no call has to do with.
-#[derive(Clone, Copy, Debug, PartialEq, Eq)]
-pub enum Reply {
-    /// 200 to a CANCEL of the request of this transaction.
-    CancelOf(usize),
-    /// A refusal with this status.
-    Refusal(u16),
-    /// 500, with when the request may come again.
-    RetryLater,
-    /// 405, with the methods that are offered.
-    MethodUnoffered,
-    /// 415, with the type of body that is taken.
-    TypeRefused,
-    /// 415, with the coding of a body that is taken.
-    EncodingRefused,
-    /// 420, with the extensions that are required and not there.
-    ExtensionRefused,
-    /// 200 to OPTIONS, with the methods that are offered.
-    MethodsListed,
-    /// The registrar answers.
-    Registration,
-}
-
-/// What a call does for a request. A place is that of the call on the list.
-#[derive(Clone, Copy, Debug, PartialEq, Eq)]
-pub enum CallRule {
-    /// A first INVITE: the callee is asked.
-    Begins,
-    /// A CANCEL of the call's offer.
-    Cancels(usize),
-    /// A BYE of this end.
-    Leaves(usize, End),
-    /// An offer of this end inside the call.
-    Offers(usize, End),
-    /// An UPDATE of this end without an offer.
-    Refreshes(usize, End),
 }

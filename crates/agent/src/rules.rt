@@ -8,16 +8,15 @@ ghost use Rattle.responses.specs.Words.{is_method};
 ghost use Rattle.calls.specs.Finding.{place_by_offer};
 ghost use Rattle.agent.specs.Rules.{callee_rule, cancel_line, cancels, contact_line, declined_line, described_rule, dialog_line, extension_line, first_call_rule, hops_line, invite_rule, known_rule, merged_line, of_dialog, offer_rule, offered_rule, options_line, refused, register_line, request_rule, route_line, target_rule, unknown_line, user_rule};
 
-use crate::agent::Agent;
-use crate::rule::{CallRule, Reply, Rule};
+use crate::letting_go::let_go;
+use crate::rule::Rule;
 use call_rules::{ContentRule, DialogRule, contact_address, content_rule, described, dialog_rule};
+use plans::{CallRule, Office, Reply};
 use responses::{has_header, is_declined_method, is_method, is_offered_method};
 use sip_message::{Request, contact_values, tag_value};
 use sip_uri::Uri;
 use std::alloc::{AllocError, Global};
 use text::Text;
-
-fn let_go<T: Drop>(_value: T) {}
 
 fn refused(status: u16) -> Rule
     ensures { result ≡ refused status }
@@ -159,140 +158,142 @@ fn is_of_dialog(request: &Request<'_>) -> bool
     !is_method(b"INVITE", request) || tag_value(request.parts.to.params.as_slice()).is_some()
 }
 
-impl Agent {
-    fn cancel_line(&self, request: &Request<'_>) -> Option<Rule>
-        ensures { result ≡ cancel_line self.now request.now }
-    {
-        if !is_method(b"CANCEL", request) {
-            return None;
-        }
-        match self.table.cancels(request) {
-            None => Some(refused(481)),
-            Some(id) => Some(self.cancels_rule(id)),
-        }
+fn cancel_line(office: &Office<'_>, request: &Request<'_>) -> Option<Rule>
+    ensures { result ≡ cancel_line office.now request.now }
+{
+    if !is_method(b"CANCEL", request) {
+        return None;
     }
+    match office.table.cancels(request) {
+        None => Some(refused(481)),
+        Some(id) => Some(cancels_rule(office, id)),
+    }
+}
 
-    fn cancels_rule(&self, id: usize) -> Rule
-        ensures { result ≡ cancels id (place_by_offer id self.now.calls.calls) }
-    {
-        match self.calls.place_by_offer(id) {
-            None => Rule::Alone(Reply::CancelOf(id)),
-            Some(place) => Rule::Call(CallRule::Cancels(place)),
-        }
+fn cancels_rule(office: &Office<'_>, id: usize) -> Rule
+    ensures { result ≡ cancels id (place_by_offer id office.now.calls.calls) }
+{
+    match office.calls.place_by_offer(id) {
+        None => Rule::Alone(Reply::CancelOf(id)),
+        Some(place) => Rule::Call(CallRule::Cancels(place)),
     }
+}
 
-    fn dialog_line(&self, request: &Request<'_>) -> Option<Rule>
-        ensures { result ≡ dialog_line self.now request.now }
-    {
-        if !is_of_dialog(request) {
-            return None;
-        }
-        Some(of_dialog(dialog_rule(&self.calls, request)))
+fn dialog_line(office: &Office<'_>, request: &Request<'_>) -> Option<Rule>
+    ensures { result ≡ dialog_line office.now request.now }
+{
+    if !is_of_dialog(request) {
+        return None;
     }
+    Some(of_dialog(dialog_rule(office.calls, request)))
+}
 
-    fn merged_line(&self, request: &Request<'_>) -> Option<Rule>
-        ensures { result ≡ merged_line self.now request.now }
-    {
-        if self.table.merged(request) {
-            Some(refused(482))
-        } else {
-            None
-        }
+fn merged_line(office: &Office<'_>, request: &Request<'_>) -> Option<Rule>
+    ensures { result ≡ merged_line office.now request.now }
+{
+    if office.table.merged(request) {
+        Some(refused(482))
+    } else {
+        None
     }
+}
 
-    fn known_rule(
-        &self,
-        request: &Request<'_>,
-        user: &Text<'_>,
-        now: u64,
-        known: bool,
-    ) -> Result<Rule, AllocError>
-        ensures { IfOk result (λ rule. rule ≡ known_rule self.now request.now user.now now known) }
-    {
-        if !known {
-            return Ok(refused(404));
-        }
-        target_rule(self.alloc, request, self.registrar.target(user, now))
+fn known_rule(
+    office: &Office<'_>,
+    request: &Request<'_>,
+    user: &Text<'_>,
+    now: u64,
+    known: bool,
+) -> Result<Rule, AllocError>
+    ensures { IfOk result (λ rule. rule ≡ known_rule office.now request.now user.now now known) }
+{
+    if !known {
+        return Ok(refused(404));
     }
+    target_rule(office.alloc, request, office.registrar.target(user, now))
+}
 
-    fn user_rule(
-        &self,
-        request: &Request<'_>,
-        user: Option<&Text<'_>>,
-        now: u64,
-    ) -> Result<Rule, AllocError>
-        ensures { IfOk result (λ rule. rule ≡ user_rule self.now request.now now (option_copied user.entry)) }
-    {
-        match user {
-            None => Ok(refused(404)),
-            Some(user) => self.known_rule(request, user, now, self.registrar.knows(user)),
-        }
+fn user_rule(
+    office: &Office<'_>,
+    request: &Request<'_>,
+    user: Option<&Text<'_>>,
+    now: u64,
+) -> Result<Rule, AllocError>
+    ensures { IfOk result (λ rule. rule ≡ user_rule office.now request.now now (option_copied user.entry)) }
+{
+    match user {
+        None => Ok(refused(404)),
+        Some(user) => known_rule(office, request, user, now, office.registrar.knows(user)),
     }
+}
 
-    fn callee_rule(&self, request: &Request<'_>, now: u64) -> Result<Rule, AllocError>
-        ensures { IfOk result (λ rule. rule ≡ callee_rule self.now request.now now) }
-    {
-        self.user_rule(request, self.registrar.user_of(&request.uri), now)
-    }
+fn callee_rule(office: &Office<'_>, request: &Request<'_>, now: u64) -> Result<Rule, AllocError>
+    ensures { IfOk result (λ rule. rule ≡ callee_rule office.now request.now now) }
+{
+    user_rule(office, request, office.registrar.user_of(&request.uri), now)
+}
 
-    fn first_call_rule(&self, request: &Request<'_>, now: u64) -> Result<Rule, AllocError>
-        ensures { IfOk result (λ rule. rule ≡ first_call_rule self.now request.now now) }
-    {
-        if let Some(rule) = hops_line(request) {
-            return Ok(rule);
-        }
-        match contact_line(self.alloc, request)? {
-            Some(rule) => Ok(rule),
-            None => self.callee_rule(request, now),
-        }
+fn first_call_rule(office: &Office<'_>, request: &Request<'_>, now: u64) -> Result<Rule, AllocError>
+    ensures { IfOk result (λ rule. rule ≡ first_call_rule office.now request.now now) }
+{
+    if let Some(rule) = hops_line(request) {
+        return Ok(rule);
     }
+    match contact_line(office.alloc, request)? {
+        Some(rule) => Ok(rule),
+        None => callee_rule(office, request, now),
+    }
+}
 
-    #[tactic(auto, unfolding(crate::specs::Rules::invite_rule))]
-    fn invite_rule(&self, request: &Request<'_>, now: u64) -> Result<Rule, AllocError>
-        ensures { IfOk result (λ rule. rule ≡ invite_rule self.now request.now now) }
-    {
-        if let Some(rule) = self.dialog_line(request) {
-            return Ok(rule);
-        }
-        self.first_call_rule(request, now)
+#[tactic(auto, unfolding(crate::specs::Rules::invite_rule))]
+fn invite_rule(office: &Office<'_>, request: &Request<'_>, now: u64) -> Result<Rule, AllocError>
+    ensures { IfOk result (λ rule. rule ≡ invite_rule office.now request.now now) }
+{
+    if let Some(rule) = dialog_line(office, request) {
+        return Ok(rule);
     }
+    first_call_rule(office, request, now)
+}
 
-    #[tactic(auto, unfolding(crate::specs::Rules::offered_rule))]
-    fn offered_rule(&self, request: &Request<'_>, now: u64) -> Result<Rule, AllocError>
-        ensures { IfOk result (λ rule. rule ≡ offered_rule self.now request.now now) }
-    {
-        if let Some(rule) = extension_line(request) {
-            return Ok(rule);
-        }
-        if let Some(rule) = route_line(request) {
-            return Ok(rule);
-        }
-        if let Some(rule) = options_line(request) {
-            return Ok(rule);
-        }
-        if let Some(rule) = register_line(request) {
-            return Ok(rule);
-        }
-        self.invite_rule(request, now)
+#[tactic(auto, unfolding(crate::specs::Rules::offered_rule))]
+fn offered_rule(office: &Office<'_>, request: &Request<'_>, now: u64) -> Result<Rule, AllocError>
+    ensures { IfOk result (λ rule. rule ≡ offered_rule office.now request.now now) }
+{
+    if let Some(rule) = extension_line(request) {
+        return Ok(rule);
     }
+    if let Some(rule) = route_line(request) {
+        return Ok(rule);
+    }
+    if let Some(rule) = options_line(request) {
+        return Ok(rule);
+    }
+    if let Some(rule) = register_line(request) {
+        return Ok(rule);
+    }
+    invite_rule(office, request, now)
+}
 
-    /// The first line of the order of checks that applies to a request that begins a transaction.
-    #[tactic(auto, unfolding(crate::specs::Rules::request_rule))]
-    pub(crate) fn request_rule(&self, request: &Request<'_>, now: u64) -> Result<Rule, AllocError>
-        ensures { IfOk result (λ rule. rule ≡ request_rule self.now request.now now) }
-    {
-        if let Some(rule) = self.cancel_line(request) {
-            return Ok(rule);
-        }
-        if let Some(rule) = self.merged_line(request) {
-            return Ok(rule);
-        }
-        if let Some(rule) = declined_line(request) {
-            return Ok(rule);
-        }
-        if let Some(rule) = unknown_line(request) {
-            return Ok(rule);
-        }
-        self.offered_rule(request, now)
+/// The first line of the order of checks that applies to a request that begins a transaction.
+#[tactic(auto, unfolding(crate::specs::Rules::request_rule))]
+pub(crate) fn request_rule(
+    office: &Office<'_>,
+    request: &Request<'_>,
+    now: u64,
+) -> Result<Rule, AllocError>
+    ensures { IfOk result (λ rule. rule ≡ request_rule office.now request.now now) }
+{
+    if let Some(rule) = cancel_line(office, request) {
+        return Ok(rule);
     }
+    if let Some(rule) = merged_line(office, request) {
+        return Ok(rule);
+    }
+    if let Some(rule) = declined_line(request) {
+        return Ok(rule);
+    }
+    if let Some(rule) = unknown_line(request) {
+        return Ok(rule);
+    }
+    offered_rule(office, request, now)
 }

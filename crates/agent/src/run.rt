@@ -5,8 +5,9 @@ ghost use Rattle.std.specs.Vec.{vec_capacity};
 ghost use Rattle.agent.specs.Trace.{IsEntry, Ran, RanFirst, after_entry};
 
 use crate::agent::Agent;
-use crate::taken::Taken;
+use crate::letting_go::let_go;
 use events::{Event, Sent, What};
+use plans::Taken;
 use std::alloc::{AllocError, Global};
 use std::marker::Model;
 
@@ -59,8 +60,6 @@ impl Trace {
         &self.entries
     }
 }
-
-fn let_go<T: Drop>(_value: T) {}
 
 fn copy_of_what(alloc: Global, what: &What) -> Result<What, AllocError>
     ensures { IfOk result (λ w. w ≡ what.now) }

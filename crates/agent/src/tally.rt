@@ -3,7 +3,7 @@
 ghost use Rattle.std.specs.Prelude.{◌≡◌};
 ghost use Rattle.agent.specs.Tally.{counted, none_counted, one_more};
 
-use crate::taken::{Taken, Why};
+use plans::{Taken, Why};
 
 /// How many events were answered how, since the agent was made. A count that has reached 2^64 - 1 stays there. An event that
 /// was lost for want of memory is not counted.

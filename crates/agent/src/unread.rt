@@ -6,16 +6,14 @@ ghost use Rattle.sip_message.specs.AnswerableParts.{answerable_of};
 ghost use Rattle.sip_message.specs.Faults.{Fails};
 ghost use Rattle.sip_message.specs.Read.{message_of};
 ghost use Rattle.sip_writing.specs.Reply.{answer_address};
-ghost use Rattle.agent.specs.CallRows.{of_plan};
-ghost use Rattle.agent.specs.Plan.{replies};
+ghost use Rattle.plans.specs.CallRows.{of_plan};
+ghost use Rattle.plans.specs.Plan.{replies};
 ghost use Rattle.responses.specs.Responding.{responds, stateless};
 ghost use Rattle.agent.specs.Rows.{datagram_row, unfit_branch, unfit_request, unread_by};
-ghost use Rattle.agent.specs.State.{Contents};
+ghost use Rattle.plans.specs.Office.{Office};
 
-use crate::letting_go::let_response_go;
-use crate::plan::Plan;
-use crate::setting::Setting;
-use crate::taken::{Taken, Why};
+use crate::letting_go::let_go;
+use plans::{Plan, Setting, Taken, Why};
 use responses::{STATELESS, is_method, response_with};
 use sip_message::{Message, MessageError, Parts, Request, Response, answerable};
 use sip_writing::reply_address;
@@ -32,7 +30,7 @@ fn sent_alone(
 {
     let to = reply_address(parts, e.source);
     let plan = Plan::replies(alloc, to, &response);
-    let_response_go(response);
+    let_go(response);
     plan
 }
 
@@ -82,6 +80,7 @@ fn unread_with(
 
 /// What a datagram comes to that can't be read.
 #[tactic(auto, unfolding(crate::specs::Rows::unread_row, crate::specs::Rows::datagram_row))]
+#[inline(never)]
 pub(crate) fn unread_row(
     alloc: Global,
     e: Setting,
@@ -89,7 +88,7 @@ pub(crate) fn unread_row(
     fault: MessageError,
 ) -> Result<Plan, AllocError>
     requires { Fails fault (message_of datagram.now) }
-    ensures { (s : Contents) → IfOk result (λ p. of_plan s p ≡ datagram_row s e datagram.now) }
+    ensures { (s : Office) → IfOk result (λ p. of_plan s p ≡ datagram_row s e datagram.now) }
 {
     match fault {
         MessageError::OutOfMemory => Err(AllocError),
@@ -113,6 +112,7 @@ fn unfit_request(alloc: Global, e: Setting, request: &Request<'_>) -> Result<Pla
 }
 
 /// What a message comes to whose branch does not begin as it has to.
+#[inline(never)]
 pub(crate) fn unfit_branch(
     alloc: Global,
     e: Setting,

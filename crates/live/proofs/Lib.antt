@@ -1,3 +1,2 @@
 pub mod SendLaws
-pub mod CallTables
 pub mod TableLaws

@@ -4,7 +4,7 @@ use Rattle.port_pool.specs.declared.changes.Change.{Change}
 use Rattle.relay.specs.Lists.{Lists, table_after}
 use Rattle.events.specs.declared.event.Event.{Event}
 use Rattle.events.specs.declared.sent.Sent.{Sent}
-use Rattle.agent.specs.declared.taken.Taken.{Taken}
+use Rattle.plans.specs.declared.taken.Taken.{Taken}
 use Rattle.agent.specs.Rows.{after, row}
 use Rattle.agent.specs.State.{Contents}
 use Rattle.live.specs.Sending.{Sends}

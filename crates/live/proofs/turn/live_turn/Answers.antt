@@ -15,6 +15,6 @@ returns-clause-turns g c =
       agent = agent;
       answer = c.in-Ok.ensures.answer;
       board = search (rules, board, agent);
-      table = has_table_again c.args.agent.now c.step.new.self c.args.event.now c.args.board.now c.publish.new.board c.requires agent board;
+      table = has_table_again c.args.agent.now c.step.new.self c.args.board.now c.publish.new.board c.requires c.in-Ok.ensures.leads board;
       wire = subst (λ (ds : List Sent). Sends (g.W.Wire.sent c.args.wire.now) (g.W.Wire.sent c.send_all-failed.new.wire) ds c.send_all-failed.result) sends c.send_all-failed.ensures.sends;
     }

@@ -1,4 +1,0 @@
-use Rattle.agent.proofs.agent.Agent.ack_row.Goals as goal
-
-pub returns-in-None-clause-fits : goal.returns-in-None-clause-fits
-returns-in-None-clause-fits c = c.drops_row.ensures.fits c.args.e.now

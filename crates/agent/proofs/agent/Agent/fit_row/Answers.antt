@@ -1,4 +1,0 @@
-use Rattle.agent.proofs.agent.Agent.fit_row.Goals as goal
-
-pub returns-then-branch-clause-fits : goal.returns-then-branch-clause-fits
-returns-then-branch-clause-fits c = c.drops_row.ensures.fits c.args.e.now

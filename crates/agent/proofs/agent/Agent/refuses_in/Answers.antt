@@ -1,4 +1,0 @@
-use Rattle.agent.proofs.agent.Agent.refuses_in.Goals as goal
-
-pub returns-clause-fits : goal.returns-clause-fits
-returns-clause-fits c = c.counted.ensures.fits c.args.e.now

@@ -1,0 +1,4 @@
+mod CallLaws
+mod FirstLaws
+mod OfferLaws
+mod PlanLaws

@@ -1,0 +1,5 @@
+pub mod Office
+pub mod Plan
+pub mod Effect
+pub mod Replies
+pub mod CallRows

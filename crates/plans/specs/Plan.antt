@@ -1,0 +1,53 @@
+-- What an event comes to: what it is answered, what is sent, and what changes.
+use Rattle.std.specs.Prelude.{ℕ, List, [], ◌∷◌, ◌++◌, Option, Some, None}
+use Rattle.events.specs.declared.sent.Sent.{Sent}
+use Rattle.sip_uri.specs.declared.uri.Addr.{Addr}
+use Rattle.sip_message.specs.declared.message.Message.TheVariants as Kinds
+use Rattle.sip_message.specs.declared.message.Response.{Response}
+use Rattle.sip_writing.specs.Writing.{message_text}
+use Rattle.registrar.specs.Registrar.{PlanContents}
+use Rattle.transactions.specs.declared.change.Entry.{Entry}
+use Rattle.transactions.specs.declared.outcome.Outgoing.{Outgoing}
+use Rattle.transactions.specs.Changes.{answer_of}
+use Rattle.plans.specs.declared.taken.Taken.{Taken}
+use Rattle.plans.specs.declared.taken.Taken.TheVariants.{Done}
+
+-- what is answered, the changes of the transactions in order, what is sent in order, what changes in the registrar, and how many
+-- tokens are made
+pub record Plan : Type 0 where
+  pub taken : Taken
+  pub changes : List Entry
+  pub sends : List Sent
+  pub registration : Option PlanContents
+  pub made : ℕ
+
+-- the bytes of a response go to this address
+abbrev pub sent_response : Addr → Response → Sent
+sent_response to response = record { to = to; bytes = message_text (Kinds.Response response) }
+
+-- nothing changes in the transactions, and nothing is sent
+abbrev pub nothing : Taken → Plan
+nothing taken = record { taken = taken; changes = []; sends = []; registration = None; made = 0 }
+
+-- bytes that a transaction sends, if any
+abbrev pub goes : Option Outgoing → List Sent
+goes None = []
+goes (Some out) = record { to = out.to; bytes = out.bytes } ∷ []
+
+-- a transaction did something by itself
+abbrev pub moves : List Entry → Option Outgoing → Plan
+moves begun out = record { taken = Done; changes = begun; sends = goes out; registration = None; made = 0 }
+
+-- a response that no transaction sends
+abbrev pub replies : Addr → Response → Plan
+replies to response = record { taken = Done; changes = []; sends = sent_response to response ∷ []; registration = None; made = 0 }
+
+-- a request began transaction id, and is answered there at once
+abbrev pub answers : List Entry → ℕ → Addr → Response → Option PlanContents → ℕ → Plan
+answers begun id to response registration made = record {
+  taken = Done;
+  changes = begun ++ answer_of id response ∷ [];
+  sends = sent_response to response ∷ [];
+  registration = registration;
+  made = made;
+}

@@ -1,0 +1,98 @@
+-- What requests are answered that no call has to do with: one row for each reply.
+use Rattle.std.specs.Prelude.{ℕ, ◌+◌, List, [], ◌∷◌, map, codes, Option, Some, None, option_map, option_and_then, unwrap_or, Result, Ok, Err, if◌then◌else◌}
+use Rattle.sip_message.specs.declared.error.MessageError.{MessageError}
+use Rattle.sip_message.specs.declared.headers.Header.{Header}
+use Rattle.sip_message.specs.declared.message.Message.{Message}
+use Rattle.sip_message.specs.declared.message.Message.TheVariants as Kinds
+use Rattle.sip_message.specs.declared.message.Request.{Request}
+use Rattle.sip_message.specs.Lookup.{named}
+use Rattle.sip_message.specs.Party.{has_tag}
+use Rattle.sip_message.specs.Read.{message_of}
+use Rattle.sip_message.specs.Words.{tag_value}
+use Rattle.sip_writing.specs.Reply.{answer_address}
+use Rattle.registrar.specs.declared.binding.Binding.{Binding}
+use Rattle.registrar.specs.declared.refusal.Refusal.{Refusal}
+use Rattle.registrar.specs.Registrar.{answer_of, PlanContents, plan_of, rules_of}
+use Rattle.transactions.specs.declared.change.Entry.{Entry}
+use Rattle.transactions.specs.declared.transaction.Transaction.{Transaction}
+use Rattle.transactions.specs.Slots.{at}
+use Rattle.plans.specs.declared.setting.Setting.{Setting}
+use Rattle.plans.specs.declared.rule.Reply.{Reply}
+use Rattle.plans.specs.declared.rule.Reply.TheVariants as reply
+use Rattle.plans.specs.Plan.{Plan, answers}
+use Rattle.plans.specs.Office.{Office}
+use Rattle.responses.specs.Registering.{register_of}
+use Rattle.responses.specs.Responding.{allow, contact_header, refusal_headers, status_of, responds, stateless}
+use Rattle.responses.specs.Tags.{joined_tags, required_tags}
+use Rattle.responses.specs.Tokens.{token}
+use Rattle.legs.specs.Messages.{retry_after}
+
+-- ---- a request that begins a transaction
+
+-- the one token that a response makes, where To has no tag
+abbrev pub fresh_tag : Office → Setting → List ℕ
+fresh_tag s e = token e.salt (s.tokens + 1)
+
+abbrev pub tags_made : Request → ℕ
+tags_made r = if has_tag r.parts.to.params then 0 else 1
+
+-- a response to request r in transaction id, with its tag
+abbrev pub responds_in : Office → Setting → Request → List Entry → ℕ → ℕ → List Header → Option PlanContents → Plan
+responds_in s e r begun id status further registration =
+    answers begun id (answer_address r.parts.vias e.source)
+    (responds r.parts e.source status (fresh_tag s e) further) registration (tags_made r)
+
+-- the tag that the responses to a request have
+abbrev pub tag_of : Result Message MessageError → Option (List ℕ)
+tag_of (Ok (Kinds.Request r)) = None
+tag_of (Ok (Kinds.Response r)) = tag_value r.parts.to.params
+tag_of (Err fault) = None
+
+abbrev pub tag_in : Option (List ℕ) → Option (List ℕ)
+tag_in sent = option_and_then (λ bytes. tag_of (message_of bytes)) sent
+
+-- the tag in what a transaction sent last
+abbrev pub tag_sent : Office → ℕ → List ℕ
+tag_sent s id = unwrap_or (option_and_then (λ (t : Transaction). tag_in t.last) (at s.table.slots id)) stateless
+
+-- 200 to a CANCEL, with the tag of the responses to the request that it names (RFC 3261 section 9.2)
+abbrev pub cancels : Office → Setting → Request → List Entry → ℕ → ℕ → Plan
+cancels s e r begun id other =
+    answers begun id (answer_address r.parts.vias e.source)
+    (responds r.parts e.source 200 (tag_sent s other) []) None 0
+
+-- what is taken in a body (sections 20.1 and 20.2)
+abbrev pub accept : Header
+accept = named (codes "Accept") (codes "application/sdp")
+
+abbrev pub accept_encoding : Header
+accept_encoding = named (codes "Accept-Encoding") (codes "identity")
+
+abbrev pub unsupported : Request → Header
+unsupported r = named (codes "Unsupported") (joined_tags (required_tags r.headers))
+
+-- why a REGISTER is refused (section 10.3)
+abbrev pub not_registered : Office → Setting → Request → List Entry → ℕ → Refusal → Plan
+not_registered s e r begun id refusal = responds_in s e r begun id (status_of refusal) (refusal_headers s.least refusal) None
+
+-- a REGISTER: all the bindings that its user then has, or why it is refused
+abbrev pub registers_by : Office → Setting → Request → List Entry → ℕ → Option (List ℕ) → Result (List Binding) Refusal → Plan
+registers_by s e r begun id user (Ok bindings) =
+    responds_in s e r begun id 200 (map (contact_header e.now) bindings) (option_map (λ u. plan_of u bindings) user)
+registers_by s e r begun id user (Err refusal) = not_registered s e r begun id refusal
+
+unfoldable pub registers : Office → Setting → Request → List Entry → ℕ → Plan
+registers s e r begun id =
+    let register = register_of (rules_of s.registrar) r in
+    registers_by s e r begun id register.user (answer_of s.registrar register e.now)
+
+unfoldable pub reply_row : Office → Setting → Request → List Entry → ℕ → Reply → Plan
+reply_row s e r begun id (reply.CancelOf other) = cancels s e r begun id other
+reply_row s e r begun id (reply.Refusal status) = responds_in s e r begun id status [] None
+reply_row s e r begun id reply.RetryLater = responds_in s e r begun id 500 (retry_after ∷ []) None
+reply_row s e r begun id reply.MethodUnoffered = responds_in s e r begun id 405 (allow ∷ []) None
+reply_row s e r begun id reply.ExtensionRefused = responds_in s e r begun id 420 (unsupported r ∷ []) None
+reply_row s e r begun id reply.MethodsListed = responds_in s e r begun id 200 (allow ∷ []) None
+reply_row s e r begun id reply.TypeRefused = responds_in s e r begun id 415 (accept ∷ []) None
+reply_row s e r begun id reply.EncodingRefused = responds_in s e r begun id 415 (accept_encoding ∷ []) None
+reply_row s e r begun id reply.Registration = registers s e r begun id

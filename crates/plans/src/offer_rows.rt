@@ -1,0 +1,311 @@
+//! What an offer inside a call comes to, and an UPDATE without one. Each makes values and changes nothing.
+
+ghost use Rattle.std.specs.Prelude.{◌≡◌, ◌<◌, ◌^◌, ◌∷◌, [], IfErr, IfOk, List, None, OnOk, Some, slice_get};
+ghost use Rattle.timers.specs.declared.timers.Timer.{Timer};
+ghost use Rattle.calls.specs.declared.timer_id.CallTimerId.{CallTimerId};
+ghost use Rattle.call_rules.specs.Content.{described};
+ghost use Rattle.call_rules.specs.Offers.{offer_rule};
+ghost use Rattle.call_rules.specs.declared.offers.OfferRule.TheVariants.{Passes};
+ghost use Rattle.call_steps.specs.Effects as steps;
+ghost use Rattle.call_steps.specs.Effects.{with_timers};
+ghost use Rattle.call_steps.specs.Refusals.{MayTakeThere, RefusesTaken};
+ghost use Rattle.call_steps.specs.Rows.{offers_row};
+ghost use Rattle.plans.specs.CallRows.{clash_reply, content_reply, occasion, offer_method, offer_reply, offers, okay_plan, passes_at, passes_if, passes_in, refreshes_at, refreshes_by, refusal_reply, refuses};
+ghost use Rattle.plans.specs.Effect.{CanEnter, Fits, effect};
+
+use crate::doing::{Before, Doing};
+use crate::letting_go::let_go;
+use crate::office::Office;
+use crate::plan::Plan;
+use crate::rule::Reply;
+use crate::setting::Setting;
+use call_core::{CallRefusal, Clash, End, Input, OfferMethod};
+use call_rules::{ContentRule, OfferRule, described, offer_rule, plain_rule};
+use call_steps::{CallStep, refreshes};
+use calls::StandingCall;
+use legs::contact_header;
+use responses::is_method;
+use sdp::Description;
+use sip_message::{Header, Request};
+use std::alloc::{AllocError, Global};
+use transactions::Change;
+
+/// The list of one header field.
+fn one_header(alloc: Global, header: Header<'static>) -> Result<Vec<Header<'static>>, AllocError>
+    ensures { IfOk result (λ headers. headers.items ≡ header.entry ∷ []) }
+{
+    let mut headers = Vec::new(alloc);
+    headers.push(header)?;
+    Ok(headers)
+}
+
+fn clash_reply(clash: Clash) -> Reply
+    ensures { result ≡ clash_reply clash }
+{
+    match clash {
+        Clash::SecondOffer => Reply::RetryLater,
+        Clash::Glare => Reply::Refusal(491),
+    }
+}
+
+fn content_reply(rule: ContentRule) -> Reply
+    ensures { result ≡ content_reply rule }
+{
+    match rule {
+        ContentRule::Type => Reply::TypeRefused,
+        ContentRule::Encoding => Reply::EncodingRefused,
+    }
+}
+
+/// None where the call takes it.
+fn offer_reply(rule: OfferRule) -> Option<Reply>
+    ensures { result ≡ offer_reply rule }
+{
+    match rule {
+        OfferRule::NoDialog => Some(Reply::Refusal(481)),
+        OfferRule::Crosses(clash) => Some(clash_reply(clash)),
+        OfferRule::NoHops => Some(Reply::Refusal(483)),
+        OfferRule::Unreached => Some(Reply::Refusal(400)),
+        OfferRule::Content(rule) => Some(content_reply(rule)),
+        OfferRule::Passes => None,
+    }
+}
+
+fn offer_method(request: &Request<'_>) -> OfferMethod
+    ensures { result ≡ offer_method request.now }
+{
+    if is_method(b"INVITE", request) {
+        OfferMethod::Invite
+    } else {
+        OfferMethod::Update
+    }
+}
+
+/// None where memory ran out.
+fn refusal_reply(refusal: CallRefusal) -> Option<Reply>
+    ensures { result ≡ refusal_reply refusal }
+{
+    match refusal {
+        CallRefusal::OutOfMemory => None,
+        CallRefusal::Crosses(clash) => Some(clash_reply(clash)),
+        CallRefusal::Undescribed => Some(Reply::Refusal(488)),
+        CallRefusal::Unfit(_) => Some(Reply::Refusal(488)),
+        CallRefusal::NoPorts => Some(Reply::Refusal(503)),
+        CallRefusal::NumberAtItsEnd => Some(Reply::Refusal(500)),
+    }
+}
+
+impl<'o> Office<'o> {
+    /// The server answers by itself, and the dialog counts the number of the request.
+    #[inline(never)]
+    fn refuses_in(
+        &self,
+        e: Setting,
+        request: &Request<'_>,
+        begun: Vec<Change>,
+        id: usize,
+        place: usize,
+        end: End,
+        reply: Reply,
+    ) -> Result<Doing, AllocError>
+        requires moment { e.now < 2 ^ 60 }
+        ensures row { IfOk result (λ d. effect self.now.calls self.now.acks e.now d ≡ refuses self.now e request.now begun.items id place end reply) }
+        ensures fits { IfOk result (Fits self.now.calls e.now) }
+    {
+        let plan = self.reply_row(e, request, begun, id, reply)?;
+        self.counted(request, place, end, plan)
+    }
+
+    // ---- an offer
+
+    /// What the call at this place does for an offer, whatever timers the calls have.
+    #[tactic(auto, using(crate::proofs::CallLaws::can_enter_offer))]
+    #[inline(never)]
+    fn offer_step(
+        &self,
+        e: Setting,
+        request: &Request<'_>,
+        id: usize,
+        place: usize,
+        end: End,
+        input: &Input<'_>,
+    ) -> Result<CallStep, CallRefusal>
+        requires few { self.now.tokens < 2 ^ 63 }
+        ensures row { (timers : List (Timer CallTimerId)) → IfOk result (λ step. steps.effect (with_timers timers self.now.calls) e.now step
+            ≡ offers_row (with_timers timers self.now.calls) self.now.table (occasion self.now e) place input.now end request.now id e.source) }
+        ensures can { (timers : List (Timer CallTimerId)) → IfOk result (CanEnter (with_timers timers self.now.calls) e.now) }
+        ensures may { OnOk result (MayTakeThere (slice_get self.now.calls.calls place) self.now.calls.pool input.now e.now) }
+        ensures refused { IfErr result (RefusesTaken (slice_get self.now.calls.calls place) self.now.calls.pool input.now e.now) }
+    {
+        let o = self.occasion(e);
+        match call_steps::offers(
+            self.alloc, self.calls, self.table, o, place, input, end, request, id, e.source,
+        ) {
+            Ok(step) => Ok(step),
+            Err(refusal) => Err(refusal),
+        }
+    }
+
+    /// The call at this place passes the offer on, or it is refused.
+    #[inline(never)]
+    fn passes_if(
+        &self,
+        e: Setting,
+        request: &Request<'_>,
+        begun: Vec<Change>,
+        id: usize,
+        place: usize,
+        end: End,
+        call: &StandingCall,
+        offer: Description<'_>,
+    ) -> Result<Doing, AllocError>
+        requires few { self.now.tokens < 2 ^ 63 }
+        requires moment { e.now < 2 ^ 60 }
+        requires there { slice_get self.now.calls.calls place ≡ Some call.now }
+        requires free { offer_rule self.now.calls.calls request.now place end ≡ Passes }
+        ensures row { IfOk result (λ d. effect self.now.calls self.now.acks e.now d ≡ passes_if self.now e request.now begun.items id place end call.now.call offer.entry) }
+        ensures fits { IfOk result (Fits self.now.calls e.now) }
+    {
+        let input = Input::Offer(end, offer_method(request), Some(offer));
+        let step = self.offer_step(e, request, id, place, end, &input);
+        let_go(input);
+        match step {
+            Ok(step) => Doing::of_step(Before::alone(begun), step),
+            Err(refusal) => match refusal_reply(refusal) {
+                None => Err(AllocError),
+                Some(reply) => self.refuses_in(e, request, begun, id, place, end, reply),
+            },
+        }
+    }
+
+    #[inline(never)]
+    fn passes_in(
+        &self,
+        e: Setting,
+        request: &Request<'_>,
+        begun: Vec<Change>,
+        id: usize,
+        place: usize,
+        end: End,
+        call: &StandingCall,
+    ) -> Result<Doing, AllocError>
+        requires few { self.now.tokens < 2 ^ 63 }
+        requires moment { e.now < 2 ^ 60 }
+        requires there { slice_get self.now.calls.calls place ≡ Some call.now }
+        requires free { offer_rule self.now.calls.calls request.now place end ≡ Passes }
+        ensures row { IfOk result (λ d. effect self.now.calls self.now.acks e.now d
+            ≡ passes_in self.now e request.now begun.items id place end call.now.call (described request.now.headers request.now.body)) }
+        ensures fits { IfOk result (Fits self.now.calls e.now) }
+    {
+        let headers = request.headers.as_slice();
+        match described(self.alloc, headers, request.body.as_bytes())? {
+            None => self.refuses_in(e, request, begun, id, place, end, Reply::Refusal(488)),
+            Some(offer) => self.passes_if(e, request, begun, id, place, end, call, offer),
+        }
+    }
+
+    #[inline(never)]
+    fn passes_at(
+        &self,
+        e: Setting,
+        request: &Request<'_>,
+        begun: Vec<Change>,
+        id: usize,
+        place: usize,
+        end: End,
+    ) -> Result<Doing, AllocError>
+        requires few { self.now.tokens < 2 ^ 63 }
+        requires moment { e.now < 2 ^ 60 }
+        requires free { offer_rule self.now.calls.calls request.now place end ≡ Passes }
+        ensures row { IfOk result (λ d. effect self.now.calls self.now.acks e.now d
+            ≡ passes_at self.now e request.now begun.items id place end (slice_get self.now.calls.calls place)) }
+        ensures fits { IfOk result (Fits self.now.calls e.now) }
+    {
+        match self.calls.get(place) {
+            None => self.refuses_in(e, request, begun, id, place, end, Reply::Refusal(481)),
+            Some(call) => self.passes_in(e, request, begun, id, place, end, call),
+        }
+    }
+
+    /// What an offer of this end inside the call at this place comes to.
+    #[tactic(auto, unfolding(crate::specs::CallRows::offers), using(crate::proofs::OfferLaws::only_passes))]
+    #[inline(never)]
+    pub(crate) fn offers(
+        &self,
+        e: Setting,
+        request: &Request<'_>,
+        begun: Vec<Change>,
+        id: usize,
+        place: usize,
+        end: End,
+    ) -> Result<Doing, AllocError>
+        requires few { self.now.tokens < 2 ^ 63 }
+        requires moment { e.now < 2 ^ 60 }
+        ensures row { IfOk result (λ d. effect self.now.calls self.now.acks e.now d ≡ offers self.now e request.now begun.items id place end) }
+        ensures fits { IfOk result (Fits self.now.calls e.now) }
+    {
+        let rule = offer_rule(self.alloc, self.calls, request, place, end)?;
+        match offer_reply(rule) {
+            Some(reply) => self.refuses_in(e, request, begun, id, place, end, reply),
+            None => self.passes_at(e, request, begun, id, place, end),
+        }
+    }
+
+    // ---- an UPDATE without an offer
+
+    #[inline(never)]
+    fn okay_plan(
+        &self,
+        e: Setting,
+        request: &Request<'_>,
+        begun: Vec<Change>,
+        id: usize,
+    ) -> Result<Plan, AllocError>
+        ensures { IfOk result (λ p. p ≡ okay_plan self.now e request.now begun.items id) }
+    {
+        let header = contact_header(self.alloc, self.server)?;
+        let further = one_header(self.alloc, header)?;
+        self.responds_in(e, request, begun, id, 200, further)
+    }
+
+    #[inline(never)]
+    fn okays(
+        &self,
+        e: Setting,
+        request: &Request<'_>,
+        begun: Vec<Change>,
+        id: usize,
+        place: usize,
+        end: End,
+    ) -> Result<Doing, AllocError>
+        ensures row { IfOk result (λ d. effect self.now.calls self.now.acks e.now d ≡ refreshes_by self.now e request.now begun.items id place end None) }
+        ensures fits { IfOk result (Fits self.now.calls e.now) }
+    {
+        let plan = self.okay_plan(e, request, begun, id)?;
+        let leg = refreshes(self.alloc, self.calls, place, end, request)?;
+        Ok(Doing::puts(plan, place, leg))
+    }
+
+    /// What an UPDATE of this end without an offer comes to.
+    #[tactic(auto, unfolding(crate::specs::CallRows::refreshes_at))]
+    #[inline(never)]
+    pub(crate) fn refreshes_at(
+        &self,
+        e: Setting,
+        request: &Request<'_>,
+        begun: Vec<Change>,
+        id: usize,
+        place: usize,
+        end: End,
+    ) -> Result<Doing, AllocError>
+        requires moment { e.now < 2 ^ 60 }
+        ensures row { IfOk result (λ d. effect self.now.calls self.now.acks e.now d ≡ refreshes_at self.now e request.now begun.items id place end) }
+        ensures fits { IfOk result (Fits self.now.calls e.now) }
+    {
+        let rule = plain_rule(self.alloc, self.calls, request, place, end)?;
+        match offer_reply(rule) {
+            Some(reply) => self.refuses_in(e, request, begun, id, place, end, reply),
+            None => self.okays(e, request, begun, id, place, end),
+        }
+    }
+}

@@ -1,0 +1,353 @@
+//! What requests are answered that no call has to do with. Each makes values and changes nothing.
+
+ghost use Rattle.std.specs.Prelude.{◌≡◌, ◌<◌, ◌^◌, ◌∷◌, [], ℕ, List, Option, Result, IfOk, None, Some, Ok, unwrap_or};
+ghost use Rattle.std.specs.Option.{option_copied};
+ghost use Rattle.sip_message.specs.Read.{message_of};
+ghost use Rattle.sip_writing.specs.Reply.{answer_address};
+ghost use Rattle.registrar.specs.declared.binding.Binding.{Binding};
+ghost use Rattle.registrar.specs.Registering.{AllLast};
+ghost use Rattle.registrar.specs.Registrar.{Fails};
+ghost use Rattle.responses.specs.Responding.{allow, stateless};
+ghost use Rattle.sip_message.specs.Lookup.{named};
+ghost use Rattle.plans.specs.Replies.{cancels, fresh_tag, not_registered, registers, registers_by, reply_row, responds_in, tag_in, tag_of, tag_sent, tags_made, unsupported};
+ghost use Rattle.plans.specs.Plan.{answers};
+
+use crate::letting_go::let_go;
+use crate::office::Office;
+use crate::plan::Plan;
+use crate::rule::Reply;
+use crate::setting::Setting;
+use legs::retry_alone;
+use registrar::Refusal;
+use responses::{
+    STATELESS, allow_header, contact_headers, refusal_headers, register_of, response_with,
+    status_of, token, unsupported_header,
+};
+use sip_message::{
+    Header, Message, MessageError, Request, Response, has_tag, read_message, tag_value,
+};
+use sip_writing::reply_address;
+use std::alloc::{AllocError, Global};
+use text::Text;
+use transactions::{Change, Transaction};
+
+/// The tag of To in a response, as a text of its own.
+fn tag_of(alloc: Global, message: &Message<'_>) -> Result<Option<Text<'static>>, AllocError>
+    ensures { IfOk result (λ tag. tag ≡ tag_of (Ok message.now)) }
+{
+    match message {
+        Message::Request(_) => Ok(None),
+        Message::Response(response) => {
+            kept_text(alloc, tag_value(response.parts.to.params.as_slice()))
+        }
+    }
+}
+
+fn kept_text(alloc: Global, text: Option<&Text<'_>>) -> Result<Option<Text<'static>>, AllocError>
+    ensures { IfOk result (λ kept. kept ≡ option_copied text.entry) }
+{
+    match text {
+        None => Ok(None),
+        Some(text) => Ok(Some(text.keep(alloc)?)),
+    }
+}
+
+/// The tag of To in bytes that a transaction sent.
+fn tag_in_bytes(alloc: Global, bytes: &[u8]) -> Result<Option<Text<'static>>, AllocError>
+    ensures { IfOk result (λ tag. tag ≡ tag_of (message_of bytes.now)) }
+{
+    match read_message(alloc, bytes) {
+        Ok(message) => {
+            let tag = tag_of(alloc, &message);
+            let_go(message);
+            tag
+        }
+        Err(MessageError::OutOfMemory) => Err(AllocError),
+        Err(MessageError::TooLong) => Ok(None),
+        Err(MessageError::Version) => Ok(None),
+        Err(MessageError::StartLine) => Ok(None),
+        Err(MessageError::HeaderLine) => Ok(None),
+        Err(MessageError::Missing(_)) => Ok(None),
+        Err(MessageError::Unreadable(_)) => Ok(None),
+        Err(MessageError::Short) => Ok(None),
+    }
+}
+
+fn tag_in(alloc: Global, transaction: &Transaction) -> Result<Option<Text<'static>>, AllocError>
+    ensures { IfOk result (λ tag. tag ≡ tag_in transaction.now.last) }
+{
+    match &transaction.last {
+        None => Ok(None),
+        Some(bytes) => tag_in_bytes(alloc, bytes.as_bytes()),
+    }
+}
+
+fn or_stateless(alloc: Global, tag: Option<Text<'static>>) -> Result<Text<'static>, AllocError>
+    ensures { IfOk result (λ t. t ≡ unwrap_or tag.entry stateless) }
+{
+    match tag {
+        None => Text::from_slice(alloc, STATELESS),
+        Some(tag) => Ok(tag),
+    }
+}
+
+/// How many tokens a response to this request makes.
+fn tags_made(request: &Request<'_>) -> u8
+    ensures { result ≡ tags_made request.now }
+{
+    if has_tag(request.parts.to.params.as_slice()) {
+        0
+    } else {
+        1
+    }
+}
+
+/// The plan of a response, which is let go.
+fn answers(
+    alloc: Global,
+    e: Setting,
+    request: &Request<'_>,
+    begun: Vec<Change>,
+    id: usize,
+    response: Response<'static>,
+    made: u8,
+) -> Result<Plan, AllocError>
+    ensures { IfOk result (λ p. p ≡ answers begun.items id (answer_address request.now.parts.vias e.source) response.entry None made) }
+{
+    let to = reply_address(&request.parts, e.source);
+    let plan = Plan::answers(alloc, begun, id, to, &response, made);
+    let_go(response);
+    plan
+}
+
+impl<'o> Office<'o> {
+    /// The first token of an event.
+    fn fresh_tag(&self, e: Setting) -> Result<Text<'static>, AllocError>
+        ensures { IfOk result (λ t. t ≡ fresh_tag self.now e) }
+    {
+        token(self.alloc, e.salt, self.tokens + 1)
+    }
+
+    /// The tag in what a transaction sent last.
+    fn tag_sent(&self, id: usize) -> Result<Text<'static>, AllocError>
+        ensures { IfOk result (λ t. t ≡ tag_sent self.now id) }
+    {
+        match self.table.transaction(id) {
+            None => or_stateless(self.alloc, None),
+            Some(transaction) => or_stateless(self.alloc, tag_in(self.alloc, transaction)?),
+        }
+    }
+
+    /// A response with a tag of its own.
+    #[inline(never)]
+    pub(crate) fn responds_in(
+        &self,
+        e: Setting,
+        request: &Request<'_>,
+        begun: Vec<Change>,
+        id: usize,
+        status: u16,
+        further: Vec<Header<'static>>,
+    ) -> Result<Plan, AllocError>
+        ensures { IfOk result (λ p. p ≡ responds_in self.now e request.now begun.items id status further.entry.items None) }
+    {
+        let tag = self.fresh_tag(e)?;
+        let parts = &request.parts;
+        let response = response_with(self.alloc, parts, e.source, status, tag.as_bytes(), further)?;
+        answers(
+            self.alloc,
+            e,
+            request,
+            begun,
+            id,
+            response,
+            tags_made(request),
+        )
+    }
+
+    #[inline(never)]
+    fn cancels(
+        &self,
+        e: Setting,
+        request: &Request<'_>,
+        begun: Vec<Change>,
+        id: usize,
+        other: usize,
+    ) -> Result<Plan, AllocError>
+        ensures { IfOk result (λ p. p ≡ cancels self.now e request.now begun.items id other) }
+    {
+        let tag = self.tag_sent(other)?;
+        let further = Vec::new(self.alloc);
+        let parts = &request.parts;
+        let response = response_with(self.alloc, parts, e.source, 200, tag.as_bytes(), further)?;
+        answers(self.alloc, e, request, begun, id, response, 0)
+    }
+
+    #[inline(never)]
+    fn registered(
+        &self,
+        e: Setting,
+        request: &Request<'_>,
+        begun: Vec<Change>,
+        id: usize,
+        plan: registrar::Plan,
+    ) -> Result<Plan, AllocError>
+        requires { AllLast e.now plan.bindings }
+        ensures { IfOk result (λ p. p ≡ registers_by self.now e request.now begun.items id (Some plan.user) (Ok plan.bindings)) }
+    {
+        let further = contact_headers(self.alloc, plan.bindings(), e.now)?;
+        let planned = self.responds_in(e, request, begun, id, 200, further)?;
+        Ok(planned.with_registration(plan))
+    }
+
+    #[inline(never)]
+    fn not_registered(
+        &self,
+        e: Setting,
+        request: &Request<'_>,
+        begun: Vec<Change>,
+        id: usize,
+        refusal: Refusal,
+    ) -> Result<Plan, AllocError>
+        ensures { IfOk result (λ p. p ≡ not_registered self.now e request.now begun.items id refusal) }
+    {
+        let further = refusal_headers(self.alloc, self.least, refusal)?;
+        self.responds_in(e, request, begun, id, status_of(refusal), further)
+    }
+
+    /// A REGISTER for which this is the registrar's answer, or for which memory ran out.
+    #[inline(never)]
+    fn refused(
+        &self,
+        e: Setting,
+        request: &Request<'_>,
+        begun: Vec<Change>,
+        id: usize,
+        refusal: Refusal,
+    ) -> Result<Plan, AllocError>
+        ensures { (user : Option (List ℕ)) (answer : Result (List Binding) Refusal) → Fails refusal answer →
+            IfOk result (λ p. p ≡ registers_by self.now e request.now begun.items id user answer) }
+    {
+        match refusal {
+            Refusal::OutOfMemory => Err(AllocError),
+            Refusal::UnknownUser => self.not_registered(e, request, begun, id, refusal),
+            Refusal::StarMisused => self.not_registered(e, request, begun, id, refusal),
+            Refusal::TooBrief => self.not_registered(e, request, begun, id, refusal),
+            Refusal::OutOfOrder => self.not_registered(e, request, begun, id, refusal),
+            Refusal::TooManyBindings => self.not_registered(e, request, begun, id, refusal),
+            Refusal::BadContact => self.not_registered(e, request, begun, id, refusal),
+        }
+    }
+
+    #[tactic(auto, unfolding(crate::specs::Replies::registers))]
+    #[inline(never)]
+    fn registers(
+        &self,
+        e: Setting,
+        request: &Request<'_>,
+        begun: Vec<Change>,
+        id: usize,
+    ) -> Result<Plan, AllocError>
+        requires { e.now < 2 ^ 60 }
+        ensures { IfOk result (λ p. p ≡ registers self.now e request.now begun.items id) }
+    {
+        let register = register_of(self.alloc, self.registrar, request)?;
+        match self.registrar.plan(&register, e.now) {
+            Ok(plan) => self.registered(e, request, begun, id, plan),
+            Err(refusal) => self.refused(e, request, begun, id, refusal),
+        }
+    }
+
+    #[inline(never)]
+    fn lists_methods(
+        &self,
+        e: Setting,
+        request: &Request<'_>,
+        begun: Vec<Change>,
+        id: usize,
+        status: u16,
+    ) -> Result<Plan, AllocError>
+        ensures { IfOk result (λ p. p ≡ responds_in self.now e request.now begun.items id status (allow ∷ []) None) }
+    {
+        let further = allow_header(self.alloc)?;
+        self.responds_in(e, request, begun, id, status, further)
+    }
+
+    #[inline(never)]
+    fn refuses_extensions(
+        &self,
+        e: Setting,
+        request: &Request<'_>,
+        begun: Vec<Change>,
+        id: usize,
+    ) -> Result<Plan, AllocError>
+        ensures { IfOk result (λ p. p ≡ responds_in self.now e request.now begun.items id 420 (unsupported request.now ∷ []) None) }
+    {
+        let further = unsupported_header(self.alloc, request.headers.as_slice())?;
+        self.responds_in(e, request, begun, id, 420, further)
+    }
+
+    /// 415, with what is taken in place of it.
+    #[inline(never)]
+    fn refuses_body(
+        &self,
+        e: Setting,
+        request: &Request<'_>,
+        begun: Vec<Change>,
+        id: usize,
+        name: &[u8],
+        taken: &[u8],
+    ) -> Result<Plan, AllocError>
+        ensures { IfOk result (λ p. p ≡ responds_in self.now e request.now begun.items id 415 (named name.now taken.now ∷ []) None) }
+    {
+        let mut further = Vec::new(self.alloc);
+        further.push(Header::of(self.alloc, name, taken)?)?;
+        self.responds_in(e, request, begun, id, 415, further)
+    }
+
+    /// What a reply comes to, to a request that began transaction `id`.
+    #[tactic(auto, unfolding(crate::specs::Replies::reply_row))]
+    #[inline(never)]
+    pub fn reply_row(
+        &self,
+        e: Setting,
+        request: &Request<'_>,
+        begun: Vec<Change>,
+        id: usize,
+        reply: Reply,
+    ) -> Result<Plan, AllocError>
+        requires { e.now < 2 ^ 60 }
+        ensures { IfOk result (λ p. p ≡ reply_row self.now e request.now begun.items id reply) }
+    {
+        match reply {
+            Reply::CancelOf(other) => self.cancels(e, request, begun, id, other),
+            Reply::Refusal(status) => {
+                self.responds_in(e, request, begun, id, status, Vec::new(self.alloc))
+            }
+            Reply::RetryLater => {
+                let further = retry_alone(self.alloc)?;
+                self.responds_in(e, request, begun, id, 500, further)
+            }
+            Reply::MethodUnoffered => self.lists_methods(e, request, begun, id, 405),
+            Reply::TypeRefused => self.refuses_body(
+                e,
+                request,
+                begun,
+                id,
+                b"Accept",
+                b"application/sdp",
+            ),
+            Reply::EncodingRefused => self.refuses_body(
+                e,
+                request,
+                begun,
+                id,
+                b"Accept-Encoding",
+                b"identity",
+            ),
+            Reply::ExtensionRefused => self.refuses_extensions(e, request, begun, id),
+            Reply::MethodsListed => self.lists_methods(e, request, begun, id, 200),
+            Reply::Registration => self.registers(e, request, begun, id),
+        }
+    }
+}
