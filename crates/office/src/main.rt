@@ -1,11 +1,21 @@
 //! The office's call server: hands the words of the command line, the files that they name and the standard streams to the
-//! library `server`.
+//! library `server`, and serves telephones by the sockets, the clock and the threads of the system.
 #![tactic(auto)]
 
+mod addresses;
+mod binding;
 mod disk;
+mod log;
+mod media;
+mod ready;
+mod shared;
+mod sip_socket;
+mod telephony;
+mod watch;
 
 use crate::disk::Disk;
-use server::{CommandError, Ending, run};
+use crate::telephony::Telephony;
+use server::{CommandError, Ending, Host, run};
 use std::fs::Files;
 use std::process::ExitCode;
 use std::rt::Env;
@@ -27,7 +37,10 @@ fn words<R: Env + AllocGlobal>(rt: &R) -> Result<Vec<String>, CommandError> {
     Ok(words)
 }
 
-fn ending<R: Env + Files + Input + Print + AllocGlobal>(rt: &R) -> Result<Ending, CommandError> {
+fn ending<R: Env + Files + Input + Print + AllocGlobal, H: Host>(
+    rt: &R,
+    host: &mut H,
+) -> Result<Ending, CommandError> {
     let owned = words(rt)?;
     let mut words = Vec::new(rt.alloc());
     for word in &owned {
@@ -38,13 +51,15 @@ fn ending<R: Env + Files + Input + Print + AllocGlobal>(rt: &R) -> Result<Ending
         rt.alloc(),
         &words,
         &disk,
+        host,
         &mut rt.reader(),
         &mut io::writer(rt),
     ))
 }
 
 fn main(rt: HostRuntime) -> ExitCode {
-    let ending = ending(&rt).unwrap_or_else(Ending::Refused);
+    let mut telephony = Telephony { rt: &rt };
+    let ending = ending(&rt, &mut telephony).unwrap_or_else(Ending::Refused);
     if let Some(words) = ending.words() {
         let _ = eprintln!(rt; "{words}");
     }

@@ -1,4 +1,5 @@
 pub mod InputLaws
+pub mod NumberLaws
 pub mod WordLaws
 pub mod ReplayLaws
 pub mod StateLaws

@@ -16,7 +16,7 @@ use Rattle.scripts.specs.Writing.{sent_text}
 use Rattle.agent.specs.Rows.{after, row}
 use Rattle.agent.specs.State.{Contents, RefusesConfig}
 use Rattle.server.specs.declared.fault.Fault.{Fault}
-use Rattle.server.specs.declared.fault.Fault.TheVariants.{Input, Config as ConfigFault, Output, OutOfMemory}
+use Rattle.server.specs.declared.fault.Fault.TheVariants.{Input, Config as ConfigFault, Output, Socket, OutOfMemory}
 use Rattle.server.specs.Faults.{config_fault}
 use Rattle.server.specs.Leaves.{Leaves, IsOfConfig, IsOfOffice, IsOfReading}
 use Rattle.server.specs.Replay.{after_all, day_text, run_text, sends_of, text_of, Day, EventLeaves, IsOffice, IsScript, Replays, ReplayLeaves, RunLeaves, WritesFirst}
@@ -53,6 +53,7 @@ pub of_office : (file : Option (List ℕ)) (e : Fault) → IsOfConfig e → IsOf
 of_office file Input h = absurd h
 of_office file ConfigFault h = λ none. cc
 of_office file Output h = absurd h
+of_office file Socket h = absurd h
 of_office file OutOfMemory h = tt
 
 -- ---- a run, and one event more
@@ -75,6 +76,7 @@ stopped : (agent : Contents) (done rest : List Event) (e : Fault) (held now held
 stopped agent done rest Input held now held_after h k = absurd k
 stopped agent done rest ConfigFault held now held_after h k = absurd k
 stopped agent done rest Output held now held_after h k = tt
+stopped agent done rest Socket held now held_after h k = absurd k
 stopped agent done rest OutOfMemory held now held_after h k = (done, rest, refl, appends_kept held now held_after _ h k)
 
 pub stopped_at : (r : Result (Unit {0}) Fault) (agent : Contents) (events : List Event) (i : ℕ) (e : Fault) (held now held_after : Option (List ℕ)) → IsErrAnd r (λ y. y ≡ e)
@@ -124,6 +126,7 @@ run_leaves : (config : Option (Option (List ℕ))) (script held held_after : Opt
 run_leaves config script held held_after day Input h = absurd h
 run_leaves config script held held_after day ConfigFault h = absurd h
 run_leaves config script held held_after day Output h = day
+run_leaves config script held held_after day Socket h = absurd h
 run_leaves config script held held_after day OutOfMemory h = inr (day, h)
 
 pub not_replayed : (r : Result (Unit {0}) Fault) (config : Option (Option (List ℕ))) (script held held_after : Option (List ℕ)) (day : Day config script)
@@ -136,6 +139,7 @@ pub office_leaves : (config : Option (Option (List ℕ))) (script held : Option 
 office_leaves config script held Input h = absurd h
 office_leaves config script held ConfigFault h = (h, keeps_same held)
 office_leaves config script held Output h = absurd h
+office_leaves config script held Socket h = absurd h
 office_leaves config script held OutOfMemory h = inl (keeps_same held)
 
 -- a fault of the script, behind an office
@@ -144,6 +148,7 @@ pub script_leaves : (config : Option (Option (List ℕ))) (script held : Option 
 script_leaves config script held office Input is h = (office, is, keeps_same held)
 script_leaves config script held office ConfigFault is h = absurd h
 script_leaves config script held office Output is h = absurd h
+script_leaves config script held office Socket is h = absurd h
 script_leaves config script held office OutOfMemory is h = inl (keeps_same held)
 
 pub memory_leaves : (config : Option (Option (List ℕ))) (script held : Option (List ℕ)) (e : Fault) → e ≡ OutOfMemory → ReplayLeaves config script e held held
@@ -154,6 +159,7 @@ reading_leaves : (held : Option (List ℕ)) (e : Fault) → IsOfReading e → Le
 reading_leaves held Input h = keeps_same held
 reading_leaves held ConfigFault h = absurd h
 reading_leaves held Output h = absurd h
+reading_leaves held Socket h = absurd h
 reading_leaves held OutOfMemory h = keeps_same held
 
 pub unread_leaves : {T : Type 0} (r : Result T Fault) (held : Option (List ℕ)) (e : Fault) → IsErrAnd r (λ y. y ≡ e) → IsOfReading e → IfErr r (λ x. Leaves x held held)

@@ -1,5 +1,5 @@
 -- What the matches of a parse ask.
-use Rattle.std.proofs.Common.{◌≡◌, ◌∙◌, ℕ, Bool, true, false, cond, List, [], ◌∷◌, map, codes, Option, Some, None, Result, Ok, Err, IfSome, IfNone, IfErr, OnOk, option_map, refl, sym, ap, ap₂, subst, inr, arith, slice_index}
+use Rattle.std.proofs.Common.{◌≡◌, ◌∙◌, ℕ, Bool, true, false, cond, List, [], ◌∷◌, map, codes, Option, Some, None, Result, Ok, Err, IfSome, IfNone, IfErr, OnOk, option_map, refl, sym, ap, ap₂, subst, inl, inr, arith, slice_index}
 use Rattle.std.specs.Prelude.{option_and_then, unwrap_or, slice_get, find}
 use Rattle.std.specs.Option.{ok_or}
 use Rattle.std.specs.Str.{bytes_eq}
@@ -12,10 +12,10 @@ use Rattle.clap.specs.declared.parser.matches.Found.{Found}
 use Rattle.clap.specs.declared.parser.matches.MatchedArg.{MatchedArg}
 use Rattle.clap.proofs.OnLiterals.{clap_on_literals}
 use Rattle.server.specs.declared.words.Asked.{Asked}
-use Rattle.server.specs.declared.words.Asked.TheVariants.{Once, Replay}
+use Rattle.server.specs.declared.words.Asked.TheVariants.{Once, Replay, Serve}
 use Rattle.server.specs.declared.words.CommandError.{CommandError}
 use Rattle.server.specs.declared.words.CommandError.TheVariants.{Words}
-use Rattle.server.specs.Words.{office_app, name_in, value_in, IsReplay, AsksIn, RefusesWords, entered_by}
+use Rattle.server.specs.Words.{office_app, name_in, value_in, turns_in, IsReplay, IsServe, LacksServe, AsksIn, RefusesWords, entered_by}
 
 pub office_is_simple : is_simple office_app ≡ true
 unfolding clap_on_literals
@@ -68,10 +68,21 @@ replay_is_not_once e =
     let bad : ◌≡◌ {A = ℕ} 114 111 = ap first_code e in
     absurd (omega arith)
 
+replay_is_not_serve : Some (codes "replay") ≡ Some (codes "serve") → ⊥
+replay_is_not_serve e =
+    let bad : ◌≡◌ {A = ℕ} 114 115 = ap first_code e in
+    absurd (omega arith)
+
+serve_is_not_once : Some (codes "serve") ≡ Some (codes "once") → ⊥
+serve_is_not_once e =
+    let bad : ◌≡◌ {A = ℕ} 115 111 = ap first_code e in
+    absurd (omega arith)
+
 pub asks_replay : (entered : Option (List ℕ × List Row)) (f : Found) (asked : Option Asked) → entered ≡ Some (codes "replay", rows_of f)
     → IfSome asked (λ a. IsReplay (first_value f (codes "config")) (first_value f (codes "script")) a) → IfSome asked (λ a. AsksIn entered a)
 asks_replay entered f None e h = tt
 asks_replay entered f (Some Once) e h = absurd h
+asks_replay entered f (Some (Serve config turns)) e h = absurd h
 asks_replay entered f (Some (Replay config script)) e h =
     (ap name_in e, (h.0 ∙ first_is f (codes "config") ∙ sym (ap (value_in (codes "config")) e), h.1 ∙ first_is f (codes "script") ∙ sym (ap (value_in (codes "script")) e)))
 
@@ -82,9 +93,40 @@ asks_nothing entered f None e h = go
   where
     go : (a : Asked) → AsksIn entered a → ⊥
     go Once k = replay_is_not_once (sym (ap name_in e) ∙ k)
+    go (Serve config turns) k = replay_is_not_serve (sym (ap name_in e) ∙ k.0)
     go (Replay config script) k =
         let none = k.1.1 ∙ ap (value_in (codes "script")) e ∙ sym (first_is f (codes "script")) ∙ h in
         cc
+
+-- the value of an argument
+value_is : (entered : Option (List ℕ × List Row)) (f : Found) (name id : List ℕ) → entered ≡ Some (name, rows_of f) → first_value f id ≡ value_in id entered
+value_is entered f name id e = first_is f id ∙ sym (ap (value_in id) e)
+
+pub asks_serve : (entered : Option (List ℕ × List Row)) (f : Found) (asked : Option Asked) → entered ≡ Some (codes "serve", rows_of f)
+    → IfSome asked (λ a. IsServe (first_value f (codes "config")) (first_value f (codes "turns")) a) → IfSome asked (λ a. AsksIn entered a)
+asks_serve entered f None e h = tt
+asks_serve entered f (Some Once) e h = absurd h
+asks_serve entered f (Some (Replay config script)) e h = absurd h
+asks_serve entered f (Some (Serve config turns)) e h =
+    (ap name_in e, (h.0 ∙ value_is entered f (codes "serve") (codes "config") e, h.1 ∙ ap turns_in (value_is entered f (codes "serve") (codes "turns") e)))
+
+pub serves_nothing : (entered : Option (List ℕ × List Row)) (f : Found) (asked : Option Asked) → entered ≡ Some (codes "serve", rows_of f)
+    → IfNone asked (LacksServe (first_value f (codes "config")) (first_value f (codes "turns"))) → IfNone asked ((a : Asked) → AsksIn entered a → ⊥)
+serves_nothing entered f (Some x) e h = tt
+serves_nothing entered f None e h = go
+  where
+    go : (a : Asked) → AsksIn entered a → ⊥
+    go Once k = serve_is_not_once (sym (ap name_in e) ∙ k)
+    go (Replay config script) k = replay_is_not_serve (sym k.0 ∙ ap name_in e)
+    go (Serve config turns) k = lacks config turns k.1 h where
+      lacks : (path : Bor (List ℕ)) (n : Option ℕ) → IsServe (value_in (codes "config") entered) (value_in (codes "turns") entered) (Serve path n)
+          → LacksServe (first_value f (codes "config")) (first_value f (codes "turns")) → ⊥
+      lacks path n is (inl no_path) =
+          let none = is.0 ∙ sym (value_is entered f (codes "serve") (codes "config") e) ∙ no_path in
+          cc
+      lacks path n is (inr no_turns) =
+          let none = is.1 ∙ sym (ap turns_in (value_is entered f (codes "serve") (codes "turns") e)) ∙ no_turns in
+          cc
 
 -- ---- what is refused
 

@@ -5,10 +5,11 @@ use Rattle.server.specs.declared.ending.Ending.{Ending}
 use Rattle.server.specs.declared.ending.Ending.TheVariants.{Done, Refused, Broken}
 use Rattle.server.specs.declared.fault.Fault.{Fault}
 use Rattle.server.specs.declared.words.Asked.{Asked}
-use Rattle.server.specs.declared.words.Asked.TheVariants.{Once, Replay}
+use Rattle.server.specs.declared.words.Asked.TheVariants.{Once, Replay, Serve}
 use Rattle.server.specs.Leaves.{Leaves}
 use Rattle.server.specs.Once.{Answers}
 use Rattle.server.specs.Replay.{Replays, ReplayLeaves}
+use Rattle.server.specs.Serve.{Serves, ServeLeaves}
 use Rattle.server.specs.Statuses.{status_of, fault_words_of, command_status_of, command_words_of}
 use Rattle.server.specs.Words.{Asks, RefusesWords}
 
@@ -31,12 +32,14 @@ abbrev pub Does : Files → Asked → Option (List ℕ) → Option (List ℕ) �
 Does files Once left left_after held held_after = Answers left left_after held held_after
 Does files (Replay config script) left left_after held held_after =
     Keeps left left_after × Replays (option_map (λ path. files path.now) config) (files script.now) held held_after
+Does files (Serve config turns) left left_after held held_after = Keeps left left_after × Keeps held held_after × Serves (files config.now)
 
 -- and where a fault ended it
 abbrev pub Breaks : Files → Asked → Fault → Option (List ℕ) → Option (List ℕ) → Type 0
 Breaks files Once fault held held_after = Leaves fault held held_after
 Breaks files (Replay config script) fault held held_after =
     ReplayLeaves (option_map (λ path. files path.now) config) (files script.now) fault held held_after
+Breaks files (Serve config turns) fault held held_after = Keeps held held_after × ServeLeaves (files config.now) fault
 
 -- what was asked, and what became of the bytes
 abbrev pub Ends : List (List ℕ) → Files → Ending → Option (List ℕ) → Option (List ℕ) → Option (List ℕ) → Option (List ℕ) → Type 0

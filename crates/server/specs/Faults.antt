@@ -3,8 +3,10 @@ use Rattle.configuration.specs.declared.error.ConfigError.{ConfigError}
 use Rattle.configuration.specs.declared.error.ConfigError.TheVariants as refusals
 use Rattle.scripts.specs.declared.error.ScriptError.{ScriptError}
 use Rattle.scripts.specs.declared.error.ScriptError.TheVariants as scripts
+use Rattle.server.specs.declared.host.HostFault.{HostFault}
+use Rattle.server.specs.declared.host.HostFault.TheVariants as hosts
 use Rattle.server.specs.declared.fault.Fault.{Fault}
-use Rattle.server.specs.declared.fault.Fault.TheVariants.{Input, Config, Output, OutOfMemory}
+use Rattle.server.specs.declared.fault.Fault.TheVariants.{Input, Config, Output, Socket, OutOfMemory}
 
 -- of a configuration
 abbrev pub config_fault : ConfigError → Fault
@@ -26,4 +28,10 @@ abbrev pub unread_config : Fault → Fault
 unread_config Input = Config
 unread_config Config = Config
 unread_config Output = Config
+unread_config Socket = Config
 unread_config OutOfMemory = OutOfMemory
+
+-- of what serves on sockets
+abbrev pub host_fault : HostFault → Fault
+host_fault hosts.Socket = Socket
+host_fault hosts.OutOfMemory = OutOfMemory

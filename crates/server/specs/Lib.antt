@@ -2,6 +2,8 @@ pub mod Input
 pub mod Once
 pub mod State
 pub mod Replay
+pub mod Serve
+pub mod Turns
 pub mod Leaves
 pub mod Faults
 pub mod Statuses

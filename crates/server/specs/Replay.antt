@@ -14,7 +14,7 @@ use Rattle.agent.specs.Rows.{after, row}
 use Rattle.agent.specs.State.{Contents, IsNew}
 use Rattle.server.specs.State.{state_text}
 use Rattle.server.specs.declared.fault.Fault.{Fault}
-use Rattle.server.specs.declared.fault.Fault.TheVariants.{Input, Config as ConfigFault, Output, OutOfMemory}
+use Rattle.server.specs.declared.fault.Fault.TheVariants.{Input, Config as ConfigFault, Output, Socket, OutOfMemory}
 
 -- ---- a run
 
@@ -79,6 +79,7 @@ abbrev pub EventLeaves : Fault → Option (List ℕ) → Option (List ℕ) → T
 EventLeaves Input held held_after = ⊥
 EventLeaves ConfigFault held held_after = ⊥
 EventLeaves Output held held_after = Unit {0}
+EventLeaves Socket held held_after = ⊥
 EventLeaves OutOfMemory held held_after = Keeps held held_after
 
 -- what events leave of which one was not taken, or its text not written
@@ -86,6 +87,7 @@ abbrev pub RunLeaves : Contents → List Event → Fault → Option (List ℕ) �
 RunLeaves agent events Input held held_after = ⊥
 RunLeaves agent events ConfigFault held held_after = ⊥
 RunLeaves agent events Output held held_after = Unit {0}
+RunLeaves agent events Socket held held_after = ⊥
 RunLeaves agent events OutOfMemory held held_after = WritesFirst agent events held held_after
 
 -- what a fault leaves of the output, and when it comes: one of the configuration only where a file was handed over for it, and
@@ -94,5 +96,6 @@ abbrev pub ReplayLeaves : Option (Option (List ℕ)) → Option (List ℕ) → F
 ReplayLeaves config script Input held held_after = (office : Config) × IsOffice config office × Keeps held held_after
 ReplayLeaves config script ConfigFault held held_after = (config ≢ None) × Keeps held held_after
 ReplayLeaves config script Output held held_after = Day config script
+ReplayLeaves config script Socket held held_after = ⊥
 ReplayLeaves config script OutOfMemory held held_after =
     Keeps held held_after ⊎ ((day : Day config script) × WritesFirst day.agent day.events held held_after)

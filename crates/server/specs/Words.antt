@@ -1,11 +1,12 @@
 -- The command line, in the words of the parser.
-use Rattle.std.specs.Prelude.{◌≡◌, ℕ, Bool, List, [], true, codes, ◌⊎◌, Option, Some, option_map, option_and_then}
+use Rattle.std.specs.Prelude.{◌≡◌, ℕ, Bool, List, [], true, codes, ◌⊎◌, Option, Some, None, option_map, option_and_then}
 use Rattle.clap.specs.Simple.{App, Shape, new_app, new_rule, on_top, with_rule, with_subcommand, subcommand_of}
 use Rattle.clap.specs.Walk.{Row, Rule, first_of}
 use Rattle.clap.specs.Takes.{takes}
 use Rattle.clap.specs.Faults.{fault_of}
 use Rattle.server.specs.declared.words.Asked.{Asked}
-use Rattle.server.specs.declared.words.Asked.TheVariants.{Once, Replay}
+use Rattle.server.specs.declared.words.Asked.TheVariants.{Once, Replay, Serve}
+use Rattle.server.specs.Turns.{turns_of}
 use Rattle.server.specs.declared.words.CommandError.{CommandError}
 use Rattle.server.specs.declared.words.CommandError.TheVariants.{Words, OutOfMemory}
 
@@ -20,15 +21,27 @@ config_rule = record (new_rule (codes "config")) { long = Some (codes "config") 
 abbrev pub script_rule : Rule
 script_rule = record (new_rule (codes "script")) { required = true }
 
+-- `--config FILE`, which has to be there
+abbrev pub office_rule : Rule
+office_rule = record config_rule { required = true }
+
+-- `--turns N`
+abbrev pub turns_rule : Rule
+turns_rule = record (new_rule (codes "turns")) { long = Some (codes "turns") }
+
 abbrev pub once_app : App
 once_app = new_app (codes "once")
 
 abbrev pub replay_app : App
 replay_app = with_rule (with_rule (new_app (codes "replay")) config_rule) script_rule
 
--- `office once`, and `office replay [--config FILE] SCRIPT`
+abbrev pub serve_app : App
+serve_app = with_rule (with_rule (new_app (codes "serve")) office_rule) turns_rule
+
+-- `office once`, `office replay [--config FILE] SCRIPT`, and `office serve --config FILE [--turns N]`
 abbrev pub office_app : App
-office_app = with_subcommand (with_subcommand (on_top requiring (new_app (codes "office"))) once_app.top) replay_app.top
+office_app =
+    with_subcommand (with_subcommand (with_subcommand (on_top requiring (new_app (codes "office"))) once_app.top) replay_app.top) serve_app.top
 
 -- the subcommand that the words name, and what they give its arguments
 unfoldable pub entered_by : List (List ℕ) → Option (List ℕ × List Row)
@@ -52,14 +65,36 @@ is_taken words = takes office_app words
 -- `replay` with these values of its arguments
 abbrev pub IsReplay : Option (List ℕ) → Option (List ℕ) → Asked → Type 0
 IsReplay config_text script_text Once = ⊥
+IsReplay config_text script_text (Serve config turns) = ⊥
 IsReplay config_text script_text (Replay config script) =
     (option_map (λ path. path.now) config ≡ config_text) × (Some script.now ≡ script_text)
+
+abbrev pub given_turns : Option ℕ → Option (Option ℕ)
+given_turns None = None
+given_turns (Some n) = Some (Some n)
+
+-- so many turns, or no end, where no number is given; none where it is no number of turns
+abbrev pub turns_in : Option (List ℕ) → Option (Option ℕ)
+turns_in None = Some None
+turns_in (Some text) = given_turns (turns_of text)
+
+-- `serve` with these values of its arguments
+abbrev pub IsServe : Option (List ℕ) → Option (List ℕ) → Asked → Type 0
+IsServe config_text turns_text Once = ⊥
+IsServe config_text turns_text (Replay config script) = ⊥
+IsServe config_text turns_text (Serve config turns) = (Some config.now ≡ config_text) × (Some turns ≡ turns_in turns_text)
+
+-- no path, or no number of turns
+abbrev pub LacksServe : Option (List ℕ) → Option (List ℕ) → Type 0
+LacksServe config_text turns_text = (config_text ≡ None) ⊎ (turns_in turns_text ≡ None)
 
 -- what a subcommand and its arguments ask
 abbrev pub AsksIn : Option (List ℕ × List Row) → Asked → Type 0
 AsksIn entered Once = name_in entered ≡ Some (codes "once")
 AsksIn entered (Replay config script) =
     (name_in entered ≡ Some (codes "replay")) × IsReplay (value_in (codes "config") entered) (value_in (codes "script") entered) (Replay config script)
+AsksIn entered (Serve config turns) =
+    (name_in entered ≡ Some (codes "serve")) × IsServe (value_in (codes "config") entered) (value_in (codes "turns") entered) (Serve config turns)
 
 -- what the words ask
 abbrev pub Asks : List (List ℕ) → Asked → Type 0

@@ -3,10 +3,13 @@
 ghost use Rattle.std.specs.Prelude.{map, option_map, IfErr, OnOk};
 ghost use Rattle.server.specs.Endings.{Ends};
 ghost use Rattle.server.specs.Replay.{Replays, ReplayLeaves};
+ghost use Rattle.server.specs.Serve.{Serves, ServeLeaves};
 
 use crate::day::replay;
 use crate::ending::Ending;
 use crate::fault::Fault;
+use crate::host::Host;
+use crate::serving::serve;
 use crate::shelf::Shelf;
 use crate::single::once;
 use crate::words::{Asked, command};
@@ -31,12 +34,27 @@ fn replay_files<F: Shelf, W: Write>(
     replay(alloc, config, shelf.open(script), writer)
 }
 
+/// `serve` over a file.
+fn serve_file<F: Shelf, H: Host>(
+    alloc: Global,
+    shelf: &F,
+    config: &str,
+    host: &mut H,
+    turns: Option<u64>,
+) -> Result<(), Fault>
+    ensures served { OnOk result (Serves (F.contents shelf.now config.now)) }
+    ensures refused { IfErr result (ServeLeaves (F.contents shelf.now config.now)) }
+{
+    serve(alloc, shelf.open(config), host, turns)
+}
+
 /// Does what the words of the command line ask, of which the first is the program's own: `once` answers the datagram that
-/// the reader has on the writer, and `replay` runs the script of a file.
-pub fn run<F: Shelf, R: Read, W: Write>(
+/// the reader has on the writer, `replay` runs the script of a file, and `serve` has the host serve the configuration of a file.
+pub fn run<F: Shelf, H: Host, R: Read, W: Write>(
     alloc: Global,
     words: &[&str],
     shelf: &F,
+    host: &mut H,
     reader: &mut R,
     writer: &mut W,
 ) -> Ending
@@ -49,6 +67,12 @@ pub fn run<F: Shelf, R: Read, W: Write>(
         },
         Ok(Asked::Replay { config, script }) => {
             match replay_files(alloc, shelf, config, script, writer) {
+                Ok(()) => Ending::Done,
+                Err(fault) => Ending::Broken(fault),
+            }
+        }
+        Ok(Asked::Serve { config, turns }) => {
+            match serve_file(alloc, shelf, config, host, turns) {
                 Ok(()) => Ending::Done,
                 Err(fault) => Ending::Broken(fault),
             }

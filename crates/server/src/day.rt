@@ -32,7 +32,7 @@ fn unread_config(fault: Fault) -> Fault
 }
 
 /// The configuration that a file says.
-fn config_of<C: Read + Drop>(alloc: Global, mut file: C) -> Result<Config, Fault>
+pub(crate) fn config_of<C: Read + Drop>(alloc: Global, mut file: C) -> Result<Config, Fault>
     ensures read { IfOk result (λ config. IsOffice (Some (C.remaining file)) config) }
     ensures kept { IfOk result (λ config. first_broken config ≡ None) }
     ensures refused { IfErr result IsOfConfig }

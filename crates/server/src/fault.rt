@@ -4,7 +4,7 @@ use std::alloc::{AllocError, AllocFailed};
 use std::error::Error;
 use std::fmt;
 
-/// Why `once` or `replay` gave up.
+/// Why `once`, `replay` or `serve` gave up.
 #[derive(Clone, Copy, Debug, PartialEq, Eq)]
 pub enum Fault {
     /// The input or the script failed, never ended, or is no script. Nothing was written.
@@ -13,6 +13,8 @@ pub enum Fault {
     Config,
     /// The output failed. How much was written is open.
     Output,
+    /// A socket could not be opened, or failed too often in a row.
+    Socket,
     /// Memory ran out. Nothing was written but what a script's events before sent.
     OutOfMemory,
 }
@@ -28,6 +30,7 @@ impl Fault {
         match self {
             Fault::Config => 3,
             Fault::Input | Fault::Output => 4,
+            Fault::Socket => 5,
             Fault::OutOfMemory => 6,
         }
     }
@@ -39,6 +42,7 @@ impl Fault {
         match self {
             Fault::Config => "office: config",
             Fault::Input | Fault::Output => "office: script",
+            Fault::Socket => "office: socket",
             Fault::OutOfMemory => "office: memory",
         }
     }

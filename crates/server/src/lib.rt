@@ -1,24 +1,30 @@
 //! The call server between the bytes of its files and streams: what a command line asks, what is sent for a datagram, and what
-//! is sent at the events of a script, with what stands at their end.
+//! is sent at the events of a script, with what stands at their end; and which configuration is served on sockets, which are
+//! handed in.
 #![tactic(auto)]
 
 mod command_line;
 mod day;
 mod ending;
 mod fault;
+mod host;
 mod input;
 mod making;
 mod output;
+mod serving;
 mod shelf;
 mod single;
 mod state;
+mod turns;
 mod words;
 
 pub use command_line::run;
 pub use day::replay;
 pub use ending::Ending;
 pub use fault::Fault;
+pub use host::{Host, HostFault};
 pub use input::read_datagram;
+pub use serving::serve;
 pub use shelf::Shelf;
 pub use single::once;
 pub use words::{Asked, CommandError, command};

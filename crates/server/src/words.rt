@@ -1,9 +1,12 @@
 //! The command line.
 
 ghost use Rattle.std.specs.Prelude.{◌≡◌, map, codes, Some, None, option_map, IfOk, OnOk, IfErr, IfSome, IfNone};
-ghost use Rattle.clap.specs.Words.{app_of, first_value, found_of, subcommand_rows_of};
-ghost use Rattle.server.specs.Words.{office_app, passes, Asks, AsksIn, IsReplay, RefusesWords};
+ghost use Rattle.clap.specs.declared.builder.command.Command.{Command};
+ghost use Rattle.clap.specs.Simple.{with_subcommand};
+ghost use Rattle.clap.specs.Words.{AddsSubcommand, app_of, first_value, found_of, subcommand_rows_of};
+ghost use Rattle.server.specs.Words.{given_turns, office_app, passes, serve_app, turns_in, Asks, AsksIn, IsReplay, IsServe, LacksServe, RefusesWords};
 
+use crate::turns::turns_of;
 use clap::error::ErrorKind;
 use clap::{Arg, ArgMatches, Command};
 use std::alloc::{AllocError, AllocFailed, Global};
@@ -19,6 +22,11 @@ pub enum Asked<'a> {
     Replay {
         config: Option<&'a str>,
         script: &'a str,
+    },
+    /// Serve telephones on the sockets of a configuration, until so many turns are made, or without an end. It is a path.
+    Serve {
+        config: &'a str,
+        turns: Option<u64>,
     },
 }
 
@@ -91,6 +99,15 @@ impl<T: Drop> From<AllocFailed<T>> for CommandError {
     }
 }
 
+/// The words of `serve`.
+fn serve_words<'a>(alloc: Global) -> Result<Command<'a>, AllocError>
+    ensures { IfOk result (λ c. (old new : Command) → AddsSubcommand old c new → app_of new ≡ with_subcommand (app_of old) serve_app.top) }
+{
+    let config = Arg::new(alloc, "config").long("config").required(true);
+    let turns = Arg::new(alloc, "turns").long("turns");
+    Command::new(alloc, "serve").arg(config)?.arg(turns)
+}
+
 /// The words that the program takes.
 fn office<'a>(alloc: Global) -> Result<Command<'a>, AllocError>
     ensures { IfOk result (λ c. app_of c ≡ office_app) }
@@ -100,7 +117,10 @@ fn office<'a>(alloc: Global) -> Result<Command<'a>, AllocError>
     let script = Arg::new(alloc, "script").required(true);
     let replay = Command::new(alloc, "replay").arg(config)?.arg(script)?;
     let office = Command::new(alloc, "office").subcommand_required(true);
-    office.subcommand(once)?.subcommand(replay)
+    office
+        .subcommand(once)?
+        .subcommand(replay)?
+        .subcommand(serve_words(alloc)?)
 }
 
 /// What the arguments of `replay` ask.
@@ -115,6 +135,36 @@ fn replay_by<'a>(matches: &ArgMatches<'a>) -> Option<Asked<'a>>
     })
 }
 
+/// So many turns, where it is a number of turns.
+fn given_turns(turns: Option<u64>) -> Option<Option<u64>>
+    ensures { result ≡ given_turns turns }
+{
+    match turns {
+        None => None,
+        Some(turns) => Some(Some(turns)),
+    }
+}
+
+/// So many turns, or no end, where no number is given. None where it is none.
+fn turns_in(text: Option<&str>) -> Option<Option<u64>>
+    ensures { result ≡ turns_in (option_map (λ t. t.now) text.entry) }
+{
+    match text {
+        None => Some(None),
+        Some(text) => given_turns(turns_of(text.as_bytes())),
+    }
+}
+
+/// What the arguments of `serve` ask.
+fn serve_by<'a>(matches: &ArgMatches<'a>) -> Option<Asked<'a>>
+    ensures some { IfSome result (λ a. IsServe (first_value (found_of matches.now) (codes "config")) (first_value (found_of matches.now) (codes "turns")) a) }
+    ensures none { IfNone result (LacksServe (first_value (found_of matches.now) (codes "config")) (first_value (found_of matches.now) (codes "turns"))) }
+{
+    let config = matches.get_str("config")?;
+    let turns = turns_in(matches.get_str("turns"))?;
+    Some(Asked::Serve { config, turns })
+}
+
 fn asked_by<'a>(matches: &ArgMatches<'a>) -> Option<Asked<'a>>
     ensures some { IfSome result (λ a. AsksIn (subcommand_rows_of matches.now) a) }
     ensures none { IfNone result ((a : Asked) → AsksIn (subcommand_rows_of matches.now) a → ⊥) }
@@ -124,6 +174,8 @@ fn asked_by<'a>(matches: &ArgMatches<'a>) -> Option<Asked<'a>>
         Some(Asked::Once)
     } else if name == "replay" {
         replay_by(below)
+    } else if name == "serve" {
+        serve_by(below)
     } else {
         None
     }

@@ -2,6 +2,7 @@
 #![tactic(auto)]
 
 mod replay_rows;
+mod serve_rows;
 mod server_rows;
 mod streams;
 

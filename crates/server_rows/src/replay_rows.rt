@@ -3,7 +3,7 @@
 use crate::server_rows::{
     command_words, ending_text, fault_text, is_out_of_memory, shown_or_nothing,
 };
-use crate::streams::{EndlessReader, NarrowWriter, SlowReader, TwoFiles, slow};
+use crate::streams::{EndlessReader, Hall, NarrowWriter, SlowReader, TwoFiles, slow};
 use rows::{number, usize_of};
 use server::{Fault, replay, run};
 use std::alloc::{AllocError, Global};
@@ -95,7 +95,8 @@ fn unwritten_text(alloc: Global, room: usize, words: &[&[u8]]) -> Result<String,
 fn files_text(alloc: Global, files: &TwoFiles<'_>, words: &[&str]) -> Result<String, AllocError> {
     let mut reader = slow(&[], 100, 0);
     let mut written = Vec::new(alloc);
-    let ending = run(alloc, words, files, &mut reader, &mut written);
+    let mut hall = Hall::new(None);
+    let ending = run(alloc, words, files, &mut hall, &mut reader, &mut written);
     if is_out_of_memory(ending) {
         return Err(AllocError);
     }

@@ -1,7 +1,8 @@
 //! Rows of calls of `server`, some of them over readers and writers that give little or fail.
 
 use crate::replay_rows::replay_answer;
-use crate::streams::{EndlessReader, NarrowWriter, TwoFiles, slow};
+use crate::serve_rows::{serve_asked_text, serve_text};
+use crate::streams::{EndlessReader, Hall, NarrowWriter, TwoFiles, slow};
 use rows::{Rows, number, said, shown, usize_of};
 use server::{Asked, CommandError, Ending, Fault, command, once, read_datagram, run};
 use std::alloc::{AllocError, Global};
@@ -107,6 +108,7 @@ fn command_text(alloc: Global, words: &[&str]) -> Result<String, AllocError> {
     match command(alloc, words) {
         Ok(Asked::Once) => said(alloc, "once"),
         Ok(Asked::Replay { config, script }) => asked_text(alloc, config, script),
+        Ok(Asked::Serve { config, turns }) => serve_asked_text(alloc, config, turns),
         Err(CommandError::OutOfMemory) => Err(AllocError),
         Err(error) => format!(in alloc; "{error}, status {}", error.status()),
     }
@@ -133,7 +135,8 @@ fn run_text(alloc: Global, text: &[u8], words: &[&str]) -> Result<String, AllocE
         config: &[],
         script: &[],
     };
-    let ending = run(alloc, words, &files, &mut reader, &mut written);
+    let mut hall = Hall::new(None);
+    let ending = run(alloc, words, &files, &mut hall, &mut reader, &mut written);
     if is_out_of_memory(ending) {
         return Err(AllocError);
     }
@@ -147,6 +150,7 @@ fn fault_named(name: &[u8]) -> Option<Fault> {
         b"input" => Some(Fault::Input),
         b"config" => Some(Fault::Config),
         b"output" => Some(Fault::Output),
+        b"socket" => Some(Fault::Socket),
         b"memory" => Some(Fault::OutOfMemory),
         _ => None,
     }
@@ -212,6 +216,7 @@ fn answer(alloc: Global, call: &str, args: &[&[u8]]) -> Result<Option<String>, A
         ("once_endless", []) => endless_text(alloc),
         ("once_unwritten", [text, room]) => unwritten_text(alloc, text, usize_of(room)),
         ("read_length", [count, given]) => length_text(alloc, usize_of(count), usize_of(given)),
+        ("serve", [text, told]) => serve_text(alloc, text, told),
         ("command", words) => return of_command(alloc, words),
         ("run", [text, words @ ..]) => return of_run(alloc, text, words),
         _ => {

@@ -1,6 +1,7 @@
-//! Readers and writers that give and take little, or fail, and files of them.
+//! Readers and writers that give and take little, or fail, files of them, and a host without sockets.
 
-use server::Shelf;
+use configuration::Config;
+use server::{Host, HostFault, Shelf};
 use std::io;
 use std::io::{ErrorKind, Read, Write};
 
@@ -97,6 +98,30 @@ impl<'a> Shelf for TwoFiles<'a> {
             slow(self.script, 100, 0)
         } else {
             slow(&[], 100, 1)
+        }
+    }
+}
+
+/// A host without sockets: it keeps what it was asked to serve, and fails as it is told.
+#[derive(Drop)]
+pub(crate) struct Hall {
+    fault: Option<HostFault>,
+    /// The port for SIP, and the turns, of what was asked last.
+    pub(crate) asked: Option<(u16, Option<u64>)>,
+}
+
+impl Hall {
+    pub(crate) fn new(fault: Option<HostFault>) -> Hall {
+        Hall { fault, asked: None }
+    }
+}
+
+impl Host for Hall {
+    fn serve(&mut self, config: &Config, turns: Option<u64>) -> Result<(), HostFault> {
+        self.asked = Some((config.sip_port, turns));
+        match self.fault {
+            None => Ok(()),
+            Some(fault) => Err(fault),
         }
     }
 }

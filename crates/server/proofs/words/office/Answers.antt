@@ -2,7 +2,7 @@ use Rattle.std.proofs.Common.{rules, ap, ap₂, codes, ◌≡◌, ◌∙◌}
 use Rattle.std.proofs.lemmas.Result.{IfOk-weaker}
 use Rattle.clap.specs.Words.{App, app_of, new_app, rule_of, with_rule, with_subcommand}
 use Rattle.clap.specs.Simple.{on_top}
-use Rattle.server.specs.Words.{config_rule, script_rule, replay_app, once_app, requiring}
+use Rattle.server.specs.Words.{config_rule, script_rule, replay_app, serve_app, once_app, requiring}
 use Rattle.server.proofs.words.office.Goals as goal
 
 pub returns : goal.returns
@@ -13,4 +13,6 @@ returns c =
     ∙ ap₂ with_rule (c.in_ok-arg.ensures.shape (search rules) ∙ ap₂ with_rule c.new-3.ensures.app config_is) script_is in
     let top_is : app_of c.subcommand_required-office.result ≡ on_top requiring (new_app (codes "office")) = search rules in
     let first_is = c.in_ok-subcommand.ensures.shape (search rules) ∙ ap₂ with_subcommand top_is (ap (λ (a : App). a.top) c.new-once.ensures.app) in
-    IfOk-weaker c.subcommand-2.result _ _ (λ m h. h.shape (search rules) ∙ ap₂ with_subcommand first_is (ap (λ (a : App). a.top) replay_is)) c.subcommand-2.ensures
+    let second_is = c.in_ok-subcommand-2.ensures.shape (search rules) ∙ ap₂ with_subcommand first_is (ap (λ (a : App). a.top) replay_is) in
+    IfOk-weaker c.subcommand-3.result _ _
+    (λ m h. c.in_ok-serve_words.ensures _ _ h ∙ ap (λ (a : App). with_subcommand a serve_app.top) second_is) c.subcommand-3.ensures

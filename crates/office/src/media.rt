@@ -1,0 +1,105 @@
+//! The sockets of the relay ports, as one worker has them.
+
+ghost use Rattle.std.specs.Prelude.{◌≡◌, ◌≤◌, length, IfOk, IfSome};
+
+use crate::log::Log;
+use crate::ready::Ready;
+use crate::sip_socket::send_all;
+use mio::net::UdpSocket;
+use relay::{MediaSocket, SocketFault};
+use sip_uri::Addr;
+use std::io;
+use std::io::ErrorKind;
+use std::sync::Arc;
+
+/// All relay sockets, by rising port, and those of this worker that are ready. It notes what it takes and sends for clauses alone.
+#[derive(Drop)]
+pub(crate) struct MediaSockets {
+    pub(crate) sockets: Arc<Vec<UdpSocket>>,
+    /// The first relay port.
+    pub(crate) first: u16,
+    pub(crate) ready: Ready,
+    pub(crate) taken: Log,
+    pub(crate) sent: Log,
+    pub(crate) failed: bool,
+}
+
+impl MediaSockets {
+    // A datagram that is there, with its port and its length.
+    fn take(&mut self, buffer: &mut [u8]) -> io::Result<Option<(u16, usize)>>
+        ensures fits { IfOk result (λ r. IfSome r (λ d. d.1 ≤ length buffer.new)) }
+        ensures taken { self.new.taken ≡ self.old.taken }
+        ensures sent { self.new.sent ≡ self.old.sent }
+    {
+        match self.ready.take(self.sockets.as_slice(), buffer)? {
+            None => Ok(None),
+            Some((place, length)) => match u16::try_from(place) {
+                Ok(above) => Ok(Some((self.first.wrapping_add(above), length))),
+                Err(_) => Ok(None),
+            },
+        }
+    }
+
+    fn send_from(&self, from: u16, to: Addr, bytes: &[u8]) -> io::Result<()> {
+        let place = usize::from(from.wrapping_sub(self.first));
+        match self.sockets.as_slice().get(place) {
+            Some(socket) => send_all(socket, to, bytes),
+            None => Err(io::Error::from(ErrorKind::NotFound)),
+        }
+    }
+}
+
+impl MediaSocket for MediaSockets {
+    ghost use Rattle.std.specs.Prelude.{map};
+
+    ghost taken = { λ s. map (λ d. record { port = d.own; bytes = d.bytes }) s.taken.entries };
+
+    ghost sent = { λ s. map (λ d. record { from = d.own; to = record { ip = d.ip; port = d.port }; bytes = d.bytes }) s.sent.entries };
+
+    ghost failed = { λ s. s.failed };
+
+    fn receive(&mut self, buffer: &mut [u8]) -> Result<Option<(u16, usize)>, SocketFault> {
+        match self.take(buffer) {
+            Ok(Some((port, length))) => {
+                self.failed = false;
+                self.taken.note(port, &[], 0, &buffer[..length]);
+                Ok(Some((port, length)))
+            }
+            Ok(None) => {
+                self.failed = false;
+                Ok(None)
+            }
+            Err(_) => {
+                self.failed = true;
+                Err(SocketFault)
+            }
+        }
+    }
+
+    fn send(&mut self, from: u16, to: Addr, bytes: &[u8]) -> Result<(), SocketFault> {
+        match self.send_from(from, to, bytes) {
+            Ok(()) => {
+                self.failed = false;
+                self.sent.note(from, &to.ip, to.port, bytes);
+                Ok(())
+            }
+            Err(_) => {
+                self.failed = true;
+                Err(SocketFault)
+            }
+        }
+    }
+
+    fn wait(&mut self) -> Result<(), SocketFault> {
+        match self.ready.wait() {
+            Ok(()) => {
+                self.failed = false;
+                Ok(())
+            }
+            Err(_) => {
+                self.failed = true;
+                Err(SocketFault)
+            }
+        }
+    }
+}

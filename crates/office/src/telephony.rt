@@ -1,0 +1,236 @@
+//! An office on sockets: the signalling here, and the workers of the media beside it.
+
+ghost use Rattle.std.specs.Prelude.{◌≡◌, [], IfOk};
+ghost use Rattle.live.specs.Turns.{HasTable};
+
+use crate::binding::{Sockets, bind, worker_count};
+use crate::log::Log;
+use crate::media::MediaSockets;
+use crate::ready::Ready;
+use crate::shared::Shared;
+use crate::sip_socket::SipSocket;
+use crate::watch::Watch;
+use agent::{Agent, Tally};
+use configuration::Config;
+use live::{Clock as Moments, End, Signalling, datagram_buffer, salts_of};
+use mio::Poll;
+use mio::net::UdpSocket;
+use relay::{Board, Unopened, Viewer, Worker, serve_media};
+use server::{Host, HostFault};
+use std::alloc::{AllocError, Global};
+use std::net::Net;
+use std::rt::Clock;
+use std::sync::atomic::{AtomicBool, Ordering};
+use std::sync::{Arc, Wait};
+use std::thread::Threads;
+use std::{io, thread};
+
+/// Serves by the sockets, the clock and the threads of a runtime.
+#[derive(Drop)]
+pub(crate) struct Telephony<'a, R> {
+    pub(crate) rt: &'a R,
+}
+
+fn let_go<T: Drop>(_value: T) {}
+
+fn host_fault(error: io::Error) -> HostFault {
+    if error.kind() == io::ErrorKind::OutOfMemory {
+        HostFault::OutOfMemory
+    } else {
+        HostFault::Socket
+    }
+}
+
+/// A worker for each viewer, with what waits for its sockets.
+fn workers_of(
+    alloc: Global,
+    config: &Config,
+    relay: &Arc<Vec<UdpSocket>>,
+    polls: Vec<Poll>,
+    viewers: Vec<Viewer>,
+) -> Result<Vec<Worker<MediaSockets>>, AllocError> {
+    let mut workers = Vec::new(alloc);
+    let mut polls = polls.into_iter();
+    for viewer in viewers {
+        let Some(poll) = polls.next() else {
+            return Err(AllocError);
+        };
+        let socket = MediaSockets {
+            sockets: Arc::try_clone(relay)?,
+            first: config.relay_first,
+            ready: Ready::new(alloc, poll, relay.len())?,
+            taken: Log::new(),
+            sent: Log::new(),
+            failed: false,
+        };
+        match Worker::new(alloc, viewer, socket) {
+            Ok(worker) => workers.push(worker)?,
+            Err(refused) => {
+                let_go(refused);
+                return Err(AllocError);
+            }
+        }
+    }
+    Ok(workers)
+}
+
+/// What the signalling begins with: an agent and a board to which nothing has happened.
+fn signalling_of(
+    alloc: Global,
+    config: &Config,
+    board: Board,
+    sip: SipSocket,
+    start: u64,
+) -> Result<Signalling<SipSocket>, (Board, HostFault)>
+    requires { board ≡ [] }
+    ensures { IfOk result (λ s. HasTable s.board s.agent) }
+{
+    let Ok(agent) = Agent::new(alloc, config) else {
+        let_go(sip);
+        return Err((board, HostFault::OutOfMemory));
+    };
+    let Ok(buffer) = datagram_buffer(alloc) else {
+        let_go(agent);
+        let_go(sip);
+        return Err((board, HostFault::OutOfMemory));
+    };
+    Ok(Signalling {
+        alloc,
+        agent,
+        board,
+        wire: sip,
+        salts: salts_of(config.random_key, start),
+        buffer,
+    })
+}
+
+/// The signalling until its end, which ends the workers too.
+fn signal<R: Wait, M: Moments>(
+    rt: &R,
+    signalling: &mut Signalling<SipSocket>,
+    watch: &mut M,
+    stop: &AtomicBool,
+    turns: Option<u64>,
+) -> End
+    requires { HasTable signalling.old.board signalling.old.agent }
+{
+    let end = live::serve(rt, signalling, watch, stop, turns);
+    stop.store(true, Ordering::SeqCst);
+    end
+}
+
+/// The workers until their end, which ends the signalling too. Whether memory was refused.
+fn relay_media<R: Threads + Wait + Sync>(
+    rt: &R,
+    workers: Vec<Worker<MediaSockets>>,
+    stop: &AtomicBool,
+) -> bool {
+    let served = serve_media(rt, workers, stop);
+    stop.store(true, Ordering::SeqCst);
+    match served {
+        Ok(workers) => {
+            let_go(workers);
+            false
+        }
+        Err(_) => true,
+    }
+}
+
+/// How the end of the signalling counts: its flag was set from outside only where the workers ended.
+fn outcome(end: End, refused: bool) -> Result<(), HostFault> {
+    match end {
+        End::Turns => Ok(()),
+        End::Stopped if refused => Err(HostFault::OutOfMemory),
+        End::Stopped | End::Socket => Err(HostFault::Socket),
+        End::Memory => Err(HostFault::OutOfMemory),
+    }
+}
+
+/// A line that tells how events were answered.
+fn report<R: Eprint>(rt: &R, tally: Tally) {
+    let _ = eprint!(rt;
+        "office: done {} unread {} stray {} ack {}",
+        tally.done, tally.unread, tally.stray, tally.ack
+    );
+    let _ = eprint!(rt;
+        " no_branch {} clock {} spent {}",
+        tally.no_branch, tally.clock, tally.spent
+    );
+    let _ = eprintln!(rt; " shed {} idle {}", tally.shed, tally.idle);
+}
+
+/// Serves on a board to which nothing was published, and ends it. Gives how events were answered, too.
+fn serve_on<R: Threads + Wait + Sync, M: Moments>(
+    rt: &R,
+    mut signalling: Signalling<SipSocket>,
+    watch: &mut M,
+    workers: Vec<Worker<MediaSockets>>,
+    turns: Option<u64>,
+) -> (Tally, Result<(), HostFault>)
+    requires { HasTable signalling.board signalling.agent }
+{
+    let stop = AtomicBool::new(false);
+    let (refused, end) = thread::join(
+        rt,
+        || relay_media(rt, workers, &stop),
+        || -> End
+            requires { HasTable signalling.board signalling.agent }
+        { signal(rt, &mut signalling, watch, &stop, turns) },
+    );
+    let tally = signalling.agent.tally();
+    signalling.close(rt);
+    (tally, outcome(end, refused))
+}
+
+/// A line that tells where telephones are served.
+fn announce<R: Print>(rt: &R, config: &Config) {
+    let [a, b, c, d] = config.ip;
+    let _ = println!(rt; "listening {a}.{b}.{c}.{d} {}", config.sip_port);
+}
+
+/// The board with the rest of the signalling, and a worker for each viewer, where all sockets are open.
+fn parts_of<R: Wait>(
+    rt: &R,
+    alloc: Global,
+    config: &Config,
+    sockets: Sockets,
+    start: u64,
+) -> Result<(Signalling<SipSocket>, Vec<Worker<MediaSockets>>), HostFault>
+    ensures { IfOk result (λ parts. HasTable parts.0.board parts.0.agent) }
+{
+    let Sockets { sip, relay, polls } = sockets;
+    let (board, viewers) = match Board::new(alloc, worker_count(config)) {
+        Ok(made) => made,
+        Err(Unopened::Memory) => return Err(HostFault::OutOfMemory),
+        Err(Unopened::NoViewer(board)) => {
+            board.close(rt);
+            return Err(HostFault::OutOfMemory);
+        }
+    };
+    let Ok(workers) = workers_of(alloc, config, &relay, polls, viewers) else {
+        board.close(rt);
+        return Err(HostFault::OutOfMemory);
+    };
+    match signalling_of(alloc, config, board, sip, start) {
+        Ok(signalling) => Ok((signalling, workers)),
+        Err((board, fault)) => {
+            board.close(rt);
+            Err(fault)
+        }
+    }
+}
+
+impl<R: Net + Clock + Threads + Wait + Sync + Shared + Print + Eprint + AllocGlobal> Host
+    for Telephony<'_, R> {
+    fn serve(&mut self, config: &Config, turns: Option<u64>) -> Result<(), HostFault> {
+        let alloc = self.rt.alloc();
+        let sockets = bind(self.rt, alloc, config).map_err(host_fault)?;
+        let mut watch = Watch::new(self.rt).map_err(host_fault)?;
+        let start = self.rt.since_1970().map_err(host_fault)?.as_secs();
+        let (signalling, workers) = parts_of(self.rt, alloc, config, sockets, start)?;
+        announce(self.rt, config);
+        let (tally, served) = serve_on(self.rt, signalling, &mut watch, workers, turns);
+        report(self.rt, tally);
+        served
+    }
+}

@@ -1,0 +1,34 @@
+//! The clock of the signalling.
+
+use live::Clock as Moments;
+use std::io;
+use std::rt::Clock;
+use std::time::Duration;
+
+/// The system's clock, from the start on.
+#[derive(Drop)]
+pub(crate) struct Watch<'a, R> {
+    rt: &'a R,
+    start: Duration,
+    /// What it told last: a clock that fails stands still.
+    last: u64,
+}
+
+impl<'a, R: Clock> Watch<'a, R> {
+    pub(crate) fn new(rt: &'a R) -> io::Result<Watch<'a, R>> {
+        let start = rt.monotonic()?;
+        Ok(Watch { rt, start, last: 0 })
+    }
+}
+
+impl<R: Clock> Moments for Watch<'_, R> {
+    fn now(&mut self) -> u64 {
+        if let Ok(moment) = self.rt.monotonic() {
+            let since = moment.saturating_sub(self.start);
+            if let Ok(millis) = u64::try_from(since.as_millis()) {
+                self.last = self.last.max(millis);
+            }
+        }
+        self.last
+    }
+}

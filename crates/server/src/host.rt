@@ -1,0 +1,18 @@
+//! What serves telephones on sockets.
+
+use configuration::Config;
+
+/// Why it could not go on.
+#[derive(Clone, Copy, Debug, PartialEq, Eq)]
+pub enum HostFault {
+    /// A socket could not be opened, or failed too often in a row.
+    Socket,
+    OutOfMemory,
+}
+
+/// Opens the sockets of a configuration, and serves the telephones there.
+pub trait Host {
+    /// Serves until so many turns of the signalling are made, or without an end. Nothing is served where a socket can't be
+    /// opened.
+    fn serve(&mut self, config: &Config, turns: Option<u64>) -> Result<(), HostFault>;
+}
