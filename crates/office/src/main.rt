@@ -58,7 +58,10 @@ fn ending<R: Env + Files + Input + Print + AllocGlobal, H: Host>(
 }
 
 fn main(rt: HostRuntime) -> ExitCode {
-    let mut telephony = Telephony { rt: &rt };
+    let mut telephony = Telephony {
+        rt: &rt,
+        request: None,
+    };
     let ending = ending(&rt, &mut telephony).unwrap_or_else(Ending::Refused);
     if let Some(words) = ending.words() {
         let _ = eprintln!(rt; "{words}");

@@ -20,6 +20,7 @@ use server::{Host, HostFault};
 use std::alloc::{AllocError, Global};
 use std::net::Net;
 use std::rt::Clock;
+use std::snapshot::Snapshot;
 use std::sync::atomic::{AtomicBool, Ordering};
 use std::sync::{Arc, Wait};
 use std::thread::Threads;
@@ -29,6 +30,8 @@ use std::{io, thread};
 #[derive(Drop)]
 pub(crate) struct Telephony<'a, R> {
     pub(crate) rt: &'a R,
+    /// What was asked last. Only clauses read it.
+    pub(crate) request: Option<(Snapshot<Config>, Option<u64>)>,
 }
 
 fn let_go<T: Drop>(_value: T) {}
@@ -222,7 +225,12 @@ fn parts_of<R: Wait>(
 
 impl<R: Net + Clock + Threads + Wait + Sync + Shared + Print + Eprint + AllocGlobal> Host
     for Telephony<'_, R> {
+    ghost use Rattle.std.specs.Prelude.{option_map};
+
+    ghost asked = { λ t. option_map (λ p. (p.0.value, p.1)) t.request };
+
     fn serve(&mut self, config: &Config, turns: Option<u64>) -> Result<(), HostFault> {
+        self.request = Some((Snapshot::of(config), turns));
         let alloc = self.rt.alloc();
         let sockets = bind(self.rt, alloc, config).map_err(host_fault)?;
         let mut watch = Watch::new(self.rt).map_err(host_fault)?;

@@ -1,5 +1,5 @@
 -- How a run of the program ends, and what the shell and the user are told.
-use Rattle.std.specs.Prelude.{ℕ, List, Option, Some, None, option_map}
+use Rattle.std.specs.Prelude.{◌≡◌, ℕ, List, Option, Some, None, option_map}
 use Rattle.std.specs.Io.KnownBytes.{Keeps}
 use Rattle.server.specs.declared.ending.Ending.{Ending}
 use Rattle.server.specs.declared.ending.Ending.TheVariants.{Done, Refused, Broken}
@@ -9,7 +9,7 @@ use Rattle.server.specs.declared.words.Asked.TheVariants.{Once, Replay, Serve}
 use Rattle.server.specs.Leaves.{Leaves}
 use Rattle.server.specs.Once.{Answers}
 use Rattle.server.specs.Replay.{Replays, ReplayLeaves}
-use Rattle.server.specs.Serve.{Serves, ServeLeaves}
+use Rattle.server.specs.Serve.{Request, Serves, ServeLeaves}
 use Rattle.server.specs.Statuses.{status_of, fault_words_of, command_status_of, command_words_of}
 use Rattle.server.specs.Words.{Asks, RefusesWords}
 
@@ -27,22 +27,26 @@ ending_words_of (Broken fault) = Some (fault_words_of fault)
 abbrev pub Files : Type 0
 Files = List ℕ → Option (List ℕ)
 
--- what became of the bytes that the reader had left and the writer held, where it was done
-abbrev pub Does : Files → Asked → Option (List ℕ) → Option (List ℕ) → Option (List ℕ) → Option (List ℕ) → Type 0
-Does files Once left left_after held held_after = Answers left left_after held held_after
-Does files (Replay config script) left left_after held held_after =
-    Keeps left left_after × Replays (option_map (λ path. files path.now) config) (files script.now) held held_after
-Does files (Serve config turns) left left_after held held_after = Keeps left left_after × Keeps held held_after × Serves (files config.now)
+-- what became of the bytes that the reader had left and the writer held, and what the host was asked, where it was done
+abbrev pub Does : Files → Asked → Option (List ℕ) → Option (List ℕ) → Option (List ℕ) → Option (List ℕ) → Request → Request → Type 0
+Does files Once left left_after held held_after host host_after = Answers left left_after held held_after × (host_after ≡ host)
+Does files (Replay config script) left left_after held held_after host host_after =
+    Keeps left left_after × Replays (option_map (λ path. files path.now) config) (files script.now) held held_after × (host_after ≡ host)
+Does files (Serve config turns) left left_after held held_after host host_after =
+    Keeps left left_after × Keeps held held_after × Serves (files config.now) turns host_after
 
 -- and where a fault ended it
-abbrev pub Breaks : Files → Asked → Fault → Option (List ℕ) → Option (List ℕ) → Type 0
-Breaks files Once fault held held_after = Leaves fault held held_after
-Breaks files (Replay config script) fault held held_after =
-    ReplayLeaves (option_map (λ path. files path.now) config) (files script.now) fault held held_after
-Breaks files (Serve config turns) fault held held_after = Keeps held held_after × ServeLeaves (files config.now) fault
+abbrev pub Breaks : Files → Asked → Fault → Option (List ℕ) → Option (List ℕ) → Request → Request → Type 0
+Breaks files Once fault held held_after host host_after = Leaves fault held held_after × (host_after ≡ host)
+Breaks files (Replay config script) fault held held_after host host_after =
+    ReplayLeaves (option_map (λ path. files path.now) config) (files script.now) fault held held_after × (host_after ≡ host)
+Breaks files (Serve config turns) fault held held_after host host_after = Keeps held held_after × ServeLeaves (files config.now) turns host host_after fault
 
--- what was asked, and what became of the bytes
-abbrev pub Ends : List (List ℕ) → Files → Ending → Option (List ℕ) → Option (List ℕ) → Option (List ℕ) → Option (List ℕ) → Type 0
-Ends words files Done left left_after held held_after = (asked : Asked) × Asks words asked × Does files asked left left_after held held_after
-Ends words files (Refused error) left left_after held held_after = RefusesWords words error × Keeps left left_after × Keeps held held_after
-Ends words files (Broken fault) left left_after held held_after = (asked : Asked) × Asks words asked × Breaks files asked fault held held_after
+-- what was asked, and what became of the bytes and of the host
+abbrev pub Ends : List (List ℕ) → Files → Ending → Option (List ℕ) → Option (List ℕ) → Option (List ℕ) → Option (List ℕ) → Request → Request → Type 0
+Ends words files Done left left_after held held_after host host_after =
+    (asked : Asked) × Asks words asked × Does files asked left left_after held held_after host host_after
+Ends words files (Refused error) left left_after held held_after host host_after =
+    RefusesWords words error × Keeps left left_after × Keeps held held_after × (host_after ≡ host)
+Ends words files (Broken fault) left left_after held held_after host host_after =
+    (asked : Asked) × Asks words asked × Breaks files asked fault held held_after host host_after

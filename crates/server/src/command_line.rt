@@ -42,8 +42,8 @@ fn serve_file<F: Shelf, H: Host>(
     host: &mut H,
     turns: Option<u64>,
 ) -> Result<(), Fault>
-    ensures served { OnOk result (Serves (F.contents shelf.now config.now)) }
-    ensures refused { IfErr result (ServeLeaves (F.contents shelf.now config.now)) }
+    ensures served { OnOk result (Serves (F.contents shelf.now config.now) turns (H.asked host.new)) }
+    ensures refused { IfErr result (ServeLeaves (F.contents shelf.now config.now) turns (H.asked host.old) (H.asked host.new)) }
 {
     serve(alloc, shelf.open(config), host, turns)
 }
@@ -58,7 +58,7 @@ pub fn run<F: Shelf, H: Host, R: Read, W: Write>(
     reader: &mut R,
     writer: &mut W,
 ) -> Ending
-    ensures { Ends (map (λ w. w.now) words.now) (F.contents shelf.now) result (R.remaining reader.old) (R.remaining reader.new) (W.contents writer.old) (W.contents writer.new) }
+    ensures { Ends (map (λ w. w.now) words.now) (F.contents shelf.now) result (R.remaining reader.old) (R.remaining reader.new) (W.contents writer.old) (W.contents writer.new) (H.asked host.old) (H.asked host.new) }
 {
     match command(alloc, words) {
         Ok(Asked::Once) => match once(alloc, reader, writer) {

@@ -1,5 +1,8 @@
 //! What serves telephones on sockets.
 
+ghost use Rattle.std.specs.Prelude.{◌≡◌, ℕ, Option, Some};
+ghost use Rattle.configuration.specs.declared.config.Config as office;
+
 use configuration::Config;
 
 /// Why it could not go on.
@@ -12,7 +15,11 @@ pub enum HostFault {
 
 /// Opens the sockets of a configuration, and serves the telephones there.
 pub trait Host {
+    /// The configuration that it was asked to serve last, and for how many turns.
+    ghost asked: { Self → Option (office.Config × Option ℕ) };
+
     /// Serves until so many turns of the signalling are made, or without an end. Nothing is served where a socket can't be
     /// opened.
-    fn serve(&mut self, config: &Config, turns: Option<u64>) -> Result<(), HostFault>;
+    fn serve(&mut self, config: &Config, turns: Option<u64>) -> Result<(), HostFault>
+        ensures asked { asked self.new ≡ Some (config.now, turns) };
 }

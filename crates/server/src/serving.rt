@@ -26,8 +26,8 @@ pub fn serve<C: Read + Drop, H: Host>(
     host: &mut H,
     turns: Option<u64>,
 ) -> Result<(), Fault>
-    ensures served { OnOk result (Serves (C.remaining config)) }
-    ensures refused { IfErr result (ServeLeaves (C.remaining config)) }
+    ensures served { OnOk result (Serves (C.remaining config) turns (H.asked host.new)) }
+    ensures refused { IfErr result (ServeLeaves (C.remaining config) turns (H.asked host.old) (H.asked host.new)) }
 {
     let office = config_of(alloc, config)?;
     match host.serve(&office, turns) {

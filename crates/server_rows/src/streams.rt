@@ -4,6 +4,7 @@ use configuration::Config;
 use server::{Host, HostFault, Shelf};
 use std::io;
 use std::io::{ErrorKind, Read, Write};
+use std::snapshot::Snapshot;
 
 /// Gives a text with so many bytes a read at most, and fails at one of the reads, if there are as many.
 #[derive(Drop)]
@@ -108,16 +109,27 @@ pub(crate) struct Hall {
     fault: Option<HostFault>,
     /// The port for SIP, and the turns, of what was asked last.
     pub(crate) asked: Option<(u16, Option<u64>)>,
+    /// What was asked last. Only clauses read it.
+    request: Option<(Snapshot<Config>, Option<u64>)>,
 }
 
 impl Hall {
     pub(crate) fn new(fault: Option<HostFault>) -> Hall {
-        Hall { fault, asked: None }
+        Hall {
+            fault,
+            asked: None,
+            request: None,
+        }
     }
 }
 
 impl Host for Hall {
+    ghost use Rattle.std.specs.Prelude.{option_map};
+
+    ghost asked = { λ h. option_map (λ p. (p.0.value, p.1)) h.request };
+
     fn serve(&mut self, config: &Config, turns: Option<u64>) -> Result<(), HostFault> {
+        self.request = Some((Snapshot::of(config), turns));
         self.asked = Some((config.sip_port, turns));
         match self.fault {
             None => Ok(()),
