@@ -1,0 +1,192 @@
+//! The office, and a day of a task in it.
+
+use crate::playing::{Counts, Day, FIRST_USER, Round, play_round};
+use agent::Agent;
+use configuration::{Config, ConfigError};
+use events::Event;
+use std::alloc::{AllocError, Global};
+use text::{Text, Texts, put_number};
+
+/// What the telephones send.
+#[derive(Drop)]
+pub(crate) struct Scripts {
+    /// A registration.
+    pub register: Vec<Event>,
+    /// A call up to its ACK.
+    pub begin: Vec<Event>,
+    /// The call's end.
+    pub end: Vec<Event>,
+    /// In place of it a hold, the call resumed, and its end.
+    pub hold: Vec<Event>,
+}
+
+impl Scripts {
+    fn registration(&self) -> Round<'_> {
+        Round {
+            first: &self.register,
+            then: &[],
+            tokens: 1,
+        }
+    }
+
+    fn beginning(&self) -> Round<'_> {
+        Round {
+            first: &self.begin,
+            then: &[],
+            tokens: 5,
+        }
+    }
+
+    fn plain(&self) -> Round<'_> {
+        Round {
+            first: &self.begin,
+            then: &self.end,
+            tokens: 6,
+        }
+    }
+
+    fn held(&self) -> Round<'_> {
+        Round {
+            first: &self.begin,
+            then: &self.hold,
+            tokens: 10,
+        }
+    }
+
+    fn round_of(&self, task: &str) -> Round<'_> {
+        match task {
+            "hold" => self.held(),
+            "register" => self.registration(),
+            _ => self.plain(),
+        }
+    }
+}
+
+/// What the rounds of a task came to, and how many calls stand behind them.
+#[derive(Clone, Copy)]
+pub(crate) struct Outcome {
+    pub counts: Counts,
+    pub standing: usize,
+}
+
+/// How often a task is done, and beside how many calls.
+#[derive(Clone, Copy)]
+pub(crate) struct Amount {
+    pub standing: u32,
+    pub rounds: u32,
+}
+
+/// A value that is done with. In a function of every type its drop is one call, which is proved once.
+fn let_go<T: Drop>(_value: T) {}
+
+fn name_of(alloc: Global, number: u64) -> Result<Text<'static>, AllocError> {
+    let mut name = Vec::new(alloc);
+    put_number(&mut name, number)?;
+    Ok(Text::from_vec(name))
+}
+
+fn put_names(alloc: Global, names: &mut Vec<Text<'static>>, pair: u32) -> Result<(), AllocError> {
+    let caller = FIRST_USER + 2 * u64::from(pair);
+    names.push(name_of(alloc, caller)?)?;
+    names.push(name_of(alloc, caller + 1)?)?;
+    Ok(())
+}
+
+/// The users of so many pairs.
+fn users(alloc: Global, pairs: u32) -> Result<Texts<'static>, AllocError> {
+    let mut names = Vec::new(alloc);
+    for pair in 0..pairs {
+        put_names(alloc, &mut names, pair)?;
+    }
+    Ok(Texts::from_vec(names))
+}
+
+/// How an office with so many pairs of users is configured.
+fn config_of(alloc: Global, pairs: u32) -> Result<Config, AllocError> {
+    let domain = Text::from_slice(alloc, b"office.example")?;
+    let users = users(alloc, pairs)?;
+    Ok(Config {
+        relay_first: 20_000,
+        relay_pairs: 600,
+        ip: [192, 0, 2, 1],
+        sip_port: 5060,
+        users,
+        min_expires: 60,
+        domain: Some(domain),
+        workers: 1,
+        random_key: [0; 32],
+    })
+}
+
+/// Plays a round between each of so many pairs of users.
+fn play_each(
+    alloc: Global,
+    agent: &mut Agent,
+    day: &mut Day,
+    round: &Round<'_>,
+    pairs: u32,
+) -> Result<(), AllocError> {
+    for pair in 0..pairs {
+        play_round(alloc, agent, day, round, pair)?;
+    }
+    Ok(())
+}
+
+/// Plays so many rounds between a pair of users.
+fn play_rounds(
+    alloc: Global,
+    agent: &mut Agent,
+    day: &mut Day,
+    round: &Round<'_>,
+    pair: u32,
+    rounds: u32,
+) -> Result<(), AllocError> {
+    for _ in 0..rounds {
+        play_round(alloc, agent, day, round, pair)?;
+    }
+    Ok(())
+}
+
+/// Plays a day: registrations, the calls that stand, and behind them the rounds, which alone are counted.
+fn play_day(
+    alloc: Global,
+    agent: &mut Agent,
+    scripts: &Scripts,
+    task: &str,
+    amount: Amount,
+) -> Result<Outcome, AllocError> {
+    let mut day = Day::new();
+    let pair = amount.standing;
+    let pairs = pair.saturating_add(1);
+    play_each(alloc, agent, &mut day, &scripts.registration(), pairs)?;
+    play_each(alloc, agent, &mut day, &scripts.beginning(), pair)?;
+    day.counts = Counts::none();
+    let round = scripts.round_of(task);
+    play_rounds(alloc, agent, &mut day, &round, pair, amount.rounds)?;
+    Ok(Outcome {
+        counts: day.counts,
+        standing: agent.calls().len(),
+    })
+}
+
+/// Does a task. Of an office that can't be, nothing is done.
+pub(crate) fn play_task(
+    alloc: Global,
+    scripts: &Scripts,
+    task: &str,
+    amount: Amount,
+) -> Result<Outcome, AllocError> {
+    let config = config_of(alloc, amount.standing.saturating_add(1))?;
+    match Agent::new(alloc, &config) {
+        Ok(mut agent) => {
+            let outcome = play_day(alloc, &mut agent, scripts, task, amount);
+            let_go(agent);
+            outcome
+        }
+        Err(ConfigError::OutOfMemory) => Err(AllocError),
+        Err(_) => Ok(Outcome {
+            counts: Counts::none(),
+            standing: 0,
+        }),
+    }
+}

@@ -1,0 +1,192 @@
+//! Rounds that an agent plays.
+
+use crate::filling::{Filling, filled};
+use agent::Agent;
+use events::{Event, What};
+use std::alloc::{AllocError, Global};
+
+/// From the beginning of a round to the next, in milliseconds: by then its transactions have ended, and its pairs have rested.
+const ROUND: u64 = 60_000;
+
+/// Timers that fire behind one another at most.
+const MOST_DUE: u32 = 1_000;
+
+/// The first user's number.
+pub(crate) const FIRST_USER: u64 = 1_000;
+
+/// The salt of each event.
+const SALT: u64 = 1;
+
+/// What the telephones send in a round, one script behind the other, and how many tokens the server makes meanwhile.
+#[derive(Clone, Copy)]
+pub(crate) struct Round<'s> {
+    pub first: &'s [Event],
+    pub then: &'s [Event],
+    pub tokens: u64,
+}
+
+/// How many datagrams were taken, how many timers fired, and how many datagrams were sent.
+#[derive(Clone, Copy)]
+pub(crate) struct Counts {
+    pub taken: u64,
+    pub fired: u64,
+    pub sent: u64,
+}
+
+/// How far a day is.
+#[derive(Clone, Copy)]
+pub(crate) struct Day {
+    /// Rounds that were begun.
+    rounds: u64,
+    /// Tokens that the server made.
+    tokens: u64,
+    /// The moment, in milliseconds.
+    moment: u64,
+    pub counts: Counts,
+}
+
+impl Day {
+    pub(crate) fn new() -> Day {
+        Day {
+            rounds: 0,
+            tokens: 0,
+            moment: 0,
+            counts: Counts::none(),
+        }
+    }
+
+    fn count_taken(&mut self, sent: u64) {
+        self.counts.taken = self.counts.taken.saturating_add(1);
+        self.counts.sent = self.counts.sent.saturating_add(sent);
+    }
+
+    fn count_fired(&mut self, sent: u64) {
+        self.counts.fired = self.counts.fired.saturating_add(1);
+        self.counts.sent = self.counts.sent.saturating_add(sent);
+    }
+
+    /// What the holes of the next round are filled with, between the users of so many pairs behind the first.
+    fn next_filling(&mut self, pair: u32) -> Filling {
+        self.rounds = self.rounds.saturating_add(1);
+        let caller = FIRST_USER + 2 * u64::from(pair);
+        Filling {
+            call: self.rounds,
+            caller,
+            callee: caller + 1,
+            tokens: self.tokens,
+            begin: self.moment,
+        }
+    }
+
+    fn pass(&mut self, tokens: u64) {
+        self.tokens = self.tokens.saturating_add(tokens);
+        self.moment = self.moment.saturating_add(ROUND);
+    }
+}
+
+impl Counts {
+    pub(crate) fn none() -> Counts {
+        Counts {
+            taken: 0,
+            fired: 0,
+            sent: 0,
+        }
+    }
+}
+
+/// A value that is done with. In a function of every type its drop is one call, which is proved once.
+fn let_go<T: Drop>(_value: T) {}
+
+/// Takes an event; how many datagrams are sent.
+fn sent_at(alloc: Global, agent: &mut Agent, event: &Event) -> Result<u64, AllocError> {
+    let mut sent = Vec::new(alloc);
+    let outcome = agent.step(event, &mut sent);
+    let count = sent.len() as u64;
+    let_go(sent);
+    outcome?;
+    Ok(count)
+}
+
+fn fire_at(alloc: Global, agent: &mut Agent, day: &mut Day, now: u64) -> Result<bool, AllocError> {
+    let event = Event {
+        now,
+        salt: SALT,
+        what: What::Due,
+    };
+    let sent = sent_at(alloc, agent, &event)?;
+    day.count_fired(sent);
+    Ok(true)
+}
+
+/// Fires the next timer, if it is due by this moment; whether it was.
+fn fire_next(
+    alloc: Global,
+    agent: &mut Agent,
+    day: &mut Day,
+    until: u64,
+) -> Result<bool, AllocError> {
+    match agent.next_due() {
+        Some(moment) if moment <= until => fire_at(alloc, agent, day, moment),
+        _ => Ok(false),
+    }
+}
+
+/// Fires the timers that are due by this moment.
+fn fire_due(alloc: Global, agent: &mut Agent, day: &mut Day, until: u64) -> Result<(), AllocError> {
+    for _ in 0..MOST_DUE {
+        if !fire_next(alloc, agent, day, until)? {
+            return Ok(());
+        }
+    }
+    Ok(())
+}
+
+/// Takes an event, behind the timers that are due before it.
+fn take(alloc: Global, agent: &mut Agent, day: &mut Day, event: &Event) -> Result<(), AllocError> {
+    fire_due(alloc, agent, day, event.now)?;
+    let sent = sent_at(alloc, agent, event)?;
+    day.count_taken(sent);
+    Ok(())
+}
+
+fn take_filled(
+    alloc: Global,
+    agent: &mut Agent,
+    day: &mut Day,
+    event: &Event,
+    filling: &Filling,
+) -> Result<(), AllocError> {
+    let event = filled(alloc, event, filling)?;
+    let outcome = take(alloc, agent, day, &event);
+    let_go(event);
+    outcome
+}
+
+fn play_script(
+    alloc: Global,
+    agent: &mut Agent,
+    day: &mut Day,
+    script: &[Event],
+    filling: &Filling,
+) -> Result<(), AllocError> {
+    for event in script {
+        take_filled(alloc, agent, day, event, filling)?;
+    }
+    Ok(())
+}
+
+/// Plays a round between the users of so many pairs behind the first, and lets time pass until nothing of it is due.
+pub(crate) fn play_round(
+    alloc: Global,
+    agent: &mut Agent,
+    day: &mut Day,
+    round: &Round<'_>,
+    pair: u32,
+) -> Result<(), AllocError> {
+    let filling = day.next_filling(pair);
+    play_script(alloc, agent, day, round.first, &filling)?;
+    play_script(alloc, agent, day, round.then, &filling)?;
+    day.pass(round.tokens);
+    let until = day.moment;
+    fire_due(alloc, agent, day, until)
+}
