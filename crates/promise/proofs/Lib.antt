@@ -1,0 +1,16 @@
+pub mod Growing
+pub mod Sides
+pub mod Slots
+pub mod Dressings
+pub mod Apartness
+pub mod Calls
+pub mod Steps
+pub mod RequestViews
+pub mod ResponseViews
+pub mod MessageViews
+pub mod Views
+pub mod Rows
+pub mod Events
+pub mod Sends
+pub mod SendSteps
+pub mod SendRows

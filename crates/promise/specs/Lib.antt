@@ -1,0 +1,4 @@
+pub mod Tokens
+pub mod Entries
+pub mod Knowing
+pub mod Sending

@@ -1,0 +1,9 @@
+//! What the agent knows of its own messages, event by event: laws over what each event comes to, on which the media promise will
+//! stand. Nothing here runs.
+#![tactic(auto)]
+
+mod sending;
+mod tokens;
+
+pub use sending::what_goes_again_was_sent;
+pub use tokens::{tokens_are_drawn_once, tokens_of_other_counts_differ};
