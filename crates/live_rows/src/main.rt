@@ -1,0 +1,95 @@
+//! Turns of the live server over a wire in memory: an office at 127.0.0.1, with SIP at port 15060 and four pairs of relay ports
+//! from 41000. Each line names a script of data/, and which of its sends fails: `none`, the one at a place, counted from 1, or
+//! `each` in turn. Prints what was sent, how many sends failed, and behind each event how many lists were published, the calls
+//! that stand and the rows of the relay table; where each fails in turn, whether all of that is as in the run without a failure.
+#![tactic(auto)]
+
+mod memory_wire;
+mod playing;
+mod state_text;
+
+use crate::playing::{Played, play};
+use events::Event;
+use scripts::{ScriptError, read_script};
+use std::alloc::AllocError;
+use std::fs::Files;
+use std::io::Write;
+use std::sync::Wait;
+use std::{fs, io};
+
+fn events_of<R: Files + AllocGlobal>(rt: &R, name: &str) -> io::Result<Vec<Event>> {
+    let path = format!(in rt.alloc(); "{name}.script")?;
+    let script = fs::read(rt, path.as_str())?;
+    match read_script(rt.alloc(), &script) {
+        Ok(events) => Ok(events),
+        Err(ScriptError::OutOfMemory) => Err(io::Error::from(AllocError)),
+        Err(ScriptError::Malformed) => Err(io::Error::from(io::ErrorKind::InvalidData)),
+    }
+}
+
+/// All of a run.
+fn tell<W: Write>(writer: &mut W, played: &Played) -> io::Result<()> {
+    writer.write_all(&played.sent)?;
+    writer.write_all(&played.summary)?;
+    writer.write_all(&played.states)
+}
+
+/// A run in which the send at this place fails, beside the one in which none does.
+fn compare<R: Wait + AllocGlobal>(
+    rt: &R,
+    events: &[Event],
+    undisturbed: &Played,
+    place: u64,
+) -> Result<String, AllocError> {
+    let played = play(rt, events, Some(place))?;
+    let like = if played.states.as_slice() == undisturbed.states.as_slice() {
+        "the same"
+    } else {
+        "other"
+    };
+    format!(in rt.alloc(); "send {place} fails: {like} lists, calls and rows\n")
+}
+
+fn tell_each<R: Wait + AllocGlobal, W: Write>(
+    rt: &R,
+    writer: &mut W,
+    events: &[Event],
+) -> io::Result<()> {
+    let undisturbed = play(rt, events, None)?;
+    for place in 0..undisturbed.sends {
+        let told = compare(rt, events, &undisturbed, place.saturating_add(1))?;
+        writer.write_all(told.as_bytes())?;
+    }
+    Ok(())
+}
+
+/// The row of a line.
+fn row<R: Files + Wait + AllocGlobal, W: Write>(
+    rt: &R,
+    writer: &mut W,
+    line: &str,
+) -> io::Result<()> {
+    let Some((name, which)) = line.split_once('|') else {
+        return writer.write_all(b"no such row\n");
+    };
+    let events = events_of(rt, name)?;
+    match which {
+        "each" => tell_each(rt, writer, &events),
+        "none" => tell(writer, &play(rt, &events, None)?),
+        _ => match which.parse::<u64>() {
+            Ok(place) => tell(writer, &play(rt, &events, Some(place))?),
+            Err(_) => writer.write_all(b"no such row\n"),
+        },
+    }
+}
+
+fn main(rt: HostRuntime) -> io::Result<()> {
+    let mut writer = io::writer(&rt);
+    for line in rt.lines(rt.alloc()) {
+        let line = line?;
+        writer.write_all(line.as_bytes())?;
+        writer.write_all(b"\n")?;
+        row(&rt, &mut writer, line.as_str())?;
+    }
+    writer.flush()
+}
