@@ -7,19 +7,21 @@ mod port_pool_words;
 mod readdress_rows;
 mod registrar_rows;
 mod registrar_words;
+mod relay_line_rows;
 mod sdp_rows;
 mod sdp_words;
 mod session_rows;
 mod sip_uri_rows;
 mod sip_uri_words;
 mod stream_words;
+mod telling;
 mod text_rows;
 mod timers_rows;
 
 use crate::port_pool_rows::PortPoolRows;
 use crate::registrar_rows::RegistrarRows;
 use crate::timers_rows::TimersRows;
-use rows::{Notation, Rows, play};
+use rows::{Notation, Rows, outcome_after, play};
 use std::alloc::{AllocError, Global};
 use std::io;
 
@@ -52,6 +54,18 @@ impl Rows for PartRows {
     }
 }
 
+/// Plays the rows of the input.
+fn play_lines<R: Input + Print + AllocGlobal, A: Rows>(
+    rt: &R,
+    notation: &mut Notation,
+    rows: &mut A,
+) -> io::Result<()> {
+    for line in rt.lines(rt.alloc()) {
+        play(rt, notation, rows, line?.as_str())?;
+    }
+    Ok(())
+}
+
 fn main(rt: HostRuntime) -> io::Result<()> {
     let mut notation = Notation::new(rt.alloc());
     let mut rows = PartRows {
@@ -59,8 +73,6 @@ fn main(rt: HostRuntime) -> io::Result<()> {
         registrar: RegistrarRows::new(rt.alloc()),
         timers: TimersRows::new(rt.alloc()),
     };
-    for line in rt.lines(rt.alloc()) {
-        play(&rt, &mut notation, &mut rows, line?.as_str())?;
-    }
-    Ok(())
+    let outcome = play_lines(&rt, &mut notation, &mut rows);
+    outcome_after((notation, rows), outcome)
 }

@@ -4,12 +4,13 @@ use crate::readdress_rows::{sent_read, sent_text};
 use crate::sdp_rows::told;
 use crate::session_rows::session_words;
 use crate::stream_words::put_streams;
+use crate::telling::{put_of, put_words};
 use offer_answer::{
     OwnRange, alike_is_equivalence, check_answer, check_offer, destination, fewer_rows, held_call,
     hold_passes, joined_is_direct, meaning, plain_call, relayed_is_direct, rows_lead,
     rows_of_session_stand, sent_is_read,
 };
-use rows::{answer_of, number, put_address, said, words_of};
+use rows::{answer_of, number, outcome_after, put_address, said};
 use sdp::{Description, DescriptionError, read_description};
 use std::alloc::{AllocError, Global};
 use std::fmt::Display;
@@ -52,16 +53,38 @@ fn push_description<'a>(
     }
 }
 
+fn push_descriptions<'a>(
+    alloc: Global,
+    found: &mut Vec<Description<'a>>,
+    texts: &'a [Vec<u8>],
+) -> Result<(), DescriptionError> {
+    for text in texts {
+        push_description(alloc, found, text)?;
+    }
+    Ok(())
+}
+
 /// The descriptions of these texts.
 fn descriptions(
     alloc: Global,
     texts: &[Vec<u8>],
 ) -> Result<Vec<Description<'_>>, DescriptionError> {
     let mut found = Vec::new(alloc);
-    for text in texts {
-        push_description(alloc, &mut found, text)?;
+    match push_descriptions(alloc, &mut found, texts) {
+        Ok(()) => Ok(found),
+        Err(fault) => outcome_after(found, Err(fault)),
     }
-    Ok(found)
+}
+
+/// What is told of the descriptions of these texts.
+fn told_of<'a, P: Fn(Global, &mut String, &Vec<Description<'a>>) -> Result<(), AllocError>>(
+    alloc: Global,
+    texts: &'a [Vec<u8>],
+    put: P,
+) -> Result<String, AllocError>
+    requires { P.IsAlwaysCallable put }
+{
+    told(alloc, descriptions(alloc, texts), put)
 }
 
 /// Writes that a description was taken, or the letter and the words of the fault.
@@ -109,7 +132,8 @@ fn offer_check(
     previous: &[u8],
 ) -> Result<String, AllocError> {
     let texts = offer_texts(alloc, connection, media, previous)?;
-    told(alloc, descriptions(alloc, &texts), put_offer_check)
+    let words = told_of(alloc, &texts, put_offer_check);
+    outcome_after(texts, words)
 }
 
 fn put_answer_check(
@@ -145,7 +169,8 @@ fn answer_check(
         &[b"IP4 192.0.2.10", offered],
         &[connection, answered],
     )?;
-    told(alloc, descriptions(alloc, &texts), put_answer_check)
+    let words = told_of(alloc, &texts, put_answer_check);
+    outcome_after(texts, words)
 }
 
 fn put_meaning_of(
@@ -157,8 +182,7 @@ fn put_meaning_of(
     if offer.media.as_slice().len() != answer.media.as_slice().len() {
         return out.push_str("other number of media");
     }
-    let streams = words_of(alloc, meaning(alloc, offer, answer)?, put_streams)?;
-    out.push_str(streams.as_str())
+    put_of(alloc, out, meaning(alloc, offer, answer)?, put_streams)
 }
 
 fn put_meaning(
@@ -179,7 +203,8 @@ fn meaning_of(
     answer: &[&[u8]; 2],
 ) -> Result<String, AllocError> {
     let texts = texts_of(alloc, offer, answer)?;
-    told(alloc, descriptions(alloc, &texts), put_meaning)
+    let words = told_of(alloc, &texts, put_meaning);
+    outcome_after(texts, words)
 }
 
 fn put_hold_checks_of(
@@ -207,7 +232,31 @@ fn put_hold_checks(
 /// The checks of an offer and of an answer at 0.0.0.0 by a server at 0.0.0.0.
 fn hold_checks(alloc: Global, media: &[u8]) -> Result<String, AllocError> {
     let texts = texts_of(alloc, &[b"IP4 0.0.0.0", media], &[b"IP4 0.0.0.0", media])?;
-    told(alloc, descriptions(alloc, &texts), put_hold_checks)
+    let words = told_of(alloc, &texts, put_hold_checks);
+    outcome_after(texts, words)
+}
+
+fn push_text(
+    alloc: Global,
+    texts: &mut Vec<Vec<u8>>,
+    connection: &[u8],
+    media: &[u8],
+) -> Result<(), AllocError> {
+    texts.push(text_of(alloc, connection, media)?)?;
+    Ok(())
+}
+
+fn push_session(
+    alloc: Global,
+    texts: &mut Vec<Vec<u8>>,
+    offer: &[&[u8]; 2],
+    sent: &[&[u8]; 2],
+    answer: &[&[u8]; 2],
+) -> Result<(), AllocError> {
+    push_text(alloc, texts, offer[0], offer[1])?;
+    push_text(alloc, texts, b"IP4 192.0.2.1", sent[0])?;
+    push_text(alloc, texts, b"IP4 192.0.2.1", sent[1])?;
+    push_text(alloc, texts, answer[0], answer[1])
 }
 
 /// The texts of a session: of the offer, of what was sent on in place of the answer and of the offer, and of the answer.
@@ -218,11 +267,10 @@ fn session_texts(
     answer: &[&[u8]; 2],
 ) -> Result<Vec<Vec<u8>>, AllocError> {
     let mut texts = Vec::new(alloc);
-    texts.push(text_of(alloc, offer[0], offer[1])?)?;
-    texts.push(text_of(alloc, b"IP4 192.0.2.1", sent[0])?)?;
-    texts.push(text_of(alloc, b"IP4 192.0.2.1", sent[1])?)?;
-    texts.push(text_of(alloc, answer[0], answer[1])?)?;
-    Ok(texts)
+    match push_session(alloc, &mut texts, offer, sent, answer) {
+        Ok(()) => Ok(texts),
+        Err(fault) => outcome_after(texts, Err(fault)),
+    }
 }
 
 /// The lines or the changes of a session.
@@ -232,7 +280,7 @@ fn put_session(
     descriptions: &Vec<Description<'_>>,
     call: &str,
 ) -> Result<(), AllocError> {
-    out.push_str(session_words(alloc, call, descriptions)?.as_str())
+    put_words(out, session_words(alloc, call, descriptions))
 }
 
 /// What a call on a session answers, of which the row has the connection and media of the offer, the media of what was sent
@@ -245,9 +293,12 @@ fn session_of(
     answer: &[&[u8]; 2],
 ) -> Result<String, AllocError> {
     let texts = session_texts(alloc, offer, sent, answer)?;
-    told(alloc, descriptions(alloc, &texts), |alloc, out, read| {
-        put_session(alloc, out, read, call)
-    })
+    let words = told_of(
+        alloc,
+        &texts,
+        |alloc, out, read| put_session(alloc, out, read, call),
+    );
+    outcome_after(texts, words)
 }
 
 fn put_destination(
@@ -267,7 +318,8 @@ fn put_destination(
 /// Where media for the first medium are sent.
 fn first_destination(alloc: Global, connection: &[u8], media: &[u8]) -> Result<String, AllocError> {
     let text = text_of(alloc, connection, media)?;
-    told(alloc, read_description(alloc, &text), put_destination)
+    let words = told(alloc, read_description(alloc, &text), put_destination);
+    outcome_after(text, words)
 }
 
 /// Calls what has a law for its contract.

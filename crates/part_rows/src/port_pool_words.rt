@@ -1,8 +1,16 @@
 //! How pairs, rows and changes of the pool are written.
 
-use port_pool::{Change, Hop, Pair};
-use rows::{put_address, said};
+use port_pool::{Change, Hop, Pair, PoolError};
+use rows::{put_address, words_of};
 use std::alloc::{AllocError, Global};
+
+/// The letter and the words of a refusal. Want of memory goes up.
+pub(crate) fn fault_words(alloc: Global, fault: PoolError) -> Result<String, AllocError> {
+    match fault {
+        PoolError::OutOfMemory => Err(AllocError),
+        fault => fault.to_string(alloc),
+    }
+}
 
 fn put_hop(out: &mut String, hop: &Hop) -> Result<(), AllocError> {
     put_address(out, hop.to)?;
@@ -35,21 +43,29 @@ fn put_change(out: &mut String, change: &Change) -> Result<(), AllocError> {
     }
 }
 
-/// The changes of the relay table, in order.
-pub(crate) fn changes_words(alloc: Global, changes: &[Change]) -> Result<String, AllocError> {
-    let mut out = said(alloc, "changes")?;
+fn put_changes(_alloc: Global, out: &mut String, changes: &Vec<Change>) -> Result<(), AllocError> {
+    out.push_str("changes")?;
     for change in changes {
-        put_change(&mut out, change)?;
+        put_change(out, change)?;
     }
-    Ok(out)
+    Ok(())
 }
 
-/// Pairs by their even ports.
-pub(crate) fn pairs_words(alloc: Global, pairs: &[Pair]) -> Result<String, AllocError> {
-    let mut out = said(alloc, "pairs")?;
+/// The changes of the relay table, in order, which are let go behind it.
+pub(crate) fn told_changes(alloc: Global, changes: Vec<Change>) -> Result<String, AllocError> {
+    words_of(alloc, changes, put_changes)
+}
+
+fn put_pairs(_alloc: Global, out: &mut String, pairs: &Vec<Pair>) -> Result<(), AllocError> {
+    out.push_str("pairs")?;
     for pair in pairs {
         let even = pair.even;
         write!(out, " {even}")?;
     }
-    Ok(out)
+    Ok(())
+}
+
+/// Pairs by their even ports, which are let go behind it.
+pub(crate) fn told_pairs(alloc: Global, pairs: Vec<Pair>) -> Result<String, PoolError> {
+    Ok(words_of(alloc, pairs, put_pairs)?)
 }

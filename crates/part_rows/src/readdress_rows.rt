@@ -4,8 +4,9 @@ ghost use Rattle.std.specs.Prelude.{IsTrue, ◌≡◌, length};
 ghost use Rattle.offer_answer.specs.Readdressing.{has_ports};
 
 use crate::sdp_rows::{put_description, told};
+use crate::telling::{put_of, put_words};
 use offer_answer::{ServerOrigin, readdress};
-use rows::{u16_of, words_of};
+use rows::{outcome_after, u16_of};
 use sdp::{Description, Media, read_description, write_description};
 use std::alloc::{AllocError, Global};
 
@@ -26,6 +27,15 @@ fn have_ports(ports: &[u16], media: &[Media<'_>]) -> bool
         [medium, media @ ..] => (medium.port == 0 || *port != 0) && have_ports(ports, media),
         [] => true,
     }
+}
+
+/// Whether there is a port for each medium, and none is 0 for a medium whose port is not 0.
+fn are_ready(ports: &[u16], description: &Description<'_>) -> bool
+    ensures one_each { IsTrue result → length ports.now ≡ length description.now.media }
+    ensures not_zero { IsTrue result → IsTrue (has_ports ports.now description.now.media) }
+{
+    let media = description.media.as_slice();
+    ports.len() == media.len() && have_ports(ports, media)
 }
 
 /// The ports of a row, with spaces between them: none where the word is empty.
@@ -63,16 +73,15 @@ fn put_sent(
     id: u64,
     version: u64,
 ) -> Result<(), AllocError> {
-    let media = description.media.as_slice();
-    if ports.len() != media.len() || !have_ports(ports, media) {
+    if !are_ready(ports, description) {
         return out.push_str("no port for each medium");
     }
-    let sent = words_of(
+    put_of(
         alloc,
+        out,
         sent_for(alloc, description, ports, id, version)?,
         put_description,
-    )?;
-    out.push_str(sent.as_str())
+    )
 }
 
 /// The text of what the server sends in place of a description.
@@ -101,27 +110,9 @@ fn sent_at_edge(
     requires one_each { length ports.now ≡ length description.now.media }
     requires not_zero { IsTrue (has_ports ports.now description.now.media) }
 {
+    let ip = if is_group { FIRST_GROUP } else { LAST_UNICAST };
     let (id, version) = (1, 1);
-    if is_group {
-        let ip = FIRST_GROUP;
-        return readdress(alloc, description, ports, ServerOrigin { id, version, ip });
-    }
-    let ip = LAST_UNICAST;
     readdress(alloc, description, ports, ServerOrigin { id, version, ip })
-}
-
-/// The same as text.
-fn text_at_edge(
-    alloc: Global,
-    description: &Description<'_>,
-    ports: &[u16],
-    is_group: bool,
-) -> Result<String, AllocError>
-    requires one_each { length ports.now ≡ length description.now.media }
-    requires not_zero { IsTrue (has_ports ports.now description.now.media) }
-{
-    let sent = sent_at_edge(alloc, description, ports, is_group)?;
-    words_of(alloc, sent, put_written_again)
 }
 
 /// What such a server sends, read and written again, where the row has a port for each medium.
@@ -132,11 +123,15 @@ fn put_read(
     ports: &[u16],
     is_group: bool,
 ) -> Result<(), AllocError> {
-    let media = description.media.as_slice();
-    if ports.len() != media.len() || !have_ports(ports, media) {
+    if !are_ready(ports, description) {
         return out.push_str("no port for each medium");
     }
-    out.push_str(text_at_edge(alloc, description, ports, is_group)?.as_str())
+    put_of(
+        alloc,
+        out,
+        sent_at_edge(alloc, description, ports, is_group)?,
+        put_written_again,
+    )
 }
 
 /// A description, written, and what was written read and written again.
@@ -150,8 +145,8 @@ fn put_written_again(
         alloc,
         read_description(alloc, bytes.as_bytes()),
         put_description,
-    )?;
-    out.push_str(again.as_str())
+    );
+    outcome_after(bytes, put_words(out, again))
 }
 
 /// What a server at the edge of the unicast addresses sends in place of a description, read and written again.

@@ -1,9 +1,12 @@
 //! Rows of calls of `registrar`, of the users 100, 101 and 102 at 192.0.2.1 and `office.example`.
 
+ghost use Rattle.std.specs.Prelude.{◌≡◌, ◌≤◌, ◌++◌, ◌∷◌, [], codes, IfOk, OnOk};
+
 use crate::registrar_words::put_bindings;
 use crate::sip_uri_words::put_uri;
+use crate::telling::replace;
 use registrar::{Binding, Contact, Contacts, Refusal, Register, Registrar, laws_of_bindings};
-use rows::{answer_of, number, put_shown, said, u32_of, words_of, yes_or_no};
+use rows::{answer_of, number, outcome_after, put_shown, said, u32_of, words_of, yes_or_no};
 use sip_uri::{Uri, UriError, read_uri};
 use std::alloc::{AllocError, Global};
 use text::{Text, Texts, cut_word};
@@ -25,25 +28,52 @@ fn refusal_words(alloc: Global, refusal: Refusal) -> Result<String, AllocError> 
     }
 }
 
+fn push_user(alloc: Global, users: &mut Vec<Text<'static>>, name: &[u8]) -> Result<(), AllocError>
+    ensures { OnOk result (users.new.items ≡ users.old.items ++ name.now ∷ []) }
+{
+    users.push(Text::from_slice(alloc, name)?)?;
+    Ok(())
+}
+
+fn push_users(alloc: Global, users: &mut Vec<Text<'static>>) -> Result<(), AllocError>
+    ensures { OnOk result (users.new.items ≡ users.old.items ++ codes "100" ∷ codes "101" ∷ codes "102" ∷ []) }
+{
+    push_user(alloc, users, b"100")?;
+    push_user(alloc, users, b"101")?;
+    push_user(alloc, users, b"102")
+}
+
+fn users(alloc: Global) -> Result<Texts<'static>, AllocError>
+    ensures { IfOk result (λ us. us ≡ codes "100" ∷ codes "101" ∷ codes "102" ∷ []) }
+{
+    let mut users: Vec<Text<'static>> = Vec::new(alloc);
+    match push_users(alloc, &mut users) {
+        Ok(()) => Ok(Texts::from_vec(users)),
+        Err(fault) => outcome_after(users, Err(fault)),
+    }
+}
+
+fn registrar_of(
+    alloc: Global,
+    users: Texts<'static>,
+    min_expires: u32,
+) -> Result<Registrar, AllocError>
+    requires users { users ≡ codes "100" ∷ codes "101" ∷ codes "102" ∷ [] }
+    requires least { 1 ≤ min_expires }
+    requires bounded { min_expires ≤ 3600 }
+{
+    match Text::from_slice(alloc, b"office.example") {
+        Ok(domain) => { Registrar::new(alloc, users, [192, 0, 2, 1], 5060, domain, min_expires) }
+        Err(fault) => outcome_after(users, Err(fault)),
+    }
+}
+
 /// The office, which binds for this number of seconds at least.
 fn office(alloc: Global, min_expires: u32) -> Result<Option<Registrar>, AllocError> {
     if min_expires < 1 || min_expires > 3600 {
         return Ok(None);
     }
-    let users = vec![in alloc;
-        Text::from_slice(alloc, b"100")?,
-        Text::from_slice(alloc, b"101")?,
-        Text::from_slice(alloc, b"102")?,
-    ]?;
-    let domain = Text::from_slice(alloc, b"office.example")?;
-    Ok(Some(Registrar::new(
-        alloc,
-        Texts::from_vec(users),
-        [192, 0, 2, 1],
-        5060,
-        domain,
-        min_expires,
-    )?))
+    Ok(Some(registrar_of(alloc, users(alloc)?, min_expires)?))
 }
 
 /// The URI of a word, if it is one.
@@ -63,21 +93,53 @@ fn seconds_of(word: &[u8]) -> Option<u32> {
     }
 }
 
+fn push_contact<'a>(
+    alloc: Global,
+    contacts: &mut Vec<Contact<'a>>,
+    word: &'a [u8],
+) -> Result<(), AllocError> {
+    let (uri, expires) = cut_word(word);
+    let uri = uri_of(alloc, uri)?;
+    let expires = seconds_of(expires);
+    contacts.push(Contact { uri, expires })?;
+    Ok(())
+}
+
+fn is_star(word: &[u8]) -> bool {
+    matches!(cut_word(word), (b"*", _))
+}
+
+fn push_contacts<'a>(
+    alloc: Global,
+    contacts: &mut Vec<Contact<'a>>,
+    words: &[&'a [u8]],
+) -> Result<(), AllocError> {
+    let mut starred = false;
+    for word in words {
+        if is_star(word) && !starred {
+            starred = true;
+            continue;
+        }
+        push_contact(alloc, contacts, word)?;
+    }
+    Ok(())
+}
+
 /// The contacts of a row, each a URI and perhaps its own seconds, without the first `*` among them; a further one has no URI.
 fn contacts_of<'a>(alloc: Global, words: &[&'a [u8]]) -> Result<Contacts<'a>, AllocError> {
     let mut contacts = Vec::new(alloc);
-    let mut starred = false;
-    for word in words {
-        let (uri, expires) = cut_word(word);
-        if uri == b"*".as_slice() && !starred {
-            starred = true;
-        } else {
-            let uri = uri_of(alloc, uri)?;
-            let expires = seconds_of(expires);
-            contacts.push(Contact { uri, expires })?;
-        }
+    match push_contacts(alloc, &mut contacts, words) {
+        Ok(()) => Ok(Contacts::from_vec(Contacts::from_vec(contacts).into_vec())),
+        Err(fault) => outcome_after(contacts, Err(fault)),
     }
-    Ok(Contacts::from_vec(Contacts::from_vec(contacts).into_vec()))
+}
+
+/// The text of a user; none for `-`.
+fn user_of(word: &[u8]) -> Option<Text<'_>> {
+    match word {
+        b"-" => None,
+        user => Some(Text::lent(user)),
+    }
 }
 
 /// A REGISTER: its user, or `-` for none, its Call-ID, number, and Expires, and its contacts.
@@ -86,13 +148,9 @@ fn register_of<'a>(
     head: &[&'a [u8]; 4],
     contacts: &[&'a [u8]],
 ) -> Result<Register<'a>, AllocError> {
-    let user = match head[0] {
-        b"-" => None,
-        user => Some(Text::lent(user)),
-    };
     let listed = contacts_of(alloc, contacts)?;
     Ok(Register {
-        user,
+        user: user_of(head[0]),
         star: listed.as_slice().len() < contacts.len(),
         contacts: listed,
         expires: seconds_of(head[3]),
@@ -119,7 +177,10 @@ fn answer_to(
         return said(alloc, "no such moment");
     }
     match registrar.apply(register, now) {
-        Ok(bindings) => bindings_words(alloc, &bindings, now),
+        Ok(bindings) => {
+            let words = bindings_words(alloc, &bindings, now);
+            outcome_after(bindings, words)
+        }
         Err(refusal) => refusal_words(alloc, refusal),
     }
 }
@@ -133,7 +194,8 @@ fn apply(
     now: u64,
 ) -> Result<String, AllocError> {
     let register = register_of(alloc, head, contacts)?;
-    answer_to(alloc, registrar, &register, now)
+    let words = answer_to(alloc, registrar, &register, now);
+    outcome_after(register, words)
 }
 
 /// The bindings of a user at a moment, as they are at another one.
@@ -204,6 +266,22 @@ fn laws(alloc: Global) -> Result<String, AllocError> {
     said(alloc, "called")
 }
 
+/// What a call that only asks the registrar answers, if it is one.
+fn look_answer(
+    alloc: Global,
+    registrar: &Registrar,
+    call: &str,
+    args: &[&[u8]],
+) -> Result<Option<String>, AllocError> {
+    match (call, args) {
+        ("target", [user, now]) => answer_of(target_words(alloc, registrar, user, number(now))),
+        ("knows", [user]) => answer_of(knows(alloc, registrar, user)),
+        ("user_of", [to]) => answer_of(user_words(alloc, registrar, to)),
+        ("laws", []) => answer_of(laws(alloc)),
+        _ => Ok(None),
+    }
+}
+
 /// What a call of the registrar answers, if there is one.
 fn registrar_answer(
     alloc: Global,
@@ -219,17 +297,22 @@ fn registrar_answer(
         ("bindings", [user, now, then]) => {
             answer_of(bindings_then(alloc, registrar, user, number(now), number(then)))
         }
-        ("target", [user, now]) => { answer_of(target_words(alloc, registrar, user, number(now))) }
-        ("knows", [user]) => answer_of(knows(alloc, registrar, user)),
-        ("user_of", [to]) => answer_of(user_words(alloc, registrar, to)),
-        ("laws", []) => answer_of(laws(alloc)),
-        _ => Ok(None),
+        _ => look_answer(alloc, registrar, call, args),
     }
 }
 
 impl RegistrarRows {
     pub(crate) fn new(_alloc: Global) -> RegistrarRows {
         RegistrarRows { registrar: None }
+    }
+
+    /// Opens an office that binds for this number of seconds at least.
+    fn open(&mut self, alloc: Global, min_expires: u32) -> Result<String, AllocError> {
+        replace(&mut self.registrar, office(alloc, min_expires)?);
+        match self.registrar {
+            Some(_) => said(alloc, "made"),
+            None => said(alloc, "no such office"),
+        }
     }
 
     /// What the row's call answers, if it is one of `registrar`.
@@ -240,9 +323,7 @@ impl RegistrarRows {
         args: &[&[u8]],
     ) -> Result<Option<String>, AllocError> {
         if let ("new", [min_expires]) = (call, args) {
-            self.registrar = office(alloc, u32_of(min_expires))?;
-            let made = self.registrar.is_some();
-            return answer_of(said(alloc, if made { "made" } else { "no such office" }));
+            return answer_of(self.open(alloc, u32_of(min_expires)));
         }
         match &mut self.registrar {
             Some(registrar) => registrar_answer(alloc, registrar, call, args),

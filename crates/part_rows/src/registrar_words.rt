@@ -5,14 +5,23 @@ use registrar::Binding;
 use rows::put_shown;
 use std::alloc::{AllocError, Global};
 
-/// The rest of a binding's life at a moment.
+/// A binding's moment of expiry, and the rest of its life at a moment.
 fn put_rest(out: &mut String, binding: &Binding, now: u64) -> Result<(), AllocError> {
-    if binding.is_present(now) && now < binding.expires_at {
+    let until = binding.expires_at;
+    if binding.is_present(now) && now < until {
         let left = binding.seconds_left(now);
-        write!(out, "{left} s left")
+        write!(out, " until {until}, {left} s left")
     } else {
-        out.push_str("over")
+        write!(out, " until {until}, over")
     }
+}
+
+/// The REGISTER that made or refreshed a binding.
+fn put_maker(out: &mut String, binding: &Binding) -> Result<(), AllocError> {
+    out.push_str(", by ")?;
+    put_shown(out, binding.call_id.as_bytes())?;
+    let cseq = binding.cseq;
+    write!(out, " {cseq}")
 }
 
 /// A binding: its URI, its moment of expiry, the rest of its life at a moment, and the REGISTER that made or refreshed it.
@@ -24,13 +33,8 @@ fn put_binding(
 ) -> Result<(), AllocError> {
     out.push_str("; ")?;
     put_uri(alloc, out, &binding.uri)?;
-    let until = binding.expires_at;
-    write!(out, " until {until}, ")?;
     put_rest(out, binding, now)?;
-    out.push_str(", by ")?;
-    put_shown(out, binding.call_id.as_bytes())?;
-    let cseq = binding.cseq;
-    write!(out, " {cseq}")
+    put_maker(out, binding)
 }
 
 /// Writes bindings at a moment, in order.

@@ -1,7 +1,8 @@
 //! Rows of calls of `sdp`.
 
 use crate::sdp_words::{put_connection, put_direction, put_medium, put_origin, put_session};
-use rows::{answer_of, put_shown, said, usize_of, words_of};
+use crate::telling::{put_of, put_written};
+use rows::{answer_of, outcome_after, said, usize_of, words_of};
 use sdp::{
     Description, DescriptionError, Lines, MediaList, one_description, read_description,
     write_description,
@@ -86,8 +87,7 @@ pub(crate) fn put_description(
     out: &mut String,
     description: &Description<'_>,
 ) -> Result<(), AllocError> {
-    let text = write_description(alloc, description)?;
-    put_shown(out, text.as_bytes())
+    put_written(out, write_description(alloc, description)?)
 }
 
 /// A description, taken apart and made again.
@@ -122,8 +122,7 @@ fn put_kept(
     out: &mut String,
     description: &Description<'_>,
 ) -> Result<(), AllocError> {
-    let kept = words_of(alloc, description.keep(alloc)?, put_description)?;
-    out.push_str(kept.as_str())
+    put_of(alloc, out, description.keep(alloc)?, put_description)
 }
 
 /// A text before and a text behind the value of a row.
@@ -137,25 +136,29 @@ fn between(alloc: Global, front: &[u8], value: &[u8], end: &[u8]) -> Result<Vec<
 /// The session of a description that has these lines behind v, o and s.
 fn behind_front(alloc: Global, lines: &[u8]) -> Result<String, AllocError> {
     let text = between(alloc, FRONT, lines, b"")?;
-    told(alloc, read_description(alloc, &text), put_session)
+    let words = told(alloc, read_description(alloc, &text), put_session);
+    outcome_after(text, words)
 }
 
 /// The origin of a description that has this `o=` line.
 fn origin(alloc: Global, value: &[u8]) -> Result<String, AllocError> {
     let text = between(alloc, b"v=0\no=", value, b"\ns=-\nt=0 0\n")?;
-    told(alloc, read_description(alloc, &text), put_origin)
+    let words = told(alloc, read_description(alloc, &text), put_origin);
+    outcome_after(text, words)
 }
 
 /// The address of a description that has this `c=` line.
 fn connection(alloc: Global, value: &[u8]) -> Result<String, AllocError> {
     let text = between(alloc, FRONT_OF_CONNECTION, value, b"\nt=0 0\n")?;
-    told(alloc, read_description(alloc, &text), put_connection)
+    let words = told(alloc, read_description(alloc, &text), put_connection);
+    outcome_after(text, words)
 }
 
 /// The medium of a description at 192.0.2.10 that has this `m=` line.
 fn medium_line(alloc: Global, value: &[u8]) -> Result<String, AllocError> {
     let text = between(alloc, FRONT_OF_MEDIUM, value, b"")?;
-    medium(alloc, &text, 0)
+    let words = medium(alloc, &text, 0);
+    outcome_after(text, words)
 }
 
 /// Calls what has a law for its contract.

@@ -1,5 +1,6 @@
 //! How the parts of a description are written.
 
+use crate::telling::put_texts;
 use rows::{put_boxed, put_boxes, put_octets, put_shown};
 use sdp::{Address, Description, Line, Media, Way, place_of, way_of};
 use std::alloc::{AllocError, Global};
@@ -87,25 +88,12 @@ pub(crate) fn put_session(
 ) -> Result<(), AllocError> {
     out.push_str("origin ")?;
     put_origin(alloc, out, description)?;
-    out.push_str(", ")?;
-    put_lines(alloc, out, "before", description.before.as_slice())?;
+    put_lines(alloc, out, ", before", description.before.as_slice())?;
     out.push_str(", ")?;
     put_connection(alloc, out, description)?;
-    out.push_str(", ")?;
-    put_lines(alloc, out, "after", description.after.as_slice())?;
+    put_lines(alloc, out, ", after", description.after.as_slice())?;
     let media = description.media.as_slice().len();
     write!(out, ", media {media}")
-}
-
-/// The formats of a medium in brackets.
-fn put_formats(out: &mut String, medium: &Media<'_>) -> Result<(), AllocError> {
-    for (at, format) in medium.formats.as_slice().iter().enumerate() {
-        if at > 0 {
-            out.push(' ')?;
-        }
-        put_boxed(out, format.as_bytes())?;
-    }
-    Ok(())
 }
 
 /// The `i=` line of a medium, if it has one.
@@ -125,43 +113,59 @@ fn put_ports(out: &mut String, medium: &Media<'_>) -> Result<(), AllocError> {
     }
 }
 
+/// The fields of the `m=` line, its formats in brackets.
+fn put_medium_line(out: &mut String, medium: &Media<'_>) -> Result<(), AllocError> {
+    put_shown(out, medium.kind.as_bytes())?;
+    put_ports(out, medium)?;
+    put_shown(out, medium.proto.as_bytes())?;
+    out.push(' ')?;
+    put_texts(out, medium.formats.as_slice())
+}
+
 /// A medium and what stands under it.
 pub(crate) fn put_medium(
     alloc: Global,
     out: &mut String,
     medium: &Media<'_>,
 ) -> Result<(), AllocError> {
-    put_shown(out, medium.kind.as_bytes())?;
-    put_ports(out, medium)?;
-    put_shown(out, medium.proto.as_bytes())?;
-    out.push(' ')?;
-    put_formats(out, medium)?;
+    put_medium_line(out, medium)?;
     out.push_str(", info ")?;
     put_info(out, medium)?;
     out.push_str(", ")?;
     put_connection_line(out, &medium.connection)?;
-    out.push_str(", ")?;
-    put_lines(alloc, out, "after", medium.after.as_slice())
+    put_lines(alloc, out, ", after", medium.after.as_slice())
 }
 
-/// A direction, and whether it sends and receives.
-fn put_way(out: &mut String, way: Way) -> Result<(), AllocError> {
-    out.push_str(match way {
+fn name_of(way: Way) -> &'static str {
+    match way {
         Way::SendReceive => "sendrecv",
         Way::SendOnly => "sendonly",
         Way::ReceiveOnly => "recvonly",
         Way::Inactive => "inactive",
-    })?;
-    out.push_str(if way.sends() {
-        ", sends yes"
-    } else {
-        ", sends no"
-    })?;
-    out.push_str(if way.receives() {
-        ", receives yes"
-    } else {
-        ", receives no"
-    })
+    }
+}
+
+fn yes_or_no(holds: bool) -> &'static str {
+    if holds { "yes" } else { "no" }
+}
+
+/// A direction, and whether it sends and receives.
+fn put_way(out: &mut String, way: Way) -> Result<(), AllocError> {
+    let (name, sends, receives) = (
+        name_of(way),
+        yes_or_no(way.sends()),
+        yes_or_no(way.receives()),
+    );
+    write!(out, ", {name}, sends {sends}, receives {receives}")
+}
+
+fn put_address_and_port(
+    out: &mut String,
+    address: &Address<'_>,
+    port: u16,
+) -> Result<(), AllocError> {
+    put_address(out, address)?;
+    write!(out, " port {port}")
 }
 
 fn put_place(
@@ -170,11 +174,7 @@ fn put_place(
     medium: &Media<'_>,
 ) -> Result<(), AllocError> {
     match place_of(description, medium) {
-        Some(place) => {
-            let port = place.port;
-            put_address(out, place.address)?;
-            write!(out, " port {port}")
-        }
+        Some(place) => put_address_and_port(out, place.address, place.port),
         None => out.push_str("no place"),
     }
 }
@@ -186,6 +186,5 @@ pub(crate) fn put_direction(
     medium: &Media<'_>,
 ) -> Result<(), AllocError> {
     put_place(out, description, medium)?;
-    out.push_str(", ")?;
     put_way(out, way_of(description, medium))
 }

@@ -6,10 +6,10 @@ ghost use Rattle.port_pool.specs.Holdings.{holder_of};
 ghost use Rattle.offer_answer.specs.Rows.{are_distinct};
 ghost use Rattle.offer_answer.specs.Session.{HasAbove};
 
-use crate::port_pool_words::{changes_words, put_row};
+use crate::port_pool_words::{fault_words, put_row, told_changes};
 use offer_answer::{plan_session, session_lines, session_pairs};
 use port_pool::{Pool, PoolError, RelayLine};
-use rows::said;
+use rows::{outcome_after, said, words_of};
 use sdp::Description;
 use std::alloc::{AllocError, Global};
 
@@ -53,15 +53,19 @@ fn are_distinct(ports: &[u16]) -> bool
     !is_among(*port, rest) && are_distinct(rest)
 }
 
+fn put_line(out: &mut String, line: &RelayLine) -> Result<(), AllocError> {
+    let port = line.port;
+    write!(out, "; {port} ")?;
+    put_row(out, line.hop)
+}
+
 /// The lines, in order.
-fn lines_words(alloc: Global, lines: &[RelayLine]) -> Result<String, AllocError> {
-    let mut out = said(alloc, "lines")?;
+fn put_lines(_alloc: Global, out: &mut String, lines: &Vec<RelayLine>) -> Result<(), AllocError> {
+    out.push_str("lines")?;
     for line in lines {
-        let port = line.port;
-        write!(out, "; {port} ")?;
-        put_row(&mut out, line.hop)?;
+        put_line(out, line)?;
     }
-    Ok(out)
+    Ok(())
 }
 
 /// The lines of a session.
@@ -77,14 +81,16 @@ fn lines_of(
         return said(alloc, "no port above");
     }
     let lines = session_lines(alloc, offer_taken, answer_sent, offer_sent, answer_taken)?;
-    lines_words(alloc, &lines)
+    words_of(alloc, lines, put_lines)
 }
 
 /// A pool of eight pairs from 40000, of which the call holds the first four.
 fn held_pool(alloc: Global) -> Result<Pool, PoolError> {
     let mut pool = Pool::new(alloc, 40000, 8)?;
-    let _ = pool.reserve(CALL, 4, 0)?;
-    Ok(pool)
+    match pool.reserve(CALL, 4, 0) {
+        Ok(pairs) => outcome_after(pairs, Ok(pool)),
+        Err(fault) => outcome_after(pool, Err(fault)),
+    }
 }
 
 /// What the rows of a session change in a pool where the call holds four pairs.
@@ -109,7 +115,31 @@ fn changes_of(
         offer_sent,
         answer_taken,
     )?;
-    changes_words(alloc, &changes)
+    told_changes(alloc, changes)
+}
+
+/// The same in such a pool of its own.
+fn changes_in_new(
+    alloc: Global,
+    offer_taken: &Description<'_>,
+    answer_sent: &Description<'_>,
+    offer_sent: &Description<'_>,
+    answer_taken: &Description<'_>,
+) -> Result<String, AllocError> {
+    match held_pool(alloc) {
+        Ok(pool) => {
+            let words = changes_of(
+                alloc,
+                &pool,
+                offer_taken,
+                answer_sent,
+                offer_sent,
+                answer_taken,
+            );
+            outcome_after(pool, words)
+        }
+        Err(fault) => fault_words(alloc, fault),
+    }
 }
 
 /// What a call on a session answers, of the offer and the answer taken and what was sent on in place of them.
@@ -118,24 +148,13 @@ pub(crate) fn session_words(
     call: &str,
     descriptions: &[Description<'_>],
 ) -> Result<String, AllocError> {
-    let [offer_taken, answer_sent, offer_sent, answer_taken] = descriptions else {
-        return said(alloc, "no session");
-    };
-    if call == "session_lines" {
-        return lines_of(alloc, offer_taken, answer_sent, offer_sent, answer_taken);
-    }
-    match held_pool(alloc) {
-        Ok(pool) => {
-            changes_of(
-                alloc,
-                &pool,
-                offer_taken,
-                answer_sent,
-                offer_sent,
-                answer_taken,
-            )
+    match (call, descriptions) {
+        ("session_lines", [offer_taken, answer_sent, offer_sent, answer_taken]) => {
+            lines_of(alloc, offer_taken, answer_sent, offer_sent, answer_taken)
         }
-        Err(PoolError::OutOfMemory) => Err(AllocError),
-        Err(fault) => fault.to_string(alloc),
+        (_, [offer_taken, answer_sent, offer_sent, answer_taken]) => {
+            changes_in_new(alloc, offer_taken, answer_sent, offer_sent, answer_taken)
+        }
+        _ => said(alloc, "no session"),
     }
 }

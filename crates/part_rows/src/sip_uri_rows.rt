@@ -3,11 +3,12 @@
 use crate::sip_uri_words::{
     put_host_words, put_name, put_name_parts, put_parameters, put_uri, put_uri_parts,
 };
-use rows::{answer_of, byte_of, ip4_words, said, shown, words_of, yes_or_no};
+use crate::telling::put_of;
+use rows::{answer_of, byte_of, ip4_words, outcome_after, said, shown, words_of, yes_or_no};
 use sip_uri::{
-    NameAddr, Params, Uri, UriError, binding_is_equivalence, ip4, is_host, one_value, param_named,
-    put_param, put_params, read_field_params, read_host, read_name_addr, read_uri, same_binding,
-    same_host, same_text,
+    Host, NameAddr, Param, Params, Uri, UriError, binding_is_equivalence, ip4, is_host, one_value,
+    param_named, put_param, put_params, read_field_params, read_host, read_name_addr, read_uri,
+    same_binding, same_host, same_text,
 };
 use std::alloc::{AllocError, Global};
 use text::Text;
@@ -36,14 +37,12 @@ fn told<T: Drop, P: Fn(Global, &mut String, &T) -> Result<(), AllocError>>(
 
 /// The parts of a URI as it is kept.
 fn put_kept_uri(alloc: Global, out: &mut String, uri: &Uri<'_>) -> Result<(), AllocError> {
-    let kept = words_of(alloc, uri.keep(alloc)?, put_uri_parts)?;
-    out.push_str(kept.as_str())
+    put_of(alloc, out, uri.keep(alloc)?, put_uri_parts)
 }
 
 /// The parts of a name and an address as they are kept.
 fn put_kept_name(alloc: Global, out: &mut String, name: &NameAddr<'_>) -> Result<(), AllocError> {
-    let kept = words_of(alloc, name.keep(alloc)?, put_name_parts)?;
-    out.push_str(kept.as_str())
+    put_of(alloc, out, name.keep(alloc)?, put_name_parts)
 }
 
 /// Two URIs.
@@ -59,7 +58,7 @@ fn pair_with<'a, 'b>(
 ) -> Result<Pair<'a, 'b>, UriError> {
     match other {
         Ok(other) => Ok(Pair { one, other }),
-        Err(fault) => Err(fault),
+        Err(fault) => outcome_after(one, Err(fault)),
     }
 }
 
@@ -83,11 +82,25 @@ fn put_sameness(_alloc: Global, out: &mut String, pair: &Pair<'_, '_>) -> Result
     })
 }
 
-/// Whether two hosts are one.
+/// Whether a host and that of a text are one.
+fn is_host_of(alloc: Global, host: &Host<'_>, text: &[u8]) -> Result<String, AllocError> {
+    match read_host(text) {
+        Some(other) => {
+            let is_one = same_host(host, &other);
+            yes_or_no(alloc, outcome_after(other, is_one))
+        }
+        None => said(alloc, "no host"),
+    }
+}
+
+/// Whether the hosts of two texts are one.
 fn are_one_host(alloc: Global, a: &[u8], b: &[u8]) -> Result<String, AllocError> {
-    match (read_host(a), read_host(b)) {
-        (Some(a), Some(b)) => yes_or_no(alloc, same_host(&a, &b)),
-        _ => said(alloc, "no host"),
+    match read_host(a) {
+        Some(host) => {
+            let words = is_host_of(alloc, &host, b);
+            outcome_after(host, words)
+        }
+        None => said(alloc, "no host"),
     }
 }
 
@@ -101,8 +114,9 @@ fn text_or_none(word: &[u8]) -> Option<Text<'_>> {
 
 /// Whether two texts are one, or neither is there.
 fn are_one_text(alloc: Global, a: &[u8], b: &[u8]) -> Result<String, AllocError> {
-    let (a, b) = (text_or_none(a), text_or_none(b));
-    yes_or_no(alloc, same_text(a.as_ref(), b.as_ref()))
+    let texts = (text_or_none(a), text_or_none(b));
+    let are_one = same_text(texts.0.as_ref(), texts.1.as_ref());
+    yes_or_no(alloc, outcome_after(texts, are_one))
 }
 
 fn put_params_of(alloc: Global, out: &mut String, params: &Params<'_>) -> Result<(), AllocError> {
@@ -117,22 +131,41 @@ fn field_params(alloc: Global, text: Option<&[u8]>) -> Result<String, AllocError
     }
 }
 
+fn params_words(
+    alloc: Global,
+    params: &[Param<'_>],
+    first: u8,
+    next: u8,
+) -> Result<String, AllocError> {
+    let mut out = Vec::new(alloc);
+    put_params(&mut out, params, first, next)?;
+    shown(alloc, &out)
+}
+
 /// Parameters of a header field, written behind these marks.
 fn params_back(alloc: Global, text: &[u8], first: u8, next: u8) -> Result<String, AllocError> {
-    let Some(params) = read_field_params(alloc, Some(text))? else {
-        return said(alloc, "malformed");
-    };
-    let mut out = Vec::new(alloc);
-    put_params(&mut out, params.as_slice(), first, next)?;
-    shown(alloc, &out)
+    match read_field_params(alloc, Some(text))? {
+        Some(params) => {
+            let words = params_words(alloc, params.as_slice(), first, next);
+            outcome_after(params, words)
+        }
+        None => said(alloc, "malformed"),
+    }
 }
 
 /// The first parameter of this name.
 fn named(alloc: Global, text: &[u8], name: &[u8]) -> Result<String, AllocError> {
-    let Some(params) = read_field_params(alloc, Some(text))? else {
-        return said(alloc, "malformed");
-    };
-    match param_named(params.as_slice(), name) {
+    match read_field_params(alloc, Some(text))? {
+        Some(params) => {
+            let words = named_words(alloc, params.as_slice(), name);
+            outcome_after(params, words)
+        }
+        None => said(alloc, "malformed"),
+    }
+}
+
+fn named_words(alloc: Global, params: &[Param<'_>], name: &[u8]) -> Result<String, AllocError> {
+    match param_named(params, name) {
         Some(param) => {
             let mut out = Vec::new(alloc);
             put_param(&mut out, param)?;
@@ -165,6 +198,22 @@ fn laws(alloc: Global) -> Result<String, AllocError> {
     said(alloc, "called")
 }
 
+/// What a call on hosts answers, if it is one.
+fn answer_on_hosts(
+    alloc: Global,
+    call: &str,
+    args: &[&[u8]],
+) -> Result<Option<String>, AllocError> {
+    match (call, args) {
+        ("read_host", [text]) => answer_of(host(alloc, text)),
+        ("is_host", [text]) => answer_of(yes_or_no(alloc, is_host(text))),
+        ("ip4", [text]) => answer_of(octets(alloc, text)),
+        ("same_host", [a, b]) => answer_of(are_one_host(alloc, a, b)),
+        ("laws", []) => answer_of(laws(alloc)),
+        _ => Ok(None),
+    }
+}
+
 /// What a call on parts of a URI answers, if it is one.
 fn answer_on_parts(
     alloc: Global,
@@ -178,11 +227,7 @@ fn answer_on_parts(
             answer_of(params_back(alloc, text, byte_of(first), byte_of(next)))
         }
         ("param_named", [text, name]) => answer_of(named(alloc, text, name)),
-        ("read_host", [text]) => answer_of(host(alloc, text)),
-        ("is_host", [text]) => answer_of(yes_or_no(alloc, is_host(text))),
-        ("ip4", [text]) => answer_of(octets(alloc, text)),
-        ("laws", []) => answer_of(laws(alloc)),
-        _ => Ok(None),
+        _ => answer_on_hosts(alloc, call, args),
     }
 }
 
@@ -200,7 +245,6 @@ pub(crate) fn answer(
         ("read_name_addr", [text]) => told(alloc, read_name_addr(alloc, text), put_name_parts),
         ("write_name_addr", [text]) => told(alloc, read_name_addr(alloc, text), put_name),
         ("same_binding", [a, b]) => told(alloc, read_pair(alloc, a, b), put_sameness),
-        ("same_host", [a, b]) => answer_of(are_one_host(alloc, a, b)),
         ("same_text", [a, b]) => answer_of(are_one_text(alloc, a, b)),
         _ => answer_on_parts(alloc, call, args),
     }

@@ -1,5 +1,6 @@
 //! How the parts of a URI are written.
 
+use crate::telling::put_written;
 use rows::{put_boxed, put_shown};
 use sip_uri::{Host, NameAddr, Param, Uri, put_host, put_param, write_name_addr, write_uri};
 use std::alloc::{AllocError, Global};
@@ -67,8 +68,8 @@ pub(crate) fn put_host_words(
 
 fn put_port(out: &mut String, port: Option<u16>) -> Result<(), AllocError> {
     match port {
-        Some(port) => write!(out, "port {port}"),
-        None => out.push_str("no port"),
+        Some(port) => write!(out, ", port {port}"),
+        None => out.push_str(", no port"),
     }
 }
 
@@ -81,18 +82,14 @@ pub(crate) fn put_uri_parts(
     put_text(out, "user", uri.user.as_ref())?;
     out.push_str(", ")?;
     put_host_words(alloc, out, &uri.host)?;
-    out.push_str(", ")?;
     put_port(out, uri.port)?;
-    out.push_str(", ")?;
-    put_named_params(alloc, out, "parameters", uri.params.as_slice())?;
-    out.push_str(", ")?;
-    put_named_params(alloc, out, "headers", uri.headers.as_slice())
+    put_named_params(alloc, out, ", parameters", uri.params.as_slice())?;
+    put_named_params(alloc, out, ", headers", uri.headers.as_slice())
 }
 
 /// A URI as it is written.
 pub(crate) fn put_uri(alloc: Global, out: &mut String, uri: &Uri<'_>) -> Result<(), AllocError> {
-    let text = write_uri(alloc, uri)?;
-    put_shown(out, text.as_bytes())
+    put_written(out, write_uri(alloc, uri)?)
 }
 
 fn put_uri_boxed(alloc: Global, out: &mut String, uri: &Uri<'_>) -> Result<(), AllocError> {
@@ -109,8 +106,7 @@ pub(crate) fn put_name_parts(
     put_text(out, "display", name.display.as_ref())?;
     out.push_str(", uri ")?;
     put_uri_boxed(alloc, out, &name.uri)?;
-    out.push_str(", ")?;
-    put_named_params(alloc, out, "parameters", name.params.as_slice())
+    put_named_params(alloc, out, ", parameters", name.params.as_slice())
 }
 
 /// A name and an address as they are written.
@@ -119,6 +115,5 @@ pub(crate) fn put_name(
     out: &mut String,
     name: &NameAddr<'_>,
 ) -> Result<(), AllocError> {
-    let text = write_name_addr(alloc, name)?;
-    put_shown(out, text.as_bytes())
+    put_written(out, write_name_addr(alloc, name)?)
 }

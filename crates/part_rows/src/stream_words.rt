@@ -15,8 +15,17 @@ fn put_goal(out: &mut String, to: Option<Addr>) -> Result<(), AllocError> {
     }
 }
 
-/// One side of a stream: whether it is on, its formats, and where it goes.
-fn put_side(out: &mut String, side: &Side) -> Result<(), AllocError> {
+/// What a stream carries, and how.
+fn put_kind(out: &mut String, kind: &[u8], proto: &[u8]) -> Result<(), AllocError> {
+    out.push_str("; ")?;
+    put_shown(out, kind)?;
+    out.push(' ')?;
+    put_shown(out, proto)
+}
+
+/// One side of a stream behind its name: whether it is on, its formats, and where it goes.
+fn put_side(out: &mut String, name: &str, side: &Side) -> Result<(), AllocError> {
+    out.push_str(name)?;
     out.push_str(if side.on { "on" } else { "off" })?;
     for format in side.formats.as_slice() {
         out.push(' ')?;
@@ -28,20 +37,16 @@ fn put_side(out: &mut String, side: &Side) -> Result<(), AllocError> {
 /// One stream.
 fn put_stream(out: &mut String, stream: &Stream) -> Result<(), AllocError> {
     match stream {
-        Stream::Rejected => out.push_str("rejected"),
+        Stream::Rejected => out.push_str("; rejected"),
         Stream::Used {
             kind,
             proto,
             to_answerer,
             to_offerer,
         } => {
-            put_shown(out, kind.as_bytes())?;
-            out.push(' ')?;
-            put_shown(out, proto.as_bytes())?;
-            out.push_str(", to answerer ")?;
-            put_side(out, to_answerer)?;
-            out.push_str(", to offerer ")?;
-            put_side(out, to_offerer)
+            put_kind(out, kind.as_bytes(), proto.as_bytes())?;
+            put_side(out, ", to answerer ", to_answerer)?;
+            put_side(out, ", to offerer ", to_offerer)
         }
     }
 }
@@ -54,7 +59,6 @@ pub(crate) fn put_streams(
 ) -> Result<(), AllocError> {
     out.push_str("streams")?;
     for stream in streams {
-        out.push_str("; ")?;
         put_stream(out, stream)?;
     }
     Ok(())

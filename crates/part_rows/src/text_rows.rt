@@ -1,7 +1,9 @@
 //! Rows of calls of `text`.
 
+use crate::telling::put_texts;
 use rows::{
-    answer_of, boxes, byte_of, number, number_or_none, put_boxed, said, shown, words_of, yes_or_no,
+    answer_of, boxes, byte_of, number, number_or_none, outcome_after, put_boxed, said, shown,
+    words_of, yes_or_no,
 };
 use std::alloc::{AllocError, Global};
 use text::{
@@ -101,8 +103,10 @@ fn with_number(alloc: Global, front: &[u8], number: u64) -> Result<String, Alloc
 
 /// Whether two texts are one byte by byte: one of its own and one that is lent.
 fn are_same(alloc: Global, a: &[u8], b: &[u8]) -> Result<String, AllocError> {
-    let a = Text::from_vec(Vec::from_slice(alloc, a)?);
-    yes_or_no(alloc, a == Text::lent(b))
+    let own = Text::from_vec(Vec::from_slice(alloc, a)?);
+    let other = Text::lent(b);
+    let are_same = own == other;
+    yes_or_no(alloc, outcome_after((own, other), are_same))
 }
 
 /// A text and what it borrows: the bytes where they stand, or nothing.
@@ -135,18 +139,31 @@ fn kept_words(alloc: Global, word: &[u8]) -> Result<String, AllocError> {
     words_of(alloc, Text::lent(word).keep(alloc)?, put_place)
 }
 
-/// Texts, made a list, taken apart and made a list again.
-fn listed(alloc: Global, words: &[&[u8]]) -> Result<String, AllocError> {
-    let mut list = Vec::new(alloc);
+fn push_texts(
+    alloc: Global,
+    list: &mut Vec<Text<'static>>,
+    words: &[&[u8]],
+) -> Result<(), AllocError> {
     for word in words {
         list.push(Text::from_slice(alloc, word)?)?;
     }
-    let texts = Texts::from_vec(Texts::from_vec(list).into_vec());
-    let mut lent: Vec<&[u8]> = Vec::new(alloc);
-    for text in texts.as_slice() {
-        lent.push(text.as_bytes())?;
+    Ok(())
+}
+
+fn put_list(_alloc: Global, out: &mut String, texts: &Texts<'_>) -> Result<(), AllocError> {
+    put_texts(out, texts.as_slice())
+}
+
+/// Texts, made a list, taken apart and made a list again.
+fn listed(alloc: Global, words: &[&[u8]]) -> Result<String, AllocError> {
+    let mut list: Vec<Text<'static>> = Vec::new(alloc);
+    match push_texts(alloc, &mut list, words) {
+        Ok(()) => {
+            let texts = Texts::from_vec(Texts::from_vec(list).into_vec());
+            words_of(alloc, texts, put_list)
+        }
+        Err(fault) => outcome_after(list, Err(fault)),
     }
-    boxes(alloc, &lent)
 }
 
 /// What a call on pieces of a text answers, if it is one.

@@ -1,6 +1,9 @@
 //! Rows of calls of `timers`: keys are single letters.
 
-use rows::{answer_of, byte_of, number, number_or_none, said, usize_of, words_of, yes_or_no};
+use crate::telling::replace;
+use rows::{
+    answer_of, byte_of, number, number_or_none, outcome_after, said, usize_of, words_of, yes_or_no,
+};
 use std::alloc::{AllocError, Global};
 use text::cut_word;
 use timers::{
@@ -94,11 +97,17 @@ fn put_answers(
     Ok(())
 }
 
-/// Makes calls in turn on new timers, and tells what each answers.
-fn run_words(alloc: Global, words: &[&[u8]]) -> Result<String, AllocError> {
+/// Makes calls in turn on timers, and tells what each answers.
+fn run_with(alloc: Global, timers: &mut Timers<u8>, words: &[&[u8]]) -> Result<String, AllocError> {
     let calls = calls_of(alloc, words)?;
+    words_of(alloc, run(alloc, timers, &calls)?, put_answers)
+}
+
+/// The same on new timers.
+fn run_words(alloc: Global, words: &[&[u8]]) -> Result<String, AllocError> {
     let mut timers = Timers::new(alloc);
-    words_of(alloc, run(alloc, &mut timers, &calls)?, put_answers)
+    let words = run_with(alloc, &mut timers, words);
+    outcome_after(timers, words)
 }
 
 /// Whether timers, in whatever form, have room for so many keys.
@@ -137,8 +146,12 @@ impl TimersRows {
     }
 
     fn empty(&mut self, alloc: Global) -> Result<String, AllocError> {
-        self.timers = Timers::new(alloc);
+        replace(&mut self.timers, Timers::new(alloc));
         said(alloc, "done")
+    }
+
+    fn take_due(&mut self, alloc: Global, now: u64) -> Result<String, AllocError> {
+        timer_words(alloc, self.timers.take_due(now))
     }
 
     /// What a call that changes the timers answers, if it is one.
@@ -153,9 +166,7 @@ impl TimersRows {
             ("set", [key, at]) => answer_of(self.set(alloc, byte_of(key), number(at))),
             ("cancel", [key]) => answer_of(self.cancel(alloc, byte_of(key))),
             ("reserve", [keys]) => answer_of(self.reserve(alloc, usize_of(keys))),
-            ("take_due", [now]) => {
-                answer_of(timer_words(alloc, self.timers.take_due(number(now))))
-            }
+            ("take_due", [now]) => answer_of(self.take_due(alloc, number(now))),
             _ => Ok(None),
         }
     }

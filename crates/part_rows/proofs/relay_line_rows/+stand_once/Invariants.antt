@@ -1,5 +1,5 @@
 use Rattle.std.proofs.Common.{length}
-use Rattle.part_rows.proofs.port_pool_rows.+stand_once.Given as goal
+use Rattle.part_rows.proofs.relay_line_rows.+stand_once.Given as goal
 
 -- fewer lines each time
 abbrev pub decreases-stand_once : goal.decreases-stand_once

@@ -1,5 +1,5 @@
 use Rattle.std.proofs.Common.{length}
-use Rattle.part_rows.proofs.port_pool_rows.+are_kept.Given as goal
+use Rattle.part_rows.proofs.relay_line_rows.+are_kept.Given as goal
 
 -- fewer lines each time
 abbrev pub decreases-are_kept : goal.decreases-are_kept
