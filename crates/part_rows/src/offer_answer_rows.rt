@@ -246,28 +246,20 @@ fn push_text(
     Ok(())
 }
 
-fn push_session(
-    alloc: Global,
-    texts: &mut Vec<Vec<u8>>,
-    offer: &[&[u8]; 2],
-    sent: &[&[u8]; 2],
-    answer: &[&[u8]; 2],
-) -> Result<(), AllocError> {
-    push_text(alloc, texts, offer[0], offer[1])?;
-    push_text(alloc, texts, b"IP4 192.0.2.1", sent[0])?;
-    push_text(alloc, texts, b"IP4 192.0.2.1", sent[1])?;
-    push_text(alloc, texts, answer[0], answer[1])
+fn push_session(alloc: Global, texts: &mut Vec<Vec<u8>>, args: &[&[u8]]) -> Result<(), AllocError> {
+    let [at, offer, for_answer, for_offer, from, answer] = args else {
+        return Ok(());
+    };
+    push_text(alloc, texts, at, offer)?;
+    push_text(alloc, texts, b"IP4 192.0.2.1", for_answer)?;
+    push_text(alloc, texts, b"IP4 192.0.2.1", for_offer)?;
+    push_text(alloc, texts, from, answer)
 }
 
 /// The texts of a session: of the offer, of what was sent on in place of the answer and of the offer, and of the answer.
-fn session_texts(
-    alloc: Global,
-    offer: &[&[u8]; 2],
-    sent: &[&[u8]; 2],
-    answer: &[&[u8]; 2],
-) -> Result<Vec<Vec<u8>>, AllocError> {
+fn session_texts(alloc: Global, args: &[&[u8]]) -> Result<Vec<Vec<u8>>, AllocError> {
     let mut texts = Vec::new(alloc);
-    match push_session(alloc, &mut texts, offer, sent, answer) {
+    match push_session(alloc, &mut texts, args) {
         Ok(()) => Ok(texts),
         Err(fault) => outcome_after(texts, Err(fault)),
     }
@@ -285,14 +277,8 @@ fn put_session(
 
 /// What a call on a session answers, of which the row has the connection and media of the offer, the media of what was sent
 /// on in place of the answer and of the offer, and connection and media of the answer.
-fn session_of(
-    alloc: Global,
-    call: &str,
-    offer: &[&[u8]; 2],
-    sent: &[&[u8]; 2],
-    answer: &[&[u8]; 2],
-) -> Result<String, AllocError> {
-    let texts = session_texts(alloc, offer, sent, answer)?;
+fn session_of(alloc: Global, call: &str, args: &[&[u8]]) -> Result<String, AllocError> {
+    let texts = session_texts(alloc, args)?;
     let words = told_of(
         alloc,
         &texts,
@@ -344,15 +330,8 @@ fn answer_on_sent(alloc: Global, call: &str, args: &[&[u8]]) -> Result<Option<St
             answer_of(sent_text(alloc, text, number(id), number(version), ports))
         }
         ("read_again", [text, server, ports]) => answer_of(sent_read(alloc, text, server, ports)),
-        ("session_lines" | "plan_session", [at, offer, for_answer, for_offer, from, answer]) => {
-            answer_of(session_of(
-                alloc,
-                call,
-                &[at, offer],
-                &[for_answer, for_offer],
-                &[from, answer],
-            ))
-        }
+        ("session_lines", [_, _, _, _, _, _]) => answer_of(session_of(alloc, call, args)),
+        ("plan_session", [_, _, _, _, _, _]) => answer_of(session_of(alloc, call, args)),
         _ => Ok(None),
     }
 }

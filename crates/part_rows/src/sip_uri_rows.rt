@@ -231,6 +231,21 @@ fn answer_on_parts(
     }
 }
 
+/// What a call on a name and an address answers, if it is one, or else one on parts.
+fn answer_on_names(
+    alloc: Global,
+    call: &str,
+    args: &[&[u8]],
+) -> Result<Option<String>, AllocError> {
+    match (call, args) {
+        ("keep_name_addr", [text]) => told(alloc, read_name_addr(alloc, text), put_kept_name),
+        ("read_name_addr", [text]) => told(alloc, read_name_addr(alloc, text), put_name_parts),
+        ("write_name_addr", [text]) => told(alloc, read_name_addr(alloc, text), put_name),
+        ("same_text", [a, b]) => answer_of(are_one_text(alloc, a, b)),
+        _ => answer_on_parts(alloc, call, args),
+    }
+}
+
 /// What the row's call answers, if it is one of `sip_uri`.
 pub(crate) fn answer(
     alloc: Global,
@@ -241,11 +256,7 @@ pub(crate) fn answer(
         ("read_uri", [text]) => told(alloc, read_uri(alloc, text), put_uri_parts),
         ("write_uri", [text]) => told(alloc, read_uri(alloc, text), put_uri),
         ("keep_uri", [text]) => told(alloc, read_uri(alloc, text), put_kept_uri),
-        ("keep_name_addr", [text]) => told(alloc, read_name_addr(alloc, text), put_kept_name),
-        ("read_name_addr", [text]) => told(alloc, read_name_addr(alloc, text), put_name_parts),
-        ("write_name_addr", [text]) => told(alloc, read_name_addr(alloc, text), put_name),
         ("same_binding", [a, b]) => told(alloc, read_pair(alloc, a, b), put_sameness),
-        ("same_text", [a, b]) => answer_of(are_one_text(alloc, a, b)),
-        _ => answer_on_parts(alloc, call, args),
+        _ => answer_on_names(alloc, call, args),
     }
 }

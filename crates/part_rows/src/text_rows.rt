@@ -166,6 +166,22 @@ fn listed(alloc: Global, words: &[&[u8]]) -> Result<String, AllocError> {
     }
 }
 
+/// A text in brackets.
+fn boxed(alloc: Global, text: &[u8]) -> Result<String, AllocError> {
+    boxes(alloc, &[text])
+}
+
+/// What a call that cuts a text answers, if it is one.
+fn answer_on_cuts(alloc: Global, call: &str, args: &[&[u8]]) -> Result<Option<String>, AllocError> {
+    match (call, args) {
+        ("cut", [text, mark]) => answer_of(cut_at(alloc, text, byte_of(mark))),
+        ("cut_word", [text]) => answer_of(word_of(alloc, text)),
+        ("trimmed", [text]) => answer_of(boxed(alloc, trimmed(text))),
+        ("without_blanks", [text]) => answer_of(boxed(alloc, without_blanks(text))),
+        _ => Ok(None),
+    }
+}
+
 /// What a call on pieces of a text answers, if it is one.
 fn answer_on_pieces(
     alloc: Global,
@@ -173,16 +189,26 @@ fn answer_on_pieces(
     args: &[&[u8]],
 ) -> Result<Option<String>, AllocError> {
     match (call, args) {
-        ("cut", [text, mark]) => answer_of(cut_at(alloc, text, byte_of(mark))),
-        ("cut_word", [text]) => answer_of(word_of(alloc, text)),
-        ("trimmed", [text]) => answer_of(boxes(alloc, &[trimmed(text)])),
-        ("without_blanks", [text]) => answer_of(boxes(alloc, &[without_blanks(text)])),
         ("pieces", [text, mark]) => answer_of(pieces_at(alloc, text, byte_of(mark))),
         ("cut_piece", [text, mark]) => answer_of(first_piece(alloc, text, byte_of(mark))),
         ("put_pieces", [one, other, mark]) => {
             answer_of(pieces_of_two(alloc, one, other, byte_of(mark)))
         }
-        _ => Ok(None),
+        _ => answer_on_cuts(alloc, call, args),
+    }
+}
+
+/// What a call on numbers answers, if it is one, or else one on pieces.
+fn answer_on_numbers(
+    alloc: Global,
+    call: &str,
+    args: &[&[u8]],
+) -> Result<Option<String>, AllocError> {
+    match (call, args) {
+        ("put_number", [front, word]) => answer_of(with_number(alloc, front, number(word))),
+        ("number_upto", [limit, digits]) => answer_of(read_number(alloc, number(limit), digits)),
+        ("same_without_case", [a, b]) => answer_of(yes_or_no(alloc, same_without_case(a, b))),
+        _ => answer_on_pieces(alloc, call, args),
     }
 }
 
@@ -200,8 +226,7 @@ fn answer_on_bytes(
         ("is_blank", []) => answer_of(blanks(alloc)),
         ("is_run_of_digits", [text]) => answer_of(yes_or_no(alloc, is_run_of_digits(text))),
         ("is_run_of_token", [text]) => answer_of(yes_or_no(alloc, is_run_of_token(text))),
-        ("number_upto", [limit, digits]) => answer_of(read_number(alloc, number(limit), digits)),
-        _ => answer_on_pieces(alloc, call, args),
+        _ => answer_on_numbers(alloc, call, args),
     }
 }
 
@@ -212,8 +237,6 @@ pub(crate) fn answer(
     args: &[&[u8]],
 ) -> Result<Option<String>, AllocError> {
     match (call, args) {
-        ("put_number", [front, word]) => answer_of(with_number(alloc, front, number(word))),
-        ("same_without_case", [a, b]) => answer_of(yes_or_no(alloc, same_without_case(a, b))),
         ("same", [a, b]) => answer_of(are_same(alloc, a, b)),
         ("lent", [word]) => answer_of(lent_words(alloc, word)),
         ("keep", [word]) => answer_of(kept_words(alloc, word)),

@@ -35,21 +35,27 @@ fn timer_words(alloc: Global, timer: Option<Timer<u8>>) -> Result<String, AllocE
     Ok(out)
 }
 
+/// A call of a run that only asks, if it is one.
+fn look_of(name: &[u8], word: &[u8]) -> Option<Call<u8>> {
+    match name {
+        b"first_due" => Some(Call::FirstDue(number(word))),
+        b"moment" => Some(Call::Moment(byte_of(word))),
+        b"next" => Some(Call::Next),
+        b"len" => Some(Call::Len),
+        _ => None,
+    }
+}
+
 /// A call of a run, as `set a 5`, if it is one.
 fn call_of(word: &[u8]) -> Option<Call<u8>> {
     let (name, rest) = cut_word(word);
     let (first, second) = cut_word(rest);
-    let key = byte_of(first);
     match name {
-        b"set" => Some(Call::Set(key, number(second))),
-        b"cancel" => Some(Call::Cancel(key)),
+        b"set" => Some(Call::Set(byte_of(first), number(second))),
+        b"cancel" => Some(Call::Cancel(byte_of(first))),
         b"take_due" => Some(Call::TakeDue(number(first))),
         b"reserve" => Some(Call::Reserve(usize_of(first))),
-        b"first_due" => Some(Call::FirstDue(number(first))),
-        b"moment" => Some(Call::Moment(key)),
-        b"next" => Some(Call::Next),
-        b"len" => Some(Call::Len),
-        _ => None,
+        _ => look_of(name, first),
     }
 }
 
@@ -171,6 +177,26 @@ impl TimersRows {
         }
     }
 
+    /// What a call on room, a run or the laws answer, if it is one, or else one that changes the timers.
+    fn room_answer(
+        &mut self,
+        alloc: Global,
+        call: &str,
+        args: &[&[u8]],
+    ) -> Result<Option<String>, AllocError> {
+        match (call, args) {
+            ("has_room", [keys]) => {
+                answer_of(yes_or_no(alloc, self.timers.room() >= usize_of(keys)))
+            }
+            ("has_room_in_any_form", [keys]) => {
+                answer_of(yes_or_no(alloc, has_room(&self.timers, usize_of(keys))))
+            }
+            ("run", calls) => answer_of(run_words(alloc, calls)),
+            ("laws", []) => answer_of(laws(alloc)),
+            _ => self.change_answer(alloc, call, args),
+        }
+    }
+
     /// What the row's call answers, if it is one of `timers`.
     pub(crate) fn answer(
         &mut self,
@@ -187,15 +213,7 @@ impl TimersRows {
             }
             ("next", []) => answer_of(number_or_none(alloc, self.timers.next())),
             ("len", []) => answer_of(self.timers.len().to_string(alloc)),
-            ("has_room", [keys]) => {
-                answer_of(yes_or_no(alloc, self.timers.room() >= usize_of(keys)))
-            }
-            ("has_room_in_any_form", [keys]) => {
-                answer_of(yes_or_no(alloc, has_room(&self.timers, usize_of(keys))))
-            }
-            ("run", calls) => answer_of(run_words(alloc, calls)),
-            ("laws", []) => answer_of(laws(alloc)),
-            _ => self.change_answer(alloc, call, args),
+            _ => self.room_answer(alloc, call, args),
         }
     }
 }
