@@ -1,13 +1,11 @@
 -- Two tokens of different counts differ, and no tag is of two calls.
-use Rattle.std.proofs.Common.{◌≡◌, ◌≢◌, ◌∙◌, ℕ, ◌+◌, ◌<◌, ◌≤◌, ◌^◌, suc, Bool, true, false, cond, List, [], ◌∷◌, ◌++◌, codes, decimal, drop, length, take, Option, Some, None, refl, ap, sym, subst, inl, inr, arith}
-use Rattle.std.specs.Prelude.{slice_get, slice_set, ◌⊎◌}
-use Rattle.std.specs.Int.{to_be_bytes, w64}
+use Rattle.std.proofs.Common.{◌≡◌, ◌≢◌, ◌∙◌, ℕ, ◌+◌, ◌<◌, ◌^◌, suc, List, [], ◌∷◌, ◌++◌, drop, Some, ap, sym, subst, inl, inr, arith}
+use Rattle.std.specs.Prelude.{slice_get, slice_set}
 use Rattle.std.specs.List.{All, remove}
-use Rattle.std.proofs.lemmas.Bool.{false≢true}
 use Rattle.std.proofs.lemmas.Fmt.{decimal_injective}
 use Rattle.std.proofs.lemmas.List.Elements.{All-head, All-tail}
 use Rattle.std.proofs.Common.{zero}
-use Rattle.hex.specs.Hex.{encode_lower, encode_with}
+use Rattle.hex.specs.Hex.{encode_with}
 use Rattle.responses.specs.Tokens.{token}
 use Rattle.calls.specs.declared.standing_call.StandingCall.{StandingCall}
 use Rattle.promise.specs.Knowing.{Apart, ApartFrom, AreApart, HasMadeTags, IsTagOf}
@@ -95,12 +93,12 @@ new_differ made c new e = arith-absurd new.first new.second new.in_order (counts
     arith-absurd : (a b : ℕ) → a < b → a ≡ b → ⊥
     arith-absurd a b lt is = omega (arith, lt, is)
 
-old_and_new : (made salt count : ℕ) (tag : List ℕ) → IsMade made tag → made < count → count < 2 ^ 64 → tag ≡ token salt count → ⊥
+pub old_and_new : (made salt count : ℕ) (tag : List ℕ) → IsMade made tag → made < count → count < 2 ^ 64 → tag ≡ token salt count → ⊥
 old_and_new made salt count tag old new few is =
     let same : old.count ≡ count = counts_differ old.salt salt old.count count (omega (arith, old.early, new, few)) few (sym old.said ∙ is) in
     omega (arith, old.early, new, same)
 
-made_tag : (made : ℕ) (c : StandingCall) (tag : List ℕ) → HasMadeTags made c → IsTagOf c tag → IsMade made tag
+pub made_tag : (made : ℕ) (c : StandingCall) (tag : List ℕ) → HasMadeTags made c → IsTagOf c tag → IsMade made tag
 made_tag made c tag h (inl is) = record { salt = h.caller.salt; count = h.caller.count; early = h.caller.early; said = is ∙ h.caller.said }
 made_tag made c tag h (inr is) = record { salt = h.callee.salt; count = h.callee.count; early = h.callee.early; said = is ∙ h.callee.said }
 

@@ -1,7 +1,7 @@
 -- What changes among the calls leaves their tags as they were, or puts tags that were made.
 use Rattle.std.proofs.Common.{◌≡◌, ◌∙◌, ◌≤◌, ℕ, suc, Bool, true, false, cond, List, [], ◌∷◌, ◌++◌, drop, take, Option, Some, None, option_map, refl, ap, sym, subst}
 use Rattle.std.specs.Prelude.{slice_get, slice_set}
-use Rattle.std.specs.List.{All, remove}
+use Rattle.std.specs.List.{remove}
 use Rattle.std.proofs.lemmas.List.Elements.{All-append, All-drop, All-push, All-set, All-take}
 use Rattle.std.proofs.lemmas.Option.{get_or_from_slice_get, slice_get_within}
 use Rattle.port_pool.specs.Pool as pools
@@ -203,7 +203,7 @@ same_at : (made : ℕ) (c : StandingCall) (end : End) (d : Dialog) → FitsEnd m
 same_at made c Caller d fits = record { caller = fits; callee = refl }
 same_at made c Callee d fits = record { caller = refl; callee = refl }
 
-same_leg_put : (made : ℕ) (c : StandingCall) (leg : Option LegDialog) → FitsLeg made c leg → SameTags c (with_leg leg c)
+pub same_leg_put : (made : ℕ) (c : StandingCall) (leg : Option LegDialog) → FitsLeg made c leg → SameTags c (with_leg leg c)
 same_leg_put made c None fits = record { caller = refl; callee = refl }
 same_leg_put made c (Some leg) fits = same_at made c leg.end leg.dialog fits
 

@@ -47,7 +47,7 @@ tag_said_by tag true e = rw e (sym (nil_from_length tag (eqb-true (length tag) 0
 tag_said_by tag false e = rw e refl
 
 -- the tag of From is that of the dialog
-tag_said : (tag : List ℕ) → tag_text (tag_params tag) ≡ tag
+pub tag_said : (tag : List ℕ) → tag_text (tag_params tag) ≡ tag
 tag_said tag = tag_said_by tag (length tag == 0) refl
 
 branch_said : (server : Addr) (text : List ℕ) → top_branch (server_via server text ∷ []) ≡ Some (branch_text text)

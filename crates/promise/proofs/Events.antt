@@ -27,7 +27,7 @@ few_by false true late over other e = absurd (false≢true (ap is_some (sym e)))
 few_by false false late over other e = refl
 
 -- fewer tokens were made than may be
-few_tokens : (s : Contents) (e : Event) → only_counts s e ≡ None → s.tokens < 2 ^ 63
+pub few_tokens : (s : Contents) (e : Event) → only_counts s e ≡ None → s.tokens < 2 ^ 63
 unfolding only_counts
 few_tokens s e none = leb-false most_tokens s.tokens (few_by (nat_le moments_end e.now) (nat_le most_tokens s.tokens) _ _ _ none)
 

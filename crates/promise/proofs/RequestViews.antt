@@ -21,7 +21,6 @@ use Rattle.call_rules.specs.Content.{described}
 use Rattle.call_rules.specs.Offers.{offer_rule, plain_rule}
 use Rattle.call_rules.specs.Requests.{dialog_rule}
 use Rattle.call_rules.specs.Responses.{at_place}
-use Rattle.call_rules.specs.declared.responses.ResponseRule.TheVariants as rule
 use Rattle.call_steps.specs.Rows.{counts, first_row, refreshes}
 use Rattle.plans.specs.Office.{Office}
 use Rattle.plans.specs.declared.rule.CallRule.TheVariants as callrules
@@ -30,9 +29,8 @@ use Rattle.plans.specs.declared.rule.Reply.TheVariants as replies
 use Rattle.agent.specs.declared.rule.Rule.{Rule}
 use Rattle.agent.specs.declared.rule.Rule.TheVariants as rules
 use Rattle.plans.specs.declared.setting.Setting.{Setting}
-use Rattle.plans.specs.CallRows.{are_full, begins, begins_by, call_row, first_by, has_pairs, has_pairs_for, is_unfit, occasion, of_plan, offer_reply, offers, offers_by, okay_plan, passes, passes_at, passes_if, passes_in, puts_if, refreshes_at, refreshes_by, refuses, tag_at, takes, takes_request, target, unless_full, with_step}
+use Rattle.plans.specs.CallRows.{are_full, begins_by, call_row, first_by, has_pairs, has_pairs_for, is_unfit, occasion, of_plan, offer_reply, offers, offers_by, okay_plan, passes, passes_at, passes_if, passes_in, puts_if, refreshes_at, refreshes_by, refuses, tag_at, takes_request, target, unless_full, with_step}
 use Rattle.plans.specs.Effect.{Effect}
-use Rattle.plans.specs.Plan.{answers}
 use Rattle.plans.specs.Replies.{reply_row, responds_in}
 use Rattle.agent.specs.Rows.{rule_row}
 use Rattle.agent.specs.Rules as checks

@@ -1,7 +1,6 @@
 -- What each event comes to: the transactions that it begins are the server's own or others', and the tags of the calls were made.
 use Rattle.std.proofs.Common.{◌<◌, ◌^◌, ◌≡◌, ◌∙◌, ℕ, ◌+◌, Bool, true, false, cond, not, List, [], ◌∷◌, ◌++◌, codes, Option, Some, None, position, Result, Ok, Err, refl, sym, subst, arith}
 use Rattle.std.specs.Prelude.{slice_get}
-use Rattle.std.specs.List.{All}
 use Rattle.std.proofs.lemmas.Bool.{false≢true, and_parts}
 use Rattle.sip_uri.specs.declared.uri.Addr.{Addr}
 use Rattle.sip_message.specs.declared.headers.Header.{Header}
@@ -152,7 +151,7 @@ counted_owns s k r place end p own =
     }
 
 -- it is a response to a request of the server's own
-answered_client : (parts : Parts) (t : Transaction) → is_answered parts (Some t) ≡ true → is_server t.state ≡ false
+pub answered_client : (parts : Parts) (t : Transaction) → is_answered parts (Some t) ≡ true → is_server t.state ≡ false
 unfolding is_answered
 answered_client parts t h = not_true (is_server t.state) (and_parts _ _ h).0
   where
@@ -162,7 +161,7 @@ answered_client parts t h = not_true (is_server t.state) (and_parts _ _ h).0
 
 -- ---- what the transactions do with a message
 
-served_by : (b : Bool) → is_server (cond b (machine.InviteServer invite_server.Proceeding) (machine.OtherServer other_server.Trying)) ≡ true
+pub served_by : (b : Bool) → is_server (cond b (machine.InviteServer invite_server.Proceeding) (machine.OtherServer other_server.Trying)) ≡ true
 served_by true = refl
 served_by false = refl
 
@@ -239,7 +238,7 @@ response_rows s k e r begun send id t x tag b (provisional place status c there 
 response_rows s k e r begun send id t x tag b (answered place c there opens class is) =
     subst (Owns s) (sym is) (
     takes_owns s k e begun send (Some id) place (inputs.Answer (described r.headers r.body)) (answers_leg s.calls.calls place t.parts r) b
-    (λ d at_d. answers_fits s.tokens s.calls.calls place t.parts r d k.calls at_d (same_open c d (sym there ∙ at_d) opens))
+    (λ d at_d. answers_fits s.tokens s.calls.calls place t.parts r d k.calls at_d (same_open c d (sym there ∙ at_d) opens.waits))
     )
   where
     same_open : (c d : StandingCall) → Some c ≡ Some d → is_open t.parts c ≡ true → is_open t.parts d ≡ true

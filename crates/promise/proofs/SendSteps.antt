@@ -44,7 +44,6 @@ use Rattle.legs.specs.declared.scene.Asker.{Asker}
 use Rattle.legs.specs.declared.scene.Scene.{Scene}
 use Rattle.legs.specs.Dressed.{Dressed, asks, asks_at}
 use Rattle.legs.specs.Dressing.{asks_if, dialog_with, dress_one, dressed, says_ack, says_again, says_answer, says_bye, says_cancel, says_offer, says_okay, says_provisional, says_refusal, says_trying}
-use Rattle.legs.specs.Messages as messages
 use Rattle.call_steps.specs.declared.messages.StepMessages.{StepMessages}
 use Rattle.call_steps.specs.declared.occasion.Occasion.{Occasion}
 use Rattle.call_steps.specs.Effects as steps

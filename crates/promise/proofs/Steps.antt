@@ -54,7 +54,7 @@ use Rattle.promise.proofs.Apartness.{HasNewTags}
 use Rattle.promise.specs.Tokens.{IsMade, IsOwnIf}
 use Rattle.promise.proofs.Calls.{FitsEnd, FitsLeg, KeepsIds, beside_tags, call_at, call_ids, first_ids, fits_kept, pushed_by, put_or_removed, same_beside, tags_kept}
 use Rattle.promise.proofs.Dressings.{HasMadeTag, IfOwnInvite, IsOwnScene, OwnMade, dressed_own}
-use Rattle.promise.proofs.Growing.{calls_more, entries_append, entries_more, made_more, tags_more}
+use Rattle.promise.proofs.Growing.{calls_more, entries_append, entries_more, tags_more}
 use Rattle.promise.proofs.Slots.{own_at}
 
 -- ---- messages
@@ -245,7 +245,7 @@ first_tags o r id number source contact e = record {
   leg = tt;
 }
 
-new_tags : (o : Occasion) (r : Request) (id number : ℕ) (source : Addr) (contact : Uri) (call : Call) → KeepsIds (first_standing number o r id source contact).call call → tag_text r.parts.to.params ≡ []
+pub new_tags : (o : Occasion) (r : Request) (id number : ℕ) (source : Addr) (contact : Uri) (call : Call) → KeepsIds (first_standing number o r id source contact).call call → tag_text r.parts.to.params ≡ []
     → o.tokens < 2 ^ 63 → HasNewTags o.tokens (with_call call (first_standing number o r id source contact))
 new_tags o r id number source contact call keeps e few = record {
   salt = o.salt;

@@ -2,3 +2,5 @@ pub mod Tokens
 pub mod Entries
 pub mod Knowing
 pub mod Sending
+pub mod Waiting
+pub mod Knowledge

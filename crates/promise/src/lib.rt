@@ -2,8 +2,12 @@
 //! stand. Nothing here runs.
 #![tactic(auto)]
 
+mod knowledge;
 mod sending;
 mod tokens;
+mod waiting;
 
+pub use knowledge::messages_are_known;
 pub use sending::what_goes_again_was_sent;
 pub use tokens::{tokens_are_drawn_once, tokens_of_other_counts_differ};
+pub use waiting::offers_are_awaited;

@@ -1,0 +1,210 @@
+-- What an event comes to, where it begins no offer: what waits afterwards.
+use Rattle.std.proofs.Common.{◌≡◌, ◌∙◌, ◌≤◌, ℕ, Bool, true, false, List, [], ◌∷◌, ◌++◌, Option, Some, None, refl, ap, sym, subst, arith}
+use Rattle.std.specs.Prelude.{slice_get}
+use Rattle.std.specs.List.{All}
+use Rattle.std.proofs.lemmas.Bool.{false≢true}
+use Rattle.std.proofs.lemmas.List.Elements.{All-set}
+use Rattle.sip_uri.specs.declared.uri.Uri.{Uri}
+use Rattle.sip_message.specs.declared.headers.Header.{Header}
+use Rattle.sip_message.specs.declared.message.Parts.{Parts}
+use Rattle.sip_message.specs.declared.message.Request.{Request}
+use Rattle.sip_message.specs.declared.message.Response.{Response}
+use Rattle.sip_message.specs.Contact.{contacts_of}
+use Rattle.registrar.specs.declared.binding.Binding.{Binding}
+use Rattle.registrar.specs.declared.refusal.Refusal.{Refusal}
+use Rattle.registrar.specs.Registrar.{PlanContents}
+use Rattle.std.proofs.Common.{Result, Ok, Err}
+use Rattle.dialogs.specs.declared.state.Dialog.{Dialog}
+use Rattle.dialogs.specs.Making.{callers_dialog, reached_at}
+use Rattle.transactions.specs.declared.change.Entry.{Entry}
+use Rattle.transactions.specs.declared.outcome.Outgoing.{Outgoing}
+use Rattle.transactions.specs.declared.transaction.Transaction.{Transaction}
+use Rattle.transactions.specs.Changes.{entered_all}
+use Rattle.transactions.specs.Slots.{at}
+use Rattle.call_media.specs.Ends.{other}
+use Rattle.call_core.specs.declared.action.Action.{Action}
+use Rattle.call_core.specs.declared.action.Action.TheVariants.{Ack, Bye}
+use Rattle.call_core.specs.declared.stage.Standing as stage
+use Rattle.call_core.specs.Calls.{dialog_of}
+use Rattle.call_media.specs.declared.end.End.TheVariants.{Callee}
+use Rattle.calls.specs.State.{Standing}
+use Rattle.calls.specs.Carrying.{changed_at, offerer_of, with_dialog_at}
+use Rattle.calls.specs.Changes.{unchanged}
+use Rattle.calls.specs.declared.change.Beside.{Beside}
+use Rattle.calls.specs.declared.change.LegDialog.{LegDialog}
+use Rattle.calls.specs.declared.standing_call.StandingCall.{StandingCall}
+use Rattle.call_rules.specs.Responses.{asked_end, is_open}
+use Rattle.call_steps.specs.declared.occasion.Occasion.{Occasion}
+use Rattle.call_steps.specs.Effects as steps
+use Rattle.call_steps.specs.Messages.{messages}
+use Rattle.call_steps.specs.Rows.{answers_leg, dialog_after, fork_by, fork_row, forked, late_by, late_row, later_dialog, leg_by}
+use Rattle.call_steps.specs.Scenes.{fork_scene}
+use Rattle.call_steps.specs.Values.{lent_scene}
+use Rattle.plans.specs.Office.{Office}
+use Rattle.plans.specs.declared.rule.Reply.{Reply}
+use Rattle.plans.specs.declared.rule.Reply.TheVariants as replies
+use Rattle.plans.specs.declared.setting.Setting.{Setting}
+use Rattle.plans.specs.CallRows.{of_plan, puts_if, with_step}
+use Rattle.plans.specs.Effect.{Effect}
+use Rattle.plans.specs.Plan.{Plan}
+use Rattle.plans.specs.Replies.{registers, registers_by, reply_row, responds_in}
+use Rattle.promise.specs.Waiting.{FitsCall, IsCounted, IsOffering, KnowsWaiting}
+use Rattle.promise.proofs.Awaiting.{CallKeeps, Grows, IsOpen, LegGrows, LegKeeps, beside_keeps, beside_standing, call_kept, fits_after, later_all, opened, opens_on, fits_at}
+use Rattle.promise.proofs.Calls.{FitsLeg, same_leg_put}
+use Rattle.promise.proofs.Coming.{IsLater, OpensIn}
+use Rattle.promise.proofs.Offering.{none_offered, said_offered}
+use Rattle.promise.proofs.Once.{AreFresh, NoneOffers, OneOffers, none_one, none_then}
+use Rattle.promise.proofs.ResponseViews.{IsAsked}
+use Rattle.promise.proofs.Tables.{has_offer}
+use Rattle.promise.proofs.WaitTakes.{IsLost, StepWaits, same_is}
+
+pub record Waits (s : Office) (x : Effect) : Type 0 where
+  pub stayed : (now id : ℕ) (t u : Transaction) → at s.table.slots id ≡ Some t → at (entered_all now s.table x.plan.changes).slots id ≡ Some u → IsLater t u → IsOffering t
+      → All (FitsCall u) x.calls.standing.calls
+  pub began : (t : Transaction) → OpensIn t x.plan.changes → IsOffering t → All (FitsCall t) x.calls.standing.calls
+  pub fresh : AreFresh s.table.slots x.plan.changes
+  pub one : OneOffers x.plan.changes
+
+pub calm : (s : Office) (x : Effect) → NoneOffers x.plan.changes
+    → ((now id : ℕ) (t u : Transaction) → at s.table.slots id ≡ Some t → at (entered_all now s.table x.plan.changes).slots id ≡ Some u → IsLater t u → IsOffering t → All (FitsCall u) x.calls.standing.calls)
+    → Waits s x
+calm s x none stayed = record {
+  stayed = stayed;
+  began = λ t opens offers. absurd (none t opens offers);
+  fresh = λ t opens offers id v at_v offers_v same. none t opens offers;
+  one = none_one x.plan.changes none;
+}
+
+pub plan_waits : (s : Office) → KnowsWaiting s → (p : Plan) → NoneOffers p.changes → Waits s (of_plan s p)
+plan_waits s k p none = calm s (of_plan s p) none (λ now id t u there e later offers. later_all t u s.calls.calls later (k.awaited id t there offers))
+
+-- ---- replies
+
+pub responds_none : (s : Office) (e : Setting) (r : Request) (begun : List Entry) (id status : ℕ) (further : List Header) (registration : Option PlanContents) → NoneOffers begun
+    → NoneOffers (responds_in s e r begun id status further registration).changes
+responds_none s e r begun id status further registration none = none_then begun _ none (λ t opens offers. opens)
+
+registers_none : (s : Office) (e : Setting) (r : Request) (begun : List Entry) (id : ℕ) (user : Option (List ℕ)) (answer : Result (List Binding) Refusal) → NoneOffers begun
+    → NoneOffers (registers_by s e r begun id user answer).changes
+registers_none s e r begun id user (Ok bindings) none = none_then begun _ none (λ t opens offers. opens)
+registers_none s e r begun id user (Err refusal) none = none_then begun _ none (λ t opens offers. opens)
+
+pub reply_none : (s : Office) (e : Setting) (r : Request) (begun : List Entry) (id : ℕ) (reply : Reply) → NoneOffers begun → NoneOffers (reply_row s e r begun id reply).changes
+unfolding reply_row registers
+reply_none s e r begun id (replies.CancelOf other) none = none_then begun _ none (λ t opens offers. opens)
+reply_none s e r begun id (replies.Refusal status) none = none_then begun _ none (λ t opens offers. opens)
+reply_none s e r begun id replies.RetryLater none = none_then begun _ none (λ t opens offers. opens)
+reply_none s e r begun id replies.MethodUnoffered none = none_then begun _ none (λ t opens offers. opens)
+reply_none s e r begun id replies.ExtensionRefused none = none_then begun _ none (λ t opens offers. opens)
+reply_none s e r begun id replies.MethodsListed none = none_then begun _ none (λ t opens offers. opens)
+reply_none s e r begun id replies.TypeRefused none = none_then begun _ none (λ t opens offers. opens)
+reply_none s e r begun id replies.EncodingRefused none = none_then begun _ none (λ t opens offers. opens)
+reply_none s e r begun id replies.Registration none = registers_none s e r begun id _ _ none
+
+-- ---- a call takes an input
+
+pub step_waits : (s : Office) → KnowsWaiting s → (begun : List Entry) (send : Option Outgoing) (id : Option ℕ) (final : Bool) (place : ℕ) (x : steps.Effect) → NoneOffers begun
+    → StepWaits final place s.calls.calls x
+    → (final ≡ true → (now at_id : ℕ) (t u : Transaction) → at s.table.slots at_id ≡ Some t → at (entered_all now s.table (begun ++ x.dressed.changes)).slots at_id ≡ Some u → IsLater t u → IsOffering t
+    → IsLost s.calls.calls place t u) → Waits s (with_step s.acks begun send id x)
+step_waits s k begun send id final place x none w lost =
+    calm s (with_step s.acks begun send id x) (none_then begun x.dressed.changes none w.none)
+    (λ now at_id t u there e later offers. w.fits t u later (k.awaited at_id t there offers) (λ is. lost is now at_id t u there e later offers))
+
+-- ---- a dialog is put
+
+abbrev alone : LegDialog → Beside
+alone leg = record { leg = Some leg; taken = None; answer = None }
+
+put_fits : (t u : Transaction) (made : ℕ) (c : StandingCall) (leg : LegDialog) → FitsLeg made c (Some leg) → LegKeeps c.call (Some leg) → IsLater t u → FitsCall t c
+    → FitsCall u (with_dialog_at leg.end leg.dialog c)
+put_fits t u made c leg tags keeps later h =
+    let d = with_dialog_at leg.end leg.dialog c in
+    let same = same_leg_put made c (Some leg) tags in
+    let kept : CallKeeps c.call d.call = beside_keeps c (alone leg) keeps in
+    fits_after t u c d same (call_kept c.call d.call kept) later (λ tag w opens. stays_open (opened t.parts c opens)) h
+  where
+    stays_open : (s : stage.Standing) × IsOpen t.parts c s → is_open t.parts (with_dialog_at leg.end leg.dialog c) ≡ true
+    stays_open o = opens_on t.parts c (with_dialog_at leg.end leg.dialog c) o.0 o.0 (same_leg_put made c (Some leg) tags) (beside_keeps c (alone leg) keeps) o.1 (beside_standing c (alone leg) ∙ o.1.stands) o.1.awaits refl
+
+changed_fits : (t u : Transaction) (made place : ℕ) (leg : LegDialog) (calls : List StandingCall) (c : Option StandingCall) → slice_get calls place ≡ c → IsLater t u
+    → ((d : StandingCall) → slice_get calls place ≡ Some d → FitsLeg made d (Some leg) × LegKeeps d.call (Some leg)) → All (FitsCall t) calls
+    → All (FitsCall u) (changed_at (with_dialog_at leg.end leg.dialog) place calls c)
+changed_fits t u made place leg calls None there later fits each = later_all t u calls later each
+changed_fits t u made place leg calls (Some c) there later fits each =
+    All-set (FitsCall u) calls place (with_dialog_at leg.end leg.dialog c) (put_fits t u made c leg (fits c there).0 (fits c there).1 later (fits_at t calls place c each there)) (later_all t u calls later each)
+
+puts_fits : (t u : Transaction) (made place : ℕ) (leg : Option LegDialog) (calls : Standing) → IsLater t u
+    → ((d : StandingCall) → slice_get calls.calls place ≡ Some d → FitsLeg made d leg × LegKeeps d.call leg) → All (FitsCall t) calls.calls → All (FitsCall u) (puts_if calls place leg).calls
+puts_fits t u made place None calls later fits each = later_all t u calls.calls later each
+puts_fits t u made place (Some leg) calls later fits each = changed_fits t u made place leg calls.calls (slice_get calls.calls place) refl later fits each
+
+pub puts_waits : (s : Office) → KnowsWaiting s → (made place : ℕ) (leg : Option LegDialog) (p : Plan) → NoneOffers p.changes
+    → ((d : StandingCall) → slice_get s.calls.calls place ≡ Some d → FitsLeg made d leg × LegKeeps d.call leg)
+    → Waits s (record { plan = p; calls = unchanged (puts_if s.calls place leg); acks = s.acks })
+puts_waits s k made place leg p none fits =
+    calm s (record { plan = p; calls = unchanged (puts_if s.calls place leg); acks = s.acks }) none
+    (λ now id t u there e later offers. puts_fits t u made place leg s.calls later fits (k.awaited id t there offers))
+
+-- ---- a 2xx that no call takes
+
+alone_waits : (calls : Standing) (o : Occasion) (leg : Dialog) (actions : List Action) → has_offer actions ≡ false → StepWaits false 0 calls.calls (forked calls (messages (fork_scene o leg) None actions))
+alone_waits calls o leg actions none = record {
+  none = λ t opens offers. none_offered (lent_scene (fork_scene o leg)) actions t none (said_offered (fork_scene o leg) None actions t opens offers);
+  fits = λ t u later each lost. later_all t u calls.calls later each;
+}
+
+nothing_alone : (calls : Standing) → StepWaits false 0 calls.calls (steps.no_effect calls)
+nothing_alone calls = record { none = λ t opens offers. opens; fits = λ t u later each lost. later_all t u calls.calls later each }
+
+fork_by_waits : (calls : Standing) (o : Occasion) (asked : Parts) (response : Response) (contact : Option Uri) → StepWaits false 0 calls.calls (fork_by calls o asked response contact)
+fork_by_waits calls o asked response None = nothing_alone calls
+fork_by_waits calls o asked response (Some target) = alone_waits calls o (callers_dialog asked response target) (Ack Callee ∷ Bye Callee ∷ []) refl
+
+pub fork_waits : (calls : Standing) (o : Occasion) (asked : Parts) (response : Response) → StepWaits false 0 calls.calls (fork_row calls o asked response)
+unfolding fork_row
+fork_waits calls o asked response = fork_by_waits calls o asked response (reached_at (contacts_of response.headers))
+
+late_by_waits : (calls : Standing) (o : Occasion) (asked : Parts) (response : Response) (contact : Option Uri) → StepWaits false 0 calls.calls (late_by calls o asked response contact)
+late_by_waits calls o asked response None = nothing_alone calls
+late_by_waits calls o asked response (Some target) = alone_waits calls o (later_dialog asked response target) (Ack Callee ∷ []) refl
+
+pub late_waits : (calls : Standing) (o : Occasion) (asked : Parts) (response : Response) → StepWaits false 0 calls.calls (late_row calls o asked response)
+unfolding late_row
+late_waits calls o asked response = late_by_waits calls o asked response (reached_at (contacts_of response.headers))
+
+-- ---- the dialog of a 2xx that a call takes counts what was asked
+
+grows_after : (asked : Parts) (response : Response) (target : Uri) (o : Option Dialog) → (o ≡ None → 1 ≤ asked.cseq.number) → Grows o (Some (dialog_after asked response target o))
+grows_after asked response target None h = h refl
+grows_after asked response target (Some d) h = omega arith
+
+first_number : (number : ℕ) (o : Option Dialog) → IsCounted number o → o ≡ None → 1 ≤ number
+first_number number None counted e = omega (arith, counted)
+first_number number (Some d) counted e = absurd (none_dialog e)
+  where
+    is_there : Option Dialog → Bool
+    is_there None = false
+    is_there (Some d) = true
+
+    none_dialog : Some d ≡ None → ⊥
+    none_dialog e = false≢true (sym (ap is_there e))
+
+asked_is : (asked : Parts) (c : StandingCall) → is_open asked c ≡ true → asked_end asked c ≡ other (offerer_of c.call.standing)
+asked_is asked c h =
+    let o = opened asked c h in
+    same_is (asked_end asked c) (other o.0.offerer) o.1.end ∙ ap (λ s. other (offerer_of s)) (sym o.1.stands)
+
+leg_by_grows : (t : Transaction) (response : Response) (target : Option Uri) (c : StandingCall) → IsAsked t.parts c → FitsCall t c → LegGrows c.call (leg_by t.parts response target (Some c))
+leg_by_grows t response None c asked h = tt
+leg_by_grows t response (Some target) c asked h =
+    let end = other (offerer_of c.call.standing) in
+    let counted = subst (λ x. IsCounted t.parts.cseq.number (dialog_of x c.call)) (asked_is t.parts c asked.waits) (h asked.tag).counted in
+    grows_after t.parts response target (dialog_of end c.call) (first_number t.parts.cseq.number (dialog_of end c.call) counted)
+
+pub answers_grows : (t : Transaction) (calls : List StandingCall) (place : ℕ) (response : Response) (c : StandingCall) → slice_get calls place ≡ Some c → IsAsked t.parts c → FitsCall t c
+    → LegGrows c.call (answers_leg calls place t.parts response)
+unfolding answers_leg
+answers_grows t calls place response c there asked h =
+    subst (λ x. LegGrows c.call (leg_by t.parts response (reached_at (contacts_of response.headers)) x)) (sym there)
+    (leg_by_grows t response (reached_at (contacts_of response.headers)) c asked h)

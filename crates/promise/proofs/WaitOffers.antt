@@ -1,0 +1,256 @@
+-- An offer inside a call that is passed on: what waits afterwards.
+use Rattle.std.proofs.Common.{◌≡◌, ◌≢◌, ◌∙◌, ℕ, zero, suc, ◌<◌, Bool, true, false, cond, ◌||◌, List, [], ◌∷◌, get_or, length, Option, Some, None, option_map, is_some, refl, ap, sym, subst, inl, inr, arith}
+use Rattle.std.specs.Prelude.{slice_get, slice_set}
+use Rattle.std.specs.List.{All, remove}
+use Rattle.std.specs.Cmp.Lexicographic.{bytes_decides}
+use Rattle.std.specs.Option.{option_copied}
+use Rattle.std.proofs.lemmas.Bool.{cases_eq, false≢true}
+use Rattle.std.proofs.lemmas.List.{get_or-set_other, get_or-set_same, length-set}
+use Rattle.std.proofs.lemmas.Option.{slice_get-get_or, slice_get_within}
+use Rattle.sip_uri.specs.declared.uri.Addr.{Addr}
+use Rattle.sip_message.specs.declared.message.Parts.{Parts}
+use Rattle.sip_message.specs.declared.message.Request.{Request}
+use Rattle.sip_message.specs.Words.{tag_text}
+use Rattle.sdp.specs.declared.description.Description.{Description}
+use Rattle.dialogs.specs.declared.state.Dialog.{Dialog}
+use Rattle.transactions.specs.declared.transaction.Transaction.{Transaction}
+use Rattle.transactions.specs.Contents as transactions
+use Rattle.call_media.specs.declared.end.End.{End}
+use Rattle.call_media.specs.declared.end.End.TheVariants.{Caller, Callee}
+use Rattle.call_media.specs.Ends.{is_same, other}
+use Rattle.call_core.specs.declared.call.Call.{Call}
+use Rattle.call_core.specs.declared.input.Input.TheVariants as inputs
+use Rattle.call_core.specs.declared.signal.OfferMethod.{OfferMethod}
+use Rattle.call_core.specs.CallRows.{call_row}
+use Rattle.call_core.specs.Calls.{dialog_of, holds_in}
+use Rattle.call_core.specs.Plans.{Step}
+use Rattle.call_rules.specs.Offers.{is_settled}
+use Rattle.call_rules.specs.Responses.{asked_end, is_last_in}
+use Rattle.calls.specs.State.{Standing}
+use Rattle.calls.specs.Carrying.{with_step}
+use Rattle.calls.specs.Changes.{beside}
+use Rattle.calls.specs.Finding.{has_tag, is_text}
+use Rattle.calls.specs.declared.standing_call.StandingCall.{StandingCall}
+use Rattle.call_steps.specs.declared.occasion.Occasion.{Occasion}
+use Rattle.call_steps.specs.Rows.{counts, counts_by, counts_in, does, messages_of, offer_coming, offers_by, offers_row, put_with}
+use Rattle.call_steps.specs.Scenes.{dialog_in, passed_id, scene, tag_to}
+use Rattle.call_steps.specs.Values.{ComingValue, lent, lent_scene}
+use Rattle.legs.specs.Dressing.{dialog_with}
+use Rattle.promise.specs.Knowing.{Apart, ApartFrom, AreApart, HasLegTag, HasMadeTags, IsTagOf, KnowsCalls}
+use Rattle.promise.specs.Waiting.{FitsCall, IsCounted, IsOffering, from_tag}
+use Rattle.promise.proofs.Apartness.{SameTags}
+use Rattle.promise.proofs.Awaiting.{CallKeeps, Keeps, beside_keeps, beside_standing, call_grows_then, fits_after, fits_at, keeps_at, later_all, open_from, put_or_gone, same_end}
+use Rattle.promise.proofs.Calls.{call_at, call_ids, same_beside}
+use Rattle.promise.proofs.Coming.{OpensIn}
+use Rattle.promise.proofs.Offering.{IsOfferIn, IsOfferTo, said_offered}
+use Rattle.promise.proofs.OneOffer.{said_one}
+use Rattle.promise.proofs.Once.{IsSameNumber}
+use Rattle.promise.proofs.Steps.{counts_fits}
+use Rattle.promise.proofs.WaitFirst.{BeginsOffer, asked_callee, tagged}
+use Rattle.promise.proofs.WaitPassed.{PassesOn, counted, last_counted, none_open, passes_grows, passes_on}
+use Rattle.promise.proofs.WaitSteps.{counts_keeps_in}
+
+-- ---- tags
+
+leg_tag : (made : ℕ) (x : End) (c : StandingCall) (d : Dialog) → HasMadeTags made c → dialog_of x c.call ≡ Some d → d.id.ours ≡ tag_to x c
+leg_tag made Caller c d tags is = ap (λ (e : Dialog). e.id.ours) (same d c.call.caller (sym is))
+  where
+    same : (d e : Dialog) → Some d ≡ Some e → d ≡ e
+    same d e is = cc
+leg_tag made Callee c d tags is = callee_tag c.call.callee d is tags.leg
+  where
+    callee_tag : (o : Option Dialog) (d : Dialog) → o ≡ Some d → HasLegTag c.callee_tag o → d.id.ours ≡ c.callee_tag
+    callee_tag None d is h = absurd (false≢true (ap is_some is))
+    callee_tag (Some e) d is h = ap (λ (x : Dialog). x.id.ours) (same d e (sym is)) ∙ h
+      where
+        same : (d e : Dialog) → Some d ≡ Some e → d ≡ e
+        same d e is = cc
+
+tag_of_end : (x : End) (c : StandingCall) (tag : List ℕ) → tag ≡ tag_to x c → IsTagOf c tag
+tag_of_end Caller c tag is = inl is
+tag_of_end Callee c tag is = inr is
+
+or_true : (b : Bool) → (b || true) ≡ true
+or_true true = refl
+or_true false = refl
+
+has_tag_of : (c : StandingCall) (tag : List ℕ) → IsTagOf c tag → has_tag tag c ≡ true
+has_tag_of c tag (inl is) = rw ((bytes_decides c.call.caller.id.ours tag).1 (sym is)) (or_true (is_text c.callee_tag tag))
+has_tag_of c tag (inr is) = rw ((bytes_decides c.callee_tag tag).1 (sym is)) refl
+
+from_apart : (x : StandingCall) (calls : List StandingCall) (i : ℕ) (e : StandingCall) → ApartFrom x calls → slice_get calls i ≡ Some e → Apart x e
+from_apart x [] i e h there = absurd (false≢true (ap is_some there))
+from_apart x (y ∷ calls) zero e h there = subst (Apart x) (same y e there) h.0
+  where
+    same : (y e : StandingCall) → Some y ≡ Some e → y ≡ e
+    same y e is = cc
+from_apart x (y ∷ calls) (suc i) e h there = from_apart x calls i e h.1 there
+
+same_call : (y e : StandingCall) → Some y ≡ Some e → y ≡ e
+same_call y e is = cc
+
+-- no tag is of two calls
+one_tagged : (tag : List ℕ) (calls : List StandingCall) (i j : ℕ) (c d : StandingCall) → AreApart calls → slice_get calls i ≡ Some c → slice_get calls j ≡ Some d → IsTagOf c tag → IsTagOf d tag → i ≡ j
+one_tagged tag [] i j c d apart at_c at_d one two = absurd (false≢true (ap is_some at_c))
+one_tagged tag (y ∷ calls) zero zero c d apart at_c at_d one two = refl
+one_tagged tag (y ∷ calls) zero (suc j) c d apart at_c at_d one two = absurd (from_apart y calls j d apart.1 at_d tag (subst (λ x. IsTagOf x tag) (sym (same_call y c at_c)) one) two)
+one_tagged tag (y ∷ calls) (suc i) zero c d apart at_c at_d one two = absurd (from_apart y calls i c apart.1 at_c tag (subst (λ x. IsTagOf x tag) (sym (same_call y d at_d)) two) one)
+one_tagged tag (y ∷ calls) (suc i) (suc j) c d apart at_c at_d one two = ap suc (one_tagged tag calls i j c d apart.2 at_c at_d one two)
+
+differs_at : (calls : List StandingCall) (place : ℕ) (c : StandingCall) → AreApart calls → slice_get calls place ≡ Some c → c.call.caller.id.ours ≢ c.callee_tag
+differs_at [] place c apart there = absurd (false≢true (ap is_some there))
+differs_at (y ∷ calls) zero c apart there = subst (λ (x : StandingCall). x.call.caller.id.ours ≢ x.callee_tag) (same_call y c there) apart.0
+differs_at (y ∷ calls) (suc place) c apart there = differs_at calls place c apart.2 there
+
+caller_by : (tag : List ℕ) (c : StandingCall) (b : Bool) → is_text c.callee_tag tag ≡ b → tag ≡ c.call.caller.id.ours → c.call.caller.id.ours ≢ c.callee_tag → cond b Callee Caller ≡ Caller
+caller_by tag c true is tag_is differ = absurd (differ (sym tag_is ∙ sym ((bytes_decides c.callee_tag tag).0 is)))
+caller_by tag c false is tag_is differ = refl
+
+asked_at : (p : Parts) (x : End) (c : StandingCall) → tag_text p.from.params ≡ tag_to x c → c.call.caller.id.ours ≢ c.callee_tag → asked_end p c ≡ x
+asked_at p Caller c is differ = caller_by (tag_text p.from.params) c (is_text c.callee_tag (tag_text p.from.params)) refl is differ
+asked_at p Callee c is differ = asked_callee p c is
+
+is_same_self : (x : End) → is_same x x ≡ true
+is_same_self Caller = refl
+is_same_self Callee = refl
+
+-- ---- the dialog in which the offer goes
+
+lent_back : (d : Option Dialog) → option_copied (option_map lent d) ≡ d
+lent_back None = refl
+lent_back (Some d) = refl
+
+scene_dialog : (table : transactions.Contents) (o : Occasion) (w : ComingValue) (c : StandingCall) (description : Option Description) (x : End)
+    → dialog_with x (lent_scene (scene table o w c description)) ≡ dialog_in x w.leg c.call
+scene_dialog table o w c description Caller = lent_back (dialog_in Caller w.leg c.call)
+scene_dialog table o w c description Callee = lent_back (dialog_in Callee w.leg c.call)
+
+put_beside : (end : End) (d : Dialog) (c : Call) → dialog_in (other end) (Some (record { end = end; dialog = d })) c ≡ dialog_of (other end) c
+put_beside Caller d c = refl
+put_beside Callee d c = refl
+
+counts_beside : (end : End) (number : ℕ) (d : Option Dialog) (c : Call) → dialog_in (other end) (counts_in end number d) c ≡ dialog_of (other end) c
+counts_beside end number None c = refl
+counts_beside end number (Some d) c = put_beside end _ c
+
+counts_in_other : (calls : List StandingCall) (place : ℕ) (end : End) (number : ℕ) (c : StandingCall) → slice_get calls place ≡ Some c
+    → dialog_in (other end) (counts calls place end number) c.call ≡ dialog_of (other end) c.call
+unfolding counts
+counts_in_other calls place end number c there =
+    subst (λ x. dialog_in (other end) (counts_by end number x) c.call ≡ dialog_of (other end) c.call) (sym there) (counts_beside end number (dialog_of end c.call) c.call)
+
+-- ---- the request that passes it on
+
+-- all that is needed of the call and of what it does
+record Passing (made : ℕ) (calls : List StandingCall) (place : ℕ) (x : End) (c : StandingCall) (step : Step) (d : StandingCall) : Type 0 where
+  there : slice_get calls place ≡ Some c
+  knows : KnowsCalls made calls
+  settled : holds_in is_settled c.call.standing ≡ true
+  on : PassesOn c.call x step
+  same : SameTags c d
+  keeps : CallKeeps step.call d.call
+  stands : d.call.standing ≡ Some on.next
+
+offer_fits : (made : ℕ) (calls : List StandingCall) (place : ℕ) (x : End) (c : StandingCall) (step : Step) (d : StandingCall) (t : Transaction) (leg : Dialog) → Passing made calls place x c step d
+    → dialog_of (other x) c.call ≡ Some leg → IsOfferIn leg t → FitsCall t d
+offer_fits made calls place x c step d t leg p at_leg is = λ has.
+    let tag : from_tag t ≡ tag_to (other x) c = is.tag ∙ leg_tag made (other x) c leg (call_at made calls place c p.knows p.there) at_leg in
+    let asked : asked_end t.parts d ≡ other x = same_end t.parts c d p.same ∙ asked_at t.parts (other x) c tag (differs_at calls place c p.knows.apart p.there) in
+    let keeps : Keeps (counted (Some leg)) (dialog_of (other x) d.call) = subst (λ o. Keeps o (dialog_of (other x) d.call)) (p.on.theirs ∙ ap counted at_leg) (keeps_at step.call d.call (other x) p.keeps) in
+    let last = last_counted t.parts.cseq.number leg (dialog_of (other x) d.call) is.number keeps in
+    record {
+      counted = subst (λ y. IsCounted t.parts.cseq.number (dialog_of y d.call)) (sym asked) last.0;
+      opens = λ w. open_from t.parts d p.on.next (
+          record {
+            stands = p.stands;
+            awaits = p.on.awaits;
+            end = subst (λ y. is_same y (other p.on.next.offerer) ≡ true) (sym asked) (subst (λ y. is_same (other x) (other y) ≡ true) (sym p.on.offerer) (is_same_self (other x)));
+            last = subst (λ y. is_last_in t.parts.cseq.number (dialog_of y d.call) ≡ true) (sym asked) last.1;
+          }
+          );
+    }
+
+offer_elsewhere : (made : ℕ) (calls : List StandingCall) (place : ℕ) (x : End) (c : StandingCall) (step : Step) (d : StandingCall) (t : Transaction) (leg : Dialog) → Passing made calls place x c step d
+    → dialog_of (other x) c.call ≡ Some leg → IsOfferIn leg t → All (FitsCall t) (slice_set calls place d)
+offer_elsewhere made calls place x c step d t leg p at_leg is i e within =
+    let within_place : place < length calls = slice_get_within calls place c p.there in
+    let tag : from_tag t ≡ tag_to (other x) c = is.tag ∙ leg_tag made (other x) c leg (call_at made calls place c p.knows p.there) at_leg in
+    elim (cases_eq i place) [
+      | inl at_place ↦ subst (λ n. FitsCall t (get_or (slice_set calls place d) n e)) (sym at_place)
+          (subst (FitsCall t) (sym (get_or-set_same calls place d e within_place)) (offer_fits made calls place x c step d t leg p at_leg is))
+      | inr elsewhere ↦ subst (FitsCall t) (sym (get_or-set_other calls place i d e elsewhere))
+          (λ has. absurd (elsewhere (one_tagged (from_tag t) calls i place (get_or calls i e) c p.knows.apart (slice_get-get_or calls i e (omega (arith, within, length-set calls place d))) p.there
+          (tagged (from_tag t) (get_or calls i e) has) (tag_of_end (other x) c (from_tag t) tag))))
+    ]
+
+-- no other has its number
+offer_fresh : (made : ℕ) (calls : List StandingCall) (place : ℕ) (x : End) (c : StandingCall) (step : Step) (d : StandingCall) (t v : Transaction) (leg : Dialog) → Passing made calls place x c step d
+    → dialog_of (other x) c.call ≡ Some leg → IsOfferIn leg t → All (FitsCall v) calls → IsSameNumber v t → ⊥
+offer_fresh made calls place x c step d t v leg p at_leg is each same =
+    let tag : from_tag v ≡ tag_to (other x) c = same.tag ∙ is.tag ∙ leg_tag made (other x) c leg (call_at made calls place c p.knows p.there) at_leg in
+    let has : has_tag (from_tag v) c ≡ true = has_tag_of c (from_tag v) (tag_of_end (other x) c (from_tag v) tag) in
+    let asked : asked_end v.parts c ≡ other x = asked_at v.parts (other x) c tag (differs_at calls place c p.knows.apart p.there) in
+    let counted_v : IsCounted v.parts.cseq.number (Some leg) = subst (IsCounted v.parts.cseq.number) at_leg
+    (subst (λ y. IsCounted v.parts.cseq.number (dialog_of y c.call)) asked (fits_at v calls place c each p.there has).counted) in
+    omega (arith, counted_v, same.number, is.number)
+
+at_leg : (A : Type 0) (o : Option Dialog) (t : Transaction) → ((leg : Dialog) → o ≡ Some leg → IsOfferIn leg t → A) → IsOfferTo o t → A
+at_leg A None t f h = absurd h
+at_leg A (Some d) t f h = f d refl h
+
+put_all : (t : Transaction) (b : Bool) (xs ys : List StandingCall) → b ≡ true → All (FitsCall t) xs → All (FitsCall t) (cond b xs ys)
+put_all t true xs ys is each = each
+put_all t false xs ys is each = absurd (false≢true is)
+
+does_begins : (calls : Standing) (table : transactions.Contents) (o : Occasion) (place : ℕ) (w : ComingValue) (x : End) (c : StandingCall) (step : Step)
+    → Passing o.tokens calls.calls place x c step (beside (put_with w (messages_of table o w c step)) (with_step c step)) → dialog_in (other x) w.leg c.call ≡ dialog_of (other x) c.call
+    → BeginsOffer o.tokens calls.calls (does calls table o place w c step)
+does_begins calls table o place w x c step p at_scene =
+    let said = messages_of table o w c step in
+    let s = scene table o w c step.description in
+    let d = beside (put_with w said) (with_step c step) in
+    let offered : (t : Transaction) → OpensIn t said.dressed.changes → IsOffering t → IsOfferTo (dialog_of (other x) c.call) t = λ t opens offers.
+    subst (λ y. IsOfferTo y t) (scene_dialog table o w c step.description (other x) ∙ at_scene) (p.on.offered (lent_scene s) t (said_offered s (passed_id table c) step.actions t opens offers)) in
+    record {
+      stayed = λ t u later tag each.
+          put_or_gone u calls.calls place d (is_some step.call.standing)
+          (λ stands. fits_after t u c d p.same (call_grows_then c.call step.call d.call (passes_grows c.call x step p.on) p.keeps) later (λ has waits opens. absurd (none_open t.parts c p.settled opens))
+          (fits_at t calls.calls place c each p.there))
+          (later_all t u calls.calls later each);
+      began = λ t opens offers.
+          put_all t (is_some step.call.standing) (slice_set calls.calls place d) (remove calls.calls place) (ap is_some p.on.stands)
+          (at_leg _ (dialog_of (other x) c.call) t (λ leg is offer. offer_elsewhere o.tokens calls.calls place x c step d t leg p is offer) (offered t opens offers));
+      fresh = λ t opens offers v tag each same. at_leg _ (dialog_of (other x) c.call) t (λ leg is offer. offer_fresh o.tokens calls.calls place x c step d t v leg p is offer each same) (offered t opens offers);
+      one = said_one s (passed_id table c) step.actions p.on.one;
+    }
+
+offers_by_begins : (calls : Standing) (table : transactions.Contents) (o : Occasion) (place : ℕ) (end : End) (method : OfferMethod) (offer : Description) (r : Request) (id : ℕ) (source : Addr) (c : StandingCall)
+    → slice_get calls.calls place ≡ Some c → holds_in is_settled c.call.standing ≡ true → KnowsCalls o.tokens calls.calls
+    → BeginsOffer o.tokens calls.calls (offers_by calls table o place (inputs.Offer end method (Some offer)) end r id source (counts calls.calls place end r.parts.cseq.number) (Some c))
+offers_by_begins calls table o place end method offer r id source c there settled all =
+    let leg = counts calls.calls place end r.parts.cseq.number in
+    let w = offer_coming leg end r id source c in
+    let input = inputs.Offer end method (Some offer) in
+    let step = call_row c.call input calls.pool o.now in
+    let kept = put_with w (messages_of table o w c step) in
+    let on = passes_on c.call end method offer calls.pool o.now settled in
+    let leg_keeps = counts_keeps_in calls.calls place end r.parts.cseq.number c step.call there on.mine in
+    does_begins calls table o place w end c step (
+    record {
+      there = there;
+      knows = all;
+      settled = settled;
+      on = on;
+      same = same_beside o.tokens c step.call kept (call_ids c.call input calls.pool o.now) (counts_fits o.tokens calls.calls place end r.parts.cseq.number c all there);
+      keeps = beside_keeps (with_step c step) kept leg_keeps;
+      stands = beside_standing (with_step c step) kept ∙ on.stands;
+    }
+    ) (counts_in_other calls.calls place end r.parts.cseq.number c there)
+
+pub offers_begins : (calls : Standing) (table : transactions.Contents) (o : Occasion) (place : ℕ) (end : End) (method : OfferMethod) (offer : Description) (r : Request) (id : ℕ) (source : Addr) (c : StandingCall)
+    → slice_get calls.calls place ≡ Some c → holds_in is_settled c.call.standing ≡ true → KnowsCalls o.tokens calls.calls
+    → BeginsOffer o.tokens calls.calls (offers_row calls table o place (inputs.Offer end method (Some offer)) end r id source)
+unfolding offers_row
+offers_begins calls table o place end method offer r id source c there settled all =
+    subst (λ y. BeginsOffer o.tokens calls.calls (offers_by calls table o place (inputs.Offer end method (Some offer)) end r id source (counts calls.calls place end r.parts.cseq.number) y)) (sym there)
+    (offers_by_begins calls table o place end method offer r id source c there settled all)

@@ -1,0 +1,19 @@
+-- All that the agent knows of its own messages.
+use Rattle.std.specs.Prelude.{List, [], ◌∷◌, ◌++◌}
+use Rattle.events.specs.declared.sent.Sent.{Sent}
+use Rattle.plans.specs.Office.{Office}
+use Rattle.agent.specs.Trace.{Entry}
+use Rattle.promise.specs.Knowing.{KnowsTokens}
+use Rattle.promise.specs.Sending.{KnowsSent}
+use Rattle.promise.specs.Waiting.{KnowsWaiting}
+
+-- where this was sent, in order
+pub record KnowsMessages (s : Office) (sent : List Sent) : Type 0 where
+  pub tokens : KnowsTokens s
+  pub waiting : KnowsWaiting s
+  pub again : KnowsSent s sent
+
+-- what was sent at these events
+abbrev pub sends_of : List Entry → List Sent
+sends_of [] = []
+sends_of (x ∷ xs) = x.sends ++ sends_of xs
