@@ -2,13 +2,17 @@
 //! from 41000. Each line names a script of data/, and which of its sends fails: `none`, the one at a place, counted from 1, or
 //! `each` in turn. Prints what was sent, how many sends failed, and behind each event how many lists were published, the calls
 //! that stand and the rows of the relay table; where each fails in turn, whether all of that is as in the run without a failure.
+//! Other lines are `serve`, so many turns, and how many receives in a row fail before one doesn't: how the signalling ends, and
+//! after how many receives and waits; `stopped`, the same with the stop flag set; and `salts`, the first two of a key of zeros.
 #![tactic(auto)]
 
 mod memory_wire;
 mod playing;
+mod serving;
 mod state_text;
 
 use crate::playing::{Played, play};
+use crate::serving::{salts_text, serve_text};
 use events::Event;
 use scripts::{ScriptError, read_script};
 use std::alloc::AllocError;
@@ -63,15 +67,13 @@ fn tell_each<R: Wait + AllocGlobal, W: Write>(
     Ok(())
 }
 
-/// The row of a line.
-fn row<R: Files + Wait + AllocGlobal, W: Write>(
+/// The row of a script.
+fn script_row<R: Files + Wait + AllocGlobal, W: Write>(
     rt: &R,
     writer: &mut W,
-    line: &str,
+    name: &str,
+    which: &str,
 ) -> io::Result<()> {
-    let Some((name, which)) = line.split_once('|') else {
-        return writer.write_all(b"no such row\n");
-    };
     let events = events_of(rt, name)?;
     match which {
         "each" => tell_each(rt, writer, &events),
@@ -80,6 +82,36 @@ fn row<R: Files + Wait + AllocGlobal, W: Write>(
             Ok(place) => tell(writer, &play(rt, &events, Some(place))?),
             Err(_) => writer.write_all(b"no such row\n"),
         },
+    }
+}
+
+fn serve_row<R: Wait + AllocGlobal, W: Write>(
+    rt: &R,
+    writer: &mut W,
+    words: &str,
+    is_stopped: bool,
+) -> io::Result<()> {
+    let Some((turns, failing)) = words.split_once('|') else {
+        return writer.write_all(b"no such row\n");
+    };
+    let (Ok(turns), Ok(failing)) = (turns.parse::<u64>(), failing.parse::<u32>()) else {
+        return writer.write_all(b"no such row\n");
+    };
+    let told = serve_text(rt, turns, failing, is_stopped)?;
+    writer.write_all(told.as_bytes())
+}
+
+/// The row of a line.
+fn row<R: Files + Wait + AllocGlobal, W: Write>(
+    rt: &R,
+    writer: &mut W,
+    line: &str,
+) -> io::Result<()> {
+    match line.split_once('|') {
+        Some(("serve", words)) => serve_row(rt, writer, words, false),
+        Some(("stopped", words)) => serve_row(rt, writer, words, true),
+        Some((name, which)) => script_row(rt, writer, name, which),
+        None => writer.write_all(salts_text(rt.alloc())?.as_bytes()),
     }
 }
 

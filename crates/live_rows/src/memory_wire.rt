@@ -6,7 +6,7 @@ use sip_uri::Addr;
 use std::alloc::Global;
 use text::Text;
 
-/// A wire at which nothing comes in, and which keeps what is sent. One send may fail.
+/// A wire at which nothing comes in, and which keeps what is sent. One send may fail, and receives may.
 #[derive(Drop)]
 pub(crate) struct MemoryWire {
     alloc: Global,
@@ -17,6 +17,11 @@ pub(crate) struct MemoryWire {
     failing: Option<u64>,
     /// Whether memory was refused for one.
     pub(crate) refused: bool,
+    /// How many receives and waits were made.
+    pub(crate) receives: u64,
+    pub(crate) waits: u64,
+    /// So many receives in a row fail, and then one doesn't.
+    pub(crate) failing_receives: u32,
     failed: bool,
 }
 
@@ -27,6 +32,11 @@ fn is_at(failing: Option<u64>, count: u64) -> bool {
     }
 }
 
+// Whether this one comes behind so many others.
+fn is_last_of(count: u64, others: u32) -> bool {
+    count % (u64::from(others) + 1) == 0
+}
+
 impl MemoryWire {
     pub(crate) fn new(alloc: Global, failing: Option<u64>) -> MemoryWire {
         MemoryWire {
@@ -35,6 +45,9 @@ impl MemoryWire {
             count: 0,
             failing,
             refused: false,
+            receives: 0,
+            waits: 0,
+            failing_receives: 0,
             failed: false,
         }
     }
@@ -50,8 +63,13 @@ impl Wire for MemoryWire {
     ghost failed = { λ s. s.failed };
 
     fn receive(&mut self, _buffer: &mut [u8]) -> Result<Option<(Addr, usize)>, WireFault> {
-        self.failed = false;
-        Ok(None)
+        self.receives = self.receives.saturating_add(1);
+        self.failed = !is_last_of(self.receives, self.failing_receives);
+        if self.failed {
+            Err(WireFault)
+        } else {
+            Ok(None)
+        }
     }
 
     fn send(&mut self, to: Addr, bytes: &[u8]) -> Result<(), WireFault> {
@@ -70,6 +88,7 @@ impl Wire for MemoryWire {
     }
 
     fn wait(&mut self, _millis: u64) -> Result<(), WireFault> {
+        self.waits = self.waits.saturating_add(1);
         self.failed = false;
         Ok(())
     }

@@ -151,24 +151,36 @@ fn opened<R: Wait>(rt: &R, alloc: Global) -> Result<(Board, Viewer), AllocError>
     }
 }
 
+/// An office to which nothing has happened, with a board without a list and a viewer of it.
+pub(crate) fn new_office<R: Wait>(
+    rt: &R,
+    alloc: Global,
+    wire: MemoryWire,
+) -> Result<(Signalling<MemoryWire>, Viewer), AllocError>
+    ensures { IfOk result (λ office. HasTable office.0.board office.0.agent) }
+{
+    let agent = office_agent(alloc)?;
+    let buffer = datagram_buffer(alloc)?;
+    let (board, viewer) = opened(rt, alloc)?;
+    let signalling = Signalling {
+        alloc,
+        agent,
+        board,
+        wire,
+        salts: salts_of([0; 32], 0),
+        buffer,
+    };
+    Ok((signalling, viewer))
+}
+
 /// Plays a script on an office to which nothing has happened.
 pub(crate) fn play<R: Wait + AllocGlobal>(
     rt: &R,
     events: &[Event],
     failing: Option<u64>,
 ) -> Result<Played, AllocError> {
-    let alloc = rt.alloc();
-    let agent = office_agent(alloc)?;
-    let buffer = datagram_buffer(alloc)?;
-    let (board, mut viewer) = opened(rt, alloc)?;
-    let mut signalling = Signalling {
-        alloc,
-        agent,
-        board,
-        wire: MemoryWire::new(alloc, failing),
-        salts: salts_of([0; 32], 0),
-        buffer,
-    };
+    let wire = MemoryWire::new(rt.alloc(), failing);
+    let (mut signalling, mut viewer) = new_office(rt, rt.alloc(), wire)?;
     let played = play_on(rt, &mut signalling, &mut viewer, events);
     signalling.close(rt);
     played

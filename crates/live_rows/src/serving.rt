@@ -1,0 +1,53 @@
+//! The signalling from its start to its end, over a wire at which nothing comes in.
+
+use crate::memory_wire::MemoryWire;
+use crate::playing::new_office;
+use live::{Clock, End, next_salt, salts_of, serve};
+use std::alloc::{AllocError, Global};
+use std::sync::Wait;
+use std::sync::atomic::AtomicBool;
+
+/// A clock that stands still.
+#[derive(Drop)]
+struct Still;
+
+impl Clock for Still {
+    fn now(&mut self) -> u64 {
+        0
+    }
+}
+
+fn end_word(end: End) -> &'static str {
+    match end {
+        End::Turns => "turns",
+        End::Stopped => "stopped",
+        End::Socket => "socket",
+        End::Memory => "memory",
+    }
+}
+
+/// How the signalling ends, where so many receives in a row fail before one doesn't, and after how many receives and waits.
+pub(crate) fn serve_text<R: Wait + AllocGlobal>(
+    rt: &R,
+    turns: u64,
+    failing: u32,
+    is_stopped: bool,
+) -> Result<String, AllocError> {
+    let mut wire = MemoryWire::new(rt.alloc(), None);
+    wire.failing_receives = failing;
+    let (mut signalling, _viewer) = new_office(rt, rt.alloc(), wire)?;
+    let stop = AtomicBool::new(is_stopped);
+    let end = serve(rt, &mut signalling, &mut Still, &stop, Some(turns));
+    let (receives, waits) = (signalling.wire.receives, signalling.wire.waits);
+    signalling.close(rt);
+    let word = end_word(end);
+    format!(in rt.alloc(); "{word} after {receives} receives and {waits} waits\n")
+}
+
+/// The first two salts of a key of zeros in the second 0.
+pub(crate) fn salts_text(alloc: Global) -> Result<String, AllocError> {
+    let mut salts = salts_of([0; 32], 0);
+    let first = next_salt(&mut salts);
+    let second = next_salt(&mut salts);
+    format!(in alloc; "{first} {second}\n")
+}
