@@ -30,4 +30,8 @@ pub mod WaitEvents
 pub mod Sends
 pub mod SendSteps
 pub mod SendRows
+pub mod Firing
+pub mod Ending
+pub mod AckRows
+pub mod AckEvents
 pub mod Lists

@@ -1,20 +1,20 @@
 -- What the agent knows of its own messages after a list of events.
-use Rattle.std.proofs.Common.{◌≡◌, ◌∙◌, List, [], ◌∷◌, ◌++◌, Option, Some, None, refl, sym, subst}
+use Rattle.std.proofs.Common.{List, [], ◌∷◌, ◌++◌, Option, Some, None, sym, subst}
 use Rattle.std.proofs.lemmas.List.{append_assoc, append-nil}
 use Rattle.configuration.specs.declared.config.Config.{Config}
 use Rattle.events.specs.declared.sent.Sent.{Sent}
 use Rattle.plans.specs.declared.taken.Taken.{Taken}
-use Rattle.agent.specs.Rows.{row}
 use Rattle.agent.specs.State.{Contents, IsNew, office}
 use Rattle.agent.specs.Trace.{AreEntries, Entry, IsEntryWith, after_answer, after_entries, after_entry}
 use Rattle.promise.specs.Knowledge.{KnowsMessages, sends_of}
 use Rattle.promise.specs.Sending.{KnowsSent}
+use Rattle.promise.proofs.AckEvents.{after_acks, new_acks}
 use Rattle.promise.proofs.Events.{after_knows, new_knows}
 use Rattle.promise.proofs.SendRows.{after_sent, new_sent}
 use Rattle.promise.proofs.WaitEvents.{after_waits, new_waits}
 
 new_messages : (c : Config) (s : Contents) → IsNew c s → KnowsMessages (office s) []
-new_messages c s new = record { tokens = new_knows c s new; waiting = new_waits c s new; again = new_sent c s new }
+new_messages c s new = record { tokens = new_knows c s new; waiting = new_waits c s new; again = new_sent c s new; acks = new_acks c s new }
 
 answer_messages : (s : Contents) (x : Entry) (sent : List Sent) (taken : Option Taken) → IsEntryWith s x taken → KnowsMessages (office s) sent → KnowsMessages (office (after_answer s x.event taken)) (sent ++ x.sends)
 answer_messages s x sent None lost k =
@@ -23,6 +23,7 @@ answer_messages s x sent (Some taken) is k = record {
   tokens = after_knows s x.event k.tokens;
   waiting = after_waits s x.event k.tokens k.waiting;
   again = subst (λ ys. KnowsSent (office (after_answer s x.event (Some taken))) (sent ++ ys)) (sym is.sends) (after_sent s x.event sent k.again);
+  acks = after_acks s x.event k.acks;
 }
 
 list_messages : (s : Contents) (xs : List Entry) (sent : List Sent) → AreEntries s xs → KnowsMessages (office s) sent → KnowsMessages (office (after_entries s xs)) (sent ++ sends_of xs)

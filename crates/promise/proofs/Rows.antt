@@ -266,7 +266,7 @@ datagram_rows s k few e bytes x (was_received m read branch reached row) = messa
 due_rows : (s : Office) → KnowsTokens s → (e : Setting) (x : Effect) → DueRow s e x → Owns s x
 due_rows s k e x (idle is) = subst (Owns s) (sym is) (nothing_owns s k _)
 due_rows s k e x (sent_again timer out fired is) = subst (Owns s) (sym is) (moves_owns s k (fire_of timer ∷ []) (Some out) (fire_begins_none timer))
-due_rows s k e x (fired_alone timer is) = subst (Owns s) (sym is) (moves_owns s k (fire_of timer ∷ []) None (fire_begins_none timer))
+due_rows s k e x (fired_alone timer fired is) = subst (Owns s) (sym is) (moves_owns s k (fire_of timer ∷ []) None (fire_begins_none timer))
 due_rows s k e x (timed timer t place fired times there found is) =
     subst (Owns s) (sym is) (takes_owns s k e (fire_of timer ∷ []) None None place inputs.TimedOut None (fire_begins_none timer) (no_leg s place))
 due_rows s k e x (ended timer fired is) = subst (Owns s) (sym is) (record { entries = (tt, tt); calls = calls_more s.tokens (s.tokens + 0) s.calls.calls (omega arith) k.calls })

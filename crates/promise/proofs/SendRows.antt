@@ -328,7 +328,7 @@ stopped_sent before s k timer = record { slots = k.slots; acks = k.acks; calls =
 due_goes : (before : List Sent) (s : Office) → KnowsSent s before → (e : Setting) (x : Effect) → DueRow s e x → SentEffect before x
 due_goes before s k e x (idle is) = subst (SentEffect before) (sym is) (plan_sent before s k _ tt)
 due_goes before s k e x (sent_again timer out fired is) = subst (SentEffect before) (sym is) (plan_sent before s k (moves (fire_of timer ∷ []) (Some out)) (tt, tt))
-due_goes before s k e x (fired_alone timer is) = subst (SentEffect before) (sym is) (plan_sent before s k (moves (fire_of timer ∷ []) None) (tt, tt))
+due_goes before s k e x (fired_alone timer fired is) = subst (SentEffect before) (sym is) (plan_sent before s k (moves (fire_of timer ∷ []) None) (tt, tt))
 due_goes before s k e x (timed timer t place fired times there found is) = subst (SentEffect before) (sym is) (takes_goes before s k e (fire_of timer ∷ []) None None place inputs.TimedOut None (tt, tt))
 due_goes before s k e x (ended timer fired is) =
     subst (SentEffect before) (sym is) (

@@ -91,7 +91,7 @@ pub data DueRow (s : Office) (e : Setting) (x : Effect) : Type 0 where
   idle : x ≡ of_plan s (nothing Idle) → DueRow s e x
   -- a timer of a transaction
   sent_again : (timer : TimerId) (out : Outgoing) → fired_of (at s.table.slots timer.id) timer.kind ≡ Some (fires.Send out) → x ≡ of_plan s (moves (fire_of timer ∷ []) (Some out)) → DueRow s e x
-  fired_alone : (timer : TimerId) → x ≡ of_plan s (moves (fire_of timer ∷ []) None) → DueRow s e x
+  fired_alone : (timer : TimerId) → fired_of (at s.table.slots timer.id) timer.kind ≡ Some fires.TimedOut → x ≡ of_plan s (moves (fire_of timer ∷ []) None) → DueRow s e x
   timed : (timer : TimerId) (t : Transaction) (place : ℕ) → fired_of (at s.table.slots timer.id) timer.kind ≡ Some fires.TimedOut → times_responses timer.kind ≡ true → at s.table.slots timer.id ≡ Some t
       → timeout_rule s.calls.calls t.parts ≡ Some place → x ≡ takes s e (fire_of timer ∷ []) None None place inputs.TimedOut None → DueRow s e x
   ended : (timer : TimerId) → fired_of (at s.table.slots timer.id) timer.kind ≡ Some fires.Ended → x ≡ ends s timer → DueRow s e x
@@ -102,19 +102,19 @@ pub data DueRow (s : Office) (e : Setting) (x : Effect) : Type 0 where
 
 timed_at_view : (s : Office) (e : Setting) (timer : TimerId) (t : Transaction) (place : Option ℕ) → fired_of (at s.table.slots timer.id) timer.kind ≡ Some fires.TimedOut → times_responses timer.kind ≡ true
     → at s.table.slots timer.id ≡ Some t → timeout_rule s.calls.calls t.parts ≡ place → DueRow s e (timed_out_at s e (fire_of timer ∷ []) place)
-timed_at_view s e timer t None fired times there found = fired_alone timer refl
+timed_at_view s e timer t None fired times there found = fired_alone timer fired refl
 timed_at_view s e timer t (Some place) fired times there found = timed timer t place fired times there found refl
 
 timed_view : (s : Office) (e : Setting) (timer : TimerId) (asked : Option Transaction) → fired_of (at s.table.slots timer.id) timer.kind ≡ Some fires.TimedOut → times_responses timer.kind ≡ true
     → at s.table.slots timer.id ≡ asked → DueRow s e (timed_out s e (fire_of timer ∷ []) asked)
-timed_view s e timer None fired times there = fired_alone timer refl
+timed_view s e timer None fired times there = fired_alone timer fired refl
 timed_view s e timer (Some t) fired times there = timed_at_view s e timer t (timeout_rule s.calls.calls t.parts) fired times there refl
 
 timeout_view : (s : Office) (e : Setting) (timer : TimerId) → fired_of (at s.table.slots timer.id) timer.kind ≡ Some fires.TimedOut → DueRow s e (timeout_row s e timer)
 unfolding timeout_row
 timeout_view s e timer fired =
     by_if (DueRow s e) (times_responses timer.kind) (timed_out s e (fire_of timer ∷ []) (at s.table.slots timer.id)) (of_plan s (moves (fire_of timer ∷ []) None))
-    (λ b. timed_view s e timer (at s.table.slots timer.id) fired b refl) (λ b. fired_alone timer refl)
+    (λ b. timed_view s e timer (at s.table.slots timer.id) fired b refl) (λ b. fired_alone timer fired refl)
 
 fires_view : (s : Office) (e : Setting) (timer : TimerId) (fired : Option Fired) → fired_of (at s.table.slots timer.id) timer.kind ≡ fired → DueRow s e (fires_by s e timer fired)
 fires_view s e timer None is = idle refl

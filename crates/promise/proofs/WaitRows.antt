@@ -159,7 +159,7 @@ final_asked s r id t place c class to there asked is ends = record {
 same_asked : (t : Transaction) (c d : StandingCall) → Some c ≡ Some d → IsAsked t.parts c → IsAsked t.parts d
 same_asked t c d same h = let is_d : c ≡ d = cc in subst (IsAsked t.parts) is_d h
 
-abbrev told_response : Office → Response → ℕ → List Entry
+abbrev pub told_response : Office → Response → ℕ → List Entry
 told_response s r id = Tells id (response_input r) (ack_at (at s.table.slots id) r) ∷ []
 
 told_waits : (s : Office) → KnowsTokens s → KnowsWaiting s → (e : Setting) (r : Response) (send : Option Outgoing) (id : ℕ) (t : Transaction) (x : Effect) → IsResponseTo s r id t
@@ -215,7 +215,7 @@ unfolding change_of
 change_none s (Kinds.Request r) source = request_none r source (position (is_asked r.parts) s.table.slots)
 change_none s (Kinds.Response r) source = response_none s r (position (is_answered r.parts) s.table.slots)
 
-response_told : (s : Office) (e : Setting) (r : Response) (id : ℕ) → position (is_answered r.parts) s.table.slots ≡ Some id
+pub response_told : (s : Office) (e : Setting) (r : Response) (id : ℕ) → position (is_answered r.parts) s.table.slots ≡ Some id
     → begun_by s e (Kinds.Response r) ≡ told_response s r id
 unfolding change_of
 response_told s e r id found = rw found refl
@@ -254,7 +254,7 @@ timer_takes s k e place timers.Wait = calm_takes s k e [] None None place inputs
 due_waits : (s : Office) → KnowsWaiting s → (e : Setting) (x : Effect) → DueRow s e x → Waits s x
 due_waits s k e x (idle is) = subst (Waits s) (sym is) (plan_waits s k _ (λ t opens offers. opens))
 due_waits s k e x (sent_again timer out fired is) = subst (Waits s) (sym is) (plan_waits s k (moves (fire_of timer ∷ []) (Some out)) (λ t opens offers. opens))
-due_waits s k e x (fired_alone timer is) = subst (Waits s) (sym is) (plan_waits s k (moves (fire_of timer ∷ []) None) (λ t opens offers. opens))
+due_waits s k e x (fired_alone timer fired is) = subst (Waits s) (sym is) (plan_waits s k (moves (fire_of timer ∷ []) None) (λ t opens offers. opens))
 due_waits s k e x (timed timer t place fired times there found is) = subst (Waits s) (sym is) (timed_waits s k e timer t place fired times there (timeout_waits s.calls.calls t.parts place found))
 due_waits s k e x (ended timer fired is) =
     let w = plan_waits s k (moves (fire_of timer ∷ []) None) (λ t opens offers. opens) in

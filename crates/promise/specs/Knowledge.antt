@@ -3,6 +3,7 @@ use Rattle.std.specs.Prelude.{List, [], ◌∷◌, ◌++◌}
 use Rattle.events.specs.declared.sent.Sent.{Sent}
 use Rattle.plans.specs.Office.{Office}
 use Rattle.agent.specs.Trace.{Entry}
+use Rattle.promise.specs.Acks.{KnowsAcks}
 use Rattle.promise.specs.Knowing.{KnowsTokens}
 use Rattle.promise.specs.Sending.{KnowsSent}
 use Rattle.promise.specs.Waiting.{KnowsWaiting}
@@ -12,6 +13,7 @@ pub record KnowsMessages (s : Office) (sent : List Sent) : Type 0 where
   pub tokens : KnowsTokens s
   pub waiting : KnowsWaiting s
   pub again : KnowsSent s sent
+  pub acks : KnowsAcks s
 
 -- what was sent at these events
 abbrev pub sends_of : List Entry → List Sent

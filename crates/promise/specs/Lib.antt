@@ -3,4 +3,5 @@ pub mod Entries
 pub mod Knowing
 pub mod Sending
 pub mod Waiting
+pub mod Acks
 pub mod Knowledge

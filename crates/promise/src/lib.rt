@@ -2,11 +2,13 @@
 //! stand. Nothing here runs.
 #![tactic(auto)]
 
+mod acks;
 mod knowledge;
 mod sending;
 mod tokens;
 mod waiting;
 
+pub use acks::acks_are_kept;
 pub use knowledge::messages_are_known;
 pub use sending::what_goes_again_was_sent;
 pub use tokens::{tokens_are_drawn_once, tokens_of_other_counts_differ};
