@@ -1,15 +1,23 @@
-use Rattle.std.proofs.Common.{◌≡◌, rules, ap, sym, ◌∙◌}
-use Rattle.timers.specs.Queue.{first_due, after_due}
-use Rattle.timers.specs.Settings.{taken}
-use Rattle.timers.proofs.Keys.{after_first}
+use Rattle.std.proofs.Common.{◌≡◌, Some, ap, sym, ◌∙◌}
+use Rattle.timers.specs.Queue.{first_due, without}
+use Rattle.timers.proofs.Keys.{first_taken}
+use Rattle.timers.proofs.Both.{both_without}
 use Rattle.timers.proofs.timers.Timers.take_due.Goals as goal
+
+pub invariant_of-self : goal.invariant_of-self
+invariant_of-self g c =
+    let eq = g.K.PartialEq.eq in
+    let laws = g.met.K.Ord in
+    let ts = c.self.inside.timers.items in
+    let due : first_due ts c.args.now ≡ Some c.in_ok-timer.timer = ap (λ q. first_due q.timers c.args.now) c.self.view_is ∙ sym c.first_due.ensures.first ∙ c.in_ok-timer.was in
+    rw (c.remove-2.ensures.others, c.remove.ensures.items, first_taken eq g.met.K.Eq.laws ts c.args.now c.in_ok-timer.timer c.self.invariant.queue.once due)
+    (both_without eq g.met.K.Eq.laws g.K.Ord.cmp laws.total laws.matches_eq ts c.self.inside.keys.items c.in_ok-timer.timer.key c.self.invariant)
 
 pub returns-clause-cancelled : goal.returns-clause-cancelled
 returns-clause-cancelled g c =
     let eq = g.K.PartialEq.eq in
-    let rest : c.remove.new.self.items ≡ after_due c.args.self.now.timers c.args.now = search rules in
-    rest
-    ∙ ap (λ q. after_due q.timers c.args.now) (sym c.self.view_is)
-    ∙ after_first eq g.met.K.Eq.laws c.self.inside.timers.items c.args.now c.self.invariant.once
-    ∙ ap (λ q. taken eq q.timers (first_due q.timers c.args.now)) c.self.view_is
-    ∙ ap (taken eq c.args.self.now.timers) (sym c.first_due.ensures.first ∙ c.in_ok-timer.was)
+    let ts = c.self.inside.timers.items in
+    let due : first_due ts c.args.now ≡ Some c.in_ok-timer.timer = ap (λ q. first_due q.timers c.args.now) c.self.view_is ∙ sym c.first_due.ensures.first ∙ c.in_ok-timer.was in
+    c.remove.ensures.items
+    ∙ first_taken eq g.met.K.Eq.laws ts c.args.now c.in_ok-timer.timer c.self.invariant.queue.once due
+    ∙ ap (λ q. without eq q.timers c.in_ok-timer.timer.key) c.self.view_is
