@@ -10,3 +10,4 @@ pub mod RepeatLaws
 pub mod KeyLaws
 pub mod SameBranchLaws
 pub mod MemoryLaws
+pub mod PrintLaws

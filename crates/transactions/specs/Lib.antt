@@ -5,6 +5,7 @@ pub mod Limits
 pub mod Matching
 pub mod Replies
 pub mod Slots
+pub mod Prints
 pub mod Timing
 pub mod Transactions
 pub mod Calls

@@ -12,9 +12,11 @@ ghost use Rattle.transactions.specs.Contents.{stepped, table_at, placed, opened}
 ghost use Rattle.transactions.specs.Changes.{entered, entered_all, starts_count, line_timers, timers_of, places_of, needs_room};
 
 use crate::change::{Change, Entry};
+use crate::slot::Slot;
 use crate::slots::{free_number, transaction_at};
 use crate::stopping::{set_all, stop};
-use crate::transaction::{TimerId, Transaction, went};
+use crate::transaction::{TimerId, Transaction};
+use boxed::Boxed;
 use std::alloc::AllocError;
 use text::Text;
 use timers::Timers;
@@ -31,7 +33,7 @@ fn starts_count(starts: Starts) -> usize
 }
 
 // How many timers transaction id starts when it is told this.
-fn line_timers(slots: &[Option<Transaction>], id: usize, input: Input) -> usize
+fn line_timers(slots: &[Slot], id: usize, input: Input) -> usize
     ensures { result ≡ line_timers slots.now id input }
 {
     let Some(transaction) = transaction_at(slots, id) else {
@@ -44,7 +46,7 @@ fn line_timers(slots: &[Option<Transaction>], id: usize, input: Input) -> usize
 }
 
 // How many timers a change starts.
-fn timers_of(slots: &[Option<Transaction>], change: &Change) -> usize
+fn timers_of(slots: &[Slot], change: &Change) -> usize
     ensures { result ≡ timers_of slots.now change.now }
 {
     match &change.entry {
@@ -69,7 +71,7 @@ fn places_of(change: &Change) -> usize
 
 /// Room for one change, and no more than it takes.
 pub(crate) fn make_room_for(
-    slots: &mut Vec<Option<Transaction>>,
+    slots: &mut Vec<Slot>,
     timers: &mut Timers<TimerId>,
     change: &Change,
 ) -> Result<(), AllocError>
@@ -87,7 +89,7 @@ pub(crate) fn make_room_for(
 
 /// Room for a number of changes: a transaction and two timers each.
 pub(crate) fn make_room(
-    slots: &mut Vec<Option<Transaction>>,
+    slots: &mut Vec<Slot>,
     timers: &mut Timers<TimerId>,
     count: usize,
 ) -> Result<(), AllocError>
@@ -105,7 +107,7 @@ pub(crate) fn make_room(
 
 /// All changes, in order. There is room for them.
 pub(crate) fn enter_all(
-    slots: &mut Vec<Option<Transaction>>,
+    slots: &mut Vec<Slot>,
     timers: &mut Timers<TimerId>,
     changes: Vec<Change>,
     now: u64,
@@ -123,12 +125,7 @@ pub(crate) fn enter_all(
 }
 
 /// One change. There is room for it.
-pub(crate) fn enter(
-    slots: &mut Vec<Option<Transaction>>,
-    timers: &mut Timers<TimerId>,
-    change: Change,
-    now: u64,
-)
+pub(crate) fn enter(slots: &mut Vec<Slot>, timers: &mut Timers<TimerId>, change: Change, now: u64)
     requires moment { now < 2 ^ 60 }
     requires fireable { IsFireable slots.old.items timers.old.timers }
     requires slots_room { vec_len slots.old + places_of change ≤ vec_capacity slots.old }
@@ -150,9 +147,9 @@ pub(crate) fn enter(
 
 // A new transaction, under the least number that is free.
 fn open(
-    slots: &mut Vec<Option<Transaction>>,
+    slots: &mut Vec<Slot>,
     timers: &mut Timers<TimerId>,
-    transaction: Transaction,
+    transaction: Boxed<Transaction>,
     starts: Starts,
     now: u64,
 )
@@ -175,7 +172,7 @@ fn open(
 
 // A transaction is told something, with what it is to send. Where it has no line, or there is none, nothing is done.
 fn tell(
-    slots: &mut Vec<Option<Transaction>>,
+    slots: &mut Vec<Slot>,
     timers: &mut Timers<TimerId>,
     id: usize,
     input: Input,
@@ -202,7 +199,7 @@ fn tell(
 
 // A step of transaction id, with what is fresh.
 fn carry_out(
-    slots: &mut Vec<Option<Transaction>>,
+    slots: &mut Vec<Slot>,
     timers: &mut Timers<TimerId>,
     id: usize,
     step: Step,
@@ -226,44 +223,30 @@ fn carry_out(
 }
 
 // A transaction at a place, which may be one past the last. There is room for it.
-fn place(slots: &mut Vec<Option<Transaction>>, id: usize, transaction: Transaction)
+fn place(slots: &mut Vec<Slot>, id: usize, transaction: Boxed<Transaction>)
     requires { vec_len slots.old < vec_capacity slots.old }
     ensures items { slots.new.items ≡ placed slots.old.items id transaction }
     ensures room { vec_len slots.new + vec_capacity slots.old ≤ vec_len slots.old + 1 + vec_capacity slots.new }
 {
     if id < slots.len() {
-        slots[id] = Some(transaction);
+        slots[id] = Slot::of(transaction);
         return;
     }
-    let _ = slots.push(Some(transaction));
+    let _ = slots.push(Slot::of(transaction));
 }
 
 // The next state of transaction id.
-fn advance_at(
-    slots: &mut Vec<Option<Transaction>>,
-    id: usize,
-    state: State,
-    fresh: Option<Text<'static>>,
-)
+fn advance_at(slots: &mut Vec<Slot>, id: usize, state: State, fresh: Option<Text<'static>>)
     requires { IsSome (at slots.old.items id) }
     ensures items { (t : Transaction) → at slots.old.items id ≡ Some t → slots.new.items ≡ slice_set slots.old.items id (Some (went t fresh.entry state)) }
     ensures len { vec_len slots.new ≡ vec_len slots.old }
     ensures capacity { vec_capacity slots.new ≡ vec_capacity slots.old }
 {
-    let slot = &mut slots[id];
-    let Some(transaction) = slot.take() else {
-        unreachable!()
-    };
-    *slot = Some(went(transaction, fresh, state));
+    slots[id].advance(fresh, state);
 }
 
 // The next state of transaction id, or its end.
-fn write(
-    slots: &mut Vec<Option<Transaction>>,
-    id: usize,
-    next: Option<State>,
-    fresh: Option<Text<'static>>,
-)
+fn write(slots: &mut Vec<Slot>, id: usize, next: Option<State>, fresh: Option<Text<'static>>)
     requires { IsSome (at slots.old.items id) }
     ensures items { (t : Transaction) → at slots.old.items id ≡ Some t → slots.new.items ≡ slice_set slots.old.items id (option_map (went t fresh.entry) next) }
     ensures len { vec_len slots.new ≡ vec_len slots.old }
@@ -271,6 +254,6 @@ fn write(
 {
     match next {
         Some(state) => advance_at(slots, id, state, fresh),
-        None => slots[id] = None,
+        None => slots[id] = Slot::free(),
     }
 }

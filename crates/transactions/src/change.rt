@@ -11,6 +11,7 @@ ghost use Rattle.transaction_machines.specs.Lines.{is_answer};
 ghost use Rattle.transactions.specs.Transactions.{served};
 
 use crate::transaction::{TimerId, Transaction, asking, asking_timers, served};
+use boxed::Boxed;
 use sip_message::{Class, Request, Response, class_of, is_method};
 use sip_uri::Addr;
 use sip_writing::{write_request, write_response};
@@ -23,7 +24,7 @@ use transaction_machines::{Input, Starts};
 #[derive(Drop)]
 pub enum Entry {
     /// A new transaction, under the least number that is free, and its timers.
-    Opens(Transaction, Starts),
+    Opens(Boxed<Transaction>, Starts),
     /// A transaction is told something that is no answer of the core, perhaps with what it is to send.
     Tells(usize, Input, Option<Text<'static>>),
     /// An answer of the core, with its bytes.
@@ -72,7 +73,7 @@ impl Change {
         if is_method(&request.parts, b"ACK") {
             return Ok(Change::leaves());
         }
-        let transaction = asking(alloc, request, to, bytes)?;
+        let transaction = Boxed::new(alloc, asking(alloc, request, to, bytes)?)?;
         Ok(Change {
             entry: Entry::Opens(transaction, asking_timers(&request.parts)),
         })
@@ -132,7 +133,7 @@ impl Change {
     ) -> Result<Change, AllocError>
         ensures { IfOk result (λ c. c ≡ Opens (served request.now source) NoTimer) }
     {
-        let transaction = served(alloc, request, source)?;
+        let transaction = Boxed::new(alloc, served(alloc, request, source)?)?;
         Ok(Change {
             entry: Entry::Opens(transaction, Starts::NoTimer),
         })

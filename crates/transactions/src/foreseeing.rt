@@ -14,9 +14,10 @@ use crate::change::Change;
 use crate::error::TableError;
 use crate::outcome::{Fired, Reception, Verdict};
 use crate::same_branch::ack_for;
+use crate::slot::Slot;
 use crate::slots::{answered, asked, free_number, serving, transaction_at};
 use crate::table::Table;
-use crate::transaction::{TimerId, Transaction, sent};
+use crate::transaction::{TimerId, sent};
 use crate::verdicts::{fired_by, input_of, verdict_by};
 use sip_message::{Message, Request, Response, class_of, is_method};
 use sip_uri::Addr;
@@ -155,7 +156,7 @@ impl Table {
 // The ACK that an answer to transaction id is to get.
 fn ack_at(
     alloc: Global,
-    slots: &[Option<Transaction>],
+    slots: &[Slot],
     id: usize,
     response: &Response,
 ) -> Result<Option<Text<'static>>, AllocError>
@@ -174,7 +175,7 @@ fn ack_at(
 
 // What transaction id answers to an input, with what is fresh.
 fn reception_at(
-    slots: &[Option<Transaction>],
+    slots: &[Slot],
     id: usize,
     input: Input,
     fresh: &Option<Text<'static>>,
@@ -204,7 +205,7 @@ fn reception_at(
 
 // What transaction id answers to an input, and the change.
 fn input_foreseen(
-    slots: &[Option<Transaction>],
+    slots: &[Slot],
     id: usize,
     input: Input,
     fresh: Option<Text<'static>>,

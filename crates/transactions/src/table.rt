@@ -22,6 +22,7 @@ use crate::error::TableError;
 use crate::foreseeing::{Foreseen, ForeseenFire};
 use crate::matching::has_to_tag;
 use crate::outcome::{Fired, Outgoing, Reception, Started};
+use crate::slot::Slot;
 use crate::slots::{any_merged, free_number, named, transaction_at, waiting_invite};
 use crate::stopping::{has_come, moment};
 use crate::transaction::{TimerId, Transaction};
@@ -39,7 +40,7 @@ use transaction_machines::{Input, advance, is_server};
 #[derive(Drop)]
 pub struct Table {
     pub(crate) alloc: Global,
-    pub(crate) slots: Vec<Option<Transaction>>,
+    pub(crate) slots: Vec<Slot>,
     pub(crate) timers: Timers<TimerId>,
 }
 

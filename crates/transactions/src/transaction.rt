@@ -129,20 +129,15 @@ pub(crate) fn asking_timers(parts: &Parts) -> Starts
     }
 }
 
-/// The transaction in its next state. What was fresh is what it sends again.
-pub(crate) fn went(
-    transaction: Transaction,
-    fresh: Option<Text<'static>>,
-    state: State,
-) -> Transaction
-    ensures { result ≡ went transaction fresh.entry state }
-{
-    Transaction {
-        uri: transaction.uri,
-        parts: transaction.parts,
-        state,
-        place: transaction.place,
-        last: fresh.or(transaction.last),
+impl Transaction {
+    /// It goes on to its next state. What was fresh is what it sends again.
+    pub(crate) fn advance(&mut self, fresh: Option<Text<'static>>, state: State)
+        ensures { self.new ≡ went self.old fresh.entry state }
+    {
+        self.state = state;
+        if fresh.is_some() {
+            self.last = fresh;
+        }
     }
 }
 

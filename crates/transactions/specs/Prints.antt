@@ -1,0 +1,58 @@
+-- Numbers for what a transaction is looked up by. Equal texts have equal prints, so one with another print is passed by without a look
+-- at its parts. No answer depends on them.
+use Rattle.std.specs.Prelude.{ℕ, ◌+◌, ◌*◌, ◌%◌, ◌^◌, Bool, false, not, ◌&&◌, nat_eq, List, fold, Option, Some, None}
+use Rattle.sip_uri.specs.Binding.{same_text}
+use Rattle.sip_message.specs.declared.via.Via.{Via}
+use Rattle.sip_message.specs.Words.{top_branch, tag_value}
+use Rattle.transaction_machines.specs.Machines.{is_server}
+use Rattle.transactions.specs.declared.print.Print.{Print}
+use Rattle.transactions.specs.declared.transaction.Transaction.{Transaction}
+use Rattle.transactions.specs.Slots.{awaits_final}
+
+-- a prime between 2^40 and 2^41
+abbrev pub factor : ℕ
+factor = 1099511628211
+
+abbrev pub with_byte : ℕ → ℕ → ℕ
+with_byte print byte = (print * factor % 2 ^ 64 + byte) % 2 ^ 64
+
+abbrev pub print_of : List ℕ → ℕ
+print_of bytes = fold with_byte 0 bytes
+
+abbrev pub print_by : Option (List ℕ) → ℕ
+print_by None = 0
+print_by (Some bytes) = print_of bytes
+
+-- of the branch of the top Via
+abbrev pub branch_print : List Via → ℕ
+branch_print vias = print_by (top_branch vias)
+
+-- of a place: a place without a transaction serves nobody, and waits for nothing
+abbrev pub print_at : Option Transaction → Print
+print_at None = record { branch = 0; call = 0; serves = false; waits = false }
+print_at (Some t) = record {
+  branch = branch_print t.parts.vias;
+  call = print_of t.parts.call_id;
+  serves = is_server t.state;
+  waits = awaits_final t.state;
+}
+
+-- ---- what a print leaves possible
+
+-- a server transaction with a branch of this print
+abbrev pub may_serve : ℕ → Print → Bool
+may_serve branch print = print.serves && nat_eq print.branch branch
+
+-- a client transaction, or none, with a branch of this print
+abbrev pub may_ask : ℕ → Print → Bool
+may_ask branch print = not print.serves && nat_eq print.branch branch
+
+-- a server transaction with a Call-ID of this print
+abbrev pub may_merge : ℕ → Print → Bool
+may_merge call print = print.serves && nat_eq print.call call
+
+-- ---- the test behind the print `waits`
+
+abbrev pub has_from_tag : List ℕ → Option Transaction → Bool
+has_from_tag tag None = false
+has_from_tag tag (Some t) = same_text (tag_value t.parts.from.params) (Some tag)
