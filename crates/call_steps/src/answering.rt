@@ -7,6 +7,7 @@ ghost use Rattle.std.specs.Option.{option_copied};
 ghost use Rattle.call_core.specs.Calls.{to_target};
 ghost use Rattle.call_steps.specs.Rows.{answers_leg, dialog_after, leg_after};
 
+use boxed::Boxed;
 use call_core::{Call, End};
 use calls::{Calls, LegDialog, offerer_of};
 use dialogs::{Dialog, contact_uri};
@@ -34,7 +35,7 @@ pub(crate) fn callee_dialog(
 }
 
 /// This dialog, whose other side is reached at this target.
-pub(crate) fn to_target(dialog: Dialog, target: Uri<'static>) -> Dialog
+fn to_target(dialog: Dialog, target: Uri<'static>) -> Dialog
     ensures { result ≡ to_target target.entry dialog }
 {
     let Dialog {
@@ -98,6 +99,7 @@ fn leg_after(
     let Some(dialog) = dialog_after(alloc, asked, response, call.dialog(end))? else {
         return Ok(None);
     };
+    let dialog = Boxed::new(alloc, dialog)?;
     Ok(Some(LegDialog { end, dialog }))
 }
 

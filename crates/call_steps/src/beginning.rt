@@ -24,6 +24,7 @@ ghost use Rattle.call_steps.specs.Values.{asker_value, scene_value};
 use crate::call_step::CallStep;
 use crate::messages::{StepMessages, messages};
 use crate::occasion::Occasion;
+use boxed::Boxed;
 use call_core::{Call, CallRefusal, End, Plan};
 use call_media::CallMedia;
 use calls::{CallChange, Calls, OfferRequest, StandingCall};
@@ -137,7 +138,7 @@ fn with_made(before: u64, dressed: Dressed) -> Dressed
 }
 
 /// This call begins, with these messages behind three tokens.
-fn step_of(call: StandingCall, plan: Plan, said: StepMessages) -> CallStep
+fn step_of(call: Boxed<StandingCall>, plan: Plan, said: StepMessages) -> CallStep
     requires few { 3 + said.dressed.made < 2 ^ 63 }
     ensures row { (calls : Standing) (o : Occasion) → effect calls o.now result ≡ begun calls o call (carried call.call calls.pool o.now plan) said }
     ensures change { result.change ≡ Begins call plan }
@@ -219,7 +220,8 @@ fn begins(
         target: None,
         answer: None,
     };
-    Ok(step_of(call, plan, said))
+    let boxed = Boxed::new(alloc, call)?;
+    Ok(step_of(boxed, plan, said))
 }
 
 /// No call begins; an offer that would be refused is refused here too.

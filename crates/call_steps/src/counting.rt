@@ -4,7 +4,7 @@ ghost use Rattle.std.specs.Prelude.{◌≡◌, IfOk};
 ghost use Rattle.std.specs.Option.{option_copied};
 ghost use Rattle.call_steps.specs.Rows.{counts, counts_by, counts_in, leg_at, refreshes};
 
-use crate::answering::to_target;
+use boxed::Boxed;
 use call_core::End;
 use calls::{Calls, LegDialog, StandingCall};
 use dialogs::{Dialog, contact_uri};
@@ -25,6 +25,7 @@ fn counts_in(
     };
     let mut dialog = dialog.copy(alloc)?;
     dialog.remote_number = Some(number);
+    let dialog = Boxed::new(alloc, dialog)?;
     Ok(Some(LegDialog { end, dialog }))
 }
 
@@ -64,11 +65,9 @@ fn leg_at(target: Option<Uri<'static>>, leg: Option<LegDialog>) -> Option<LegDia
     let Some(target) = target else {
         return leg;
     };
-    let LegDialog { end, dialog } = leg?;
-    Some(LegDialog {
-        end,
-        dialog: to_target(dialog, target),
-    })
+    let mut leg = leg?;
+    leg.dialog.get_mut().target = target;
+    Some(leg)
 }
 
 /// The dialog of the call at this place with this end, once an UPDATE without an offer was taken in it: it counts the number, and its

@@ -67,8 +67,8 @@ fn dialog_in<'c>(call: &'c Call, leg: Option<&'c LegDialog>, end: End) -> Option
         return call.dialog(end);
     };
     match (end, leg.end) {
-        (End::Caller, End::Caller) => Some(&leg.dialog),
-        (End::Callee, End::Callee) => Some(&leg.dialog),
+        (End::Caller, End::Caller) => Some(leg.dialog.get()),
+        (End::Callee, End::Callee) => Some(leg.dialog.get()),
         (End::Caller, End::Callee) => call.dialog(End::Caller),
         (End::Callee, End::Caller) => call.dialog(End::Callee),
     }

@@ -19,7 +19,7 @@ fn put_leg_in(call: &mut StandingCall, leg: Option<LegDialog>)
 {
     match leg {
         None => {}
-        Some(LegDialog { end, dialog }) => call.call.put_dialog(end, dialog),
+        Some(LegDialog { end, dialog }) => call.call.put_dialog(end, dialog.into_inner()),
     }
 }
 
@@ -84,6 +84,6 @@ impl Calls {
             return let_go(leg);
         }
         let LegDialog { end, dialog } = leg;
-        self.calls[place].call.put_dialog(end, dialog);
+        self.calls[place].call.put_dialog(end, dialog.into_inner());
     }
 }

@@ -1,6 +1,7 @@
 //! What changes among the calls.
 
 use crate::standing_call::{StandingCall, TakenOffer};
+use boxed::Boxed;
 use call_core::{End, Plan};
 use dialogs::Dialog;
 use events::Sent;
@@ -9,7 +10,7 @@ use events::Sent;
 #[derive(Drop)]
 pub struct LegDialog {
     pub end: End,
-    pub dialog: Dialog,
+    pub dialog: Boxed<Dialog>,
 }
 
 /// What is put beside a call with what was planned for it.
@@ -29,7 +30,7 @@ pub enum CallChange {
     /// Nothing.
     Unchanged,
     /// This call begins, and does what was planned for it.
-    Begins(StandingCall, Plan),
+    Begins(Boxed<StandingCall>, Plan),
     /// The call at this place does what was planned for it. Where it still stands then, this is put beside it.
     Carries {
         place: usize,
