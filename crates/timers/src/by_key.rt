@@ -55,9 +55,11 @@ pub(crate) fn stands<K: Ord + Copy>(keys: &[Timer<K>], key: K) -> bool
 // Puts a timer at the place of its key, in place of the key's old one.
 pub(crate) fn put<K: Ord + Copy>(keys: &mut Vec<Timer<K>>, timer: Timer<K>)
     requires rise { KeysRise K.cmp keys.old.items }
-    requires room { vec_len keys.old < vec_capacity keys.old + (if stands K.eq keys.old.items timer.key then 1 else 0) }
+    requires room { vec_len keys.old
+        < vec_capacity keys.old + (if stands K.eq keys.old.items timer.key then 1 else 0) }
     ensures put { keys.new.items ≡ put_key K.cmp keys.old.items timer }
-    ensures len { vec_len keys.new + (if stands K.eq keys.old.items timer.key then 1 else 0) ≡ vec_len keys.old + 1 }
+    ensures len { vec_len keys.new + (if stands K.eq keys.old.items timer.key then 1 else 0)
+        ≡ vec_len keys.old + 1 }
     ensures capacity { vec_capacity keys.new ≡ vec_capacity keys.old }
 {
     let place = place_of(keys, timer.key);

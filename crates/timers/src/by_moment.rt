@@ -76,7 +76,7 @@ fn rest_from<K: Copy>(timers: &[Timer<K>], place: usize) -> &[Timer<K>]
     &timers[place..]
 }
 
-// The place of the timer of a key, which is due at a moment: only those that are due with it are looked at.
+// The place of the timer of a key, which is due at a moment: it is looked for among those of that moment alone.
 fn place_of<K: Ord + Copy>(timers: &[Timer<K>], key: K, at: u64) -> usize
     requires len { length timers.now < 2 ^ 64 }
     requires rise { MomentsRise timers.now }
