@@ -12,5 +12,6 @@ mod reading;
 mod writing;
 
 pub use error::ScriptError;
+pub use number::number_of;
 pub use reading::read_script;
 pub use writing::{put_call, put_hop, put_sent};

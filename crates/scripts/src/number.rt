@@ -29,8 +29,8 @@ fn value_of(digits: &[u8]) -> Option<u64>
     Some(number)
 }
 
-/// A moment or a salt: one digit or more, below 2^64.
-pub(crate) fn number_of(text: &[u8]) -> Option<u64>
+/// A number that a text says: one decimal digit or more and nothing else, below 2^64. Takes no memory.
+pub fn number_of(text: &[u8]) -> Option<u64>
     ensures { result ≡ number_of most_number text.now }
 {
     if is_run_of_digits(text) {
