@@ -1,12 +1,11 @@
 -- What each event comes to: an ACK is kept for a transaction that had its 2xx, until that ends.
-use Rattle.std.proofs.Common.{◌≡◌, ◌≢◌, ◌∙◌, ℕ, ◌==◌, Bool, true, false, cond, not, List, [], ◌∷◌, ◌++◌, codes, Option, Some, None, is_some, position, Result, Ok, Err, refl, ap, sym, subst, inl, inr}
+use Rattle.std.proofs.Common.{◌≡◌, ◌≢◌, ◌∙◌, ℕ, ◌==◌, Bool, true, false, cond, not, List, [], ◌∷◌, ◌++◌, codes, Option, Some, None, is_some, position, refl, ap, sym, subst, inl, inr}
 use Rattle.std.specs.Prelude.{◌⊎◌, slice_get}
 use Rattle.std.specs.List.{All}
 use Rattle.std.proofs.lemmas.Bool.{cases_eq, eq-eqb, eqb-true, false≢true}
 use Rattle.std.proofs.lemmas.List.Elements.{All-cons, All-head, All-nil, All-push, All-tail, All-weaker}
 use Rattle.sip_uri.specs.declared.uri.Addr.{Addr}
 use Rattle.sip_uri.specs.declared.uri.Uri.{Uri}
-use Rattle.sip_message.specs.declared.headers.Header.{Header}
 use Rattle.sip_message.specs.declared.message.Message.{Message}
 use Rattle.sip_message.specs.declared.message.Message.TheVariants as Kinds
 use Rattle.sip_message.specs.declared.message.Parts.{Parts}
@@ -14,9 +13,6 @@ use Rattle.sip_message.specs.declared.message.Request.{Request}
 use Rattle.sip_message.specs.declared.message.Response.{Response}
 use Rattle.sip_message.specs.Contact.{contacts_of}
 use Rattle.sip_message.specs.Words.{is_method}
-use Rattle.registrar.specs.declared.binding.Binding.{Binding}
-use Rattle.registrar.specs.declared.refusal.Refusal.{Refusal}
-use Rattle.registrar.specs.Registrar.{PlanContents}
 use Rattle.sdp.specs.declared.description.Description.{Description}
 use Rattle.dialogs.specs.Making.{reached_at}
 use Rattle.events.specs.declared.event.What.{What}
@@ -32,7 +28,7 @@ use Rattle.transactions.specs.declared.outcome.Outgoing.{Outgoing}
 use Rattle.transactions.specs.declared.outcome.Verdict.TheVariants as verdicts
 use Rattle.transactions.specs.declared.transaction.TimerId.{TimerId}
 use Rattle.transactions.specs.declared.transaction.Transaction.{Transaction}
-use Rattle.transactions.specs.Changes.{change_of, entered_all, fire_of, request_change, response_change}
+use Rattle.transactions.specs.Changes.{answer_of, change_of, entered_all, fire_of, request_change, response_change}
 use Rattle.transactions.specs.Contents as transactions
 use Rattle.transactions.specs.Contents.{ack_at, fired_of, response_input}
 use Rattle.transactions.specs.Slots.{at, is_answered, is_asked}
@@ -50,17 +46,16 @@ use Rattle.call_steps.specs.Rows.{answers_leg, begins_by, counts, first_row, for
 use Rattle.call_steps.specs.Values.{AskerValue}
 use Rattle.plans.specs.Office.{Office}
 use Rattle.plans.specs.declared.acks.KeptAck.{KeptAck}
-use Rattle.plans.specs.declared.rule.Reply.{Reply}
-use Rattle.plans.specs.declared.rule.Reply.TheVariants as replies
 use Rattle.plans.specs.declared.setting.Setting.{Setting}
 use Rattle.plans.specs.CallRows.{acks_with, occasion, with_step}
 use Rattle.plans.specs.Effect.{Effect, without_ack}
-use Rattle.plans.specs.Replies.{registers, registers_by, reply_row, responds_in}
+use Rattle.plans.specs.Plan.{Plan}
 use Rattle.agent.specs.Rows.{ends, no_source, setting, what_row}
 use Rattle.promise.specs.Acks.{HasAck, IsAnswered, IsKept, KnowsAcks, had_final}
 use Rattle.promise.proofs.Ending.{ended_answered, ended_gone, fired_answered, fires_other, is_end, response_line, success_answered}
 use Rattle.promise.proofs.Firing.{NoneFires, all_answered, fires_append, is_fires, said_tells}
 use Rattle.promise.proofs.MessageViews.{IsResponseTo, MessageRow, acknowledged, begun_by, dropped, moved, requested, responded}
+use Rattle.promise.proofs.Replying.{IsReply, okay_reply, responds_reply, row_reply}
 use Rattle.promise.proofs.RequestViews.{RequestRow, asks_callee, cancelled, counted_alone, left, passed_on, refreshed, replied, unfit}
 use Rattle.promise.proofs.ResponseViews.{ResponseRow, ack_alone, again, answered, fork, provisional, refused, silent}
 use Rattle.promise.proofs.Rows.{answered_client}
@@ -171,39 +166,21 @@ late_tells calls o asked response = late_by_tells calls o asked response (reache
 
 -- ---- replies
 
-responds_tells : (s : Office) (e : Setting) (r : Request) (begun : List Entry) (id status : ℕ) (further : List Header) (registration : Option PlanContents) → NoneFires begun
-    → NoneFires (responds_in s e r begun id status further registration).changes
-responds_tells s e r begun id status further registration none = fires_append begun _ none tt
-
-registers_tells : (s : Office) (e : Setting) (r : Request) (begun : List Entry) (id : ℕ) (user : Option (List ℕ)) (answer : Result (List Binding) Refusal) → NoneFires begun
-    → NoneFires (registers_by s e r begun id user answer).changes
-registers_tells s e r begun id user (Ok bindings) none = fires_append begun _ none tt
-registers_tells s e r begun id user (Err refusal) none = fires_append begun _ none tt
-
-reply_tells : (s : Office) (e : Setting) (r : Request) (begun : List Entry) (id : ℕ) (reply : Reply) → NoneFires begun → NoneFires (reply_row s e r begun id reply).changes
-unfolding reply_row registers
-reply_tells s e r begun id (replies.CancelOf other) none = fires_append begun _ none tt
-reply_tells s e r begun id (replies.Refusal status) none = fires_append begun _ none tt
-reply_tells s e r begun id replies.RetryLater none = fires_append begun _ none tt
-reply_tells s e r begun id replies.MethodUnoffered none = fires_append begun _ none tt
-reply_tells s e r begun id replies.ExtensionRefused none = fires_append begun _ none tt
-reply_tells s e r begun id replies.MethodsListed none = fires_append begun _ none tt
-reply_tells s e r begun id replies.TypeRefused none = fires_append begun _ none tt
-reply_tells s e r begun id replies.EncodingRefused none = fires_append begun _ none tt
-reply_tells s e r begun id replies.Registration none = registers_tells s e r begun id _ _ none
+reply_tells : (begun : List Entry) (id : ℕ) (p : Plan) → IsReply begun id p → NoneFires begun → NoneFires p.changes
+reply_tells begun id p is none = subst (λ changes. NoneFires changes) (sym is.changes) (fires_append begun (answer_of id is.response ∷ []) none tt)
 
 -- ---- the rows
 
 request_acks : (s : Office) → KnowsAcks s → (e : Setting) (r : Request) (begun : List Entry) (id : ℕ) (x : Effect) → NoneFires begun → RequestRow s e r begun id x → Acks s x
-request_acks s k e r begun id x none (replied reply is) = subst (Acks s) (sym is) (quiet s k _ refl (reply_tells s e r begun id reply none))
-request_acks s k e r begun id x none (unfit status is) = subst (Acks s) (sym is) (quiet s k _ refl (responds_tells s e r begun id status [] None none))
+request_acks s k e r begun id x none (replied reply is) = subst (Acks s) (sym is) (quiet s k _ refl (reply_tells begun id _ (row_reply s e r begun id reply) none))
+request_acks s k e r begun id x none (unfit status is) = subst (Acks s) (sym is) (quiet s k _ refl (reply_tells begun id _ (responds_reply s e r begun id status [] None) none))
 request_acks s k e r begun id x none (asks_callee to offer why is) = subst (Acks s) (sym is) (quiet s k _ refl (fires_append begun _ none (first_tells s.calls _ r id e.source to offer)))
 request_acks s k e r begun id x none (cancelled other place named_is found is) = subst (Acks s) (sym is) (quiet s k _ refl (fires_append begun _ none (takes_tells s.calls s.table _ place _ _ _)))
 request_acks s k e r begun id x none (left place end rule_is is) = subst (Acks s) (sym is) (quiet s k _ refl (fires_append begun _ none (takes_tells s.calls s.table _ place _ _ _)))
-request_acks s k e r begun id x none (counted_alone place end reply is) = subst (Acks s) (sym is) (quiet s k _ refl (reply_tells s e r begun id reply none))
+request_acks s k e r begun id x none (counted_alone place end reply is) = subst (Acks s) (sym is) (quiet s k _ refl (reply_tells begun id _ (row_reply s e r begun id reply) none))
 request_acks s k e r begun id x none (passed_on place end c offer rule_is why is) =
     subst (Acks s) (sym is) (quiet s k _ refl (fires_append begun _ none (offers_tells s.calls s.table _ place _ end r id e.source)))
-request_acks s k e r begun id x none (refreshed place end rule_is is) = subst (Acks s) (sym is) (quiet s k _ refl (responds_tells s e r begun id 200 _ None none))
+request_acks s k e r begun id x none (refreshed place end rule_is is) = subst (Acks s) (sym is) (quiet s k _ refl (reply_tells begun id _ (okay_reply s e r begun id) none))
 
 -- an ACK is kept for the transaction of a 2xx
 with_ack : (s : Office) → KnowsAcks s → (begun : List Entry) (send : Option Outgoing) (id : ℕ) (x : steps.Effect) → NoneFires (begun ++ x.dressed.changes)

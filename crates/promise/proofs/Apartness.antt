@@ -5,6 +5,7 @@ use Rattle.std.specs.List.{All, remove}
 use Rattle.std.proofs.lemmas.Fmt.{decimal_injective}
 use Rattle.std.proofs.lemmas.List.Elements.{All-head, All-tail}
 use Rattle.std.proofs.Common.{zero}
+use Rattle.std.proofs.lemmas.Option.{same_Some}
 use Rattle.hex.specs.Hex.{encode_with}
 use Rattle.responses.specs.Tokens.{token}
 use Rattle.calls.specs.declared.standing_call.StandingCall.{StandingCall}
@@ -45,12 +46,9 @@ from_left : (c d : StandingCall) (calls : List StandingCall) → SameTags c d �
 from_left c d [] same h = tt
 from_left c d (x ∷ calls) same h = (apart_left c d x same h.0, from_left c d calls same h.1)
 
-some_is : (c d : StandingCall) → Some c ≡ Some d → c ≡ d
-some_is c d e = cc
-
 from_set : (x c d : StandingCall) (calls : List StandingCall) (place : ℕ) → slice_get calls place ≡ Some c → SameTags c d → ApartFrom x calls → ApartFrom x (slice_set calls place d)
 from_set x c d [] place there same h = tt
-from_set x c d (y ∷ calls) zero there same h = (apart_right y d x (subst (λ z. SameTags z d) (sym (some_is y c there)) same) h.0, h.1)
+from_set x c d (y ∷ calls) zero there same h = (apart_right y d x (subst (λ z. SameTags z d) (sym (same_Some y c there)) same) h.0, h.1)
 from_set x c d (y ∷ calls) (suc place) there same h = (h.0, from_set x c d calls place there same h.1)
 
 differ_same : (c d : StandingCall) → SameTags c d → c.call.caller.id.ours ≢ c.callee_tag → d.call.caller.id.ours ≢ d.callee_tag
@@ -59,7 +57,7 @@ differ_same c d same differ = λ e. differ (sym same.caller ∙ e ∙ same.calle
 pub apart_set : (c d : StandingCall) (calls : List StandingCall) (place : ℕ) → slice_get calls place ≡ Some c → SameTags c d → AreApart calls → AreApart (slice_set calls place d)
 apart_set c d [] place there same h = tt
 apart_set c d (y ∷ calls) zero there same h =
-    let same_y = subst (λ z. SameTags z d) (sym (some_is y c there)) same in
+    let same_y = subst (λ z. SameTags z d) (sym (same_Some y c there)) same in
     (differ_same y d same_y h.0, from_left y d calls same_y h.1, h.2)
 apart_set c d (y ∷ calls) (suc place) there same h = (h.0, from_set y c d calls place there same h.1, apart_set c d calls place there same h.2)
 

@@ -1,8 +1,9 @@
 -- Where the transactions after changes come from.
-use Rattle.std.proofs.Common.{◌≡◌, ◌≢◌, ◌∙◌, ℕ, ◌<◌, ◌≤◌, ◌-◌, zero, suc, Bool, true, false, cond, not, ◌||◌, List, [], ◌∷◌, ◌++◌, length, get_or, Option, Some, None, option_map, nat_lt, is_some, refl, ap, sym, subst, inl, inr, arith}
+use Rattle.std.proofs.Common.{◌≡◌, ◌≢◌, ◌∙◌, ℕ, ◌<◌, ◌≤◌, ◌-◌, zero, suc, Bool, true, false, cond, not, ◌||◌, List, [], ◌∷◌, ◌++◌, length, get_or, Option, Some, None, option_map, nat_lt, refl, ap, sym, subst, inl, inr, arith}
 use Rattle.std.specs.Prelude.{IfSome, slice_set, ◌⊎◌}
 use Rattle.std.proofs.lemmas.Bool.{false≢true, cases_eq, cases_lt, ltb-true}
 use Rattle.std.proofs.lemmas.List.{get_or-append_right, get_or-set_other, get_or-set_same, get_or_append_left, get_or_past}
+use Rattle.std.proofs.lemmas.Option.{none-some, same_Some}
 use Rattle.transaction_machines.specs.declared.input.Input.{Input}
 use Rattle.transaction_machines.specs.declared.input.Input.TheVariants as inputs
 use Rattle.transaction_machines.specs.declared.state.State.{State}
@@ -44,12 +45,6 @@ later_self t = record { parts = refl; side = refl; waited = λ h. h }
 later_then : (t u v : Transaction) → IsLater t u → IsLater u v → IsLater t v
 later_then t u v one two = record { parts = two.parts ∙ one.parts; side = two.side ∙ one.side; waited = λ h. one.waited (two.waited h) }
 
-pub some_same : (t u : Transaction) → Some t ≡ Some u → t ≡ u
-some_same t u e = cc
-
-pub none_some : (t : Transaction) → None ≡ Some t → ⊥
-none_some t e = false≢true (ap is_some e)
-
 implies : (a b : Bool) → (not a || b) ≡ true → a ≡ true → b ≡ true
 implies true b h e = h
 implies false b h e = absurd (false≢true e)
@@ -58,15 +53,15 @@ implies false b h e = absurd (false≢true e)
 
 went_later : (t u : Transaction) (fresh : Option (List ℕ)) (next : Option State) → (not (waits_next next) || waits t.state) ≡ true → KeepsSide t.state next
     → option_map (went t fresh) next ≡ Some u → IsLater t u
-went_later t u fresh None h side e = absurd (none_some u e)
+went_later t u fresh None h side e = absurd (none-some u e)
 went_later t u fresh (Some next) h side e =
-    let same : went t fresh next ≡ u = some_same (went t fresh next) u e in
+    let same : went t fresh next ≡ u = same_Some (went t fresh next) u e in
     subst (IsLater t) same (record { parts = refl; side = side; waited = λ w. implies (waits next) (waits t.state) h w })
 
 stepped_later : (table : Contents) (id j : ℕ) (t u : Transaction) (fresh : Option (List ℕ)) (now : ℕ) (line : Option Step) → GoesOnIf t.state line → IfSome line (λ step. KeepsSide t.state step.next)
     → at table.slots id ≡ Some t → id < length table.slots → j ≡ id → at (stepped_by table id t fresh now line).slots j ≡ Some u → IsLater t u
 stepped_later table id j t u fresh now None on side there within same e =
-    subst (IsLater t) (some_same t u (sym there ∙ ap (at table.slots) (sym same) ∙ e)) (later_self t)
+    subst (IsLater t) (same_Some t u (sym there ∙ ap (at table.slots) (sym same) ∙ e)) (later_self t)
 stepped_later table id j t u fresh now (Some step) on side there within same e =
     let next = option_map (went t fresh) step.next in
     went_later t u fresh step.next on.waited side (sym (get_or-set_same table.slots id next None within) ∙ ap (at (slice_set table.slots id next)) (sym same) ∙ e)
@@ -78,7 +73,7 @@ stepped_other table id j t fresh now (Some step) other = get_or-set_other table.
 pub inside : (slots : List (Option Transaction)) (id : ℕ) (t : Transaction) → at slots id ≡ Some t → id < length slots
 inside slots id t there = elim (cases_lt id (length slots)) [
   | inl lt ↦ lt
-  | inr le ↦ absurd (none_some t (sym (get_or_past slots id None le) ∙ there))
+  | inr le ↦ absurd (none-some t (sym (get_or_past slots id None le) ∙ there))
 ]
 
 told_came : (table : Contents) (id j : ℕ) (u : Transaction) (o : Option Transaction) (input : Input) (fresh : Option (List ℕ)) (now : ℕ) (changes : List Entry) → at table.slots id ≡ o
@@ -93,8 +88,8 @@ told_came table id j u (Some t) input fresh now changes there e = elim (cases_eq
 -- ---- a transaction begins
 
 last_of : (t u : Transaction) (k : ℕ) → get_or (Some t ∷ []) k None ≡ Some u → (t ≡ u) × (k ≡ 0)
-last_of t u zero e = (some_same t u e, refl)
-last_of t u (suc k) e = absurd (none_some u e)
+last_of t u zero e = (same_Some t u e, refl)
+last_of t u (suc k) e = absurd (none-some u e)
 
 -- where a transaction that begins is put
 abbrev pub spot : List (Option Transaction) → ℕ
@@ -107,7 +102,7 @@ pub data Placed (slots : List (Option Transaction)) (t : Transaction) (put j : �
 placed_from : (slots : List (Option Transaction)) (place j : ℕ) (t u : Transaction) (b : Bool) → nat_lt place (length slots) ≡ b
     → at (cond b (slice_set slots place (Some t)) (slots ++ Some t ∷ [])) j ≡ Some u → Placed slots t (cond b place (length slots)) j u
 placed_from slots place j t u true lt e = elim (cases_eq j place) [
-  | inl same ↦ here (some_same t u (sym (get_or-set_same slots place (Some t) None (ltb-true place (length slots) lt)) ∙ ap (at (slice_set slots place (Some t))) (sym same) ∙ e)) same
+  | inl same ↦ here (same_Some t u (sym (get_or-set_same slots place (Some t) None (ltb-true place (length slots) lt)) ∙ ap (at (slice_set slots place (Some t))) (sym same) ∙ e)) same
   | inr other ↦ before (sym (get_or-set_other slots place j (Some t) None other) ∙ e)
 ]
 placed_from slots place j t u false lt e = elim (cases_lt j (length slots)) [

@@ -2,6 +2,7 @@
 use Rattle.std.proofs.Common.{◌≡◌, ◌≢◌, ◌∙◌, ℕ, Bool, true, false, List, [], ◌∷◌, Option, Some, None, option_map, position, is_some, refl, ap, sym, subst, inl, inr}
 use Rattle.std.proofs.lemmas.Bool.{cases_eq, false≢true}
 use Rattle.std.proofs.lemmas.List.{get_or-set_same}
+use Rattle.std.proofs.lemmas.Option.{none-some, same_Some}
 use Rattle.sip_message.specs.declared.message.Message.TheVariants as Kinds
 use Rattle.sip_message.specs.declared.message.Response.{Response}
 use Rattle.sip_message.specs.declared.words.Class.TheVariants.{Success}
@@ -34,7 +35,7 @@ use Rattle.transactions.specs.Contents.{Contents, ack_at, fired_of, fired_step, 
 use Rattle.transactions.specs.Slots.{at, is_answered}
 use Rattle.transactions.specs.Transactions.{went}
 use Rattle.promise.specs.Acks.{IsAnswered, had_final}
-use Rattle.promise.proofs.Coming.{inside, none_some, some_same}
+use Rattle.promise.proofs.Coming.{inside}
 use Rattle.promise.proofs.Firing.{NoneFires, StaysIf, all_answered, told_elsewhere, went_answered}
 
 -- ---- a timer
@@ -125,9 +126,9 @@ stepped_gone table id t now (Some step) there ends some = get_or-set_same table.
 
 gone_by : (table : Contents) (timer : TimerId) (t : Transaction) (now : ℕ) (o : Option Transaction) → o ≡ Some t → at table.slots timer.id ≡ Some t → had_final t.state ≡ true
     → fired_of o timer.kind ≡ Some fires.Ended → at (table_at table timer.id o (inputs.Fires timer.kind) None now).slots timer.id ≡ None
-gone_by table timer t now None is there h fired = absurd (none_some t is)
+gone_by table timer t now None is there h fired = absurd (none-some t is)
 gone_by table timer t now (Some x) is there h fired =
-    let final : had_final x.state ≡ true = ap (λ (y : Transaction). had_final y.state) (some_same x t is) ∙ h in
+    let final : had_final x.state ≡ true = ap (λ (y : Transaction). had_final y.state) (same_Some x t is) ∙ h in
     stepped_gone table timer.id x now (row_of x.state (inputs.Fires timer.kind)) (there ∙ sym is) (line_ends x.state timer.kind final) (ap is_some fired)
 
 pub ended_gone : (now : ℕ) (table : Contents) (timer : TimerId) → fired_of (at table.slots timer.id) timer.kind ≡ Some fires.Ended → IsAnswered table.slots timer.id
@@ -170,18 +171,15 @@ up_line id t input fresh None up = absurd (false≢true up)
 up_line id t input fresh (Some step) up = refl
 
 up_at : (id : ℕ) (t : Transaction) (input : Input) (fresh : Option (List ℕ)) (o : Option Transaction) → o ≡ Some t → is_up (reception_at id o input fresh).verdict ≡ true → is_some (row_of t.state input) ≡ true
-up_at id t input fresh None is up = absurd (none_some t is)
-up_at id t input fresh (Some x) is up = subst (λ (y : Transaction). is_some (row_of y.state input) ≡ true) (some_same x t is) (up_line id x input fresh (row_of x.state input) up)
+up_at id t input fresh None is up = absurd (none-some t is)
+up_at id t input fresh (Some x) is up = subst (λ (y : Transaction). is_some (row_of y.state input) ≡ true) (same_Some x t is) (up_line id x input fresh (row_of x.state input) up)
 
 up_in : (table : Contents) (r : Response) (id : ℕ) (t : Transaction) (found : Option ℕ) → found ≡ Some id → at table.slots id ≡ Some t → is_up (response_reception table r found).verdict ≡ true
     → is_some (row_of t.state (response_input r)) ≡ true
 up_in table r id t None is there up = absurd (false≢true (ap is_some is))
 up_in table r id t (Some at_id) is there up =
-    let same : at_id ≡ id = same_id at_id id is in
+    let same : at_id ≡ id = same_Some at_id id is in
     up_at at_id t (response_input r) (ack_at (at table.slots at_id) r) (at table.slots at_id) (ap (at table.slots) same ∙ there) up
-  where
-    same_id : (a b : ℕ) → Some a ≡ Some b → a ≡ b
-    same_id a b e = cc
 
 pub response_line : (table : Contents) (r : Response) (id : ℕ) (t : Transaction) → position (is_answered r.parts) table.slots ≡ Some id → at table.slots id ≡ Some t
     → (reception_of table (Kinds.Response r)).verdict ≡ verdicts.Up id → is_some (row_of t.state (response_input r)) ≡ true
@@ -197,9 +195,9 @@ stepped_final table id t fresh now (Some step) there stays some =
 
 final_by : (table : Contents) (id : ℕ) (t : Transaction) (input : Input) (fresh : Option (List ℕ)) (now : ℕ) (o : Option Transaction) → o ≡ Some t → at table.slots id ≡ Some t → StaysIf (row_of t.state input)
     → is_some (row_of t.state input) ≡ true → IsAnswered (table_at table id o input fresh now).slots id
-final_by table id t input fresh now None is there stays some = absurd (none_some t is)
+final_by table id t input fresh now None is there stays some = absurd (none-some t is)
 final_by table id t input fresh now (Some x) is there stays some =
-    let same : t ≡ x = sym (some_same x t is) in
+    let same : t ≡ x = sym (same_Some x t is) in
     stepped_final table id x fresh now (row_of x.state input) (there ∙ sym is) (subst (λ (y : Transaction). StaysIf (row_of y.state input)) same stays)
     (subst (λ (y : Transaction). is_some (row_of y.state input) ≡ true) same some)
 

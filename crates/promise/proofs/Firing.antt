@@ -1,18 +1,11 @@
 -- Changes that tell no timer leave a transaction that had its 2xx as one.
-use Rattle.std.proofs.Common.{◌≡◌, ◌≢◌, ◌∙◌, ℕ, ◌+◌, zero, suc, Bool, true, false, cond, List, [], ◌∷◌, ◌++◌, codes, find, is_some, length, nat_lt, Option, Some, None, option_map, refl, ap, sym, subst, inl, inr, arith}
+use Rattle.std.proofs.Common.{◌≡◌, ◌≢◌, ◌∙◌, ℕ, ◌+◌, zero, suc, Bool, true, false, cond, List, [], ◌∷◌, ◌++◌, find, length, nat_lt, Option, Some, None, option_map, refl, ap, sym, subst, inl, inr, arith}
 use Rattle.std.specs.Prelude.{slice_set}
-use Rattle.std.specs.Option.{option_copied}
 use Rattle.std.proofs.lemmas.Bool.{cases_eq, false≢true}
 use Rattle.std.proofs.lemmas.List.{get_or-set_other, get_or-set_same, get_or_append_left}
-use Rattle.sip_uri.specs.Address.{address_of}
-use Rattle.sip_uri.specs.declared.uri.Addr.{Addr}
-use Rattle.sip_message.specs.declared.message.Message.TheVariants as Kinds
-use Rattle.sip_message.specs.declared.message.Request.{Request}
+use Rattle.std.proofs.lemmas.Option.{none-some, same_Some}
 use Rattle.sip_message.specs.declared.words.Class.TheVariants.{Provisional as Early, Success, Failure}
-use Rattle.sip_message.specs.Words.{is_method}
-use Rattle.sip_writing.specs.Writing.{message_text}
-use Rattle.sdp.specs.declared.description.Description.{Description}
-use Rattle.dialogs.specs.declared.state.Dialog.{Dialog}
+use Rattle.events.specs.declared.sent.Sent.{Sent}
 use Rattle.transaction_machines.specs.declared.input.Input.{Input}
 use Rattle.transaction_machines.specs.declared.input.Input.TheVariants as inputs
 use Rattle.transaction_machines.specs.declared.invite_client.InviteClient.{InviteClient}
@@ -31,19 +24,17 @@ use Rattle.transactions.specs.declared.transaction.Transaction.{Transaction}
 use Rattle.transactions.specs.Changes.{entered, entered_all}
 use Rattle.transactions.specs.Contents.{Contents, stepped_by, table_at}
 use Rattle.transactions.specs.Slots.{at, free_number}
-use Rattle.transactions.specs.SameBranch.{cancel_of}
-use Rattle.transactions.specs.Transactions.{asking, asking_timers, went}
+use Rattle.transactions.specs.Transactions.{went}
 use Rattle.call_core.specs.declared.action.Action.{Action}
-use Rattle.call_core.specs.declared.action.Action.TheVariants.{Trying, Offer, Provisional, Ack, Answer, AnswerAgain, Refusal, Okay, Cancel, Bye, PutRows, Release, RemoveRows, Set, Stop, Abandon}
-use Rattle.legs.specs.declared.scene.Asker.{Asker}
+use Rattle.call_core.specs.declared.action.Action.TheVariants.{Trying, Ack, Answer, Abandon}
 use Rattle.legs.specs.declared.scene.Scene.{Scene}
-use Rattle.legs.specs.Dressed.{asks, asks_at}
-use Rattle.legs.specs.Dressing.{asks_if, branch, dialog_with, dress_one, dressed, method_of, says_ack, says_again, says_answer, says_bye, says_cancel, says_offer, says_okay, says_provisional, says_refusal, says_trying}
-use Rattle.legs.specs.Messages.{ack, bye, offer}
+use Rattle.legs.specs.Dressing.{dress_one, dressed}
 use Rattle.call_steps.specs.Messages.{given_up, is_abandon, messages}
 use Rattle.call_steps.specs.Values.{SceneValue, lent_scene}
 use Rattle.promise.specs.Acks.{IsAnswered, had_final}
-use Rattle.promise.proofs.Coming.{inside, none_some, some_same}
+use Rattle.promise.proofs.Coming.{inside}
+use Rattle.promise.proofs.Sends.{EntriesWereSaid}
+use Rattle.promise.proofs.SendSteps.{one_said}
 
 abbrev pub is_fires : Input → Bool
 is_fires (inputs.Fires kind) = true
@@ -65,87 +56,18 @@ fires_append (Leaves ∷ xs) ys h k = fires_append xs ys h k
 
 -- ---- the messages of a step tell no timer
 
-start_tells : (r : Request) (to : Addr) (b : Bool) → NoneFires (cond b Leaves (Opens (asking r to (message_text (Kinds.Request r))) (asking_timers r.parts)) ∷ [])
-start_tells r to true = tt
-start_tells r to false = tt
-
-at_tells : (to : Option Addr) (r : Request) (made : ℕ) → NoneFires (asks_at to r made).changes
-at_tells None r made = tt
-at_tells (Some to) r made = start_tells r to (is_method (codes "ACK") r.parts)
-
-asks_tells : (r : Request) (made : ℕ) → NoneFires (asks r made).changes
-asks_tells r made = at_tells (address_of r.uri) r made
-
-if_tells : (r : Option Request) (made : ℕ) → NoneFires (asks_if r made).changes
-if_tells None made = tt
-if_tells (Some r) made = asks_tells r made
-
-offer_tells : (s : Scene) (n : ℕ) (d : Option Dialog) (method : _) (description : Option Description) → NoneFires (says_offer s n d method description).changes
-offer_tells s n None method description = tt
-offer_tells s n (Some d) method None = tt
-offer_tells s n (Some d) method (Some description) = if_tells (offer s.server d (method_of method) s.hops description (branch s n)) 1
-
-ack_tells : (s : Scene) (n : ℕ) (d : Option Dialog) → NoneFires (says_ack s n d).changes
-ack_tells s n None = tt
-ack_tells s n (Some d) = asks_tells (ack s.server d (branch s n)) 1
-
-bye_tells : (s : Scene) (n : ℕ) (d : Option Dialog) → NoneFires (says_bye s n d).changes
-bye_tells s n None = tt
-bye_tells s n (Some d) = if_tells (bye s.server d (branch s n)) 1
-
-cancel_tells : (t : Option Transaction) → NoneFires (says_cancel t).changes
-cancel_tells None = tt
-cancel_tells (Some t) = if_tells (cancel_of t) 0
-
-trying_tells : (a : Option Asker) → NoneFires (says_trying a).changes
-trying_tells None = tt
-trying_tells (Some a) = tt
-
-provisional_tells : (server : Addr) (a : Option Asker) (status : ℕ) → NoneFires (says_provisional server a status).changes
-provisional_tells server None status = tt
-provisional_tells server (Some a) status = tt
-
-answer_tells : (server : Addr) (a : Option Asker) (description : Option Description) → NoneFires (says_answer server a description).changes
-answer_tells server None description = tt
-answer_tells server (Some a) None = tt
-answer_tells server (Some a) (Some description) = tt
-
-refusal_tells : (a : Option Asker) (status : ℕ) → NoneFires (says_refusal a status).changes
-refusal_tells None status = tt
-refusal_tells (Some a) status = tt
-
-okay_tells : (server : Addr) (a : Option Asker) → NoneFires (says_okay server a).changes
-okay_tells server None = tt
-okay_tells server (Some a) = tt
-
-again_tells : (o : Option _) → NoneFires (says_again o).changes
-again_tells None = tt
-again_tells (Some sent) = tt
-
-one_tells : (s : Scene) (n : ℕ) (action : Action) → NoneFires (dress_one s n action).changes
-unfolding dress_one
-one_tells s n (Trying end) = trying_tells s.offer
-one_tells s n (Offer end method) = offer_tells s n (dialog_with end s) method (option_copied s.description)
-one_tells s n (Provisional end status) = provisional_tells s.server s.offer status
-one_tells s n (Ack end) = ack_tells s n (dialog_with end s)
-one_tells s n (Answer end) = answer_tells s.server s.offer (option_copied s.description)
-one_tells s n (AnswerAgain end) = again_tells (option_copied s.again)
-one_tells s n (Refusal end status) = refusal_tells s.offer status
-one_tells s n (Okay end) = okay_tells s.server s.request
-one_tells s n (Cancel end) = cancel_tells (option_copied s.passed)
-one_tells s n (Bye end) = bye_tells s n (dialog_with end s)
-one_tells s n PutRows = tt
-one_tells s n Release = tt
-one_tells s n RemoveRows = tt
-one_tells s n (Set timer after) = tt
-one_tells s n (Stop timer) = tt
-one_tells s n (Abandon end) = tt
+said_none : (all : List Sent) (changes : List Entry) → EntriesWereSaid all changes → NoneFires changes
+said_none all [] h = tt
+said_none all (Opens t starts ∷ changes) h = said_none all changes h.1
+said_none all (Tells id input fresh ∷ changes) h = absurd h.0
+said_none all (Answers id class bytes ∷ changes) h = said_none all changes h.1
+said_none all (Leaves ∷ changes) h = said_none all changes h.1
 
 dressed_tells : (s : Scene) (n : ℕ) (actions : List Action) → NoneFires (dressed s n actions).changes
 dressed_tells s n [] = tt
 dressed_tells s n (action ∷ later) =
     let one = dress_one s n action in
-    fires_append one.changes (dressed s (n + one.made) later).changes (one_tells s n action) (dressed_tells s (n + one.made) later)
+    fires_append one.changes (dressed s (n + one.made) later).changes (said_none one.sends one.changes (one_said s n action)) (dressed_tells s (n + one.made) later)
 
 given_up_tells : (id : Option ℕ) (action : Option Action) → NoneFires (given_up id action)
 given_up_tells None action = tt
@@ -200,11 +122,8 @@ line_stays (machine.OtherServer state) input h f = absurd (false≢true h)
 
 pub went_answered : (slots : List (Option Transaction)) (id : ℕ) (t : Transaction) (fresh : Option (List ℕ)) (next : Option State) (n : State) → next ≡ Some n → had_final n ≡ true
     → at slots id ≡ option_map (went t fresh) next → IsAnswered slots id
-went_answered slots id t fresh None n is h e = absurd (false≢true (ap is_some is))
-went_answered slots id t fresh (Some m) n is h e = record { transaction = went t fresh m; stands = e; final = ap had_final (same m n is) ∙ h }
-  where
-    same : (m n : State) → Some m ≡ Some n → m ≡ n
-    same m n e = cc
+went_answered slots id t fresh None n is h e = absurd (none-some n is)
+went_answered slots id t fresh (Some m) n is h e = record { transaction = went t fresh m; stands = e; final = ap had_final (same_Some m n is) ∙ h }
 
 stepped_answered : (table : Contents) (id : ℕ) (t : Transaction) (fresh : Option (List ℕ)) (now : ℕ) (line : Option Step) → at table.slots id ≡ Some t → had_final t.state ≡ true → StaysIf line
     → IsAnswered (stepped_by table id t fresh now line).slots id
@@ -215,9 +134,9 @@ stepped_answered table id t fresh now (Some step) there h stays =
 
 same_answered : (table : Contents) (id : ℕ) (t : Transaction) (input : Input) (fresh : Option (List ℕ)) (now : ℕ) (o : Option Transaction) → o ≡ Some t → at table.slots id ≡ Some t → had_final t.state ≡ true
     → is_fires input ≡ false → IsAnswered (table_at table id o input fresh now).slots id
-same_answered table id t input fresh now None is there h f = absurd (none_some t is)
+same_answered table id t input fresh now None is there h f = absurd (none-some t is)
 same_answered table id t input fresh now (Some x) is there h f =
-    let final : had_final x.state ≡ true = ap (λ (y : Transaction). had_final y.state) (some_same x t is) ∙ h in
+    let final : had_final x.state ≡ true = ap (λ (y : Transaction). had_final y.state) (same_Some x t is) ∙ h in
     stepped_answered table id x fresh now (row_of x.state input) (there ∙ sym is) final (line_stays x.state input final f)
 
 stepped_elsewhere : (table : Contents) (id other : ℕ) (t : Transaction) (fresh : Option (List ℕ)) (now : ℕ) (line : Option Step) → id ≢ other → at (stepped_by table other t fresh now line).slots id ≡ at table.slots id
@@ -238,8 +157,8 @@ told_answered table id other input fresh now f a = elim (cases_eq id other) [
 
 -- the place of one that begins was free
 free_differs : (slots : List (Option Transaction)) (id : ℕ) (t : Transaction) → at slots id ≡ Some t → id ≢ free_number slots
-free_differs [] id t there same = none_some t there
-free_differs (None ∷ slots) zero t there same = none_some t there
+free_differs [] id t there same = none-some t there
+free_differs (None ∷ slots) zero t there same = none-some t there
 free_differs (None ∷ slots) (suc id) t there same = omega (arith, same)
 free_differs (Some x ∷ slots) zero t there same = omega (arith, same)
 free_differs (Some x ∷ slots) (suc id) t there same = free_differs slots id t there (omega (arith, same))

@@ -5,6 +5,7 @@ pub mod Dressings
 pub mod Apartness
 pub mod Calls
 pub mod Steps
+pub mod Replying
 pub mod RequestViews
 pub mod ResponseViews
 pub mod MessageViews

@@ -1,8 +1,9 @@
 -- The requests that may carry an offer and begin in a step are those that its actions offer.
-use Rattle.std.proofs.Common.{◌≡◌, ◌∙◌, ℕ, ◌+◌, Bool, true, false, cond, List, [], ◌∷◌, ◌++◌, codes, find, nat_lt, Option, Some, None, is_some, refl, ap, sym, inl, inr}
+use Rattle.std.proofs.Common.{◌≡◌, ◌∙◌, ℕ, ◌+◌, Bool, true, false, cond, List, [], ◌∷◌, ◌++◌, codes, find, nat_lt, Option, Some, None, refl, ap, sym, inl, inr}
 use Rattle.std.specs.Prelude.{◌⊎◌}
 use Rattle.std.specs.Option.{option_copied}
 use Rattle.std.proofs.lemmas.Bool.{false≢true}
+use Rattle.std.proofs.lemmas.Option.{none-some, same_Some}
 use Rattle.sip_uri.specs.declared.uri.Addr.{Addr}
 use Rattle.sip_uri.specs.Address.{address_of}
 use Rattle.sip_message.specs.declared.headers.Header.{Header}
@@ -104,14 +105,8 @@ ack_none s n (Some d) t h offers = no_offer (ack s.server d (branch s n)) 1 t re
 
 bye_by : (d : Dialog) (via : Via) (b : Bool) (q : Request) → cond b (Some (request_in d via (method_text ByeMethod) (following d) 70 [] [])) None ≡ Some q → may_offer q.parts ≡ false
 unfolding request_in parts_in
-bye_by d via false q e = absurd (none_is q e)
-  where
-    none_is : (q : Request) → None ≡ Some q → ⊥
-    none_is q e = false≢true (ap is_some e)
-bye_by d via true q e = ap (λ (x : Request). may_offer x.parts) (sym (some_is (request_in d via (method_text ByeMethod) (following d) 70 [] []) q e))
-  where
-    some_is : (a b : Request) → Some a ≡ Some b → a ≡ b
-    some_is a b e = cc
+bye_by d via false q e = absurd (none-some q e)
+bye_by d via true q e = ap (λ (x : Request). may_offer x.parts) (sym (same_Some (request_in d via (method_text ByeMethod) (following d) 70 [] []) q e))
 
 bye_none : (s : Scene) (n : ℕ) (d : Option Dialog) (t : Transaction) → OpensIn t (says_bye s n d).changes → IsOffering t → ⊥
 bye_none s n None t h offers = h

@@ -1,18 +1,15 @@
 -- What each event comes to: the transactions that it begins are the server's own or others', and the tags of the calls were made.
-use Rattle.std.proofs.Common.{◌<◌, ◌^◌, ◌≡◌, ◌∙◌, ℕ, ◌+◌, Bool, true, false, cond, not, List, [], ◌∷◌, ◌++◌, codes, Option, Some, None, position, Result, Ok, Err, refl, sym, subst, arith}
+use Rattle.std.proofs.Common.{◌<◌, ◌^◌, ◌≡◌, ◌∙◌, ℕ, ◌+◌, Bool, true, false, cond, not, List, [], ◌∷◌, codes, Option, Some, None, position, refl, sym, subst, arith}
 use Rattle.std.specs.Prelude.{slice_get}
 use Rattle.std.proofs.lemmas.Bool.{false≢true, and_parts}
+use Rattle.std.proofs.lemmas.Option.{same_Some}
 use Rattle.sip_uri.specs.declared.uri.Addr.{Addr}
-use Rattle.sip_message.specs.declared.headers.Header.{Header}
 use Rattle.sip_message.specs.declared.message.Message.{Message}
 use Rattle.sip_message.specs.declared.message.Message.TheVariants as Kinds
 use Rattle.sip_message.specs.declared.message.Parts.{Parts}
 use Rattle.sip_message.specs.declared.message.Request.{Request}
 use Rattle.sip_message.specs.declared.message.Response.{Response}
 use Rattle.sip_message.specs.Words.{is_method, tag_text, tag_value}
-use Rattle.registrar.specs.declared.binding.Binding.{Binding}
-use Rattle.registrar.specs.declared.refusal.Refusal.{Refusal}
-use Rattle.registrar.specs.Registrar.{PlanContents}
 use Rattle.transaction_machines.specs.declared.invite_server.InviteServer.TheVariants as invite_server
 use Rattle.transaction_machines.specs.declared.other_server.OtherServer.TheVariants as other_server
 use Rattle.transaction_machines.specs.declared.state.State.TheVariants as machine
@@ -23,7 +20,7 @@ use Rattle.transactions.specs.declared.change.Entry.TheVariants.{Leaves, Opens}
 use Rattle.transactions.specs.declared.outcome.Outgoing.{Outgoing}
 use Rattle.transactions.specs.declared.transaction.TimerId.{TimerId}
 use Rattle.transactions.specs.declared.transaction.Transaction.{Transaction}
-use Rattle.transactions.specs.Changes.{change_of, fire_of, request_change, response_change}
+use Rattle.transactions.specs.Changes.{answer_of, change_of, fire_of, request_change, response_change}
 use Rattle.transactions.specs.Slots.{is_answered, is_asked}
 use Rattle.transactions.specs.Transactions.{served}
 use Rattle.call_media.specs.declared.end.End.{End}
@@ -38,14 +35,12 @@ use Rattle.call_steps.specs.Effects as steps
 use Rattle.call_steps.specs.Rows.{answers_leg, counts, refreshes}
 use Rattle.events.specs.declared.event.What.{What}
 use Rattle.plans.specs.Office.{Office}
-use Rattle.plans.specs.declared.rule.Reply.{Reply}
-use Rattle.plans.specs.declared.rule.Reply.TheVariants as replies
 use Rattle.plans.specs.declared.setting.Setting.{Setting}
 use Rattle.plans.specs.declared.taken.Taken.{Taken}
 use Rattle.plans.specs.CallRows.{acks_again, counted, occasion, of_plan, okay_plan, puts_if, takes, takes_request, timer_input, with_step, without_call_timer}
 use Rattle.plans.specs.Effect.{Effect}
 use Rattle.plans.specs.Plan.{Plan, moves, nothing}
-use Rattle.plans.specs.Replies.{registers, registers_by, reply_row, responds_in}
+use Rattle.plans.specs.Replies.{reply_row}
 use Rattle.agent.specs.Rows.{no_source, setting, what_row}
 use Rattle.promise.specs.Entries.{EnterOwn, EntersOwn}
 use Rattle.promise.specs.Knowing.{KnowsCalls, KnowsTokens}
@@ -54,6 +49,7 @@ use Rattle.promise.proofs.Calls.{FitsLeg, changed_by}
 use Rattle.promise.proofs.Growing.{calls_more, entries_append}
 use Rattle.promise.proofs.Slots.{own_at}
 use Rattle.promise.proofs.Steps.{OwnStep, answers_fits, counts_fits, first_own, fork_own, late_own, offers_own, refreshes_fits, takes_own}
+use Rattle.promise.proofs.Replying.{IsReply, okay_reply, responds_reply, row_reply}
 use Rattle.promise.proofs.RequestViews.{RequestRow, asks_callee, cancelled, counted_alone, left, passed_on, refreshed, replied, unfit}
 use Rattle.promise.proofs.ResponseViews.{ResponseRow, ack_alone, again, answered, fork, provisional, refused, silent}
 use Rattle.promise.proofs.MessageViews.{MessageRow, acknowledged, begun_by, dropped, moved, requested, responded}
@@ -87,40 +83,17 @@ step_owns s begun send id x b own = record {
 
 -- ---- replies
 
--- a response through a transaction
-answered_own : (m : ℕ) (begun : List Entry) (change : Entry) → EntersOwn m change → BeginsNone begun → EnterOwn m (begun ++ change ∷ [])
-answered_own m begun change h b = entries_append m begun (change ∷ []) (b m) (h, tt)
-
 abbrev IsOwnPlan : Office → Plan → Type 0
 IsOwnPlan s p = EnterOwn (s.tokens + p.made) p.changes
 
-responds_own : (s : Office) (e : Setting) (r : Request) (begun : List Entry) (id status : ℕ) (further : List Header) (registration : Option PlanContents) → BeginsNone begun
-    → IsOwnPlan s (responds_in s e r begun id status further registration)
-responds_own s e r begun id status further registration b = answered_own _ begun _ tt b
+-- a response through a transaction
+reply_own : (s : Office) (begun : List Entry) (id : ℕ) (p : Plan) → IsReply begun id p → BeginsNone begun → IsOwnPlan s p
+reply_own s begun id p is b =
+    let m = s.tokens + p.made in
+    subst (EnterOwn m) (sym is.changes) (entries_append m begun (answer_of id is.response ∷ []) (b m) (tt, tt))
 
-registers_own : (s : Office) (e : Setting) (r : Request) (begun : List Entry) (id : ℕ) (user : Option (List ℕ)) (answer : Result (List Binding) Refusal) → BeginsNone begun
-    → IsOwnPlan s (registers_by s e r begun id user answer)
-registers_own s e r begun id user (Ok bindings) b = answered_own _ begun _ tt b
-registers_own s e r begun id user (Err refusal) b = answered_own _ begun _ tt b
-
-reply_own : (s : Office) (e : Setting) (r : Request) (begun : List Entry) (id : ℕ) (reply : Reply) → BeginsNone begun → IsOwnPlan s (reply_row s e r begun id reply)
-unfolding reply_row registers
-reply_own s e r begun id (replies.CancelOf other) b = answered_own _ begun _ tt b
-reply_own s e r begun id (replies.Refusal status) b = answered_own _ begun _ tt b
-reply_own s e r begun id replies.RetryLater b = answered_own _ begun _ tt b
-reply_own s e r begun id replies.MethodUnoffered b = answered_own _ begun _ tt b
-reply_own s e r begun id replies.ExtensionRefused b = answered_own _ begun _ tt b
-reply_own s e r begun id replies.MethodsListed b = answered_own _ begun _ tt b
-reply_own s e r begun id replies.TypeRefused b = answered_own _ begun _ tt b
-reply_own s e r begun id replies.EncodingRefused b = answered_own _ begun _ tt b
-reply_own s e r begun id replies.Registration b = registers_own s e r begun id _ _ b
-
-reply_owns : (s : Office) → KnowsTokens s → (e : Setting) (r : Request) (begun : List Entry) (id : ℕ) (reply : Reply) → BeginsNone begun → OwnEffect s (of_plan s (reply_row s e r begun id reply))
-reply_owns s k e r begun id reply b = plan_owns s k (reply_row s e r begun id reply) (reply_own s e r begun id reply b)
-
-responds_owns : (s : Office) → KnowsTokens s → (e : Setting) (r : Request) (begun : List Entry) (id status : ℕ) → BeginsNone begun
-    → OwnEffect s (of_plan s (responds_in s e r begun id status [] None))
-responds_owns s k e r begun id status b = plan_owns s k (responds_in s e r begun id status [] None) (responds_own s e r begun id status [] None b)
+reply_owns : (s : Office) → KnowsTokens s → (begun : List Entry) (id : ℕ) (p : Plan) → IsReply begun id p → BeginsNone begun → OwnEffect s (of_plan s p)
+reply_owns s k begun id p is b = plan_owns s k p (reply_own s begun id p is b)
 
 -- ---- a call takes an input
 
@@ -197,7 +170,7 @@ refreshed_owns : (s : Office) → KnowsTokens s → (e : Setting) (r : Request) 
 refreshed_owns s k e r begun id place end b =
     let m = s.tokens + (okay_plan s e r begun id).made in
     record {
-      entries = answered_own m begun _ tt b;
+      entries = reply_own s begun id (okay_plan s e r begun id) (okay_reply s e r begun id) b;
       calls = puts_own s k m place (refreshes s.calls.calls place end r) (λ d there. refreshes_fits m s.calls.calls place end r d (calls_more s.tokens m s.calls.calls (omega arith) k.calls) there)
           (calls_more s.tokens m s.calls.calls (omega arith) k.calls);
     }
@@ -212,8 +185,8 @@ no_leg : (s : Office) (place : ℕ) (d : StandingCall) → slice_get s.calls.cal
 no_leg s place d there = tt
 
 request_rows : (s : Office) → KnowsTokens s → s.tokens < 2 ^ 63 → (e : Setting) (r : Request) (begun : List Entry) (id : ℕ) (x : Effect) → BeginsNone begun → RequestRow s e r begun id x → Owns s x
-request_rows s k few e r begun id x b (replied reply is) = subst (Owns s) (sym is) (reply_owns s k e r begun id reply b)
-request_rows s k few e r begun id x b (unfit status is) = subst (Owns s) (sym is) (responds_owns s k e r begun id status b)
+request_rows s k few e r begun id x b (replied reply is) = subst (Owns s) (sym is) (reply_owns s k begun id _ (row_reply s e r begun id reply) b)
+request_rows s k few e r begun id x b (unfit status is) = subst (Owns s) (sym is) (reply_owns s k begun id _ (responds_reply s e r begun id status [] None) b)
 request_rows s k few e r begun id x b (asks_callee to offer why is) =
     subst (Owns s) (sym is) (step_owns s begun None None _ b (first_own s.calls (occasion s e) r id e.source to offer (no_tag_text r.parts why.no_tag) few k.calls))
   where
@@ -225,7 +198,7 @@ request_rows s k few e r begun id x b (left place end rule_is is) =
     request_owns s k e r begun id place (inputs.Bye end) (counts s.calls.calls place end r.parts.cseq.number) _ b
     (λ d there. counts_fits s.tokens s.calls.calls place end r.parts.cseq.number d k.calls there)
     )
-request_rows s k few e r begun id x b (counted_alone place end reply is) = subst (Owns s) (sym is) (counted_owns s k r place end (reply_row s e r begun id reply) (reply_own s e r begun id reply b))
+request_rows s k few e r begun id x b (counted_alone place end reply is) = subst (Owns s) (sym is) (counted_owns s k r place end (reply_row s e r begun id reply) (reply_own s begun id _ (row_reply s e r begun id reply) b))
 request_rows s k few e r begun id x b (passed_on place end c offer rule_is why is) =
     subst (Owns s) (sym is) (step_owns s begun None None _ b (offers_own s.calls s.table (occasion s e) place _ end r id e.source k.slots k.calls))
 request_rows s k few e r begun id x b (refreshed place end rule_is is) = subst (Owns s) (sym is) (refreshed_owns s k e r begun id place end b)
@@ -242,7 +215,7 @@ response_rows s k e r begun send id t x tag b (answered place c there opens clas
     )
   where
     same_open : (c d : StandingCall) → Some c ≡ Some d → is_open t.parts c ≡ true → is_open t.parts d ≡ true
-    same_open c d same h = let is_d : c ≡ d = cc in subst (λ y. is_open t.parts y ≡ true) is_d h
+    same_open c d same h = subst (λ y. is_open t.parts y ≡ true) (same_Some c d same) h
 response_rows s k e r begun send id t x tag b (again place acked is) = subst (Owns s) (sym is) (plan_owns s k (acks_again s begun id) (b (s.tokens + 0)))
 response_rows s k e r begun send id t x tag b (fork is) = subst (Owns s) (sym is) (step_owns s begun send None _ b (fork_own s.calls (occasion s e) t.parts r tag k.calls))
 response_rows s k e r begun send id t x tag b (ack_alone is) = subst (Owns s) (sym is) (step_owns s begun send None _ b (late_own s.calls (occasion s e) t.parts r tag k.calls))

@@ -1,5 +1,5 @@
 -- What the agent would send again after an event was sent in it or before.
-use Rattle.std.proofs.Common.{◌≡◌, ◌∙◌, ℕ, ◌+◌, true, false, not, List, [], ◌∷◌, ◌++◌, map, nat_le, nat_lt, position, Option, Some, None, Result, Ok, Err, refl, ap, sym, subst, inl, inr, arith}
+use Rattle.std.proofs.Common.{◌≡◌, ◌∙◌, ℕ, ◌+◌, true, false, not, List, [], ◌∷◌, ◌++◌, nat_le, nat_lt, position, Option, Some, None, refl, ap, sym, subst, inl, inr, arith}
 use Rattle.std.specs.Prelude.{slice_get, ◌==◌}
 use Rattle.std.specs.List.{All}
 use Rattle.std.proofs.lemmas.Bool.{and_parts, le-ltb, leb-true, lt-ltb}
@@ -32,8 +32,6 @@ use Rattle.transaction_machines.specs.InviteServer.{invite_server_row}
 use Rattle.transaction_machines.specs.Machines.{row_of}
 use Rattle.transaction_machines.specs.OtherClient.{other_client_row}
 use Rattle.transaction_machines.specs.OtherServer.{other_server_row}
-use Rattle.registrar.specs.declared.binding.Binding.{Binding}
-use Rattle.registrar.specs.declared.refusal.Refusal.{Refusal}
 use Rattle.transaction_machines.specs.declared.state.State.TheVariants as machine
 use Rattle.transactions.specs.declared.change.Entry.{Entry}
 use Rattle.transactions.specs.declared.outcome.Outgoing.{Outgoing}
@@ -52,26 +50,18 @@ use Rattle.call_steps.specs.Effects as steps
 use Rattle.call_steps.specs.Rows.{answers_leg, counts, refreshes}
 use Rattle.plans.specs.declared.acks.KeptAck.{KeptAck}
 use Rattle.plans.specs.Office.{Office}
-use Rattle.plans.specs.declared.rule.Reply.{Reply}
-use Rattle.plans.specs.declared.rule.Reply.TheVariants as replies
 use Rattle.plans.specs.declared.setting.Setting.{Setting}
 use Rattle.plans.specs.declared.taken.Taken.{Taken}
 use Rattle.plans.specs.CallRows.{acks_again, acks_with, counted, occasion, of_plan, okay_plan, puts_if, takes, takes_request, timer_input, with_step, without_call_timer}
 use Rattle.plans.specs.Effect.{Effect, without_ack}
-use Rattle.plans.specs.Plan.{Plan, answers, goes, moves, nothing, sent_response}
-use Rattle.plans.specs.Replies.{accept, accept_encoding, fresh_tag, registers, registers_by, reply_row, responds_in, tag_sent, tags_made, unsupported}
-use Rattle.legs.specs.Messages.{contact, retry_after}
-use Rattle.responses.specs.Registering.{register_of}
-use Rattle.responses.specs.Responding.{allow, contact_header, refusal_headers, responds, status_of}
-use Rattle.sip_message.specs.declared.headers.Header.{Header}
-use Rattle.sip_writing.specs.Reply.{answer_address}
-use Rattle.sip_uri.specs.declared.uri.Addr.{Addr}
-use Rattle.registrar.specs.Registrar.{rules_of, answer_of as answer_of_register}
+use Rattle.plans.specs.Plan.{Plan, goes, moves, nothing, sent_response}
+use Rattle.plans.specs.Replies.{reply_row, responds_in}
 use Rattle.agent.specs.Rows.{after, moment_after, no_source, only_counts, row, row_by, setting, what_row}
 use Rattle.agent.specs.State.{Contents, IsNew, after_event, moment_at, office}
 use Rattle.promise.specs.Sending.{AckWasSent, AnswerWasSent, CallWasSent, KnowsSent, LastWasSent, WasSentIf}
 use Rattle.promise.proofs.Sends.{EntriesWereSent, Within, acks_within, all_entered_last, calls_within, entries_joined, entries_within, EntryWasSent, message_sent, request_change_sent, sent_left, sent_right, slots_within}
 use Rattle.promise.proofs.SendSteps.{SentStep, changed_sent, first_sends, fork_sends, late_sends, offers_sent, takes_sent}
+use Rattle.promise.proofs.Replying.{IsReply, okay_reply, responds_reply, row_reply}
 use Rattle.promise.proofs.RequestViews.{RequestRow, asks_callee, cancelled, counted_alone, left, passed_on, refreshed, replied, unfit}
 use Rattle.promise.proofs.ResponseViews.{ResponseRow, ack_alone, again, answered, fork, provisional, refused, silent}
 use Rattle.promise.proofs.MessageViews.{IsResponseTo, ReceivedRow, acknowledged, begun_by, dropped, moved, requested, responded}
@@ -151,30 +141,11 @@ abbrev IsSentPlan : Plan → Type 0
 IsSentPlan p = EntriesWereSent p.sends p.changes
 
 -- a response through a transaction
-replied_sent : (begun : List Entry) (id : ℕ) (to : Addr) (response : Response) (made : ℕ) → GoAlone begun → IsSentPlan (answers begun id to response None made)
-replied_sent begun id to response made b =
-    entries_joined (sent_response to response ∷ []) begun (answer_of id response ∷ []) (entries_within [] (sent_response to response ∷ []) begun (none_within (sent_response to response ∷ [])) b) (inl refl, tt)
-
-responds_sent : (s : Office) (e : Setting) (r : Request) (begun : List Entry) (id status : ℕ) (further : List Header) → GoAlone begun → IsSentPlan (responds_in s e r begun id status further None)
-responds_sent s e r begun id status further b = replied_sent begun id (answer_address r.parts.vias e.source) (responds r.parts e.source status (fresh_tag s e) further) (tags_made r) b
-
-registers_sent : (s : Office) (e : Setting) (r : Request) (begun : List Entry) (id : ℕ) (user : Option (List ℕ)) (answer : Result (List Binding) Refusal) → GoAlone begun
-    → IsSentPlan (registers_by s e r begun id user answer)
-registers_sent s e r begun id user (Ok bindings) b = responds_sent s e r begun id 200 (map (contact_header e.now) bindings) b
-registers_sent s e r begun id user (Err refusal) b = responds_sent s e r begun id (status_of refusal) (refusal_headers s.least refusal) b
-
-reply_sent : (s : Office) (e : Setting) (r : Request) (begun : List Entry) (id : ℕ) (reply : Reply) → GoAlone begun → IsSentPlan (reply_row s e r begun id reply)
-unfolding reply_row registers
-reply_sent s e r begun id (replies.CancelOf other) b = replied_sent begun id (answer_address r.parts.vias e.source) (responds r.parts e.source 200 (tag_sent s other) []) 0 b
-reply_sent s e r begun id (replies.Refusal status) b = responds_sent s e r begun id status [] b
-reply_sent s e r begun id replies.RetryLater b = responds_sent s e r begun id 500 (retry_after ∷ []) b
-reply_sent s e r begun id replies.MethodUnoffered b = responds_sent s e r begun id 405 (allow ∷ []) b
-reply_sent s e r begun id replies.ExtensionRefused b = responds_sent s e r begun id 420 (unsupported r ∷ []) b
-reply_sent s e r begun id replies.MethodsListed b = responds_sent s e r begun id 200 (allow ∷ []) b
-reply_sent s e r begun id replies.TypeRefused b = responds_sent s e r begun id 415 (accept ∷ []) b
-reply_sent s e r begun id replies.EncodingRefused b = responds_sent s e r begun id 415 (accept_encoding ∷ []) b
-reply_sent s e r begun id replies.Registration b =
-    registers_sent s e r begun id (register_of (rules_of s.registrar) r).user (answer_of_register s.registrar (register_of (rules_of s.registrar) r) e.now) b
+reply_sent : (begun : List Entry) (id : ℕ) (p : Plan) → IsReply begun id p → GoAlone begun → IsSentPlan p
+reply_sent begun id p is b =
+    let sends = sent_response is.to is.response ∷ [] in
+    let entries = entries_joined sends begun (answer_of id is.response ∷ []) (entries_within [] sends begun (none_within sends) b) (inl refl, tt) in
+    subst (λ xs. EntriesWereSent xs p.changes) (sym is.sends) (subst (EntriesWereSent sends) (sym is.changes) entries)
 
 puts_sent : (all : List Sent) (s : Office) (place : ℕ) (leg : Option LegDialog) → All (CallWasSent all) s.calls.calls → All (CallWasSent all) (puts_if s.calls place leg).calls
 puts_sent all s place None each = each
@@ -192,7 +163,7 @@ refreshed_sent : (before : List Sent) (s : Office) → KnowsSent s before → (e
 refreshed_sent before s k e r begun id place end b =
     let all = before ++ (okay_plan s e r begun id).sends in
     record {
-      entries = responds_sent s e r begun id 200 (contact s.server ∷ []) b;
+      entries = reply_sent begun id _ (okay_reply s e r begun id) b;
       acks = acks_within before all s.acks (sent_left before _) k.acks;
       calls = puts_sent all s place (refreshes s.calls.calls place end r) (calls_within before all s.calls.calls (sent_left before _) k.calls);
     }
@@ -201,16 +172,16 @@ refreshed_sent before s k e r begun id place end b =
 
 request_goes_by : (before : List Sent) (s : Office) → KnowsSent s before → (e : Setting) (r : Request) (begun : List Entry) (id : ℕ) (x : Effect) → GoAlone begun → RequestRow s e r begun id x
     → SentEffect before x
-request_goes_by before s k e r begun id x b (replied reply is) = subst (SentEffect before) (sym is) (plan_sent before s k (reply_row s e r begun id reply) (reply_sent s e r begun id reply b))
+request_goes_by before s k e r begun id x b (replied reply is) = subst (SentEffect before) (sym is) (plan_sent before s k (reply_row s e r begun id reply) (reply_sent begun id _ (row_reply s e r begun id reply) b))
 request_goes_by before s k e r begun id x b (unfit status is) =
-    subst (SentEffect before) (sym is) (plan_sent before s k (responds_in s e r begun id status [] None) (responds_sent s e r begun id status [] b))
+    subst (SentEffect before) (sym is) (plan_sent before s k (responds_in s e r begun id status [] None) (reply_sent begun id _ (responds_reply s e r begun id status [] None) b))
 request_goes_by before s k e r begun id x b (asks_callee to offer why is) =
     subst (SentEffect before) (sym is) (step_sent before s k begun None None _ b (first_sends before s.calls (occasion s e) r id e.source to offer k.calls))
 request_goes_by before s k e r begun id x b (cancelled other place named_is found is) = subst (SentEffect before) (sym is) (request_goes before s k e r begun id place inputs.Cancel None _ b)
 request_goes_by before s k e r begun id x b (left place end rule_is is) =
     subst (SentEffect before) (sym is) (request_goes before s k e r begun id place (inputs.Bye end) (counts s.calls.calls place end r.parts.cseq.number) _ b)
 request_goes_by before s k e r begun id x b (counted_alone place end reply is) =
-    subst (SentEffect before) (sym is) (counted_sent before s k r place end (reply_row s e r begun id reply) (reply_sent s e r begun id reply b))
+    subst (SentEffect before) (sym is) (counted_sent before s k r place end (reply_row s e r begun id reply) (reply_sent begun id _ (row_reply s e r begun id reply) b))
 request_goes_by before s k e r begun id x b (passed_on place end c offer rule_is why is) =
     subst (SentEffect before) (sym is) (step_sent before s k begun None None _ b (offers_sent before s.calls s.table (occasion s e) place _ end r id e.source k.calls))
 request_goes_by before s k e r begun id x b (refreshed place end rule_is is) = subst (SentEffect before) (sym is) (refreshed_sent before s k e r begun id place end b)

@@ -55,90 +55,93 @@ use Rattle.call_steps.specs.Scenes.{first_scene, fork_scene, passed_id, scene}
 use Rattle.call_steps.specs.Values.{AskerValue, ComingValue, SceneValue, dressed_in, lent_scene, without_offer}
 use Rattle.calls.specs.Changes.{unchanged}
 use Rattle.promise.specs.Sending.{AnswerWasSent, CallWasSent}
-use Rattle.promise.proofs.Sends.{EntriesWereSent, EntryWasSent, calls_within, entries_joined, entries_within, sent_left, sent_right}
+use Rattle.promise.proofs.Sends.{EntriesWereSaid, EntriesWereSent, EntryWasSaid, calls_within, entries_joined, entries_said, entries_within, sent_left, sent_right}
 
 -- ---- dressed messages
 
 -- what begins or is answered by it is among what it sends
+abbrev pub SelfSaid : Dressed → Type 0
+SelfSaid d = EntriesWereSaid d.sends d.changes
+
+starts_said_by : (r : Request) (to : Addr) (more : List Sent) (b : Bool)
+    → EntryWasSaid (record { to = to; bytes = message_text (Kinds.Request r) } ∷ more) (cond b Leaves (Opens (asking r to (message_text (Kinds.Request r))) (asking_timers r.parts)))
+starts_said_by r to more true = tt
+starts_said_by r to more false = inl refl
+
+asks_at_said : (to : Option Addr) (r : Request) (made : ℕ) → SelfSaid (asks_at to r made)
+asks_at_said None r made = tt
+asks_at_said (Some to) r made = (starts_said_by r to [] (is_method (codes "ACK") r.parts), tt)
+
+asks_said : (r : Request) (made : ℕ) → SelfSaid (asks r made)
+asks_said r made = asks_at_said (address_of r.uri) r made
+
+asks_if_said : (r : Option Request) (made : ℕ) → SelfSaid (asks_if r made)
+asks_if_said None made = tt
+asks_if_said (Some r) made = asks_said r made
+
+offer_said : (s : Scene) (n : ℕ) (d : Option Dialog) (method : _) (description : Option Description) → SelfSaid (says_offer s n d method description)
+offer_said s n None method description = tt
+offer_said s n (Some d) method None = tt
+offer_said s n (Some d) method (Some description) = asks_if_said _ 1
+
+ack_said : (s : Scene) (n : ℕ) (d : Option Dialog) → SelfSaid (says_ack s n d)
+ack_said s n None = tt
+ack_said s n (Some d) = asks_said _ 1
+
+bye_said : (s : Scene) (n : ℕ) (d : Option Dialog) → SelfSaid (says_bye s n d)
+bye_said s n None = tt
+bye_said s n (Some d) = asks_if_said _ 1
+
+cancel_said : (t : Option Transaction) → SelfSaid (says_cancel t)
+cancel_said None = tt
+cancel_said (Some t) = asks_if_said (cancel_of t) 0
+
+trying_said : (a : Option Asker) → SelfSaid (says_trying a)
+trying_said None = tt
+trying_said (Some a) = (inl refl, tt)
+
+provisional_said : (server : Addr) (a : Option Asker) (status : ℕ) → SelfSaid (says_provisional server a status)
+provisional_said server None status = tt
+provisional_said server (Some a) status = (inl refl, tt)
+
+answer_said : (server : Addr) (a : Option Asker) (description : Option Description) → SelfSaid (says_answer server a description)
+answer_said server None description = tt
+answer_said server (Some a) None = tt
+answer_said server (Some a) (Some description) = (inl refl, tt)
+
+refusal_said : (a : Option Asker) (status : ℕ) → SelfSaid (says_refusal a status)
+refusal_said None status = tt
+refusal_said (Some a) status = (inl refl, tt)
+
+okay_said : (server : Addr) (a : Option Asker) → SelfSaid (says_okay server a)
+okay_said server None = tt
+okay_said server (Some a) = (inl refl, tt)
+
+again_said : (sent : Option Sent) → SelfSaid (says_again sent)
+again_said None = tt
+again_said (Some sent) = tt
+
+pub one_said : (s : Scene) (n : ℕ) (action : Action) → SelfSaid (dress_one s n action)
+unfolding dress_one
+one_said s n (Trying end) = trying_said s.offer
+one_said s n (Offer end method) = offer_said s n (dialog_with end s) method (option_copied s.description)
+one_said s n (Provisional end status) = provisional_said s.server s.offer status
+one_said s n (Ack end) = ack_said s n (dialog_with end s)
+one_said s n (Answer end) = answer_said s.server s.offer (option_copied s.description)
+one_said s n (AnswerAgain end) = again_said (option_copied s.again)
+one_said s n (Refusal end status) = refusal_said s.offer status
+one_said s n (Okay end) = okay_said s.server s.request
+one_said s n (Cancel end) = cancel_said (option_copied s.passed)
+one_said s n (Bye end) = bye_said s n (dialog_with end s)
+one_said s n PutRows = tt
+one_said s n Release = tt
+one_said s n RemoveRows = tt
+one_said s n (Set timer after) = tt
+one_said s n (Stop timer) = tt
+one_said s n (Abandon end) = tt
+
 abbrev pub SelfSent : Dressed → Type 0
 SelfSent d = EntriesWereSent d.sends d.changes
-
-starts_sent_by : (r : Request) (to : Addr) (more : List Sent) (b : Bool)
-    → EntryWasSent (record { to = to; bytes = message_text (Kinds.Request r) } ∷ more) (cond b Leaves (Opens (asking r to (message_text (Kinds.Request r))) (asking_timers r.parts)))
-starts_sent_by r to more true = tt
-starts_sent_by r to more false = inl refl
-
-asks_at_sent : (to : Option Addr) (r : Request) (made : ℕ) → SelfSent (asks_at to r made)
-asks_at_sent None r made = tt
-asks_at_sent (Some to) r made = (starts_sent_by r to [] (is_method (codes "ACK") r.parts), tt)
-
-asks_sent : (r : Request) (made : ℕ) → SelfSent (asks r made)
-asks_sent r made = asks_at_sent (address_of r.uri) r made
-
-asks_if_sent : (r : Option Request) (made : ℕ) → SelfSent (asks_if r made)
-asks_if_sent None made = tt
-asks_if_sent (Some r) made = asks_sent r made
-
-offer_sent : (s : Scene) (n : ℕ) (d : Option Dialog) (method : _) (description : Option Description) → SelfSent (says_offer s n d method description)
-offer_sent s n None method description = tt
-offer_sent s n (Some d) method None = tt
-offer_sent s n (Some d) method (Some description) = asks_if_sent _ 1
-
-ack_sent : (s : Scene) (n : ℕ) (d : Option Dialog) → SelfSent (says_ack s n d)
-ack_sent s n None = tt
-ack_sent s n (Some d) = asks_sent _ 1
-
-bye_sent : (s : Scene) (n : ℕ) (d : Option Dialog) → SelfSent (says_bye s n d)
-bye_sent s n None = tt
-bye_sent s n (Some d) = asks_if_sent _ 1
-
-cancel_sent : (t : Option Transaction) → SelfSent (says_cancel t)
-cancel_sent None = tt
-cancel_sent (Some t) = asks_if_sent (cancel_of t) 0
-
-trying_sent : (a : Option Asker) → SelfSent (says_trying a)
-trying_sent None = tt
-trying_sent (Some a) = (inl refl, tt)
-
-provisional_sent : (server : Addr) (a : Option Asker) (status : ℕ) → SelfSent (says_provisional server a status)
-provisional_sent server None status = tt
-provisional_sent server (Some a) status = (inl refl, tt)
-
-answer_sent : (server : Addr) (a : Option Asker) (description : Option Description) → SelfSent (says_answer server a description)
-answer_sent server None description = tt
-answer_sent server (Some a) None = tt
-answer_sent server (Some a) (Some description) = (inl refl, tt)
-
-refusal_sent : (a : Option Asker) (status : ℕ) → SelfSent (says_refusal a status)
-refusal_sent None status = tt
-refusal_sent (Some a) status = (inl refl, tt)
-
-okay_sent : (server : Addr) (a : Option Asker) → SelfSent (says_okay server a)
-okay_sent server None = tt
-okay_sent server (Some a) = (inl refl, tt)
-
-again_sent : (sent : Option Sent) → SelfSent (says_again sent)
-again_sent None = tt
-again_sent (Some sent) = tt
-
-one_sent : (s : Scene) (n : ℕ) (action : Action) → SelfSent (dress_one s n action)
-unfolding dress_one
-one_sent s n (Trying end) = trying_sent s.offer
-one_sent s n (Offer end method) = offer_sent s n (dialog_with end s) method (option_copied s.description)
-one_sent s n (Provisional end status) = provisional_sent s.server s.offer status
-one_sent s n (Ack end) = ack_sent s n (dialog_with end s)
-one_sent s n (Answer end) = answer_sent s.server s.offer (option_copied s.description)
-one_sent s n (AnswerAgain end) = again_sent (option_copied s.again)
-one_sent s n (Refusal end status) = refusal_sent s.offer status
-one_sent s n (Okay end) = okay_sent s.server s.request
-one_sent s n (Cancel end) = cancel_sent (option_copied s.passed)
-one_sent s n (Bye end) = bye_sent s n (dialog_with end s)
-one_sent s n PutRows = tt
-one_sent s n Release = tt
-one_sent s n RemoveRows = tt
-one_sent s n (Set timer after) = tt
-one_sent s n (Stop timer) = tt
-one_sent s n (Abandon end) = tt
 
 dressed_sent : (s : Scene) (n : ℕ) (actions : List Action) → SelfSent (dressed s n actions)
 dressed_sent s n [] = tt
@@ -146,7 +149,7 @@ dressed_sent s n (action ∷ later) =
     let one = dress_one s n action in
     let rest = dressed s (n + one.made) later in
     entries_joined (one.sends ++ rest.sends) one.changes rest.changes
-    (entries_within one.sends (one.sends ++ rest.sends) one.changes (sent_left one.sends rest.sends) (one_sent s n action))
+    (entries_within one.sends (one.sends ++ rest.sends) one.changes (sent_left one.sends rest.sends) (entries_said one.sends one.changes (one_said s n action)))
     (entries_within rest.sends (one.sends ++ rest.sends) rest.changes (sent_right one.sends rest.sends) (dressed_sent s (n + one.made) later))
 
 -- ---- what is kept

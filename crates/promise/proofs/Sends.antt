@@ -1,10 +1,11 @@
 -- What an event has the agent keep, to be sent again, it sends.
-use Rattle.std.proofs.Common.{◌≡◌, ◌∙◌, ℕ, ◌+◌, Bool, true, false, cond, List, [], ◌∷◌, ◌++◌, codes, length, nat_lt, Option, Some, None, option_map, is_some, position, refl, ap, sym, subst, inl, inr}
+use Rattle.std.proofs.Common.{◌≡◌, ◌∙◌, ℕ, ◌+◌, Bool, true, false, cond, List, [], ◌∷◌, ◌++◌, codes, length, nat_lt, Option, Some, None, option_map, position, refl, sym, subst, inl, inr}
 use Rattle.std.specs.Prelude.{slice_set}
 use Rattle.std.specs.List.{All}
-use Rattle.std.proofs.lemmas.Bool.{false≢true, cases_lt}
+use Rattle.std.proofs.lemmas.Bool.{cases_lt}
 use Rattle.std.proofs.lemmas.List.{get_or_past}
 use Rattle.std.proofs.lemmas.List.Elements.{All-push, All-set, All-weaker}
+use Rattle.std.proofs.lemmas.Option.{none-some}
 use Rattle.events.specs.declared.sent.Sent.{Sent}
 use Rattle.sip_uri.specs.declared.uri.Addr.{Addr}
 use Rattle.sip_message.specs.declared.message.Message.{Message}
@@ -83,6 +84,28 @@ pub entries_joined : (all : List Sent) (xs ys : List Entry) → EntriesWereSent 
 entries_joined all [] ys h k = k
 entries_joined all (x ∷ xs) ys h k = (h.0, entries_joined all xs ys h.1 k)
 
+-- ---- changes that tell a transaction nothing
+
+abbrev pub EntryWasSaid : List Sent → Entry → Type 0
+EntryWasSaid all (Opens t starts) = WasSentIf all t.last
+EntryWasSaid all (Tells id input fresh) = ⊥
+EntryWasSaid all (Answers id class bytes) = WasSent all bytes
+EntryWasSaid all Leaves = Unit {0}
+
+abbrev pub EntriesWereSaid : List Sent → List Entry → Type 0
+EntriesWereSaid all [] = Unit {0}
+EntriesWereSaid all (change ∷ changes) = EntryWasSaid all change × EntriesWereSaid all changes
+
+entry_said : (all : List Sent) (change : Entry) → EntryWasSaid all change → EntryWasSent all change
+entry_said all (Opens t starts) h = h
+entry_said all (Tells id input fresh) h = absurd h
+entry_said all (Answers id class bytes) h = h
+entry_said all Leaves h = h
+
+pub entries_said : (all : List Sent) (changes : List Entry) → EntriesWereSaid all changes → EntriesWereSent all changes
+entries_said all [] h = h
+entries_said all (change ∷ changes) h = (entry_said all change h.0, entries_said all changes h.1)
+
 -- ---- the transactions after changes
 
 last_latest : (all : List Sent) (fresh last : Option (List ℕ)) → WasSentIf all fresh → WasSentIf all last → WasSentIf all (latest fresh last)
@@ -96,7 +119,7 @@ last_went all t fresh (Some next) h k = last_latest all fresh t.last h k
 last_at : (all : List Sent) (slots : List (Option Transaction)) (id : ℕ) (t : Transaction) → All (LastWasSent all) slots → at slots id ≡ Some t → WasSentIf all t.last
 last_at all slots id t each there = elim (cases_lt id (length slots)) [
   | inl lt ↦ subst (LastWasSent all) there (each id None lt)
-  | inr le ↦ absurd (false≢true (ap is_some (sym (get_or_past slots id None le) ∙ there)))
+  | inr le ↦ absurd (none-some t (sym (get_or_past slots id None le) ∙ there))
 ]
 
 stepped_last : (all : List Sent) (table : Contents) (id : ℕ) (t : Transaction) (fresh : Option (List ℕ)) (now : ℕ) (line : Option Step) → WasSentIf all fresh → WasSentIf all t.last

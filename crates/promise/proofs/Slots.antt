@@ -1,10 +1,11 @@
 -- The transactions after changes.
-use Rattle.std.proofs.Common.{◌≡◌, ◌∙◌, ℕ, Bool, true, false, cond, List, [], ◌∷◌, ◌++◌, length, Option, Some, None, option_map, nat_lt, is_some, refl, ap, sym, subst, inl, inr}
+use Rattle.std.proofs.Common.{◌≡◌, ◌∙◌, ℕ, Bool, true, false, cond, List, [], ◌∷◌, ◌++◌, length, Option, Some, None, option_map, nat_lt, refl, sym, subst, inl, inr}
 use Rattle.std.specs.Prelude.{IfSome, slice_set}
 use Rattle.std.specs.List.{All}
-use Rattle.std.proofs.lemmas.Bool.{false≢true, cases_lt}
+use Rattle.std.proofs.lemmas.Bool.{cases_lt}
 use Rattle.std.proofs.lemmas.List.{get_or_past}
 use Rattle.std.proofs.lemmas.List.Elements.{All-push, All-set}
+use Rattle.std.proofs.lemmas.Option.{none-some}
 use Rattle.transaction_machines.specs.declared.input.Input.{Input}
 use Rattle.transaction_machines.specs.declared.input.Input.TheVariants as inputs
 use Rattle.transaction_machines.specs.declared.state.State.{State}
@@ -21,14 +22,11 @@ use Rattle.promise.specs.Entries.{EnterOwn, EntersOwn}
 use Rattle.promise.specs.Tokens.{IsOwn, IsOwnIf}
 use Rattle.promise.proofs.Sides.{keeps_side}
 
-none_some : (t : Transaction) → None ≡ Some t → ⊥
-none_some t e = false≢true (ap is_some e)
-
 -- the transaction of a number
 pub own_at : (made : ℕ) (slots : List (Option Transaction)) (id : ℕ) (t : Transaction) → All (IsOwnIf made) slots → at slots id ≡ Some t → IsOwn made t
 own_at made slots id t all there = elim (cases_lt id (length slots)) [
   | inl lt ↦ subst (IsOwnIf made) there (all id None lt)
-  | inr le ↦ absurd (none_some t (sym (get_or_past slots id None le) ∙ there))
+  | inr le ↦ absurd (none-some t (sym (get_or_past slots id None le) ∙ there))
 ]
 
 -- ---- a transaction takes a line

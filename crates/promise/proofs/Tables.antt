@@ -1,7 +1,8 @@
 -- What the lines of a call's table do to an offer that waits.
-use Rattle.std.proofs.Common.{◌≡◌, ◌∙◌, ℕ, ◌==◌, Bool, true, false, cond, ◌||◌, List, [], ◌∷◌, ◌++◌, Option, Some, None, is_some, refl, ap, sym, subst}
+use Rattle.std.proofs.Common.{◌≡◌, ◌∙◌, ℕ, ◌==◌, Bool, true, false, cond, ◌||◌, List, [], ◌∷◌, ◌++◌, Option, Some, None, refl, sym, subst}
 use Rattle.std.specs.List.{list_any}
 use Rattle.std.proofs.lemmas.Bool.{false≢true}
+use Rattle.std.proofs.lemmas.Option.{none-some, same_Some}
 use Rattle.sdp.specs.declared.description.Description.{Description}
 use Rattle.port_pool.specs.Pool as pools
 use Rattle.call_media.specs.declared.end.End.{End}
@@ -354,22 +355,16 @@ pub record TakesFits (c : Call) (final : Bool) (step : Step) : Type 0 where
   pub callee : step.call.callee ≡ c.callee
   pub waits_on : (s : Standing) → c.standing ≡ Some s → final ≡ false → awaits_final s.stage ≡ true → WaitsOn s step.call.standing
 
-pub same_standing : (s t : Standing) → Some s ≡ Some t → s ≡ t
-same_standing s t e = cc
-
-none_standing : (s : Standing) → None ≡ Some s → ⊥
-none_standing s e = false≢true (ap is_some e)
-
 takes_fits_in : (c : Call) (standing : Option Standing) (input : Input) (pool : pools.Contents) (now : ℕ) → c.standing ≡ standing → IsNoOfferInput input
     → TakesFits c (consumes_input input) (step_in c standing input pool now)
-takes_fits_in c None input pool now stands n = record { none_offered = refl; caller = refl; callee = refl; waits_on = λ s is e w. absurd (none_standing s (sym stands ∙ is)) }
+takes_fits_in c None input pool now stands n = record { none_offered = refl; caller = refl; callee = refl; waits_on = λ s is e w. absurd (none-some s (sym stands ∙ is)) }
 takes_fits_in c (Some s) input pool now stands n =
     let fits = step_fits c s input pool now stands n in
     record {
       none_offered = fits.none_offered;
       caller = fits.caller;
       callee = fits.callee;
-      waits_on = λ t is. subst (λ x. consumes_input input ≡ false → awaits_final x.stage ≡ true → WaitsOn x (step_at c s input pool now).call.standing) (same_standing s t (sym stands ∙ is)) fits.waits_on;
+      waits_on = λ t is. subst (λ x. consumes_input input ≡ false → awaits_final x.stage ≡ true → WaitsOn x (step_at c s input pool now).call.standing) (same_Some s t (sym stands ∙ is)) fits.waits_on;
     }
 
 pub takes_fits : (c : Call) (input : Input) (pool : pools.Contents) (now : ℕ) → IsNoOfferInput input → TakesFits c (consumes_input input) (call_row c input pool now)

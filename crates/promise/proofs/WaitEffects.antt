@@ -2,24 +2,18 @@
 use Rattle.std.proofs.Common.{◌≡◌, ◌∙◌, ◌≤◌, ℕ, Bool, true, false, List, [], ◌∷◌, ◌++◌, Option, Some, None, refl, ap, sym, subst, arith}
 use Rattle.std.specs.Prelude.{slice_get}
 use Rattle.std.specs.List.{All}
-use Rattle.std.proofs.lemmas.Bool.{false≢true}
 use Rattle.std.proofs.lemmas.List.Elements.{All-set}
 use Rattle.sip_uri.specs.declared.uri.Uri.{Uri}
-use Rattle.sip_message.specs.declared.headers.Header.{Header}
 use Rattle.sip_message.specs.declared.message.Parts.{Parts}
-use Rattle.sip_message.specs.declared.message.Request.{Request}
 use Rattle.sip_message.specs.declared.message.Response.{Response}
 use Rattle.sip_message.specs.Contact.{contacts_of}
-use Rattle.registrar.specs.declared.binding.Binding.{Binding}
-use Rattle.registrar.specs.declared.refusal.Refusal.{Refusal}
-use Rattle.registrar.specs.Registrar.{PlanContents}
-use Rattle.std.proofs.Common.{Result, Ok, Err}
+use Rattle.std.proofs.lemmas.Option.{none-some}
 use Rattle.dialogs.specs.declared.state.Dialog.{Dialog}
 use Rattle.dialogs.specs.Making.{callers_dialog, reached_at}
 use Rattle.transactions.specs.declared.change.Entry.{Entry}
 use Rattle.transactions.specs.declared.outcome.Outgoing.{Outgoing}
 use Rattle.transactions.specs.declared.transaction.Transaction.{Transaction}
-use Rattle.transactions.specs.Changes.{entered_all}
+use Rattle.transactions.specs.Changes.{answer_of, entered_all}
 use Rattle.transactions.specs.Slots.{at}
 use Rattle.call_media.specs.Ends.{other}
 use Rattle.call_core.specs.declared.action.Action.{Action}
@@ -41,19 +35,16 @@ use Rattle.call_steps.specs.Rows.{answers_leg, dialog_after, fork_by, fork_row, 
 use Rattle.call_steps.specs.Scenes.{fork_scene}
 use Rattle.call_steps.specs.Values.{lent_scene}
 use Rattle.plans.specs.Office.{Office}
-use Rattle.plans.specs.declared.rule.Reply.{Reply}
-use Rattle.plans.specs.declared.rule.Reply.TheVariants as replies
-use Rattle.plans.specs.declared.setting.Setting.{Setting}
 use Rattle.plans.specs.CallRows.{of_plan, puts_if, with_step}
 use Rattle.plans.specs.Effect.{Effect}
 use Rattle.plans.specs.Plan.{Plan}
-use Rattle.plans.specs.Replies.{registers, registers_by, reply_row, responds_in}
 use Rattle.promise.specs.Waiting.{FitsCall, IsCounted, IsOffering, KnowsWaiting}
 use Rattle.promise.proofs.Awaiting.{CallKeeps, Grows, IsOpen, LegGrows, LegKeeps, beside_keeps, beside_standing, call_kept, fits_after, later_all, opened, opens_on, fits_at}
 use Rattle.promise.proofs.Calls.{FitsLeg, same_leg_put}
 use Rattle.promise.proofs.Coming.{IsLater, OpensIn}
 use Rattle.promise.proofs.Offering.{none_offered, said_offered}
 use Rattle.promise.proofs.Once.{AreFresh, NoneOffers, OneOffers, none_one, none_then}
+use Rattle.promise.proofs.Replying.{IsReply}
 use Rattle.promise.proofs.ResponseViews.{IsAsked}
 use Rattle.promise.proofs.Tables.{has_offer}
 use Rattle.promise.proofs.WaitTakes.{IsLost, StepWaits, same_is}
@@ -80,26 +71,8 @@ plan_waits s k p none = calm s (of_plan s p) none (λ now id t u there e later o
 
 -- ---- replies
 
-pub responds_none : (s : Office) (e : Setting) (r : Request) (begun : List Entry) (id status : ℕ) (further : List Header) (registration : Option PlanContents) → NoneOffers begun
-    → NoneOffers (responds_in s e r begun id status further registration).changes
-responds_none s e r begun id status further registration none = none_then begun _ none (λ t opens offers. opens)
-
-registers_none : (s : Office) (e : Setting) (r : Request) (begun : List Entry) (id : ℕ) (user : Option (List ℕ)) (answer : Result (List Binding) Refusal) → NoneOffers begun
-    → NoneOffers (registers_by s e r begun id user answer).changes
-registers_none s e r begun id user (Ok bindings) none = none_then begun _ none (λ t opens offers. opens)
-registers_none s e r begun id user (Err refusal) none = none_then begun _ none (λ t opens offers. opens)
-
-pub reply_none : (s : Office) (e : Setting) (r : Request) (begun : List Entry) (id : ℕ) (reply : Reply) → NoneOffers begun → NoneOffers (reply_row s e r begun id reply).changes
-unfolding reply_row registers
-reply_none s e r begun id (replies.CancelOf other) none = none_then begun _ none (λ t opens offers. opens)
-reply_none s e r begun id (replies.Refusal status) none = none_then begun _ none (λ t opens offers. opens)
-reply_none s e r begun id replies.RetryLater none = none_then begun _ none (λ t opens offers. opens)
-reply_none s e r begun id replies.MethodUnoffered none = none_then begun _ none (λ t opens offers. opens)
-reply_none s e r begun id replies.ExtensionRefused none = none_then begun _ none (λ t opens offers. opens)
-reply_none s e r begun id replies.MethodsListed none = none_then begun _ none (λ t opens offers. opens)
-reply_none s e r begun id replies.TypeRefused none = none_then begun _ none (λ t opens offers. opens)
-reply_none s e r begun id replies.EncodingRefused none = none_then begun _ none (λ t opens offers. opens)
-reply_none s e r begun id replies.Registration none = registers_none s e r begun id _ _ none
+pub reply_none : (begun : List Entry) (id : ℕ) (p : Plan) → IsReply begun id p → NoneOffers begun → NoneOffers p.changes
+reply_none begun id p is none = subst (λ changes. NoneOffers changes) (sym is.changes) (none_then begun (answer_of id is.response ∷ []) none (λ t opens offers. opens))
 
 -- ---- a call takes an input
 
@@ -181,14 +154,7 @@ grows_after asked response target (Some d) h = omega arith
 
 first_number : (number : ℕ) (o : Option Dialog) → IsCounted number o → o ≡ None → 1 ≤ number
 first_number number None counted e = omega (arith, counted)
-first_number number (Some d) counted e = absurd (none_dialog e)
-  where
-    is_there : Option Dialog → Bool
-    is_there None = false
-    is_there (Some d) = true
-
-    none_dialog : Some d ≡ None → ⊥
-    none_dialog e = false≢true (sym (ap is_there e))
+first_number number (Some d) counted e = absurd (none-some d (sym e))
 
 asked_is : (asked : Parts) (c : StandingCall) → is_open asked c ≡ true → asked_end asked c ≡ other (offerer_of c.call.standing)
 asked_is asked c h =

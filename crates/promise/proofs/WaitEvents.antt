@@ -1,6 +1,7 @@
 -- What waits of an agent's requests after an event.
 use Rattle.std.proofs.Common.{◌≡◌, ℕ, zero, suc, List, [], Option, Some, None, refl, subst}
 use Rattle.std.specs.List.{All}
+use Rattle.std.proofs.lemmas.Option.{none-some}
 use Rattle.configuration.specs.declared.config.Config.{Config}
 use Rattle.events.specs.declared.event.Event.{Event}
 use Rattle.transactions.specs.declared.transaction.Transaction.{Transaction}
@@ -14,7 +15,7 @@ use Rattle.agent.specs.State.{Contents, IsNew, after_event, moment_at, office}
 use Rattle.promise.specs.Knowing.{KnowsTokens}
 use Rattle.promise.specs.Waiting.{FitsCall, IsOffering, KnowsWaiting}
 use Rattle.promise.proofs.Awaiting.{later_all}
-use Rattle.promise.proofs.Coming.{CameFrom, all_came, began, none_some, stayed}
+use Rattle.promise.proofs.Coming.{CameFrom, all_came, began, stayed}
 use Rattle.promise.proofs.Events.{few_tokens}
 use Rattle.promise.proofs.Once.{offering_before, once_kept}
 use Rattle.promise.proofs.WaitEffects.{Waits, plan_waits}
@@ -24,8 +25,8 @@ none_at : (slots : List (Option Transaction)) (id : ℕ) (t : Transaction) → s
 none_at slots id t is there = none_in id (subst (λ xs. at xs id ≡ Some t) is there)
   where
     none_in : (id : ℕ) → at [] id ≡ Some t → ⊥
-    none_in zero e = none_some t e
-    none_in (suc id) e = none_some t e
+    none_in zero e = none-some t e
+    none_in (suc id) e = none-some t e
 
 pub new_waits : (c : Config) (s : Contents) → IsNew c s → KnowsWaiting (office s)
 new_waits c s new = record {

@@ -4,6 +4,7 @@ use Rattle.std.specs.List.{All}
 use Rattle.std.specs.Cmp.Lexicographic.{bytes_decides}
 use Rattle.std.specs.Option.{option_copied}
 use Rattle.std.proofs.lemmas.List.Elements.{All-push, All-weaker}
+use Rattle.std.proofs.lemmas.Option.{same_Some}
 use Rattle.sip_uri.specs.declared.uri.Addr.{Addr}
 use Rattle.sip_uri.specs.declared.uri.Uri.{Uri}
 use Rattle.sip_message.specs.declared.message.Parts.{Parts}
@@ -122,10 +123,7 @@ offered_first s leg c offer pool now t is opens offers = elim (said_offered s No
   where
     of_leg : (leg : Dialog) (t : Transaction) (d : Option Dialog) → d ≡ Some leg → IsOfferTo (option_copied (option_map lent d)) t → IsOfferIn leg t
     of_leg leg t None is h = absurd h
-    of_leg leg t (Some d) is h = subst (λ x. IsOfferIn x t) (same_leg d leg is) h
-      where
-        same_leg : (d e : Dialog) → Some d ≡ Some e → d ≡ e
-        same_leg d e same = cc
+    of_leg leg t (Some d) is h = subst (λ x. IsOfferIn x t) (same_Some d leg is) h
 
 first_has_one : (c : Call) (offer : Description) (pool : pools.Contents) (now : ℕ) → HasOne (first_call_row c offer pool now).actions
 unfolding first_call_row

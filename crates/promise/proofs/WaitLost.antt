@@ -1,8 +1,9 @@
 -- A final response, or the end of its time: the request that it is for waits no more.
-use Rattle.std.proofs.Common.{◌≡◌, ◌∙◌, ℕ, Bool, true, false, cond, not, ◌||◌, List, [], ◌∷◌, Option, Some, None, option_map, is_none, is_some, refl, ap, sym, subst}
+use Rattle.std.proofs.Common.{◌≡◌, ◌∙◌, ℕ, Bool, true, false, cond, not, ◌||◌, List, ◌∷◌, Option, Some, None, option_map, is_none, refl, ap, sym, subst}
 use Rattle.std.specs.Prelude.{slice_get}
 use Rattle.std.proofs.lemmas.Bool.{false≢true}
 use Rattle.std.proofs.lemmas.List.{get_or-set_same}
+use Rattle.std.proofs.lemmas.Option.{none-some, same_Some}
 use Rattle.sip_message.specs.declared.message.Parts.{Parts}
 use Rattle.transaction_machines.specs.declared.input.Input.{Input}
 use Rattle.transaction_machines.specs.declared.input.Input.TheVariants as inputs
@@ -38,7 +39,7 @@ use Rattle.plans.specs.Office.{Office}
 use Rattle.plans.specs.CallRows.{times_responses}
 use Rattle.promise.specs.Waiting.{IsOffering, KnowsWaiting, from_tag, waits}
 use Rattle.promise.proofs.Awaiting.{fits_at}
-use Rattle.promise.proofs.Coming.{CameFrom, IsLater, all_came, began, inside, none_some, some_same, stayed}
+use Rattle.promise.proofs.Coming.{CameFrom, IsLater, all_came, began, inside, stayed}
 use Rattle.promise.proofs.Lines.{goes_on, is_timed_out, GoesOnIf, waits_after, waits_next}
 use Rattle.promise.proofs.Once.{NoneOffers, offering_before}
 use Rattle.promise.proofs.ResponseViews.{IsAsked, tag_at}
@@ -47,20 +48,20 @@ use Rattle.promise.proofs.WaitTakes.{IsLost, same_number}
 -- ---- what a transaction that was told this is afterwards
 
 went_waits : (t v : Transaction) (fresh : Option (List ℕ)) (next : Option State) → option_map (went t fresh) next ≡ Some v → waits v.state ≡ true → waits_next next ≡ true
-went_waits t v fresh None e w = absurd (none_some v e)
-went_waits t v fresh (Some next) e w = ap (λ (x : Transaction). waits x.state) (some_same (went t fresh next) v e) ∙ w
+went_waits t v fresh None e w = absurd (none-some v e)
+went_waits t v fresh (Some next) e w = ap (λ (x : Transaction). waits x.state) (same_Some (went t fresh next) v e) ∙ w
 
 line_waits : (table : Contents) (id : ℕ) (t v : Transaction) (fresh : Option (List ℕ)) (now : ℕ) (line : Option Step) → at table.slots id ≡ Some t
     → at (stepped_by table id t fresh now line).slots id ≡ Some v → waits v.state ≡ true → waits_after t.state line ≡ true
-line_waits table id t v fresh now None there e w = ap (λ (x : Transaction). waits x.state) (some_same t v (sym there ∙ e)) ∙ w
+line_waits table id t v fresh now None there e w = ap (λ (x : Transaction). waits x.state) (same_Some t v (sym there ∙ e)) ∙ w
 line_waits table id t v fresh now (Some step) there e w =
     went_waits t v fresh step.next (sym (get_or-set_same table.slots id (option_map (went t fresh) step.next) None (inside table.slots id t there)) ∙ e) w
 
 told_by : (table : Contents) (id : ℕ) (t v : Transaction) (input : Input) (fresh : Option (List ℕ)) (now : ℕ) (o : Option Transaction) → o ≡ Some t → at table.slots id ≡ Some t
     → at (table_at table id o input fresh now).slots id ≡ Some v → waits v.state ≡ true → waits_after t.state (row_of t.state input) ≡ true
-told_by table id t v input fresh now None is there e w = absurd (none_some t is)
+told_by table id t v input fresh now None is there e w = absurd (none-some t is)
 told_by table id t v input fresh now (Some x) is there e w =
-    subst (λ (y : Transaction). waits_after y.state (row_of y.state input) ≡ true) (some_same x t is)
+    subst (λ (y : Transaction). waits_after y.state (row_of y.state input) ≡ true) (same_Some x t is)
     (line_waits table id x v fresh now (row_of x.state input) (there ∙ sym is) e w)
 
 later_waits : (now : ℕ) (table : Contents) (id : ℕ) (t u : Transaction) (input : Input) (fresh : Option (List ℕ)) (changes : List Entry) → at table.slots id ≡ Some t → NoneOffers changes → IsOffering u
@@ -74,9 +75,6 @@ told_lost now table id t u input fresh changes there ends none offers e w =
     false≢true (sym ends ∙ later_waits now table id t u input fresh changes there none offers w (all_came now (entered now table (Tells id input fresh)) changes id u e))
 
 -- ---- the request is the open offer of the call at this place
-
-some_call : (c d : StandingCall) → Some c ≡ Some d → c ≡ d
-some_call c d e = cc
 
 later_offering : (t u : Transaction) → IsLater t u → IsOffering t → IsOffering u
 later_offering t u later offers = record { client = later.side ∙ offers.client; offers = subst (λ p. may_offer p ≡ true) (sym later.parts) offers.offers }
@@ -93,7 +91,7 @@ pub final_lost : (s : Office) (k : KnowsWaiting s) (place first : ℕ) (asked : 
     → IsFinal s first asked input place c → NoneOffers changes → (now id : ℕ) (t u : Transaction) → at s.table.slots id ≡ Some t
     → at (entered_all now s.table (Tells first input fresh ∷ changes)).slots id ≡ Some u → IsLater t u → IsOffering t → IsLost s.calls.calls place t u
 final_lost s k place first asked c input fresh changes final none now id t u there e later offers d at_d tag w opens =
-    let is_c : d ≡ c = some_call d c (sym at_d ∙ final.at_place) in
+    let is_c : d ≡ c = same_Some d c (sym at_d ∙ final.at_place) in
     let asking : IsOffering asked = record { client = final.client; offers = final.asked.offers } in
     let tag_c = subst (λ x. has_tag (from_tag t) x ≡ true) is_c tag in
     let open_c = subst (λ x. is_open t.parts x ≡ true) is_c opens in
@@ -148,8 +146,8 @@ timed_served state M e = absurd (false≢true e)
 timed_served state N e = absurd (false≢true e)
 
 none_fires : (t : Transaction) (line : Option Step) → line ≡ None → fired_step t line ≡ Some fires.TimedOut → ⊥
-none_fires t None is e = false≢true (ap is_some e)
-none_fires t (Some step) is e = false≢true (sym (ap is_some is))
+none_fires t None is e = none-some _ e
+none_fires t (Some step) is e = none-some step (sym is)
 
 pub timed_client : (t : Transaction) (state : State) (kind : TimerKind) → times_responses kind ≡ true → fired_step t (row_of state (inputs.Fires kind)) ≡ Some fires.TimedOut → is_server state ≡ false
 unfolding row_of
@@ -159,7 +157,7 @@ timed_client t (machine.OtherClient state) kind times e = refl
 timed_client t (machine.OtherServer state) kind times e = absurd (none_fires t (other_server_row state (inputs.Fires kind)) (timed_served state kind times) e)
 
 silent_fires : (send : Option Outgoing) → option_map fires.Send send ≡ Some fires.TimedOut → ⊥
-silent_fires None e = false≢true (ap is_some e)
+silent_fires None e = none-some _ e
 silent_fires (Some out) e = differ out e
   where
     is_out : Option Fired → Bool
@@ -195,7 +193,7 @@ ends_by true next h e = h
 ends_by false next h e = absurd (false≢true e)
 
 timed_line : (t : Transaction) (line : Option Step) → GoesOnIf t.state line → fired_step t line ≡ Some fires.TimedOut → waits_after t.state line ≡ false
-timed_line t None on e = absurd (false≢true (ap is_some e))
+timed_line t None on e = absurd (none-some _ e)
 timed_line t (Some step) on e = none_next step.next (ends_by (is_timed_out step.told) (is_none step.next) on.ends (timed_told step.told _ e))
 
 pub timed_ends : (t : Transaction) (kind : TimerKind) → fired_step t (row_of t.state (inputs.Fires kind)) ≡ Some fires.TimedOut → waits_after t.state (row_of t.state (inputs.Fires kind)) ≡ false
@@ -208,30 +206,24 @@ pub record WaitsAt (calls : List StandingCall) (asked : Parts) (place : ℕ) : T
   pub there : slice_get calls place ≡ Some call
   pub is_asked : IsAsked asked call
 
-none_place : (place : ℕ) → None ≡ Some place → ⊥
-none_place place e = false≢true (ap is_some e)
-
-same_place : (a b : ℕ) → Some a ≡ Some b → a ≡ b
-same_place a b e = cc
-
 waits_if : (calls : List StandingCall) (asked : Parts) (place at_place : ℕ) (c : StandingCall) (b : Bool) → may_offer asked ≡ true → asked_place calls asked ≡ Some at_place → slice_get calls at_place ≡ Some c
     → is_open asked c ≡ b → cond b (Some at_place) None ≡ Some place → WaitsAt calls asked place
-waits_if calls asked place at_place c false offers named there is e = absurd (none_place place e)
+waits_if calls asked place at_place c false offers named there is e = absurd (none-some place e)
 waits_if calls asked place at_place c true offers named there is e =
-    subst (WaitsAt calls asked) (same_place at_place place e) (record { call = c; there = there; is_asked = record { offers = offers; tag = tag_at calls asked at_place c named there; waits = is } })
+    subst (WaitsAt calls asked) (same_Some at_place place e) (record { call = c; there = there; is_asked = record { offers = offers; tag = tag_at calls asked at_place c named there; waits = is } })
 
 waits_in : (calls : List StandingCall) (asked : Parts) (place at_place : ℕ) (c : Option StandingCall) → may_offer asked ≡ true → asked_place calls asked ≡ Some at_place → slice_get calls at_place ≡ c
     → place_if_open asked at_place c ≡ Some place → WaitsAt calls asked place
-waits_in calls asked place at_place None offers named there e = absurd (none_place place e)
+waits_in calls asked place at_place None offers named there e = absurd (none-some place e)
 waits_in calls asked place at_place (Some c) offers named there e = waits_if calls asked place at_place c (is_open asked c) offers named there refl e
 
 waits_open : (calls : List StandingCall) (asked : Parts) (place : ℕ) (found : Option ℕ) → may_offer asked ≡ true → asked_place calls asked ≡ found → open_at calls asked found ≡ Some place → WaitsAt calls asked place
 unfolding open_at
-waits_open calls asked place None offers named e = absurd (none_place place e)
+waits_open calls asked place None offers named e = absurd (none-some place e)
 waits_open calls asked place (Some at_place) offers named e = waits_in calls asked place at_place (slice_get calls at_place) offers named refl e
 
 waits_by : (calls : List StandingCall) (asked : Parts) (place : ℕ) (b : Bool) → may_offer asked ≡ b → cond b (open_at calls asked (asked_place calls asked)) None ≡ Some place → WaitsAt calls asked place
-waits_by calls asked place false offers e = absurd (none_place place e)
+waits_by calls asked place false offers e = absurd (none-some place e)
 waits_by calls asked place true offers e = waits_open calls asked place (asked_place calls asked) offers refl e
 
 pub timeout_waits : (calls : List StandingCall) (asked : Parts) (place : ℕ) → timeout_rule calls asked ≡ Some place → WaitsAt calls asked place

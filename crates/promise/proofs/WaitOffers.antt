@@ -6,7 +6,7 @@ use Rattle.std.specs.Cmp.Lexicographic.{bytes_decides}
 use Rattle.std.specs.Option.{option_copied}
 use Rattle.std.proofs.lemmas.Bool.{cases_eq, false≢true}
 use Rattle.std.proofs.lemmas.List.{get_or-set_other, get_or-set_same, length-set}
-use Rattle.std.proofs.lemmas.Option.{slice_get-get_or, slice_get_within}
+use Rattle.std.proofs.lemmas.Option.{none-some, same_Some, slice_get-get_or, slice_get_within}
 use Rattle.sip_uri.specs.declared.uri.Addr.{Addr}
 use Rattle.sip_message.specs.declared.message.Parts.{Parts}
 use Rattle.sip_message.specs.declared.message.Request.{Request}
@@ -53,18 +53,12 @@ use Rattle.promise.proofs.WaitSteps.{counts_keeps_in}
 -- ---- tags
 
 leg_tag : (made : ℕ) (x : End) (c : StandingCall) (d : Dialog) → HasMadeTags made c → dialog_of x c.call ≡ Some d → d.id.ours ≡ tag_to x c
-leg_tag made Caller c d tags is = ap (λ (e : Dialog). e.id.ours) (same d c.call.caller (sym is))
-  where
-    same : (d e : Dialog) → Some d ≡ Some e → d ≡ e
-    same d e is = cc
+leg_tag made Caller c d tags is = ap (λ (e : Dialog). e.id.ours) (same_Some d c.call.caller (sym is))
 leg_tag made Callee c d tags is = callee_tag c.call.callee d is tags.leg
   where
     callee_tag : (o : Option Dialog) (d : Dialog) → o ≡ Some d → HasLegTag c.callee_tag o → d.id.ours ≡ c.callee_tag
-    callee_tag None d is h = absurd (false≢true (ap is_some is))
-    callee_tag (Some e) d is h = ap (λ (x : Dialog). x.id.ours) (same d e (sym is)) ∙ h
-      where
-        same : (d e : Dialog) → Some d ≡ Some e → d ≡ e
-        same d e is = cc
+    callee_tag None d is h = absurd (none-some d is)
+    callee_tag (Some e) d is h = ap (λ (x : Dialog). x.id.ours) (same_Some d e (sym is)) ∙ h
 
 tag_of_end : (x : End) (c : StandingCall) (tag : List ℕ) → tag ≡ tag_to x c → IsTagOf c tag
 tag_of_end Caller c tag is = inl is
@@ -79,27 +73,21 @@ has_tag_of c tag (inl is) = rw ((bytes_decides c.call.caller.id.ours tag).1 (sym
 has_tag_of c tag (inr is) = rw ((bytes_decides c.callee_tag tag).1 (sym is)) refl
 
 from_apart : (x : StandingCall) (calls : List StandingCall) (i : ℕ) (e : StandingCall) → ApartFrom x calls → slice_get calls i ≡ Some e → Apart x e
-from_apart x [] i e h there = absurd (false≢true (ap is_some there))
-from_apart x (y ∷ calls) zero e h there = subst (Apart x) (same y e there) h.0
-  where
-    same : (y e : StandingCall) → Some y ≡ Some e → y ≡ e
-    same y e is = cc
+from_apart x [] i e h there = absurd (none-some e there)
+from_apart x (y ∷ calls) zero e h there = subst (Apart x) (same_Some y e there) h.0
 from_apart x (y ∷ calls) (suc i) e h there = from_apart x calls i e h.1 there
-
-same_call : (y e : StandingCall) → Some y ≡ Some e → y ≡ e
-same_call y e is = cc
 
 -- no tag is of two calls
 one_tagged : (tag : List ℕ) (calls : List StandingCall) (i j : ℕ) (c d : StandingCall) → AreApart calls → slice_get calls i ≡ Some c → slice_get calls j ≡ Some d → IsTagOf c tag → IsTagOf d tag → i ≡ j
-one_tagged tag [] i j c d apart at_c at_d one two = absurd (false≢true (ap is_some at_c))
+one_tagged tag [] i j c d apart at_c at_d one two = absurd (none-some c at_c)
 one_tagged tag (y ∷ calls) zero zero c d apart at_c at_d one two = refl
-one_tagged tag (y ∷ calls) zero (suc j) c d apart at_c at_d one two = absurd (from_apart y calls j d apart.1 at_d tag (subst (λ x. IsTagOf x tag) (sym (same_call y c at_c)) one) two)
-one_tagged tag (y ∷ calls) (suc i) zero c d apart at_c at_d one two = absurd (from_apart y calls i c apart.1 at_c tag (subst (λ x. IsTagOf x tag) (sym (same_call y d at_d)) two) one)
+one_tagged tag (y ∷ calls) zero (suc j) c d apart at_c at_d one two = absurd (from_apart y calls j d apart.1 at_d tag (subst (λ x. IsTagOf x tag) (sym (same_Some y c at_c)) one) two)
+one_tagged tag (y ∷ calls) (suc i) zero c d apart at_c at_d one two = absurd (from_apart y calls i c apart.1 at_c tag (subst (λ x. IsTagOf x tag) (sym (same_Some y d at_d)) two) one)
 one_tagged tag (y ∷ calls) (suc i) (suc j) c d apart at_c at_d one two = ap suc (one_tagged tag calls i j c d apart.2 at_c at_d one two)
 
 differs_at : (calls : List StandingCall) (place : ℕ) (c : StandingCall) → AreApart calls → slice_get calls place ≡ Some c → c.call.caller.id.ours ≢ c.callee_tag
-differs_at [] place c apart there = absurd (false≢true (ap is_some there))
-differs_at (y ∷ calls) zero c apart there = subst (λ (x : StandingCall). x.call.caller.id.ours ≢ x.callee_tag) (same_call y c there) apart.0
+differs_at [] place c apart there = absurd (none-some c there)
+differs_at (y ∷ calls) zero c apart there = subst (λ (x : StandingCall). x.call.caller.id.ours ≢ x.callee_tag) (same_Some y c there) apart.0
 differs_at (y ∷ calls) (suc place) c apart there = differs_at calls place c apart.2 there
 
 caller_by : (tag : List ℕ) (c : StandingCall) (b : Bool) → is_text c.callee_tag tag ≡ b → tag ≡ c.call.caller.id.ours → c.call.caller.id.ours ≢ c.callee_tag → cond b Callee Caller ≡ Caller

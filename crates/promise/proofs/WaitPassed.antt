@@ -1,7 +1,8 @@
 -- An offer inside a call that is passed on: its request is the open offer of the call, with the number that follows in its leg.
-use Rattle.std.proofs.Common.{◌≡◌, ◌≢◌, ◌∙◌, ℕ, ◌≤◌, Bool, true, false, cond, List, [], Option, Some, None, option_map, is_some, refl, ap, sym, subst, inl, inr, arith}
+use Rattle.std.proofs.Common.{◌≡◌, ◌≢◌, ◌∙◌, ℕ, ◌≤◌, Bool, true, false, cond, List, Option, Some, None, option_map, refl, ap, sym, subst, inl, inr, arith}
 use Rattle.std.specs.Prelude.{◌⊎◌, slice_get}
 use Rattle.std.proofs.lemmas.Bool.{eq-eqb, false≢true}
+use Rattle.std.proofs.lemmas.Option.{none-some, same_Some}
 use Rattle.sip_message.specs.declared.message.Parts.{Parts}
 use Rattle.sip_message.specs.declared.message.Request.{Request}
 use Rattle.sdp.specs.declared.description.Description.{Description}
@@ -32,7 +33,6 @@ use Rattle.call_rules.specs.declared.offers.OfferRule.TheVariants.{NoDialog}
 use Rattle.call_rules.specs.Responses.{awaits_final, is_last_in, is_open}
 use Rattle.calls.specs.declared.standing_call.StandingCall.{StandingCall}
 use Rattle.plans.specs.CallRows.{clash_reply, offer_reply}
-use Rattle.plans.specs.declared.rule.Reply.{Reply}
 use Rattle.legs.specs.declared.scene.Scene.{Scene}
 use Rattle.legs.specs.Dressing.{dialog_with}
 use Rattle.promise.specs.Waiting.{IsCounted}
@@ -42,27 +42,21 @@ use Rattle.promise.proofs.OneOffer.{HasOne}
 
 -- ---- it is passed on where the call is settled
 
-none_reply : (reply : Reply) → Some reply ≡ None → ⊥
-none_reply reply e = false≢true (sym (ap is_some e))
-
 settled_if : (b : Bool) (later : OfferRule) → offer_reply (otherwise (cond b None (Some NoDialog)) later) ≡ None → b ≡ true
 settled_if true later e = refl
-settled_if false later e = absurd (none_reply _ e)
+settled_if false later e = absurd (none-some _ (sym e))
 
 settled_by : (c : Call) (clash : Option Clash) (later : OfferRule) → offer_reply (otherwise (clash_by c clash) later) ≡ None → holds_in is_settled c.standing ≡ true
 settled_by c None later e = settled_if (holds_in is_settled c.standing) later e
-settled_by c (Some clash) later e = absurd (none_reply (clash_reply clash) e)
+settled_by c (Some clash) later e = absurd (none-some (clash_reply clash) (sym e))
 
 settled_in : (r : Request) (end : End) (c : Call) → offer_reply (offer_in r end c) ≡ None → holds_in is_settled c.standing ≡ true
 unfolding offer_in
 settled_in r end c e = settled_by c (clash_in c.standing end) (otherwise (hops_line r) (otherwise (reach_line r) (otherwise (content_line r) _))) e
 
 settled_at : (r : Request) (end : End) (c : Option StandingCall) (d : StandingCall) → c ≡ Some d → offer_reply (offer_by r end c) ≡ None → holds_in is_settled d.call.standing ≡ true
-settled_at r end None d is e = absurd (false≢true (ap is_some is))
-settled_at r end (Some c) d is e = subst (λ (x : StandingCall). holds_in is_settled x.call.standing ≡ true) (same c d is) (settled_in r end c.call e)
-  where
-    same : (c d : StandingCall) → Some c ≡ Some d → c ≡ d
-    same c d e = cc
+settled_at r end None d is e = absurd (none-some d is)
+settled_at r end (Some c) d is e = subst (λ (x : StandingCall). holds_in is_settled x.call.standing ≡ true) (same_Some c d is) (settled_in r end c.call e)
 
 pub passes_settled : (calls : List StandingCall) (r : Request) (place : ℕ) (end : End) (c : StandingCall) → slice_get calls place ≡ Some c → offer_reply (offer_rule calls r place end) ≡ None
     → holds_in is_settled c.call.standing ≡ true
@@ -167,12 +161,9 @@ grows_counted (Some d) = omega arith
 caller_grows : (c d : Call) → Some d.caller ≡ counted (Some c.caller) → last_number c.caller ≤ last_number d.caller
 caller_grows c d is = subst (λ x. Grows (Some c.caller) x) (sym is) (grows_counted (Some c.caller))
 
-some_dialog : (d e : Dialog) → Some d ≡ Some e → d ≡ e
-some_dialog d e is = cc
-
 pub passes_grows : (c : Call) (x : End) (step : Step) → PassesOn c x step → CallGrows c step.call
 passes_grows c Caller step on = record {
-  caller = subst (λ d. last_number c.caller ≤ last_number d) (sym (some_dialog step.call.caller c.caller on.mine)) (omega arith);
+  caller = subst (λ d. last_number c.caller ≤ last_number d) (sym (same_Some step.call.caller c.caller on.mine)) (omega arith);
   callee = subst (Grows c.callee) (sym on.theirs) (grows_counted c.callee);
 }
 passes_grows c Callee step on = record {

@@ -3,6 +3,7 @@
 use Rattle.std.proofs.Common.{◌≡◌, ◌∙◌, ◌<◌, ◌^◌, ℕ, Bool, true, false, cond, List, [], ◌∷◌, codes, Option, Some, None, position, refl, sym, subst, inl, inr}
 use Rattle.std.specs.Prelude.{slice_get}
 use Rattle.std.proofs.lemmas.Bool.{false≢true}
+use Rattle.std.proofs.lemmas.Option.{same_Some}
 use Rattle.sip_uri.specs.declared.uri.Addr.{Addr}
 use Rattle.sip_message.specs.declared.message.Message.{Message}
 use Rattle.sip_message.specs.declared.message.Message.TheVariants as Kinds
@@ -50,6 +51,7 @@ use Rattle.promise.proofs.Calls.{FitsLeg}
 use Rattle.promise.proofs.Lines.{failure_ends, success_ends, waits_after}
 use Rattle.promise.proofs.Offering.{opens_split}
 use Rattle.promise.proofs.Once.{NoneOffers, none_before}
+use Rattle.promise.proofs.Replying.{okay_reply, responds_reply, row_reply}
 use Rattle.promise.proofs.RequestViews.{RequestRow, asks_callee, cancelled, counted_alone, left, passed_on, refreshed, replied, unfit}
 use Rattle.promise.proofs.ResponseViews.{IsAsked, ResponseRow, ack_alone, again, answered, fork, provisional, refused, silent}
 use Rattle.promise.proofs.MessageViews.{IsResponseTo, MessageRow, acknowledged, begun_by, dropped, moved, requested, responded}
@@ -58,7 +60,7 @@ use Rattle.promise.proofs.Rows.{answered_client, served_by}
 use Rattle.promise.proofs.Slots.{own_at}
 use Rattle.promise.proofs.Steps.{answers_fits, counts_fits, refreshes_fits}
 use Rattle.promise.proofs.Tables.{IsNoOfferInput, consumes_input}
-use Rattle.promise.proofs.WaitEffects.{Waits, answers_grows, fork_waits, late_waits, plan_waits, puts_waits, reply_none, responds_none, step_waits}
+use Rattle.promise.proofs.WaitEffects.{Waits, answers_grows, fork_waits, late_waits, plan_waits, puts_waits, reply_none, step_waits}
 use Rattle.promise.proofs.WaitFirst.{BeginsOffer, first_begins}
 use Rattle.promise.proofs.WaitLost.{IsFinal, WaitsAt, final_lost, timed_client, timed_ends, timeout_waits}
 use Rattle.promise.proofs.WaitOffers.{offers_begins}
@@ -114,9 +116,9 @@ offer_step s tokens k begun x none b = record {
 
 request_waits : (s : Office) → KnowsTokens s → KnowsWaiting s → s.tokens < 2 ^ 63 → (e : Setting) (r : Request) (begun : List Entry) (id : ℕ) (x : Effect) → NoneOffers begun → RequestRow s e r begun id x
     → Waits s x
-request_waits s tokens k few e r begun id x none (replied reply is) = subst (Waits s) (sym is) (plan_waits s k (reply_row s e r begun id reply) (reply_none s e r begun id reply none))
+request_waits s tokens k few e r begun id x none (replied reply is) = subst (Waits s) (sym is) (plan_waits s k (reply_row s e r begun id reply) (reply_none begun id _ (row_reply s e r begun id reply) none))
 request_waits s tokens k few e r begun id x none (unfit status is) =
-    subst (Waits s) (sym is) (plan_waits s k (responds_in s e r begun id status [] None) (responds_none s e r begun id status [] None none))
+    subst (Waits s) (sym is) (plan_waits s k (responds_in s e r begun id status [] None) (reply_none begun id _ (responds_reply s e r begun id status [] None) none))
 request_waits s tokens k few e r begun id x none (asks_callee to offer why is) =
     subst (Waits s) (sym is) (offer_step s tokens k begun _ none (first_begins s.calls (occasion s e) r id e.source to offer (no_tag_text r.parts why.no_tag) few tokens.calls))
   where
@@ -131,7 +133,7 @@ request_waits s tokens k few e r begun id x none (left place end rule_is is) =
     )
 request_waits s tokens k few e r begun id x none (counted_alone place end reply is) =
     subst (Waits s) (sym is) (
-    puts_waits s k s.tokens place _ (reply_row s e r begun id reply) (reply_none s e r begun id reply none)
+    puts_waits s k s.tokens place _ (reply_row s e r begun id reply) (reply_none begun id _ (row_reply s e r begun id reply) none)
     (λ d there. (counts_fits s.tokens s.calls.calls place end r.parts.cseq.number d tokens.calls there, counts_keeps s.calls.calls place end r.parts.cseq.number d there))
     )
 request_waits s tokens k few e r begun id x none (passed_on place end c offer rule_is why is) =
@@ -141,7 +143,7 @@ request_waits s tokens k few e r begun id x none (passed_on place end c offer ru
     )
 request_waits s tokens k few e r begun id x none (refreshed place end rule_is is) =
     subst (Waits s) (sym is) (
-    puts_waits s k s.tokens place _ (okay_plan s e r begun id) (responds_none s e r begun id 200 _ None none)
+    puts_waits s k s.tokens place _ (okay_plan s e r begun id) (reply_none begun id _ (okay_reply s e r begun id) none)
     (λ d there. (refreshes_fits s.tokens s.calls.calls place end r d tokens.calls there, refreshes_keeps s.calls.calls place end r d there))
     )
 
@@ -157,7 +159,7 @@ final_asked s r id t place c class to there asked is ends = record {
 }
 
 same_asked : (t : Transaction) (c d : StandingCall) → Some c ≡ Some d → IsAsked t.parts c → IsAsked t.parts d
-same_asked t c d same h = let is_d : c ≡ d = cc in subst (IsAsked t.parts) is_d h
+same_asked t c d same h = subst (IsAsked t.parts) (same_Some c d same) h
 
 abbrev pub told_response : Office → Response → ℕ → List Entry
 told_response s r id = Tells id (response_input r) (ack_at (at s.table.slots id) r) ∷ []

@@ -1,9 +1,10 @@
 -- A call that takes an input other than an offer: what waits afterwards.
-use Rattle.std.proofs.Common.{◌≡◌, ◌≢◌, ◌∙◌, ℕ, Bool, true, false, cond, ◌||◌, List, [], Option, Some, None, is_some, refl, ap, sym}
+use Rattle.std.proofs.Common.{◌≡◌, ◌≢◌, ◌∙◌, ℕ, Bool, true, false, cond, ◌||◌, List, Option, Some, None, is_some, refl, ap, sym}
 use Rattle.std.specs.Prelude.{slice_get}
 use Rattle.std.specs.List.{All}
 use Rattle.std.specs.Cmp.Lexicographic.{bytes_decides}
 use Rattle.std.proofs.lemmas.Bool.{eqb-true, false≢true}
+use Rattle.std.proofs.lemmas.Option.{same_Some}
 use Rattle.sip_message.specs.declared.message.Parts.{Parts}
 use Rattle.sip_message.specs.Words.{tag_text}
 use Rattle.dialogs.specs.declared.state.Dialog.{Dialog}
@@ -38,7 +39,7 @@ use Rattle.promise.proofs.Calls.{FitsLeg, KeepsIds, call_ids}
 use Rattle.promise.proofs.Coming.{IsLater}
 use Rattle.promise.proofs.Offering.{none_offered, said_offered}
 use Rattle.promise.proofs.Once.{IsSameNumber, NoneOffers}
-use Rattle.promise.proofs.Tables.{IsNoOfferInput, TakesFits, consumes_input, same_standing, takes_fits}
+use Rattle.promise.proofs.Tables.{IsNoOfferInput, TakesFits, consumes_input, takes_fits}
 use Rattle.promise.proofs.WaitSteps.{calm_fits, step_fits}
 
 -- ---- two requests that are the open offer of one call are one
@@ -53,7 +54,7 @@ same_asked : (p q : Parts) (c : StandingCall) → is_open p c ≡ true → is_op
 same_asked p q c one two =
     let a = opened p c one in
     let b = opened q c two in
-    let stands : a.0 ≡ b.0 = same_standing a.0 b.0 (sym a.1.stands ∙ b.1.stands) in
+    let stands : a.0 ≡ b.0 = same_Some a.0 b.0 (sym a.1.stands ∙ b.1.stands) in
     same_is (asked_end p c) (other a.0.offerer) a.1.end ∙ ap (λ (s : stage.Standing). other s.offerer) stands ∙ sym (same_is (asked_end q c) (other b.0.offerer) b.1.end)
 
 tag_by : (tag : List ℕ) (c : StandingCall) (b : Bool) → is_text c.callee_tag tag ≡ b → (b || is_tag_in (dialog_of Caller c.call) tag) ≡ true → tag ≡ tag_to (cond b Callee Caller) c
