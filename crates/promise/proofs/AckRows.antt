@@ -213,7 +213,7 @@ response_acks s k e r send id t x to line (answered place c there asked class is
     (λ now. success_answered now s.table r id t (ack_at (at s.table.slots id) r) step.dressed.changes to.there (answered_client r.parts t to.answers) class line tells) step.ack refl
     )
 response_acks s k e r send id t x to line (again place acked is) = subst (Acks s) (sym is) (quiet s k _ refl (refl, tt))
-response_acks s k e r send id t x to line (fork is) = subst (Acks s) (sym is) (quiet s k _ refl (refl, fork_tells s.calls _ t.parts r))
+response_acks s k e r send id t x to line (fork why is) = subst (Acks s) (sym is) (quiet s k _ refl (refl, fork_tells s.calls _ t.parts r))
 response_acks s k e r send id t x to line (ack_alone is) = subst (Acks s) (sym is) (quiet s k _ refl (refl, late_tells s.calls _ t.parts r))
 response_acks s k e r send id t x to line (refused place status c there asked class at_status is) = subst (Acks s) (sym is) (quiet s k _ refl (refl, takes_tells s.calls s.table _ place _ _ _))
 

@@ -35,7 +35,7 @@ event_owns : (s : Contents) → KnowsTokens (office s) → (e : Event) (taken : 
 event_owns s k e (Some taken) is = record { entries = tt; calls = calls_more s.tokens (s.tokens + 0) s.calls.calls (omega arith) k.calls }
 event_owns s k e None is = what_owns (office s) k (few_tokens s e is) (moment_at s e.now) e.salt e.what
 
-row_owns : (s : Contents) → KnowsTokens (office s) → (e : Event) → OwnEffect (office s) (row s e)
+pub row_owns : (s : Contents) → KnowsTokens (office s) → (e : Event) → OwnEffect (office s) (row s e)
 unfolding row
 row_owns s k e = event_owns s k e (only_counts s e) refl
 

@@ -16,6 +16,9 @@ pub mod Tables
 pub mod Offering
 pub mod Awaiting
 pub mod Once
+pub mod Tagged
+pub mod Leaving
+pub mod Byes
 pub mod WaitSteps
 pub mod WaitTakes
 pub mod WaitLost
@@ -36,3 +39,4 @@ pub mod Ending
 pub mod AckRows
 pub mod AckEvents
 pub mod Lists
+pub mod Rising

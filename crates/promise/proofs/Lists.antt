@@ -13,10 +13,10 @@ use Rattle.promise.proofs.Events.{after_knows, new_knows}
 use Rattle.promise.proofs.SendRows.{after_sent, new_sent}
 use Rattle.promise.proofs.WaitEvents.{after_waits, new_waits}
 
-new_messages : (c : Config) (s : Contents) → IsNew c s → KnowsMessages (office s) []
+pub new_messages : (c : Config) (s : Contents) → IsNew c s → KnowsMessages (office s) []
 new_messages c s new = record { tokens = new_knows c s new; waiting = new_waits c s new; again = new_sent c s new; acks = new_acks c s new }
 
-answer_messages : (s : Contents) (x : Entry) (sent : List Sent) (taken : Option Taken) → IsEntryWith s x taken → KnowsMessages (office s) sent → KnowsMessages (office (after_answer s x.event taken)) (sent ++ x.sends)
+pub answer_messages : (s : Contents) (x : Entry) (sent : List Sent) (taken : Option Taken) → IsEntryWith s x taken → KnowsMessages (office s) sent → KnowsMessages (office (after_answer s x.event taken)) (sent ++ x.sends)
 answer_messages s x sent None lost k =
     subst (λ ys. KnowsMessages (office s) (sent ++ ys)) (sym lost.sends) (subst (KnowsMessages (office s)) (sym (append-nil sent)) k)
 answer_messages s x sent (Some taken) is k = record {

@@ -66,7 +66,7 @@ asked_parts_at : (to : Option Addr) (r : Request) (made : ℕ) (t : Transaction)
 asked_parts_at None r made t h = absurd h
 asked_parts_at (Some to) r made t h = asked_parts_by r to (is_method (codes "ACK") r.parts) t h
 
-asked_parts : (r : Request) (made : ℕ) (t : Transaction) → OpensIn t (asks r made).changes → t.parts ≡ r.parts
+pub asked_parts : (r : Request) (made : ℕ) (t : Transaction) → OpensIn t (asks r made).changes → t.parts ≡ r.parts
 asked_parts r made t h = asked_parts_at (address_of r.uri) r made t h
 
 -- a request that carries no offer
@@ -130,28 +130,28 @@ cancel_none (Some t) u h offers = cancel_none_by t t.state 0 u h offers
 
 -- ---- responses
 
-trying_none : (a : Option Asker) (t : Transaction) → OpensIn t (says_trying a).changes → ⊥
+pub trying_none : (a : Option Asker) (t : Transaction) → OpensIn t (says_trying a).changes → ⊥
 trying_none None t h = h
 trying_none (Some a) t h = h
 
-provisional_none : (server : Addr) (a : Option Asker) (status : ℕ) (t : Transaction) → OpensIn t (says_provisional server a status).changes → ⊥
+pub provisional_none : (server : Addr) (a : Option Asker) (status : ℕ) (t : Transaction) → OpensIn t (says_provisional server a status).changes → ⊥
 provisional_none server None status t h = h
 provisional_none server (Some a) status t h = h
 
-answer_none : (server : Addr) (a : Option Asker) (description : Option Description) (t : Transaction) → OpensIn t (says_answer server a description).changes → ⊥
+pub answer_none : (server : Addr) (a : Option Asker) (description : Option Description) (t : Transaction) → OpensIn t (says_answer server a description).changes → ⊥
 answer_none server None description t h = h
 answer_none server (Some a) None t h = h
 answer_none server (Some a) (Some description) t h = h
 
-refusal_none : (a : Option Asker) (status : ℕ) (t : Transaction) → OpensIn t (says_refusal a status).changes → ⊥
+pub refusal_none : (a : Option Asker) (status : ℕ) (t : Transaction) → OpensIn t (says_refusal a status).changes → ⊥
 refusal_none None status t h = h
 refusal_none (Some a) status t h = h
 
-okay_none : (server : Addr) (a : Option Asker) (t : Transaction) → OpensIn t (says_okay server a).changes → ⊥
+pub okay_none : (server : Addr) (a : Option Asker) (t : Transaction) → OpensIn t (says_okay server a).changes → ⊥
 okay_none server None t h = h
 okay_none server (Some a) t h = h
 
-again_none : (o : Option _) (t : Transaction) → OpensIn t (says_again o).changes → ⊥
+pub again_none : (o : Option _) (t : Transaction) → OpensIn t (says_again o).changes → ⊥
 again_none None t h = h
 again_none (Some sent) t h = h
 

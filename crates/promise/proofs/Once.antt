@@ -1,9 +1,10 @@
 -- In no leg a number is given twice: changes that begin one request with an offer at most, whose number is new in its leg, keep that.
-use Rattle.std.proofs.Common.{◌≡◌, ◌∙◌, ℕ, true, List, [], ◌∷◌, ◌++◌, Option, Some, refl, ap, sym, subst, inl, inr}
+use Rattle.std.proofs.Common.{◌≡◌, ◌∙◌, ℕ, true, false, List, [], ◌∷◌, ◌++◌, Option, Some, refl, ap, sym, subst, inl, inr}
 use Rattle.sip_message.specs.declared.message.Parts.{Parts}
 use Rattle.sip_message.specs.Words.{tag_text}
 use Rattle.call_rules.specs.Speaking.{may_offer}
 use Rattle.transaction_machines.specs.declared.step.Starts.{Starts}
+use Rattle.transaction_machines.specs.Machines.{is_server}
 use Rattle.transactions.specs.declared.change.Entry.{Entry}
 use Rattle.transactions.specs.declared.change.Entry.TheVariants.{Opens, Tells, Answers, Leaves}
 use Rattle.transactions.specs.declared.transaction.Transaction.{Transaction}
@@ -28,6 +29,10 @@ AreFresh slots changes = (t : Transaction) → OpensIn t changes → IsOffering 
 
 abbrev pub NoneOffers : List Entry → Type 0
 NoneOffers changes = (t : Transaction) → OpensIn t changes → IsOffering t → ⊥
+
+-- nor any of the server's own
+abbrev pub NoneOwn : List Entry → Type 0
+NoneOwn changes = (t : Transaction) → OpensIn t changes → is_server t.state ≡ false → ⊥
 
 -- one at most begins a request that may carry an offer
 abbrev pub OneOffers : List Entry → Type 0
@@ -127,6 +132,12 @@ none_one (Leaves ∷ changes) none = none_one changes none
 
 pub none_then : (xs ys : List Entry) → NoneOffers xs → NoneOffers ys → NoneOffers (xs ++ ys)
 none_then xs ys none then t opens offers = elim (opens_split t xs ys opens) [ inl h ↦ none t h offers | inr h ↦ then t h offers ]
+
+pub own_offers : (changes : List Entry) → NoneOwn changes → NoneOffers changes
+own_offers changes none t opens offers = none t opens offers.client
+
+pub own_then : (xs ys : List Entry) → NoneOwn xs → NoneOwn ys → NoneOwn (xs ++ ys)
+own_then xs ys none then t opens client = elim (opens_split t xs ys opens) [ inl h ↦ none t h client | inr h ↦ then t h client ]
 
 pub one_then : (xs ys : List Entry) → OneOffers xs → NoneOffers ys → OneOffers (xs ++ ys)
 one_then [] ys one none = none_one ys none

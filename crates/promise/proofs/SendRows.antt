@@ -196,7 +196,7 @@ response_goes_by before s k e r begun send id t x b quiet (answered place c ther
     subst (SentEffect before) (sym is) (takes_goes before s k e begun send (Some id) place (inputs.Answer (described r.headers r.body)) (answers_leg s.calls.calls place t.parts r) b)
 response_goes_by before s k e r begun send id t x b quiet (again place acked is) =
     subst (SentEffect before) (sym is) (plan_sent before s k (acks_again s begun id) (entries_within [] _ begun (none_within _) (quiet place acked)))
-response_goes_by before s k e r begun send id t x b quiet (fork is) = subst (SentEffect before) (sym is) (step_sent before s k begun send None _ b (fork_sends before s.calls (occasion s e) t.parts r k.calls))
+response_goes_by before s k e r begun send id t x b quiet (fork why is) = subst (SentEffect before) (sym is) (step_sent before s k begun send None _ b (fork_sends before s.calls (occasion s e) t.parts r k.calls))
 response_goes_by before s k e r begun send id t x b quiet (ack_alone is) = subst (SentEffect before) (sym is) (step_sent before s k begun send None _ b (late_sends before s.calls (occasion s e) t.parts r k.calls))
 response_goes_by before s k e r begun send id t x b quiet (refused place status c there opens class at_status is) =
     subst (SentEffect before) (sym is) (takes_goes before s k e begun send None place (inputs.Refusal status) None b)

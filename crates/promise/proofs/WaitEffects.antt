@@ -1,7 +1,8 @@
 -- What an event comes to, where it begins no offer: what waits afterwards.
-use Rattle.std.proofs.Common.{◌≡◌, ◌∙◌, ◌≤◌, ℕ, Bool, true, false, List, [], ◌∷◌, ◌++◌, Option, Some, None, refl, ap, sym, subst, arith}
+use Rattle.std.proofs.Common.{◌≡◌, ◌∙◌, ◌<◌, ◌≤◌, ℕ, Bool, true, false, List, [], ◌∷◌, ◌++◌, Option, Some, None, refl, ap, sym, subst, inl, inr, arith}
 use Rattle.std.specs.Prelude.{slice_get}
 use Rattle.std.specs.List.{All}
+use Rattle.std.proofs.lemmas.Bool.{false≢true}
 use Rattle.std.proofs.lemmas.List.Elements.{All-set}
 use Rattle.sip_uri.specs.declared.uri.Uri.{Uri}
 use Rattle.sip_message.specs.declared.message.Parts.{Parts}
@@ -38,14 +39,17 @@ use Rattle.plans.specs.Office.{Office}
 use Rattle.plans.specs.CallRows.{of_plan, puts_if, with_step}
 use Rattle.plans.specs.Effect.{Effect}
 use Rattle.plans.specs.Plan.{Plan}
-use Rattle.promise.specs.Waiting.{FitsCall, IsCounted, IsOffering, KnowsWaiting}
+use Rattle.promise.specs.Knowing.{KnowsCalls}
+use Rattle.promise.specs.Tokens.{IsMade}
+use Rattle.promise.specs.Waiting.{FitsCall, IsCounted, IsOffering, KnowsWaiting, from_tag, waits}
 use Rattle.promise.proofs.Awaiting.{CallKeeps, Grows, IsOpen, LegGrows, LegKeeps, beside_keeps, beside_standing, call_kept, fits_after, later_all, opened, opens_on, fits_at}
+use Rattle.promise.proofs.Byes.{ByesAbove, ack_byes, fork_byes}
 use Rattle.promise.proofs.Calls.{FitsLeg, same_leg_put}
-use Rattle.promise.proofs.Coming.{IsLater, OpensIn}
-use Rattle.promise.proofs.Offering.{none_offered, said_offered}
-use Rattle.promise.proofs.Once.{AreFresh, NoneOffers, OneOffers, none_one, none_then}
+use Rattle.promise.proofs.Coming.{IsLater, OpensIn, later_self}
+use Rattle.promise.proofs.Offering.{none_offered, opens_split, said_offered}
+use Rattle.promise.proofs.Once.{NoneOffers, NoneOwn, OneOffers, none_one, none_then, own_offers, own_then}
 use Rattle.promise.proofs.Replying.{IsReply}
-use Rattle.promise.proofs.ResponseViews.{IsAsked}
+use Rattle.promise.proofs.ResponseViews.{IsAsked, IsForked}
 use Rattle.promise.proofs.Tables.{has_offer}
 use Rattle.promise.proofs.WaitTakes.{IsLost, StepWaits, same_is}
 
@@ -53,36 +57,50 @@ pub record Waits (s : Office) (x : Effect) : Type 0 where
   pub stayed : (now id : ℕ) (t u : Transaction) → at s.table.slots id ≡ Some t → at (entered_all now s.table x.plan.changes).slots id ≡ Some u → IsLater t u → IsOffering t
       → All (FitsCall u) x.calls.standing.calls
   pub began : (t : Transaction) → OpensIn t x.plan.changes → IsOffering t → All (FitsCall t) x.calls.standing.calls
-  pub fresh : AreFresh s.table.slots x.plan.changes
   pub one : OneOffers x.plan.changes
+  -- one whose wait is over stays counted, and what begins has a greater number than those of before in its leg
+  pub counted : (t : Transaction) → waits t.state ≡ false → IsMade s.tokens (from_tag t) → All (FitsCall t) s.calls.calls → All (FitsCall t) x.calls.standing.calls
+  pub above : (t : Transaction) → OpensIn t x.plan.changes → IsOffering t → (v : Transaction) → IsMade s.tokens (from_tag v) → All (FitsCall v) s.calls.calls → from_tag v ≡ from_tag t
+      → v.parts.cseq.number < t.parts.cseq.number
+  pub byes : KnowsCalls s.tokens s.calls.calls → ByesAbove s.tokens s.calls.calls x.plan.changes
 
+-- where no offer begins
 pub calm : (s : Office) (x : Effect) → NoneOffers x.plan.changes
     → ((now id : ℕ) (t u : Transaction) → at s.table.slots id ≡ Some t → at (entered_all now s.table x.plan.changes).slots id ≡ Some u → IsLater t u → IsOffering t → All (FitsCall u) x.calls.standing.calls)
-    → Waits s x
-calm s x none stayed = record {
+    → ((t : Transaction) → waits t.state ≡ false → All (FitsCall t) s.calls.calls → All (FitsCall t) x.calls.standing.calls) → (KnowsCalls s.tokens s.calls.calls → ByesAbove s.tokens s.calls.calls x.plan.changes) → Waits s x
+calm s x none stayed counted byes = record {
   stayed = stayed;
   began = λ t opens offers. absurd (none t opens offers);
-  fresh = λ t opens offers id v at_v offers_v same. none t opens offers;
   one = none_one x.plan.changes none;
+  counted = λ t over tag each. counted t over each;
+  above = λ t opens offers v tag each same. absurd (none t opens offers);
+  byes = byes;
 }
 
-pub plan_waits : (s : Office) → KnowsWaiting s → (p : Plan) → NoneOffers p.changes → Waits s (of_plan s p)
-plan_waits s k p none = calm s (of_plan s p) none (λ now id t u there e later offers. later_all t u s.calls.calls later (k.awaited id t there offers))
+none_byes : (made : ℕ) (calls : List StandingCall) (changes : List Entry) → NoneOwn changes → ByesAbove made calls changes
+none_byes made calls changes none t opens place c there bye = absurd (none t opens bye.bye.client)
+
+pub plan_waits : (s : Office) → KnowsWaiting s → (p : Plan) → NoneOwn p.changes → Waits s (of_plan s p)
+plan_waits s k p none =
+    calm s (of_plan s p) (own_offers p.changes none) (λ now id t u there e later offers. later_all t u s.calls.calls later (k.awaited id t there offers)) (λ t over each. each)
+    (λ knows. none_byes s.tokens s.calls.calls p.changes none)
 
 -- ---- replies
 
-pub reply_none : (begun : List Entry) (id : ℕ) (p : Plan) → IsReply begun id p → NoneOffers begun → NoneOffers p.changes
-reply_none begun id p is none = subst (λ changes. NoneOffers changes) (sym is.changes) (none_then begun (answer_of id is.response ∷ []) none (λ t opens offers. opens))
+pub reply_none : (begun : List Entry) (id : ℕ) (p : Plan) → IsReply begun id p → NoneOwn begun → NoneOwn p.changes
+reply_none begun id p is none = subst (λ changes. NoneOwn changes) (sym is.changes) (own_then begun (answer_of id is.response ∷ []) none (λ t opens offers. opens))
 
 -- ---- a call takes an input
 
-pub step_waits : (s : Office) → KnowsWaiting s → (begun : List Entry) (send : Option Outgoing) (id : Option ℕ) (final : Bool) (place : ℕ) (x : steps.Effect) → NoneOffers begun
+pub step_waits : (s : Office) → KnowsWaiting s → (begun : List Entry) (send : Option Outgoing) (id : Option ℕ) (final : Bool) (place : ℕ) (x : steps.Effect) → NoneOwn begun
     → StepWaits final place s.calls.calls x
     → (final ≡ true → (now at_id : ℕ) (t u : Transaction) → at s.table.slots at_id ≡ Some t → at (entered_all now s.table (begun ++ x.dressed.changes)).slots at_id ≡ Some u → IsLater t u → IsOffering t
     → IsLost s.calls.calls place t u) → Waits s (with_step s.acks begun send id x)
 step_waits s k begun send id final place x none w lost =
-    calm s (with_step s.acks begun send id x) (none_then begun x.dressed.changes none w.none)
+    calm s (with_step s.acks begun send id x) (none_then begun x.dressed.changes (own_offers begun none) w.none)
     (λ now at_id t u there e later offers. w.fits t u later (k.awaited at_id t there offers) (λ is. lost is now at_id t u there e later offers))
+    (λ t over each. w.fits t t (later_self t) each (λ is c there tag waiting opens. false≢true (sym over ∙ waiting)))
+    (λ knows t opens at_place c there bye. elim (opens_split t begun x.dressed.changes opens) [ inl h ↦ absurd (none t h bye.bye.client) | inr h ↦ w.byes s.tokens knows t h at_place c there bye ])
 
 -- ---- a dialog is put
 
@@ -112,35 +130,39 @@ puts_fits : (t u : Transaction) (made place : ℕ) (leg : Option LegDialog) (cal
 puts_fits t u made place None calls later fits each = later_all t u calls.calls later each
 puts_fits t u made place (Some leg) calls later fits each = changed_fits t u made place leg calls.calls (slice_get calls.calls place) refl later fits each
 
-pub puts_waits : (s : Office) → KnowsWaiting s → (made place : ℕ) (leg : Option LegDialog) (p : Plan) → NoneOffers p.changes
+pub puts_waits : (s : Office) → KnowsWaiting s → (made place : ℕ) (leg : Option LegDialog) (p : Plan) → NoneOwn p.changes
     → ((d : StandingCall) → slice_get s.calls.calls place ≡ Some d → FitsLeg made d leg × LegKeeps d.call leg)
     → Waits s (record { plan = p; calls = unchanged (puts_if s.calls place leg); acks = s.acks })
 puts_waits s k made place leg p none fits =
-    calm s (record { plan = p; calls = unchanged (puts_if s.calls place leg); acks = s.acks }) none
+    calm s (record { plan = p; calls = unchanged (puts_if s.calls place leg); acks = s.acks }) (own_offers p.changes none)
     (λ now id t u there e later offers. puts_fits t u made place leg s.calls later fits (k.awaited id t there offers))
+    (λ t over each. puts_fits t t made place leg s.calls (later_self t) fits each) (λ knows. none_byes s.tokens s.calls.calls p.changes none)
 
 -- ---- a 2xx that no call takes
 
-alone_waits : (calls : Standing) (o : Occasion) (leg : Dialog) (actions : List Action) → has_offer actions ≡ false → StepWaits false 0 calls.calls (forked calls (messages (fork_scene o leg) None actions))
-alone_waits calls o leg actions none = record {
+alone_waits : (calls : Standing) (o : Occasion) (leg : Dialog) (actions : List Action) → has_offer actions ≡ false
+    → ((made : ℕ) → KnowsCalls made calls.calls → ByesAbove made calls.calls (messages (fork_scene o leg) None actions).dressed.changes) → StepWaits false 0 calls.calls (forked calls (messages (fork_scene o leg) None actions))
+alone_waits calls o leg actions none byes = record {
   none = λ t opens offers. none_offered (lent_scene (fork_scene o leg)) actions t none (said_offered (fork_scene o leg) None actions t opens offers);
   fits = λ t u later each lost. later_all t u calls.calls later each;
+  byes = byes;
 }
 
 nothing_alone : (calls : Standing) → StepWaits false 0 calls.calls (steps.no_effect calls)
-nothing_alone calls = record { none = λ t opens offers. opens; fits = λ t u later each lost. later_all t u calls.calls later each }
+nothing_alone calls = record { none = λ t opens offers. opens; fits = λ t u later each lost. later_all t u calls.calls later each; byes = λ made knows t opens. absurd opens }
 
-fork_by_waits : (calls : Standing) (o : Occasion) (asked : Parts) (response : Response) (contact : Option Uri) → StepWaits false 0 calls.calls (fork_by calls o asked response contact)
-fork_by_waits calls o asked response None = nothing_alone calls
-fork_by_waits calls o asked response (Some target) = alone_waits calls o (callers_dialog asked response target) (Ack Callee ∷ Bye Callee ∷ []) refl
+fork_by_waits : (calls : Standing) (o : Occasion) (asked : Parts) (response : Response) (contact : Option Uri) → IsForked calls.calls asked response → StepWaits false 0 calls.calls (fork_by calls o asked response contact)
+fork_by_waits calls o asked response None why = nothing_alone calls
+fork_by_waits calls o asked response (Some target) why =
+    alone_waits calls o (callers_dialog asked response target) (Ack Callee ∷ Bye Callee ∷ []) refl (λ made knows. fork_byes made calls.calls o asked response target knows why)
 
-pub fork_waits : (calls : Standing) (o : Occasion) (asked : Parts) (response : Response) → StepWaits false 0 calls.calls (fork_row calls o asked response)
+pub fork_waits : (calls : Standing) (o : Occasion) (asked : Parts) (response : Response) → IsForked calls.calls asked response → StepWaits false 0 calls.calls (fork_row calls o asked response)
 unfolding fork_row
-fork_waits calls o asked response = fork_by_waits calls o asked response (reached_at (contacts_of response.headers))
+fork_waits calls o asked response why = fork_by_waits calls o asked response (reached_at (contacts_of response.headers)) why
 
 late_by_waits : (calls : Standing) (o : Occasion) (asked : Parts) (response : Response) (contact : Option Uri) → StepWaits false 0 calls.calls (late_by calls o asked response contact)
 late_by_waits calls o asked response None = nothing_alone calls
-late_by_waits calls o asked response (Some target) = alone_waits calls o (later_dialog asked response target) (Ack Callee ∷ []) refl
+late_by_waits calls o asked response (Some target) = alone_waits calls o (later_dialog asked response target) (Ack Callee ∷ []) refl (λ made knows. ack_byes made calls.calls o (later_dialog asked response target))
 
 pub late_waits : (calls : Standing) (o : Occasion) (asked : Parts) (response : Response) → StepWaits false 0 calls.calls (late_row calls o asked response)
 unfolding late_row

@@ -1,5 +1,5 @@
 -- What waits of an agent's requests after an event.
-use Rattle.std.proofs.Common.{◌≡◌, ℕ, zero, suc, List, [], Option, Some, None, refl, subst}
+use Rattle.std.proofs.Common.{◌≡◌, ℕ, zero, suc, List, [], Option, Some, None, refl, subst, arith}
 use Rattle.std.specs.List.{All}
 use Rattle.std.proofs.lemmas.Option.{none-some}
 use Rattle.configuration.specs.declared.config.Config.{Config}
@@ -17,7 +17,8 @@ use Rattle.promise.specs.Waiting.{FitsCall, IsOffering, KnowsWaiting}
 use Rattle.promise.proofs.Awaiting.{later_all}
 use Rattle.promise.proofs.Coming.{CameFrom, all_came, began, stayed}
 use Rattle.promise.proofs.Events.{few_tokens}
-use Rattle.promise.proofs.Once.{offering_before, once_kept}
+use Rattle.promise.proofs.Once.{AreFresh, offering_before, once_kept}
+use Rattle.promise.proofs.Slots.{own_at}
 use Rattle.promise.proofs.WaitEffects.{Waits, plan_waits}
 use Rattle.promise.proofs.WaitRows.{what_waits}
 
@@ -37,10 +38,10 @@ new_waits c s new = record {
 event_waits : (s : Contents) → KnowsTokens (office s) → KnowsWaiting (office s) → (e : Event) (taken : Option Taken) → only_counts s e ≡ taken → Waits (office s) (row_by s e taken)
 event_waits s tokens k e (Some taken) is =
     let w = plan_waits (office s) k (nothing taken) (λ t opens offers. opens) in
-    record { stayed = w.stayed; began = w.began; fresh = w.fresh; one = w.one }
+    record { stayed = w.stayed; began = w.began; one = w.one; counted = w.counted; above = w.above; byes = w.byes }
 event_waits s tokens k e None is = what_waits (office s) tokens k (few_tokens s e is) (moment_at s e.now) e.salt e.what
 
-row_waits : (s : Contents) → KnowsTokens (office s) → KnowsWaiting (office s) → (e : Event) → Waits (office s) (row s e)
+pub row_waits : (s : Contents) → KnowsTokens (office s) → KnowsWaiting (office s) → (e : Event) → Waits (office s) (row s e)
 unfolding row
 row_waits s tokens k e = event_waits s tokens k e (only_counts s e) refl
 
@@ -49,14 +50,19 @@ awaited_by : (s : Contents) → KnowsWaiting (office s) → (now : ℕ) (x : Eff
 awaited_by s k now x w id u e offers (stayed t there later) = w.stayed now id t u there e later (offering_before t u later offers)
 awaited_by s k now x w id u e offers (began t opens later) = later_all t u x.calls.standing.calls later (w.began t opens (offering_before t u later offers))
 
-waits_after : (s : Contents) → KnowsWaiting (office s) → (now : ℕ) (x : Effect) → Waits (office s) x → KnowsWaiting (office (after_event s now x))
+-- a number that is greater than those of before is none of them
+fresh_after : (s : Contents) → KnowsTokens (office s) → KnowsWaiting (office s) → (x : Effect) → Waits (office s) x → AreFresh s.table.slots x.plan.changes
+fresh_after s tokens k x w t opens offers id v there offers_v same =
+    omega (arith, same.number, w.above t opens offers v (own_at s.tokens s.table.slots id v tokens.slots there offers_v.client).tag (k.awaited id v there offers_v) same.tag)
+
+waits_after : (s : Contents) → KnowsTokens (office s) → KnowsWaiting (office s) → (now : ℕ) (x : Effect) → Waits (office s) x → KnowsWaiting (office (after_event s now x))
 unfolding after_event
-waits_after s k now x w = record {
+waits_after s tokens k now x w = record {
   awaited = λ id u e offers. awaited_by s k now x w id u e offers (all_came now s.table x.plan.changes id u e);
   once = λ i j t u at_t at_u offers_t offers_u tag number.
-      once_kept now s.table x.plan.changes w.one w.fresh (λ i j t u at_t at_u one two same. k.once i j t u at_t at_u one two same.tag same.number) i j t u at_t at_u offers_t offers_u
+      once_kept now s.table x.plan.changes w.one (fresh_after s tokens k x w) (λ i j t u at_t at_u one two same. k.once i j t u at_t at_u one two same.tag same.number) i j t u at_t at_u offers_t offers_u
       (record { tag = tag; number = number });
 }
 
 pub after_waits : (s : Contents) (e : Event) → KnowsTokens (office s) → KnowsWaiting (office s) → KnowsWaiting (office (after s e))
-after_waits s e tokens k = waits_after s k (moment_after s e) (row s e) (row_waits s tokens k e)
+after_waits s e tokens k = waits_after s tokens k (moment_after s e) (row s e) (row_waits s tokens k e)

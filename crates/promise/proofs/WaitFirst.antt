@@ -1,7 +1,6 @@
 -- A call that begins: its first INVITE is its open offer, in a leg of a tag that is new.
-use Rattle.std.proofs.Common.{◌≡◌, ◌∙◌, ℕ, ◌+◌, ◌<◌, ◌^◌, Bool, true, false, cond, ◌||◌, List, [], ◌∷◌, ◌++◌, Option, Some, None, option_map, is_some, refl, ap, sym, subst, inl, inr, arith}
+use Rattle.std.proofs.Common.{◌≡◌, ◌∙◌, ℕ, ◌+◌, ◌<◌, ◌^◌, Bool, true, false, cond, List, [], ◌∷◌, ◌++◌, Option, Some, None, option_map, is_some, refl, ap, sym, subst, inl, inr, arith}
 use Rattle.std.specs.List.{All}
-use Rattle.std.specs.Cmp.Lexicographic.{bytes_decides}
 use Rattle.std.specs.Option.{option_copied}
 use Rattle.std.proofs.lemmas.List.Elements.{All-push, All-weaker}
 use Rattle.std.proofs.lemmas.Option.{same_Some}
@@ -24,7 +23,6 @@ use Rattle.call_core.specs.CallRows.{first_call_row}
 use Rattle.call_core.specs.Calls.{dialog_of}
 use Rattle.calls.specs.State.{Standing}
 use Rattle.calls.specs.Carrying.{with_step}
-use Rattle.calls.specs.Finding.{has_tag, is_tag_in, is_text}
 use Rattle.calls.specs.declared.standing_call.StandingCall.{StandingCall}
 use Rattle.call_rules.specs.Responses.{asked_end, is_last_in}
 use Rattle.call_steps.specs.declared.occasion.Occasion.{Occasion}
@@ -32,7 +30,7 @@ use Rattle.call_steps.specs.Effects as steps
 use Rattle.call_steps.specs.Effects.{no_effect}
 use Rattle.call_steps.specs.Messages.{messages}
 use Rattle.call_steps.specs.Rows.{begins_by, first_asker, first_leg, first_row, first_standing}
-use Rattle.call_steps.specs.Scenes.{first_scene, fresh}
+use Rattle.call_steps.specs.Scenes.{first_scene}
 use Rattle.call_steps.specs.Values.{SceneValue, lent}
 use Rattle.legs.specs.Messages.{new_leg}
 use Rattle.responses.specs.Tokens.{token}
@@ -41,45 +39,40 @@ use Rattle.promise.specs.Tokens.{IsMade}
 use Rattle.promise.specs.Waiting.{FitsCall, IsCounted, IsOffering, from_tag}
 use Rattle.promise.proofs.Apartness.{HasNewTags, made_tag, old_and_new}
 use Rattle.promise.proofs.Awaiting.{later_all, open_from}
+use Rattle.promise.proofs.Byes.{ByesAbove, first_byes}
 use Rattle.promise.proofs.Calls.{first_ids}
 use Rattle.promise.proofs.Coming.{IsLater, OpensIn}
 use Rattle.promise.proofs.Offering.{IsOfferIn, IsOfferTo, said_offered}
 use Rattle.promise.proofs.OneOffer.{HasOne, said_one}
-use Rattle.promise.proofs.Once.{IsSameNumber, OneOffers}
+use Rattle.promise.proofs.Once.{OneOffers}
 use Rattle.promise.proofs.Steps.{new_tags}
+use Rattle.promise.proofs.Tagged.{asked_callee, tagged}
 
 -- ---- a step that may begin an offer, where so many tokens were made before it
 
 pub record BeginsOffer (made : ℕ) (calls : List StandingCall) (x : steps.Effect) : Type 0 where
   pub stayed : (t u : Transaction) → IsLater t u → IsMade made (from_tag t) → All (FitsCall t) calls → All (FitsCall u) x.outcome.standing.calls
   pub began : (t : Transaction) → OpensIn t x.dressed.changes → IsOffering t → All (FitsCall t) x.outcome.standing.calls
-  pub fresh : (t : Transaction) → OpensIn t x.dressed.changes → IsOffering t → (v : Transaction) → IsMade made (from_tag v) → All (FitsCall v) calls → IsSameNumber v t → ⊥
+  pub above : (t : Transaction) → OpensIn t x.dressed.changes → IsOffering t → (v : Transaction) → IsMade made (from_tag v) → All (FitsCall v) calls → from_tag v ≡ from_tag t
+      → v.parts.cseq.number < t.parts.cseq.number
+  pub byes : KnowsCalls made calls → ByesAbove made calls x.dressed.changes
   pub one : OneOffers x.dressed.changes
 
 pub nothing_begins : (made : ℕ) (calls : Standing) → BeginsOffer made calls.calls (no_effect calls)
 nothing_begins made calls = record {
   stayed = λ t u later tag each. later_all t u calls.calls later each;
   began = λ t opens offers. absurd opens;
-  fresh = λ t opens offers v tag each same. opens;
+  above = λ t opens offers v tag each same. absurd opens;
+  byes = λ knows t opens. absurd opens;
   one = tt;
 }
 
 -- ---- tags
 
-tagged_by : (tag : List ℕ) (c : StandingCall) (b : Bool) → is_text c.callee_tag tag ≡ b → (b || is_tag_in (dialog_of Caller c.call) tag) ≡ true → IsTagOf c tag
-tagged_by tag c true is has = inr (sym ((bytes_decides c.callee_tag tag).0 is))
-tagged_by tag c false is has = inl (sym ((bytes_decides c.call.caller.id.ours tag).0 has))
-
-pub tagged : (tag : List ℕ) (c : StandingCall) → has_tag tag c ≡ true → IsTagOf c tag
-tagged tag c has = tagged_by tag c (is_text c.callee_tag tag) refl has
-
 -- a tag that was made before is none of a call whose tags are new
 new_untagged : (made : ℕ) (c : StandingCall) (tag : List ℕ) → HasNewTags made c → IsMade made tag → IsTagOf c tag → ⊥
 new_untagged made c tag new old (inl is) = old_and_new made new.salt new.first tag old new.new_first (omega (arith, new.in_order, new.few)) (is ∙ new.caller)
 new_untagged made c tag new old (inr is) = old_and_new made new.salt new.second tag old new.new_second new.few (is ∙ new.callee)
-
-pub asked_callee : (p : Parts) (c : StandingCall) → tag_text p.from.params ≡ c.callee_tag → asked_end p c ≡ Callee
-asked_callee p c is = rw ((bytes_decides c.callee_tag (tag_text p.from.params)).1 (sym is)) refl
 
 -- ---- the first INVITE
 
@@ -155,7 +148,8 @@ begins_by_offer calls o r id source target offer (Some contact) e few all =
           pushed_fits t (with_step c step) calls.calls (is_some step.call.standing) stands
           (All-weaker (HasMadeTags o.tokens) (FitsCall t) (λ x. new_fits o.tokens o.salt (o.tokens + 3) t x (omega arith) (omega (arith, few)) (offered t opens offers).tag) calls.calls all.tags)
           (first_fits o r id (calls.begun + 1) source contact target offer calls.pool t (offered t opens offers));
-      fresh = λ t opens offers v tag each same. old_and_new o.tokens o.salt (o.tokens + 3) (from_tag v) tag (omega arith) (omega (arith, few)) (same.tag ∙ (offered t opens offers).tag);
+      above = λ t opens offers v tag each same. absurd (old_and_new o.tokens o.salt (o.tokens + 3) (from_tag v) tag (omega arith) (omega (arith, few)) (same ∙ (offered t opens offers).tag));
+      byes = λ knows. first_byes o (first_asker o r id source) r.max_forwards leg step.description calls.calls step.actions refl few;
       one = said_one s None step.actions (first_has_one c.call offer calls.pool o.now);
     }
 

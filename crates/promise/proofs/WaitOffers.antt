@@ -1,16 +1,12 @@
 -- An offer inside a call that is passed on: what waits afterwards.
-use Rattle.std.proofs.Common.{◌≡◌, ◌≢◌, ◌∙◌, ℕ, zero, suc, ◌<◌, Bool, true, false, cond, ◌||◌, List, [], ◌∷◌, get_or, length, Option, Some, None, option_map, is_some, refl, ap, sym, subst, inl, inr, arith}
+use Rattle.std.proofs.Common.{◌≡◌, ◌≢◌, ◌∙◌, ℕ, ◌<◌, Bool, true, false, cond, List, get_or, length, Option, Some, None, is_some, refl, ap, sym, subst, inl, inr, arith}
 use Rattle.std.specs.Prelude.{slice_get, slice_set}
 use Rattle.std.specs.List.{All, remove}
-use Rattle.std.specs.Cmp.Lexicographic.{bytes_decides}
-use Rattle.std.specs.Option.{option_copied}
 use Rattle.std.proofs.lemmas.Bool.{cases_eq, false≢true}
 use Rattle.std.proofs.lemmas.List.{get_or-set_other, get_or-set_same, length-set}
-use Rattle.std.proofs.lemmas.Option.{none-some, same_Some, slice_get-get_or, slice_get_within}
+use Rattle.std.proofs.lemmas.Option.{slice_get-get_or, slice_get_within}
 use Rattle.sip_uri.specs.declared.uri.Addr.{Addr}
-use Rattle.sip_message.specs.declared.message.Parts.{Parts}
 use Rattle.sip_message.specs.declared.message.Request.{Request}
-use Rattle.sip_message.specs.Words.{tag_text}
 use Rattle.sdp.specs.declared.description.Description.{Description}
 use Rattle.dialogs.specs.declared.state.Dialog.{Dialog}
 use Rattle.transactions.specs.declared.transaction.Transaction.{Transaction}
@@ -29,89 +25,32 @@ use Rattle.call_rules.specs.Responses.{asked_end, is_last_in}
 use Rattle.calls.specs.State.{Standing}
 use Rattle.calls.specs.Carrying.{with_step}
 use Rattle.calls.specs.Changes.{beside}
-use Rattle.calls.specs.Finding.{has_tag, is_text}
+use Rattle.calls.specs.Finding.{has_tag}
 use Rattle.calls.specs.declared.standing_call.StandingCall.{StandingCall}
 use Rattle.call_steps.specs.declared.occasion.Occasion.{Occasion}
 use Rattle.call_steps.specs.Rows.{counts, counts_by, counts_in, does, messages_of, offer_coming, offers_by, offers_row, put_with}
 use Rattle.call_steps.specs.Scenes.{dialog_in, passed_id, scene, tag_to}
-use Rattle.call_steps.specs.Values.{ComingValue, lent, lent_scene}
-use Rattle.legs.specs.Dressing.{dialog_with}
-use Rattle.promise.specs.Knowing.{Apart, ApartFrom, AreApart, HasLegTag, HasMadeTags, IsTagOf, KnowsCalls}
+use Rattle.call_steps.specs.Values.{ComingValue, lent_scene}
+use Rattle.promise.specs.Knowing.{KnowsCalls}
 use Rattle.promise.specs.Waiting.{FitsCall, IsCounted, IsOffering, from_tag}
 use Rattle.promise.proofs.Apartness.{SameTags}
-use Rattle.promise.proofs.Awaiting.{CallKeeps, Keeps, beside_keeps, beside_standing, call_grows_then, fits_after, fits_at, keeps_at, later_all, open_from, put_or_gone, same_end}
-use Rattle.promise.proofs.Calls.{call_at, call_ids, same_beside}
+use Rattle.promise.proofs.Awaiting.{CallKeeps, Keeps, LegGrows, beside_keeps, beside_standing, call_grows_then, fits_after, fits_at, keeps_at, later_all, leg_kept, open_from, put_or_gone, same_end}
+use Rattle.promise.proofs.Byes.{does_byes}
+use Rattle.promise.proofs.Calls.{FitsLeg, call_at, call_ids, same_beside}
 use Rattle.promise.proofs.Coming.{OpensIn}
 use Rattle.promise.proofs.Offering.{IsOfferIn, IsOfferTo, said_offered}
 use Rattle.promise.proofs.OneOffer.{said_one}
-use Rattle.promise.proofs.Once.{IsSameNumber}
 use Rattle.promise.proofs.Steps.{counts_fits}
-use Rattle.promise.proofs.WaitFirst.{BeginsOffer, asked_callee, tagged}
+use Rattle.promise.proofs.Tagged.{asked_at, differs_at, has_tag_of, leg_tag, one_tagged, scene_dialog, tag_of_end, tagged}
+use Rattle.promise.proofs.WaitFirst.{BeginsOffer}
 use Rattle.promise.proofs.WaitPassed.{PassesOn, counted, last_counted, none_open, passes_grows, passes_on}
-use Rattle.promise.proofs.WaitSteps.{counts_keeps_in}
-
--- ---- tags
-
-leg_tag : (made : ℕ) (x : End) (c : StandingCall) (d : Dialog) → HasMadeTags made c → dialog_of x c.call ≡ Some d → d.id.ours ≡ tag_to x c
-leg_tag made Caller c d tags is = ap (λ (e : Dialog). e.id.ours) (same_Some d c.call.caller (sym is))
-leg_tag made Callee c d tags is = callee_tag c.call.callee d is tags.leg
-  where
-    callee_tag : (o : Option Dialog) (d : Dialog) → o ≡ Some d → HasLegTag c.callee_tag o → d.id.ours ≡ c.callee_tag
-    callee_tag None d is h = absurd (none-some d is)
-    callee_tag (Some e) d is h = ap (λ (x : Dialog). x.id.ours) (same_Some d e (sym is)) ∙ h
-
-tag_of_end : (x : End) (c : StandingCall) (tag : List ℕ) → tag ≡ tag_to x c → IsTagOf c tag
-tag_of_end Caller c tag is = inl is
-tag_of_end Callee c tag is = inr is
-
-or_true : (b : Bool) → (b || true) ≡ true
-or_true true = refl
-or_true false = refl
-
-has_tag_of : (c : StandingCall) (tag : List ℕ) → IsTagOf c tag → has_tag tag c ≡ true
-has_tag_of c tag (inl is) = rw ((bytes_decides c.call.caller.id.ours tag).1 (sym is)) (or_true (is_text c.callee_tag tag))
-has_tag_of c tag (inr is) = rw ((bytes_decides c.callee_tag tag).1 (sym is)) refl
-
-from_apart : (x : StandingCall) (calls : List StandingCall) (i : ℕ) (e : StandingCall) → ApartFrom x calls → slice_get calls i ≡ Some e → Apart x e
-from_apart x [] i e h there = absurd (none-some e there)
-from_apart x (y ∷ calls) zero e h there = subst (Apart x) (same_Some y e there) h.0
-from_apart x (y ∷ calls) (suc i) e h there = from_apart x calls i e h.1 there
-
--- no tag is of two calls
-one_tagged : (tag : List ℕ) (calls : List StandingCall) (i j : ℕ) (c d : StandingCall) → AreApart calls → slice_get calls i ≡ Some c → slice_get calls j ≡ Some d → IsTagOf c tag → IsTagOf d tag → i ≡ j
-one_tagged tag [] i j c d apart at_c at_d one two = absurd (none-some c at_c)
-one_tagged tag (y ∷ calls) zero zero c d apart at_c at_d one two = refl
-one_tagged tag (y ∷ calls) zero (suc j) c d apart at_c at_d one two = absurd (from_apart y calls j d apart.1 at_d tag (subst (λ x. IsTagOf x tag) (sym (same_Some y c at_c)) one) two)
-one_tagged tag (y ∷ calls) (suc i) zero c d apart at_c at_d one two = absurd (from_apart y calls i c apart.1 at_c tag (subst (λ x. IsTagOf x tag) (sym (same_Some y d at_d)) two) one)
-one_tagged tag (y ∷ calls) (suc i) (suc j) c d apart at_c at_d one two = ap suc (one_tagged tag calls i j c d apart.2 at_c at_d one two)
-
-differs_at : (calls : List StandingCall) (place : ℕ) (c : StandingCall) → AreApart calls → slice_get calls place ≡ Some c → c.call.caller.id.ours ≢ c.callee_tag
-differs_at [] place c apart there = absurd (none-some c there)
-differs_at (y ∷ calls) zero c apart there = subst (λ (x : StandingCall). x.call.caller.id.ours ≢ x.callee_tag) (same_Some y c there) apart.0
-differs_at (y ∷ calls) (suc place) c apart there = differs_at calls place c apart.2 there
-
-caller_by : (tag : List ℕ) (c : StandingCall) (b : Bool) → is_text c.callee_tag tag ≡ b → tag ≡ c.call.caller.id.ours → c.call.caller.id.ours ≢ c.callee_tag → cond b Callee Caller ≡ Caller
-caller_by tag c true is tag_is differ = absurd (differ (sym tag_is ∙ sym ((bytes_decides c.callee_tag tag).0 is)))
-caller_by tag c false is tag_is differ = refl
-
-asked_at : (p : Parts) (x : End) (c : StandingCall) → tag_text p.from.params ≡ tag_to x c → c.call.caller.id.ours ≢ c.callee_tag → asked_end p c ≡ x
-asked_at p Caller c is differ = caller_by (tag_text p.from.params) c (is_text c.callee_tag (tag_text p.from.params)) refl is differ
-asked_at p Callee c is differ = asked_callee p c is
+use Rattle.promise.proofs.WaitSteps.{counts_keeps, counts_keeps_in}
 
 is_same_self : (x : End) → is_same x x ≡ true
 is_same_self Caller = refl
 is_same_self Callee = refl
 
 -- ---- the dialog in which the offer goes
-
-lent_back : (d : Option Dialog) → option_copied (option_map lent d) ≡ d
-lent_back None = refl
-lent_back (Some d) = refl
-
-scene_dialog : (table : transactions.Contents) (o : Occasion) (w : ComingValue) (c : StandingCall) (description : Option Description) (x : End)
-    → dialog_with x (lent_scene (scene table o w c description)) ≡ dialog_in x w.leg c.call
-scene_dialog table o w c description Caller = lent_back (dialog_in Caller w.leg c.call)
-scene_dialog table o w c description Callee = lent_back (dialog_in Callee w.leg c.call)
 
 put_beside : (end : End) (d : Dialog) (c : Call) → dialog_in (other end) (Some (record { end = end; dialog = d })) c ≡ dialog_of (other end) c
 put_beside Caller d c = refl
@@ -171,16 +110,16 @@ offer_elsewhere made calls place x c step d t leg p at_leg is i e within =
           (tagged (from_tag t) (get_or calls i e) has) (tag_of_end (other x) c (from_tag t) tag))))
     ]
 
--- no other has its number
-offer_fresh : (made : ℕ) (calls : List StandingCall) (place : ℕ) (x : End) (c : StandingCall) (step : Step) (d : StandingCall) (t v : Transaction) (leg : Dialog) → Passing made calls place x c step d
-    → dialog_of (other x) c.call ≡ Some leg → IsOfferIn leg t → All (FitsCall v) calls → IsSameNumber v t → ⊥
-offer_fresh made calls place x c step d t v leg p at_leg is each same =
-    let tag : from_tag v ≡ tag_to (other x) c = same.tag ∙ is.tag ∙ leg_tag made (other x) c leg (call_at made calls place c p.knows p.there) at_leg in
+-- those of before in its leg have lower numbers
+offer_above : (made : ℕ) (calls : List StandingCall) (place : ℕ) (x : End) (c : StandingCall) (step : Step) (d : StandingCall) (t v : Transaction) (leg : Dialog) → Passing made calls place x c step d
+    → dialog_of (other x) c.call ≡ Some leg → IsOfferIn leg t → All (FitsCall v) calls → from_tag v ≡ from_tag t → v.parts.cseq.number < t.parts.cseq.number
+offer_above made calls place x c step d t v leg p at_leg is each same =
+    let tag : from_tag v ≡ tag_to (other x) c = same ∙ is.tag ∙ leg_tag made (other x) c leg (call_at made calls place c p.knows p.there) at_leg in
     let has : has_tag (from_tag v) c ≡ true = has_tag_of c (from_tag v) (tag_of_end (other x) c (from_tag v) tag) in
     let asked : asked_end v.parts c ≡ other x = asked_at v.parts (other x) c tag (differs_at calls place c p.knows.apart p.there) in
     let counted_v : IsCounted v.parts.cseq.number (Some leg) = subst (IsCounted v.parts.cseq.number) at_leg
     (subst (λ y. IsCounted v.parts.cseq.number (dialog_of y c.call)) asked (fits_at v calls place c each p.there has).counted) in
-    omega (arith, counted_v, same.number, is.number)
+    omega (arith, counted_v, is.number)
 
 at_leg : (A : Type 0) (o : Option Dialog) (t : Transaction) → ((leg : Dialog) → o ≡ Some leg → IsOfferIn leg t → A) → IsOfferTo o t → A
 at_leg A None t f h = absurd h
@@ -191,9 +130,9 @@ put_all t true xs ys is each = each
 put_all t false xs ys is each = absurd (false≢true is)
 
 does_begins : (calls : Standing) (table : transactions.Contents) (o : Occasion) (place : ℕ) (w : ComingValue) (x : End) (c : StandingCall) (step : Step)
-    → Passing o.tokens calls.calls place x c step (beside (put_with w (messages_of table o w c step)) (with_step c step)) → dialog_in (other x) w.leg c.call ≡ dialog_of (other x) c.call
-    → BeginsOffer o.tokens calls.calls (does calls table o place w c step)
-does_begins calls table o place w x c step p at_scene =
+    → Passing o.tokens calls.calls place x c step (beside (put_with w (messages_of table o w c step)) (with_step c step)) → dialog_in (other x) w.leg c.call ≡ dialog_of (other x) c.call → FitsLeg o.tokens c w.leg
+    → LegGrows c.call w.leg → BeginsOffer o.tokens calls.calls (does calls table o place w c step)
+does_begins calls table o place w x c step p at_scene fits grows =
     let said = messages_of table o w c step in
     let s = scene table o w c step.description in
     let d = beside (put_with w said) (with_step c step) in
@@ -208,8 +147,9 @@ does_begins calls table o place w x c step p at_scene =
       began = λ t opens offers.
           put_all t (is_some step.call.standing) (slice_set calls.calls place d) (remove calls.calls place) (ap is_some p.on.stands)
           (at_leg _ (dialog_of (other x) c.call) t (λ leg is offer. offer_elsewhere o.tokens calls.calls place x c step d t leg p is offer) (offered t opens offers));
-      fresh = λ t opens offers v tag each same. at_leg _ (dialog_of (other x) c.call) t (λ leg is offer. offer_fresh o.tokens calls.calls place x c step d t v leg p is offer each same) (offered t opens offers);
+      above = λ t opens offers v tag each same. at_leg _ (dialog_of (other x) c.call) t (λ leg is offer. offer_above o.tokens calls.calls place x c step d t v leg p is offer each same) (offered t opens offers);
       one = said_one s (passed_id table c) step.actions p.on.one;
+      byes = λ knows. does_byes o.tokens o.tokens calls table o place w c step knows p.there fits grows;
     }
 
 offers_by_begins : (calls : Standing) (table : transactions.Contents) (o : Occasion) (place : ℕ) (end : End) (method : OfferMethod) (offer : Description) (r : Request) (id : ℕ) (source : Addr) (c : StandingCall)
@@ -233,7 +173,8 @@ offers_by_begins calls table o place end method offer r id source c there settle
       keeps = beside_keeps (with_step c step) kept leg_keeps;
       stands = beside_standing (with_step c step) kept ∙ on.stands;
     }
-    ) (counts_in_other calls.calls place end r.parts.cseq.number c there)
+    ) (counts_in_other calls.calls place end r.parts.cseq.number c there) (counts_fits o.tokens calls.calls place end r.parts.cseq.number c all there)
+    (leg_kept c.call leg (counts_keeps calls.calls place end r.parts.cseq.number c there))
 
 pub offers_begins : (calls : Standing) (table : transactions.Contents) (o : Occasion) (place : ℕ) (end : End) (method : OfferMethod) (offer : Description) (r : Request) (id : ℕ) (source : Addr) (c : StandingCall)
     → slice_get calls.calls place ≡ Some c → holds_in is_settled c.call.standing ≡ true → KnowsCalls o.tokens calls.calls

@@ -48,9 +48,10 @@ use Rattle.promise.specs.Knowing.{KnowsTokens}
 use Rattle.promise.specs.Waiting.{KnowsWaiting}
 use Rattle.promise.proofs.Awaiting.{LegKeeps, fits_at, leg_kept}
 use Rattle.promise.proofs.Calls.{FitsLeg}
+use Rattle.promise.proofs.Coming.{later_self}
 use Rattle.promise.proofs.Lines.{failure_ends, success_ends, waits_after}
 use Rattle.promise.proofs.Offering.{opens_split}
-use Rattle.promise.proofs.Once.{NoneOffers, none_before}
+use Rattle.promise.proofs.Once.{NoneOwn, none_before, own_offers}
 use Rattle.promise.proofs.Replying.{okay_reply, responds_reply, row_reply}
 use Rattle.promise.proofs.RequestViews.{RequestRow, asks_callee, cancelled, counted_alone, left, passed_on, refreshed, replied, unfit}
 use Rattle.promise.proofs.ResponseViews.{IsAsked, ResponseRow, ack_alone, again, answered, fork, provisional, refused, silent}
@@ -76,13 +77,13 @@ calm_leg made leg c tags keeps = record { tags = tags; grows = leg_kept c.call l
 no_leg : (made : ℕ) (c : StandingCall) (final : Bool) → LegFits final made None c
 no_leg made c final = record { tags = tt; grows = tt; keeps = λ e. tt }
 
-calm_takes : (s : Office) → KnowsWaiting s → (e : Setting) (begun : List Entry) (send : Option Outgoing) (id : Option ℕ) (place : ℕ) (input : CallInput) → NoneOffers begun → IsNoOfferInput input
+calm_takes : (s : Office) → KnowsWaiting s → (e : Setting) (begun : List Entry) (send : Option Outgoing) (id : Option ℕ) (place : ℕ) (input : CallInput) → NoneOwn begun → IsNoOfferInput input
     → consumes_input input ≡ false → Waits s (takes s e begun send id place input None)
 calm_takes s k e begun send id place input none n calm_input =
     step_waits s k begun send id (consumes_input input) place _ none (takes_waits s.calls s.table (occasion s e) place 0 input None None n (λ d there. no_leg 0 d (consumes_input input)))
     (λ final. absurd (false≢true (sym calm_input ∙ final)))
 
-asked_takes : (s : Office) → KnowsWaiting s → (e : Setting) (r : Request) (begun : List Entry) (id place made : ℕ) (input : CallInput) (leg : Option LegDialog) (tag : List ℕ) → NoneOffers begun
+asked_takes : (s : Office) → KnowsWaiting s → (e : Setting) (r : Request) (begun : List Entry) (id place made : ℕ) (input : CallInput) (leg : Option LegDialog) (tag : List ℕ) → NoneOwn begun
     → IsNoOfferInput input → consumes_input input ≡ false → ((d : StandingCall) → slice_get s.calls.calls place ≡ Some d → LegFits (consumes_input input) made leg d)
     → Waits s (takes_request s e r begun id place input leg tag)
 asked_takes s k e r begun id place made input leg tag none n calm_input fits =
@@ -100,21 +101,20 @@ final_takes s k e send id place made first asked c told fresh input leg final n 
 
 -- ---- a step that may begin an offer
 
-offer_step : (s : Office) → KnowsTokens s → KnowsWaiting s → (begun : List Entry) (x : steps.Effect) → NoneOffers begun → BeginsOffer s.tokens s.calls.calls x
+offer_step : (s : Office) → KnowsTokens s → KnowsWaiting s → (begun : List Entry) (x : steps.Effect) → NoneOwn begun → BeginsOffer s.tokens s.calls.calls x
     → Waits s (with_step s.acks begun None None x)
 offer_step s tokens k begun x none b = record {
   stayed = λ now id t u there after later offers. b.stayed t u later (own_at s.tokens s.table.slots id t tokens.slots there offers.client).tag (k.awaited id t there offers);
-  began = λ t opens offers. elim (opens_split t begun x.dressed.changes opens) [ inl h ↦ absurd (none t h offers) | inr h ↦ b.began t h offers ];
-  fresh = λ t opens offers id v there offers_v same. elim (opens_split t begun x.dressed.changes opens) [
-    | inl h ↦ none t h offers
-    | inr h ↦ b.fresh t h offers v (own_at s.tokens s.table.slots id v tokens.slots there offers_v.client).tag (k.awaited id v there offers_v) same
-  ];
-  one = none_before begun x.dressed.changes none b.one;
+  began = λ t opens offers. elim (opens_split t begun x.dressed.changes opens) [ inl h ↦ absurd (none t h offers.client) | inr h ↦ b.began t h offers ];
+  one = none_before begun x.dressed.changes (own_offers begun none) b.one;
+  counted = λ t over tag each. b.stayed t t (later_self t) tag each;
+  above = λ t opens offers v tag each same. elim (opens_split t begun x.dressed.changes opens) [ inl h ↦ absurd (none t h offers.client) | inr h ↦ b.above t h offers v tag each same ];
+  byes = λ knows t opens place c there bye. elim (opens_split t begun x.dressed.changes opens) [ inl h ↦ absurd (none t h bye.bye.client) | inr h ↦ b.byes knows t h place c there bye ];
 }
 
 -- ---- the rows
 
-request_waits : (s : Office) → KnowsTokens s → KnowsWaiting s → s.tokens < 2 ^ 63 → (e : Setting) (r : Request) (begun : List Entry) (id : ℕ) (x : Effect) → NoneOffers begun → RequestRow s e r begun id x
+request_waits : (s : Office) → KnowsTokens s → KnowsWaiting s → s.tokens < 2 ^ 63 → (e : Setting) (r : Request) (begun : List Entry) (id : ℕ) (x : Effect) → NoneOwn begun → RequestRow s e r begun id x
     → Waits s x
 request_waits s tokens k few e r begun id x none (replied reply is) = subst (Waits s) (sym is) (plan_waits s k (reply_row s e r begun id reply) (reply_none begun id _ (row_reply s e r begun id reply) none))
 request_waits s tokens k few e r begun id x none (unfit status is) =
@@ -183,8 +183,8 @@ told_waits s tokens k e r send id t x to (answered place c there asked class is)
     })
     )
 told_waits s tokens k e r send id t x to (again place acked is) = subst (Waits s) (sym is) (plan_waits s k (acks_again s (told_response s r id) id) (λ u opens offers. opens))
-told_waits s tokens k e r send id t x to (fork is) =
-    subst (Waits s) (sym is) (step_waits s k (told_response s r id) send None false 0 _ (λ u opens offers. opens) (fork_waits s.calls (occasion s e) t.parts r) (λ final. absurd (false≢true final)))
+told_waits s tokens k e r send id t x to (fork why is) =
+    subst (Waits s) (sym is) (step_waits s k (told_response s r id) send None false 0 _ (λ u opens offers. opens) (fork_waits s.calls (occasion s e) t.parts r why) (λ final. absurd (false≢true final)))
 told_waits s tokens k e r send id t x to (ack_alone is) =
     subst (Waits s) (sym is) (step_waits s k (told_response s r id) send None false 0 _ (λ u opens offers. opens) (late_waits s.calls (occasion s e) t.parts r) (λ final. absurd (false≢true final)))
 told_waits s tokens k e r send id t x to (refused place status c there asked class at_status is) =
@@ -199,20 +199,20 @@ response_waits s tokens k e r begun send id t x to told row = told_waits s token
 
 -- ---- what the transactions do with a message
 
-served_none : (r : Request) (source : Addr) (b : Bool) → NoneOffers (cond b Leaves (Opens (served r source) NoTimer) ∷ [])
-served_none r source true t opens offers = opens
-served_none r source false t (inl is) offers = false≢true (sym (subst (λ (u : Transaction). is_server u.state ≡ false) (sym is) offers.client) ∙ served_by (is_method (codes "INVITE") r.parts))
-served_none r source false t (inr more) offers = more
+served_none : (r : Request) (source : Addr) (b : Bool) → NoneOwn (cond b Leaves (Opens (served r source) NoTimer) ∷ [])
+served_none r source true t opens client = opens
+served_none r source false t (inl is) client = false≢true (sym (subst (λ (u : Transaction). is_server u.state ≡ false) (sym is) client) ∙ served_by (is_method (codes "INVITE") r.parts))
+served_none r source false t (inr more) client = more
 
-request_none : (r : Request) (source : Addr) (id : Option ℕ) → NoneOffers (request_change r source id ∷ [])
+request_none : (r : Request) (source : Addr) (id : Option ℕ) → NoneOwn (request_change r source id ∷ [])
 request_none r source None = served_none r source (is_method (codes "ACK") r.parts)
 request_none r source (Some id) = λ t opens offers. opens
 
-response_none : (s : Office) (r : Response) (id : Option ℕ) → NoneOffers (response_change s.table r id ∷ [])
+response_none : (s : Office) (r : Response) (id : Option ℕ) → NoneOwn (response_change s.table r id ∷ [])
 response_none s r None = λ t opens offers. opens
 response_none s r (Some id) = λ t opens offers. opens
 
-change_none : (s : Office) (m : Message) (source : Addr) → NoneOffers (change_of s.table m source ∷ [])
+change_none : (s : Office) (m : Message) (source : Addr) → NoneOwn (change_of s.table m source ∷ [])
 unfolding change_of
 change_none s (Kinds.Request r) source = request_none r source (position (is_asked r.parts) s.table.slots)
 change_none s (Kinds.Response r) source = response_none s r (position (is_answered r.parts) s.table.slots)
@@ -260,13 +260,13 @@ due_waits s k e x (fired_alone timer fired is) = subst (Waits s) (sym is) (plan_
 due_waits s k e x (timed timer t place fired times there found is) = subst (Waits s) (sym is) (timed_waits s k e timer t place fired times there (timeout_waits s.calls.calls t.parts place found))
 due_waits s k e x (ended timer fired is) =
     let w = plan_waits s k (moves (fire_of timer ∷ []) None) (λ t opens offers. opens) in
-    subst (Waits s) (sym is) (record { stayed = w.stayed; began = w.began; fresh = w.fresh; one = w.one })
+    subst (Waits s) (sym is) (record { stayed = w.stayed; began = w.began; one = w.one; counted = w.counted; above = w.above; byes = w.byes })
 due_waits s k e x (stopped timer is) =
     let w = plan_waits (without_call_timer timer s) (record { awaited = k.awaited; once = k.once }) (moves [] None) (λ t opens offers. opens) in
-    subst (Waits s) (sym is) (record { stayed = w.stayed; began = w.began; fresh = w.fresh; one = w.one })
+    subst (Waits s) (sym is) (record { stayed = w.stayed; began = w.began; one = w.one; counted = w.counted; above = w.above; byes = w.byes })
 due_waits s k e x (call_fired timer place found is) =
     let w = timer_takes (without_call_timer timer s) (record { awaited = k.awaited; once = k.once }) e place timer.timer in
-    subst (Waits s) (sym is) (record { stayed = w.stayed; began = w.began; fresh = w.fresh; one = w.one })
+    subst (Waits s) (sym is) (record { stayed = w.stayed; began = w.began; one = w.one; counted = w.counted; above = w.above; byes = w.byes })
 
 what_waits_by : (s : Office) → KnowsTokens s → KnowsWaiting s → s.tokens < 2 ^ 63 → (now salt : ℕ) (what : What) (x : Effect) → WhatRow s now salt what x → Waits s x
 what_waits_by s tokens k few now salt what x (came source bytes is row) = datagram_waits s tokens k few (setting now salt source) bytes x row

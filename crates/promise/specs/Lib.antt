@@ -4,4 +4,5 @@ pub mod Knowing
 pub mod Sending
 pub mod Waiting
 pub mod Acks
+pub mod Numbers
 pub mod Knowledge

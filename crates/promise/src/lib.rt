@@ -4,12 +4,14 @@
 
 mod acks;
 mod knowledge;
+mod numbers;
 mod sending;
 mod tokens;
 mod waiting;
 
 pub use acks::acks_are_kept;
 pub use knowledge::messages_are_known;
+pub use numbers::numbers_rise;
 pub use sending::what_goes_again_was_sent;
 pub use tokens::{tokens_are_drawn_once, tokens_of_other_counts_differ};
 pub use waiting::offers_are_awaited;

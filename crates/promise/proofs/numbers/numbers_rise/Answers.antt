@@ -1,0 +1,14 @@
+use Rattle.promise.proofs.Rising.{after_byes, after_numbers, new_numbers, new_rise}
+use Rattle.promise.proofs.numbers.numbers_rise.Goals as goal
+
+pub returns-clause-begins : goal.returns-clause-begins
+returns-clause-begins c = new_numbers
+
+pub returns-clause-step : goal.returns-clause-step
+returns-clause-step c = after_numbers
+
+pub returns-clause-byes : goal.returns-clause-byes
+returns-clause-byes c = after_byes
+
+pub returns-clause-rise : goal.returns-clause-rise
+returns-clause-rise c = new_rise
