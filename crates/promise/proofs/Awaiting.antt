@@ -1,5 +1,5 @@
 -- A request that a call counted stays counted, and one that the call waits for is waited for on.
-use Rattle.std.proofs.Common.{◌≡◌, ◌≢◌, ◌∙◌, ℕ, ◌≤◌, ◌==◌, suc, Bool, true, false, cond, List, [], drop, take, Option, Some, None, option_map, refl, ap, sym, subst, arith}
+use Rattle.std.proofs.Common.{◌≡◌, ◌≢◌, ◌∙◌, ℕ, ◌≤◌, ◌==◌, suc, Bool, true, false, cond, List, drop, take, Option, Some, None, option_map, refl, ap, sym, subst, arith}
 use Rattle.std.specs.Prelude.{slice_get, slice_set}
 use Rattle.std.specs.List.{All, remove}
 use Rattle.std.proofs.lemmas.Bool.{false≢true, and_from, and_parts}
@@ -274,14 +274,15 @@ fits_after t u c d same grows later opens fits = λ tag.
 
 -- ---- the list of calls
 
+pub all_at : (P : StandingCall → Type 0) (calls : List StandingCall) (place : ℕ) (c : StandingCall) → All P calls → slice_get calls place ≡ Some c → P c
+all_at P calls place c each there = subst P (get_or_from_slice_get calls place c c there) (each place c (slice_get_within calls place c there))
+
 pub fits_at : (t : Transaction) (calls : List StandingCall) (place : ℕ) (c : StandingCall) → All (FitsCall t) calls → slice_get calls place ≡ Some c → FitsCall t c
-fits_at t calls place c each there = subst (FitsCall t) (get_or_from_slice_get calls place c c there) (each place c (slice_get_within calls place c there))
+fits_at t calls place c each there = all_at (FitsCall t) calls place c each there
 
 pub later_all : (t u : Transaction) (calls : List StandingCall) → IsLater t u → All (FitsCall t) calls → All (FitsCall u) calls
 later_all t u calls later each = All-weaker (FitsCall t) (FitsCall u) (λ c. later_fits t u c later) calls each
 
-pub put_or_gone : (u : Transaction) (calls : List StandingCall) (place : ℕ) (d : StandingCall) (b : Bool) → (b ≡ true → FitsCall u d) → All (FitsCall u) calls
-    → All (FitsCall u) (cond b (slice_set calls place d) (remove calls place))
-put_or_gone u calls place d true fits each = All-set (FitsCall u) calls place d (fits refl) each
-put_or_gone u calls place d false fits each =
-    All-append (FitsCall u) (take place calls) (drop (suc place) calls) (All-take (FitsCall u) place calls each) (All-drop (FitsCall u) (suc place) calls each)
+pub put_or_gone : (P : StandingCall → Type 0) (calls : List StandingCall) (place : ℕ) (d : StandingCall) (b : Bool) → (b ≡ true → P d) → All P calls → All P (cond b (slice_set calls place d) (remove calls place))
+put_or_gone P calls place d true h each = All-set P calls place d (h refl) each
+put_or_gone P calls place d false h each = All-append P (take place calls) (drop (suc place) calls) (All-take P place calls each) (All-drop P (suc place) calls each)

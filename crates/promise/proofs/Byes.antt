@@ -4,7 +4,7 @@ use Rattle.std.specs.Prelude.{slice_get}
 use Rattle.std.specs.List.{All}
 use Rattle.std.specs.Cmp.Lexicographic.{bytes_decides}
 use Rattle.std.proofs.lemmas.Bool.{eqb-true, false≢true}
-use Rattle.std.proofs.lemmas.Option.{get_or_from_slice_get, same_Some, slice_get_within}
+use Rattle.std.proofs.lemmas.Option.{same_Some}
 use Rattle.sip_uri.specs.declared.uri.Uri.{Uri}
 use Rattle.sip_message.specs.declared.message.Parts.{Parts}
 use Rattle.sip_message.specs.declared.message.Response.{Response}
@@ -38,7 +38,7 @@ use Rattle.promise.specs.Numbers.{HasTheirTag, IsByeOf, WasCounted}
 use Rattle.promise.specs.Tokens.{IsMade}
 use Rattle.promise.specs.Waiting.{IsCounted, from_tag}
 use Rattle.promise.proofs.Apartness.{old_and_new}
-use Rattle.promise.proofs.Awaiting.{Grows, LegGrows, counted_on, grows_kept, keeps_self}
+use Rattle.promise.proofs.Awaiting.{Grows, LegGrows, all_at, counted_on, grows_kept, keeps_self}
 use Rattle.promise.proofs.Calls.{FitsEnd, FitsLeg, call_at}
 use Rattle.promise.proofs.Coming.{OpensIn}
 use Rattle.promise.proofs.Leaving.{IsByeIn, IsByeTo, ack_alone_none, said_left}
@@ -49,9 +49,6 @@ use Rattle.promise.proofs.Tagged.{asked_at, differs_at, has_tag_of, leg_tag, nam
 abbrev pub ByesAbove : ℕ → List StandingCall → List Entry → Type 0
 ByesAbove made calls changes = (t : Transaction) → OpensIn t changes → (place : ℕ) (c : StandingCall) → slice_get calls place ≡ Some c → IsByeOf c t → (v : Transaction) → IsMade made (from_tag v)
     → All (WasCounted v) calls → from_tag v ≡ from_tag t → v.parts.cseq.number < t.parts.cseq.number
-
-counted_at : (v : Transaction) (calls : List StandingCall) (place : ℕ) (c : StandingCall) → All (WasCounted v) calls → slice_get calls place ≡ Some c → WasCounted v c
-counted_at v calls place c each there = subst (WasCounted v) (get_or_from_slice_get calls place c c there) (each place c (slice_get_within calls place c there))
 
 -- ---- the dialog of an end, where one may come with the event
 
@@ -85,7 +82,7 @@ left_above made m calls place c leg x t v (Some e) knows there fits grows is bye
     let tag : from_tag v ≡ tag_to x c = same ∙ bye.ours ∙ in_tag made m c leg x e (call_at made calls place c knows there) fits is in
     let has : has_tag (from_tag v) c ≡ true = has_tag_of c (from_tag v) (tag_of_end x c (from_tag v) tag) in
     let asked : asked_end v.parts c ≡ x = asked_at v.parts x c tag (differs_at calls place c knows.apart there) in
-    let counted : IsCounted n (dialog_of x c.call) = subst (λ y. IsCounted n (dialog_of y c.call)) asked (counted_at v calls place c each there has) in
+    let counted : IsCounted n (dialog_of x c.call) = subst (λ y. IsCounted n (dialog_of y c.call)) asked (all_at (WasCounted v) calls place c each there has) in
     let now : IsCounted n (Some e) = counted_on n (dialog_of x c.call) (Some e) (subst (Grows (dialog_of x c.call)) is (in_grows c.call leg x grows)) counted in
     omega (arith, now, bye.number)
 
@@ -148,7 +145,7 @@ fork_byes made calls o asked r target knows forked t opens place c there bye v t
       | inr h ↦
           let is : IsByeIn (callers_dialog asked r target) t = h in
           let has : has_tag (tag_text asked.from.params) c ≡ true = subst (λ x. has_tag x c ≡ true) is.ours bye.ours in
-          forked_above asked r target t v c (forked place c (named_place (tag_text asked.from.params) calls place c knows.apart there has) there) bye is (counted_at v calls place c each there) same
+          forked_above asked r target t v c (forked place c (named_place (tag_text asked.from.params) calls place c knows.apart there has) there) bye is (all_at (WasCounted v) calls place c each there) same
     ]
 
 -- an ACK alone

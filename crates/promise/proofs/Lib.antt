@@ -20,6 +20,8 @@ pub mod Tagged
 pub mod Leaving
 pub mod Byes
 pub mod WaitSteps
+pub mod Keeping
+pub mod Carrying
 pub mod WaitTakes
 pub mod WaitLost
 pub mod WaitEffects

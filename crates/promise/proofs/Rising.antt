@@ -17,9 +17,11 @@ use Rattle.transactions.specs.declared.transaction.Transaction.{Transaction}
 use Rattle.calls.specs.declared.standing_call.StandingCall.{StandingCall}
 use Rattle.plans.specs.declared.taken.Taken.{Taken}
 use Rattle.plans.specs.Effect.{Effect}
+use Rattle.plans.specs.Office.{Office}
 use Rattle.agent.specs.Rows.{after, moment_after, row}
 use Rattle.agent.specs.State.{Contents, IsNew, after_event, office}
 use Rattle.agent.specs.Trace.{AreEntries, Entry, after_answer, after_entries, after_entry}
+use Rattle.promise.specs.Carried.{CarriesIfOffering, KnowsCarried}
 use Rattle.promise.specs.Entries.{EnterOwn}
 use Rattle.promise.specs.Knowing.{KnowsTokens}
 use Rattle.promise.specs.Knowledge.{KnowsMessages}
@@ -130,20 +132,48 @@ after_byes s e begun tokens waiting k =
 pub new_numbers : (c : Config) (s : Contents) → IsNew c s → KnowsNumbers (office s) []
 new_numbers c s new = record { numbered = All-nil (IsNumberedIf (office s)); rise = pairs_nil }
 
+-- ---- what they carry
+
+carried_by : (s : Contents) (begun : List Transaction) → KnowsNumbers (office s) begun → KnowsCarried (office s) begun → (now : ℕ) (x : Effect) → Waits (office s) x
+    → KnowsCarried (office (after_event s now x)) (begun ++ begun_of x.plan.changes)
+unfolding after_event
+carried_by s begun k carried now x w =
+    let later = CarriesIfOffering x.calls.standing.calls in
+    All-append later begun (begun_of x.plan.changes)
+    (λ i d within offers. w.keeps (get_or begun i d) (k.numbered i d within offers).tag (k.numbered i d within offers).counted (carried i d within offers))
+    (begun_all later x.plan.changes (λ t opens offers. w.carries t opens offers))
+
+pub after_carried : (s : Contents) (e : Event) (begun : List Transaction) → KnowsTokens (office s) → KnowsWaiting (office s) → KnowsNumbers (office s) begun → KnowsCarried (office s) begun
+    → KnowsCarried (office (after s e)) (begun ++ begun_of (row s e).plan.changes)
+after_carried s e begun tokens waiting k carried = carried_by s begun k carried (moment_after s e) (row s e) (row_waits s tokens waiting e)
+
+pub new_carried : (c : Config) (s : Contents) → IsNew c s → KnowsCarried (office s) []
+new_carried c s new = All-nil (CarriesIfOffering s.calls.calls)
+
 -- ---- a list of events
 
-answer_numbers : (s : Contents) (x : Entry) (begun : List Transaction) (taken : Option Taken) → KnowsTokens (office s) → KnowsWaiting (office s) → KnowsNumbers (office s) begun
-    → KnowsNumbers (office (after_answer s x.event taken)) (begun ++ begun_at s x.event taken)
-answer_numbers s x begun None tokens waiting k = subst (KnowsNumbers (office s)) (sym (append-nil begun)) k
-answer_numbers s x begun (Some taken) tokens waiting k = after_numbers s x.event begun tokens waiting k
+record KnowsBegun (s : Office) (begun : List Transaction) : Type 0 where
+  numbers : KnowsNumbers s begun
+  carried : KnowsCarried s begun
 
-list_numbers : (s : Contents) (xs : List Entry) (sent : List Sent) (begun : List Transaction) → AreEntries s xs → KnowsMessages (office s) sent → KnowsNumbers (office s) begun
-    → KnowsNumbers (office (after_entries s xs)) (begun ++ begun_in s xs)
-list_numbers s [] sent begun are known k = subst (KnowsNumbers (office s)) (sym (append-nil begun)) k
-list_numbers s (x ∷ xs) sent begun are known k =
-    subst (KnowsNumbers (office (after_entries (after_entry s x) xs))) (append_assoc begun (begun_at s x.event x.answer) (begun_in (after_entry s x) xs))
-    (list_numbers (after_entry s x) xs (sent ++ x.sends) (begun ++ begun_at s x.event x.answer) are.1 (answer_messages s x sent x.answer are.0 known)
-    (answer_numbers s x begun x.answer known.tokens known.waiting k))
+answer_begun : (s : Contents) (x : Entry) (begun : List Transaction) (taken : Option Taken) → KnowsTokens (office s) → KnowsWaiting (office s) → KnowsBegun (office s) begun
+    → KnowsBegun (office (after_answer s x.event taken)) (begun ++ begun_at s x.event taken)
+answer_begun s x begun None tokens waiting k = subst (KnowsBegun (office s)) (sym (append-nil begun)) k
+answer_begun s x begun (Some taken) tokens waiting k = record { numbers = after_numbers s x.event begun tokens waiting k.numbers; carried = after_carried s x.event begun tokens waiting k.numbers k.carried }
+
+list_begun : (s : Contents) (xs : List Entry) (sent : List Sent) (begun : List Transaction) → AreEntries s xs → KnowsMessages (office s) sent → KnowsBegun (office s) begun
+    → KnowsBegun (office (after_entries s xs)) (begun ++ begun_in s xs)
+list_begun s [] sent begun are known k = subst (KnowsBegun (office s)) (sym (append-nil begun)) k
+list_begun s (x ∷ xs) sent begun are known k =
+    subst (KnowsBegun (office (after_entries (after_entry s x) xs))) (append_assoc begun (begun_at s x.event x.answer) (begun_in (after_entry s x) xs))
+    (list_begun (after_entry s x) xs (sent ++ x.sends) (begun ++ begun_at s x.event x.answer) are.1 (answer_messages s x sent x.answer are.0 known)
+    (answer_begun s x begun x.answer known.tokens known.waiting k))
+
+new_begun : (c : Config) (s : Contents) (xs : List Entry) → IsNew c s → AreEntries s xs → KnowsBegun (office (after_entries s xs)) (begun_in s xs)
+new_begun c s xs new are = list_begun s xs [] [] are (new_messages c s new) (record { numbers = new_numbers c s new; carried = new_carried c s new })
 
 pub new_rise : (c : Config) (s : Contents) (xs : List Entry) → IsNew c s → AreEntries s xs → AllPairs IsBelow (begun_in s xs)
-new_rise c s xs new are = (list_numbers s xs [] [] are (new_messages c s new) (new_numbers c s new)).rise
+new_rise c s xs new are = (new_begun c s xs new are).numbers.rise
+
+pub list_carried : (c : Config) (s : Contents) (xs : List Entry) → IsNew c s → AreEntries s xs → KnowsCarried (office (after_entries s xs)) (begun_in s xs)
+list_carried c s xs new are = (new_begun c s xs new are).carried

@@ -1,10 +1,11 @@
 -- The tags of the server's in the legs of a call, and the calls that they name.
 use Rattle.std.proofs.Common.{◌≡◌, ◌≢◌, ◌∙◌, ℕ, zero, suc, ◌≤◌, Bool, true, false, cond, not, ◌||◌, List, [], ◌∷◌, get_or, length, nat_lt, position, Option, Some, None, option_map, refl, ap, sym, subst, inl, inr, arith}
-use Rattle.std.specs.Prelude.{slice_get}
+use Rattle.std.specs.Prelude.{slice_get, slice_set}
 use Rattle.std.specs.Cmp.Lexicographic.{bytes_decides}
-use Rattle.std.specs.List.{position_or_len}
+use Rattle.std.specs.List.{All, position_or_len}
 use Rattle.std.specs.Option.{option_copied}
-use Rattle.std.proofs.lemmas.Bool.{cases_lt, false≢true, lt-ltb}
+use Rattle.std.proofs.lemmas.Bool.{cases_eq, cases_lt, false≢true, lt-ltb}
+use Rattle.std.proofs.lemmas.List.{get_or-set_other, get_or-set_same, length-set}
 use Rattle.std.proofs.lemmas.List.Quantifiers.{position-Some}
 use Rattle.std.proofs.lemmas.List.Sums.{prefix_len_passes}
 use Rattle.std.proofs.lemmas.Option.{get_or_from_slice_get, none-some, same_Some, slice_get-get_or, slice_get_within}
@@ -80,6 +81,17 @@ caller_by tag c false is tag_is differ = refl
 pub asked_at : (p : Parts) (x : End) (c : StandingCall) → tag_text p.from.params ≡ tag_to x c → c.call.caller.id.ours ≢ c.callee_tag → asked_end p c ≡ x
 asked_at p Caller c is differ = caller_by (tag_text p.from.params) c (is_text c.callee_tag (tag_text p.from.params)) refl is differ
 asked_at p Callee c is differ = asked_callee p c is
+
+-- of the calls once this one was put, it is of that one or none
+pub alone_tagged : (Q : StandingCall → Type 0) (tag : List ℕ) (calls : List StandingCall) (place : ℕ) (c d : StandingCall) → AreApart calls → slice_get calls place ≡ Some c → IsTagOf c tag → (has_tag tag d ≡ true → Q d)
+    → All (λ y. has_tag tag y ≡ true → Q y) (slice_set calls place d)
+alone_tagged Q tag calls place c d apart there is h i e within =
+    let P : StandingCall → Type 0 = λ y. has_tag tag y ≡ true → Q y in
+    elim (cases_eq i place) [
+      | inl at_place ↦ subst (λ n. P (get_or (slice_set calls place d) n e)) (sym at_place) (subst P (sym (get_or-set_same calls place d e (slice_get_within calls place c there))) h)
+      | inr elsewhere ↦ subst P (sym (get_or-set_other calls place i d e elsewhere))
+          (λ has. absurd (elsewhere (one_tagged tag calls i place (get_or calls i e) c apart (slice_get-get_or calls i e (omega (arith, within, length-set calls place d))) there (tagged tag (get_or calls i e) has) is)))
+    ]
 
 -- ---- the place of the call that a tag names
 

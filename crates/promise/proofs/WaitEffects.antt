@@ -39,13 +39,16 @@ use Rattle.plans.specs.Office.{Office}
 use Rattle.plans.specs.CallRows.{of_plan, puts_if, with_step}
 use Rattle.plans.specs.Effect.{Effect}
 use Rattle.plans.specs.Plan.{Plan}
+use Rattle.promise.specs.Carried.{CarriesOpen}
 use Rattle.promise.specs.Knowing.{KnowsCalls}
+use Rattle.promise.specs.Numbers.{WasCounted}
 use Rattle.promise.specs.Tokens.{IsMade}
 use Rattle.promise.specs.Waiting.{FitsCall, IsCounted, IsOffering, KnowsWaiting, from_tag, waits}
-use Rattle.promise.proofs.Awaiting.{CallKeeps, Grows, IsOpen, LegGrows, LegKeeps, beside_keeps, beside_standing, call_kept, fits_after, later_all, opened, opens_on, fits_at}
+use Rattle.promise.proofs.Awaiting.{all_at, CallKeeps, Grows, IsOpen, LegGrows, LegKeeps, beside_keeps, beside_standing, call_kept, fits_after, later_all, opened, opens_on, fits_at}
 use Rattle.promise.proofs.Byes.{ByesAbove, ack_byes, fork_byes}
 use Rattle.promise.proofs.Calls.{FitsLeg, same_leg_put}
 use Rattle.promise.proofs.Coming.{IsLater, OpensIn, later_self}
+use Rattle.promise.proofs.Keeping.{carries_after, put_open}
 use Rattle.promise.proofs.Offering.{none_offered, opens_split, said_offered}
 use Rattle.promise.proofs.Once.{NoneOffers, NoneOwn, OneOffers, none_one, none_then, own_offers, own_then}
 use Rattle.promise.proofs.Replying.{IsReply}
@@ -63,18 +66,24 @@ pub record Waits (s : Office) (x : Effect) : Type 0 where
   pub above : (t : Transaction) → OpensIn t x.plan.changes → IsOffering t → (v : Transaction) → IsMade s.tokens (from_tag v) → All (FitsCall v) s.calls.calls → from_tag v ≡ from_tag t
       → v.parts.cseq.number < t.parts.cseq.number
   pub byes : KnowsCalls s.tokens s.calls.calls → ByesAbove s.tokens s.calls.calls x.plan.changes
+  -- what is open carries the offer that its call keeps
+  pub keeps : (t : Transaction) → IsMade s.tokens (from_tag t) → All (WasCounted t) s.calls.calls → All (CarriesOpen t) s.calls.calls → All (CarriesOpen t) x.calls.standing.calls
+  pub carries : (t : Transaction) → OpensIn t x.plan.changes → IsOffering t → All (CarriesOpen t) x.calls.standing.calls
 
 -- where no offer begins
 pub calm : (s : Office) (x : Effect) → NoneOffers x.plan.changes
     → ((now id : ℕ) (t u : Transaction) → at s.table.slots id ≡ Some t → at (entered_all now s.table x.plan.changes).slots id ≡ Some u → IsLater t u → IsOffering t → All (FitsCall u) x.calls.standing.calls)
-    → ((t : Transaction) → waits t.state ≡ false → All (FitsCall t) s.calls.calls → All (FitsCall t) x.calls.standing.calls) → (KnowsCalls s.tokens s.calls.calls → ByesAbove s.tokens s.calls.calls x.plan.changes) → Waits s x
-calm s x none stayed counted byes = record {
+    → ((t : Transaction) → waits t.state ≡ false → All (FitsCall t) s.calls.calls → All (FitsCall t) x.calls.standing.calls) → (KnowsCalls s.tokens s.calls.calls → ByesAbove s.tokens s.calls.calls x.plan.changes)
+    → ((t : Transaction) → All (CarriesOpen t) s.calls.calls → All (CarriesOpen t) x.calls.standing.calls) → Waits s x
+calm s x none stayed counted byes keeps = record {
   stayed = stayed;
   began = λ t opens offers. absurd (none t opens offers);
   one = none_one x.plan.changes none;
   counted = λ t over tag each. counted t over each;
   above = λ t opens offers v tag each same. absurd (none t opens offers);
   byes = byes;
+  keeps = λ t tag was each. keeps t each;
+  carries = λ t opens offers. absurd (none t opens offers);
 }
 
 none_byes : (made : ℕ) (calls : List StandingCall) (changes : List Entry) → NoneOwn changes → ByesAbove made calls changes
@@ -83,7 +92,7 @@ none_byes made calls changes none t opens place c there bye = absurd (none t ope
 pub plan_waits : (s : Office) → KnowsWaiting s → (p : Plan) → NoneOwn p.changes → Waits s (of_plan s p)
 plan_waits s k p none =
     calm s (of_plan s p) (own_offers p.changes none) (λ now id t u there e later offers. later_all t u s.calls.calls later (k.awaited id t there offers)) (λ t over each. each)
-    (λ knows. none_byes s.tokens s.calls.calls p.changes none)
+    (λ knows. none_byes s.tokens s.calls.calls p.changes none) (λ t each. each)
 
 -- ---- replies
 
@@ -100,7 +109,7 @@ step_waits s k begun send id final place x none w lost =
     calm s (with_step s.acks begun send id x) (none_then begun x.dressed.changes (own_offers begun none) w.none)
     (λ now at_id t u there e later offers. w.fits t u later (k.awaited at_id t there offers) (λ is. lost is now at_id t u there e later offers))
     (λ t over each. w.fits t t (later_self t) each (λ is c there tag waiting opens. false≢true (sym over ∙ waiting)))
-    (λ knows t opens at_place c there bye. elim (opens_split t begun x.dressed.changes opens) [ inl h ↦ absurd (none t h bye.bye.client) | inr h ↦ w.byes s.tokens knows t h at_place c there bye ])
+    (λ knows t opens at_place c there bye. elim (opens_split t begun x.dressed.changes opens) [ inl h ↦ absurd (none t h bye.bye.client) | inr h ↦ w.byes s.tokens knows t h at_place c there bye ]) w.keeps
 
 -- ---- a dialog is put
 
@@ -130,6 +139,19 @@ puts_fits : (t u : Transaction) (made place : ℕ) (leg : Option LegDialog) (cal
 puts_fits t u made place None calls later fits each = later_all t u calls.calls later each
 puts_fits t u made place (Some leg) calls later fits each = changed_fits t u made place leg calls.calls (slice_get calls.calls place) refl later fits each
 
+changed_carries : (t : Transaction) (made place : ℕ) (leg : LegDialog) (calls : List StandingCall) (c : Option StandingCall) → slice_get calls place ≡ c
+    → ((d : StandingCall) → slice_get calls place ≡ Some d → FitsLeg made d (Some leg) × LegKeeps d.call (Some leg)) → All (CarriesOpen t) calls
+    → All (CarriesOpen t) (changed_at (with_dialog_at leg.end leg.dialog) place calls c)
+changed_carries t made place leg calls None there fits each = each
+changed_carries t made place leg calls (Some c) there fits each =
+    let d = with_dialog_at leg.end leg.dialog c in
+    All-set (CarriesOpen t) calls place d (carries_after t c d (put_open made c leg (fits c there).0 (fits c there).1) (all_at (CarriesOpen t) calls place c each there)) each
+
+puts_carries : (t : Transaction) (made place : ℕ) (leg : Option LegDialog) (calls : Standing) → ((d : StandingCall) → slice_get calls.calls place ≡ Some d → FitsLeg made d leg × LegKeeps d.call leg)
+    → All (CarriesOpen t) calls.calls → All (CarriesOpen t) (puts_if calls place leg).calls
+puts_carries t made place None calls fits each = each
+puts_carries t made place (Some leg) calls fits each = changed_carries t made place leg calls.calls (slice_get calls.calls place) refl fits each
+
 pub puts_waits : (s : Office) → KnowsWaiting s → (made place : ℕ) (leg : Option LegDialog) (p : Plan) → NoneOwn p.changes
     → ((d : StandingCall) → slice_get s.calls.calls place ≡ Some d → FitsLeg made d leg × LegKeeps d.call leg)
     → Waits s (record { plan = p; calls = unchanged (puts_if s.calls place leg); acks = s.acks })
@@ -137,6 +159,7 @@ puts_waits s k made place leg p none fits =
     calm s (record { plan = p; calls = unchanged (puts_if s.calls place leg); acks = s.acks }) (own_offers p.changes none)
     (λ now id t u there e later offers. puts_fits t u made place leg s.calls later fits (k.awaited id t there offers))
     (λ t over each. puts_fits t t made place leg s.calls (later_self t) fits each) (λ knows. none_byes s.tokens s.calls.calls p.changes none)
+    (λ t each. puts_carries t made place leg s.calls fits each)
 
 -- ---- a 2xx that no call takes
 
@@ -146,10 +169,11 @@ alone_waits calls o leg actions none byes = record {
   none = λ t opens offers. none_offered (lent_scene (fork_scene o leg)) actions t none (said_offered (fork_scene o leg) None actions t opens offers);
   fits = λ t u later each lost. later_all t u calls.calls later each;
   byes = byes;
+  keeps = λ t each. each;
 }
 
 nothing_alone : (calls : Standing) → StepWaits false 0 calls.calls (steps.no_effect calls)
-nothing_alone calls = record { none = λ t opens offers. opens; fits = λ t u later each lost. later_all t u calls.calls later each; byes = λ made knows t opens. absurd opens }
+nothing_alone calls = record { none = λ t opens offers. opens; fits = λ t u later each lost. later_all t u calls.calls later each; byes = λ made knows t opens. absurd opens; keeps = λ t each. each }
 
 fork_by_waits : (calls : Standing) (o : Occasion) (asked : Parts) (response : Response) (contact : Option Uri) → IsForked calls.calls asked response → StepWaits false 0 calls.calls (fork_by calls o asked response contact)
 fork_by_waits calls o asked response None why = nothing_alone calls

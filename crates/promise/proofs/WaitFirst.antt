@@ -2,6 +2,7 @@
 use Rattle.std.proofs.Common.{◌≡◌, ◌∙◌, ℕ, ◌+◌, ◌<◌, ◌^◌, Bool, true, false, cond, List, [], ◌∷◌, ◌++◌, Option, Some, None, option_map, is_some, refl, ap, sym, subst, inl, inr, arith}
 use Rattle.std.specs.List.{All}
 use Rattle.std.specs.Option.{option_copied}
+use Rattle.std.proofs.lemmas.Bool.{false≢true}
 use Rattle.std.proofs.lemmas.List.Elements.{All-push, All-weaker}
 use Rattle.std.proofs.lemmas.Option.{same_Some}
 use Rattle.sip_uri.specs.declared.uri.Addr.{Addr}
@@ -34,13 +35,16 @@ use Rattle.call_steps.specs.Scenes.{first_scene}
 use Rattle.call_steps.specs.Values.{SceneValue, lent}
 use Rattle.legs.specs.Messages.{new_leg}
 use Rattle.responses.specs.Tokens.{token}
+use Rattle.promise.specs.Carried.{CarriesIf, CarriesOpen}
 use Rattle.promise.specs.Knowing.{HasMadeTags, IsTagOf, KnowsCalls}
+use Rattle.promise.specs.Numbers.{WasCounted}
 use Rattle.promise.specs.Tokens.{IsMade}
 use Rattle.promise.specs.Waiting.{FitsCall, IsCounted, IsOffering, from_tag}
 use Rattle.promise.proofs.Apartness.{HasNewTags, made_tag, old_and_new}
 use Rattle.promise.proofs.Awaiting.{later_all, open_from}
 use Rattle.promise.proofs.Byes.{ByesAbove, first_byes}
 use Rattle.promise.proofs.Calls.{first_ids}
+use Rattle.promise.proofs.Carrying.{CarriesText, said_carries}
 use Rattle.promise.proofs.Coming.{IsLater, OpensIn}
 use Rattle.promise.proofs.Offering.{IsOfferIn, IsOfferTo, said_offered}
 use Rattle.promise.proofs.OneOffer.{HasOne, said_one}
@@ -56,6 +60,8 @@ pub record BeginsOffer (made : ℕ) (calls : List StandingCall) (x : steps.Effec
   pub above : (t : Transaction) → OpensIn t x.dressed.changes → IsOffering t → (v : Transaction) → IsMade made (from_tag v) → All (FitsCall v) calls → from_tag v ≡ from_tag t
       → v.parts.cseq.number < t.parts.cseq.number
   pub byes : KnowsCalls made calls → ByesAbove made calls x.dressed.changes
+  pub keeps : (t : Transaction) → IsMade made (from_tag t) → All (WasCounted t) calls → All (CarriesOpen t) calls → All (CarriesOpen t) x.outcome.standing.calls
+  pub carries : (t : Transaction) → OpensIn t x.dressed.changes → IsOffering t → All (CarriesOpen t) x.outcome.standing.calls
   pub one : OneOffers x.dressed.changes
 
 pub nothing_begins : (made : ℕ) (calls : Standing) → BeginsOffer made calls.calls (no_effect calls)
@@ -64,6 +70,8 @@ nothing_begins made calls = record {
   began = λ t opens offers. absurd opens;
   above = λ t opens offers v tag each same. absurd opens;
   byes = λ knows t opens. absurd opens;
+  keeps = λ t tag was each. each;
+  carries = λ t opens offers. absurd opens;
   one = tt;
 }
 
@@ -126,9 +134,14 @@ first_stands : (c : Call) (offer : Description) (pool : pools.Contents) (now : �
 unfolding first_call_row
 first_stands c offer pool now = refl
 
-pushed_fits : (u : Transaction) (c : StandingCall) (calls : List StandingCall) (b : Bool) → b ≡ true → All (FitsCall u) calls → FitsCall u c → All (FitsCall u) (cond b (calls ++ c ∷ []) calls)
-pushed_fits u c calls true is each h = All-push (FitsCall u) calls c each h
-pushed_fits u c calls false is each h = each
+pushed_all : (P : StandingCall → Type 0) (c : StandingCall) (calls : List StandingCall) (b : Bool) → b ≡ true → All P calls → P c → All P (cond b (calls ++ c ∷ []) calls)
+pushed_all P c calls true is each h = All-push P calls c each h
+pushed_all P c calls false is each h = absurd (false≢true is)
+
+-- its open offer is what it says
+first_carries : (c : Call) (offer : Description) (pool : pools.Contents) (now : ℕ) (t : Transaction) → CarriesText (first_call_row c offer pool now).description t → CarriesIf t (first_call_row c offer pool now).call.media.offer
+unfolding first_call_row
+first_carries c offer pool now t h = h
 
 begins_by_offer : (calls : Standing) (o : Occasion) (r : Request) (id : ℕ) (source : Addr) (target : Uri) (offer : Description) (contact : Option Uri) → tag_text r.parts.to.params ≡ [] → o.tokens < 2 ^ 63
     → KnowsCalls o.tokens calls.calls → BeginsOffer o.tokens calls.calls (begins_by calls o r id source target offer contact)
@@ -143,13 +156,21 @@ begins_by_offer calls o r id source target offer (Some contact) e few all =
     let stands = first_stands c.call offer calls.pool o.now in
     let offered : (t : Transaction) → OpensIn t (messages s None step.actions).dressed.changes → IsOffering t → IsOfferIn leg t = λ t opens offers. offered_first s leg c.call offer calls.pool o.now t refl opens offers in
     record {
-      stayed = λ t u later tag each. pushed_fits u (with_step c step) calls.calls (is_some step.call.standing) stands (later_all t u calls.calls later each) (old_fits o.tokens (with_step c step) t u new later tag);
+      stayed = λ t u later tag each. pushed_all (FitsCall u) (with_step c step) calls.calls (is_some step.call.standing) stands (later_all t u calls.calls later each) (old_fits o.tokens (with_step c step) t u new later tag);
       began = λ t opens offers.
-          pushed_fits t (with_step c step) calls.calls (is_some step.call.standing) stands
+          pushed_all (FitsCall t) (with_step c step) calls.calls (is_some step.call.standing) stands
           (All-weaker (HasMadeTags o.tokens) (FitsCall t) (λ x. new_fits o.tokens o.salt (o.tokens + 3) t x (omega arith) (omega (arith, few)) (offered t opens offers).tag) calls.calls all.tags)
           (first_fits o r id (calls.begun + 1) source contact target offer calls.pool t (offered t opens offers));
       above = λ t opens offers v tag each same. absurd (old_and_new o.tokens o.salt (o.tokens + 3) (from_tag v) tag (omega arith) (omega (arith, few)) (same ∙ (offered t opens offers).tag));
       byes = λ knows. first_byes o (first_asker o r id source) r.max_forwards leg step.description calls.calls step.actions refl few;
+      keeps = λ t tag was each.
+          pushed_all (CarriesOpen t) (with_step c step) calls.calls (is_some step.call.standing) stands each
+          (λ has opens leg. absurd (new_untagged o.tokens (with_step c step) (from_tag t) new tag (tagged (from_tag t) (with_step c step) has)));
+      carries = λ t opens offers.
+          pushed_all (CarriesOpen t) (with_step c step) calls.calls (is_some step.call.standing) stands
+          (All-weaker (HasMadeTags o.tokens) (CarriesOpen t)
+          (λ y made has open_then leg. absurd (old_and_new o.tokens o.salt (o.tokens + 3) (from_tag t) (made_tag o.tokens y (from_tag t) made (tagged (from_tag t) y has)) (omega arith) (omega (arith, few)) (offered t opens offers).tag))
+          calls.calls all.tags) (λ has open_then leg. first_carries c.call offer calls.pool o.now t (said_carries s None step.actions t opens offers));
       one = said_one s None step.actions (first_has_one c.call offer calls.pool o.now);
     }
 

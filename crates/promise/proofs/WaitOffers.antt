@@ -1,10 +1,9 @@
 -- An offer inside a call that is passed on: what waits afterwards.
-use Rattle.std.proofs.Common.{◌≡◌, ◌≢◌, ◌∙◌, ℕ, ◌<◌, Bool, true, false, cond, List, get_or, length, Option, Some, None, is_some, refl, ap, sym, subst, inl, inr, arith}
+use Rattle.std.proofs.Common.{◌≡◌, ◌≢◌, ◌∙◌, ℕ, ◌<◌, Bool, true, false, cond, List, Option, Some, None, is_some, refl, ap, sym, subst, arith}
 use Rattle.std.specs.Prelude.{slice_get, slice_set}
 use Rattle.std.specs.List.{All, remove}
-use Rattle.std.proofs.lemmas.Bool.{cases_eq, false≢true}
-use Rattle.std.proofs.lemmas.List.{get_or-set_other, get_or-set_same, length-set}
-use Rattle.std.proofs.lemmas.Option.{slice_get-get_or, slice_get_within}
+use Rattle.std.proofs.lemmas.Bool.{false≢true}
+use Rattle.std.proofs.lemmas.Option.{same_Some}
 use Rattle.sip_uri.specs.declared.uri.Addr.{Addr}
 use Rattle.sip_message.specs.declared.message.Request.{Request}
 use Rattle.sdp.specs.declared.description.Description.{Description}
@@ -17,11 +16,12 @@ use Rattle.call_media.specs.Ends.{is_same, other}
 use Rattle.call_core.specs.declared.call.Call.{Call}
 use Rattle.call_core.specs.declared.input.Input.TheVariants as inputs
 use Rattle.call_core.specs.declared.signal.OfferMethod.{OfferMethod}
+use Rattle.call_core.specs.declared.stage.Standing as stage
 use Rattle.call_core.specs.CallRows.{call_row}
 use Rattle.call_core.specs.Calls.{dialog_of, holds_in}
 use Rattle.call_core.specs.Plans.{Step}
 use Rattle.call_rules.specs.Offers.{is_settled}
-use Rattle.call_rules.specs.Responses.{asked_end, is_last_in}
+use Rattle.call_rules.specs.Responses.{asked_end, is_last_in, is_open}
 use Rattle.calls.specs.State.{Standing}
 use Rattle.calls.specs.Carrying.{with_step}
 use Rattle.calls.specs.Changes.{beside}
@@ -31,19 +31,24 @@ use Rattle.call_steps.specs.declared.occasion.Occasion.{Occasion}
 use Rattle.call_steps.specs.Rows.{counts, counts_by, counts_in, does, messages_of, offer_coming, offers_by, offers_row, put_with}
 use Rattle.call_steps.specs.Scenes.{dialog_in, passed_id, scene, tag_to}
 use Rattle.call_steps.specs.Values.{ComingValue, lent_scene}
+use Rattle.promise.specs.Carried.{CarriesIf, CarriesOpen, has_leg}
 use Rattle.promise.specs.Knowing.{KnowsCalls}
-use Rattle.promise.specs.Waiting.{FitsCall, IsCounted, IsOffering, from_tag}
+use Rattle.promise.specs.Numbers.{WasCounted}
+use Rattle.promise.specs.Waiting.{FitsCall, IsAwaited, IsCounted, IsOffering, from_tag}
 use Rattle.promise.proofs.Apartness.{SameTags}
-use Rattle.promise.proofs.Awaiting.{CallKeeps, Keeps, LegGrows, beside_keeps, beside_standing, call_grows_then, fits_after, fits_at, keeps_at, later_all, leg_kept, open_from, put_or_gone, same_end}
+use Rattle.promise.proofs.Awaiting.{all_at, CallKeeps, Keeps, LegGrows, beside_keeps, beside_standing, call_grows_then, fits_after, fits_at, keeps_at, later_all, leg_kept, open_from, opened, put_or_gone, same_end, same_tag}
 use Rattle.promise.proofs.Byes.{does_byes}
 use Rattle.promise.proofs.Calls.{FitsLeg, call_at, call_ids, same_beside}
+use Rattle.promise.proofs.Carrying.{CarriesText, said_carries}
 use Rattle.promise.proofs.Coming.{OpensIn}
+use Rattle.promise.proofs.Keeping.{beside_media}
 use Rattle.promise.proofs.Offering.{IsOfferIn, IsOfferTo, said_offered}
 use Rattle.promise.proofs.OneOffer.{said_one}
 use Rattle.promise.proofs.Steps.{counts_fits}
-use Rattle.promise.proofs.Tagged.{asked_at, differs_at, has_tag_of, leg_tag, one_tagged, scene_dialog, tag_of_end, tagged}
+use Rattle.promise.proofs.Tagged.{alone_tagged, asked_at, differs_at, has_tag_of, leg_tag, scene_dialog, tag_of_end}
 use Rattle.promise.proofs.WaitFirst.{BeginsOffer}
-use Rattle.promise.proofs.WaitPassed.{PassesOn, counted, last_counted, none_open, passes_grows, passes_on}
+use Rattle.promise.proofs.WaitPassed.{PassesOn, counted, last_counted, none_open, not_last, passes_grows, passes_on}
+use Rattle.promise.proofs.WaitTakes.{same_is}
 use Rattle.promise.proofs.WaitSteps.{counts_keeps, counts_keeps_in}
 
 is_same_self : (x : End) → is_same x x ≡ true
@@ -99,16 +104,32 @@ offer_fits made calls place x c step d t leg p at_leg is = λ has.
 
 offer_elsewhere : (made : ℕ) (calls : List StandingCall) (place : ℕ) (x : End) (c : StandingCall) (step : Step) (d : StandingCall) (t : Transaction) (leg : Dialog) → Passing made calls place x c step d
     → dialog_of (other x) c.call ≡ Some leg → IsOfferIn leg t → All (FitsCall t) (slice_set calls place d)
-offer_elsewhere made calls place x c step d t leg p at_leg is i e within =
-    let within_place : place < length calls = slice_get_within calls place c p.there in
+offer_elsewhere made calls place x c step d t leg p at_leg is =
     let tag : from_tag t ≡ tag_to (other x) c = is.tag ∙ leg_tag made (other x) c leg (call_at made calls place c p.knows p.there) at_leg in
-    elim (cases_eq i place) [
-      | inl at_place ↦ subst (λ n. FitsCall t (get_or (slice_set calls place d) n e)) (sym at_place)
-          (subst (FitsCall t) (sym (get_or-set_same calls place d e within_place)) (offer_fits made calls place x c step d t leg p at_leg is))
-      | inr elsewhere ↦ subst (FitsCall t) (sym (get_or-set_other calls place i d e elsewhere))
-          (λ has. absurd (elsewhere (one_tagged (from_tag t) calls i place (get_or calls i e) c p.knows.apart (slice_get-get_or calls i e (omega (arith, within, length-set calls place d))) p.there
-          (tagged (from_tag t) (get_or calls i e) has) (tag_of_end (other x) c (from_tag t) tag))))
-    ]
+    alone_tagged (IsAwaited t) (from_tag t) calls place c d p.knows.apart p.there (tag_of_end (other x) c (from_tag t) tag) (offer_fits made calls place x c step d t leg p at_leg is)
+
+-- it carries the offer that the call keeps
+carried_elsewhere : (made : ℕ) (calls : List StandingCall) (place : ℕ) (x : End) (c : StandingCall) (step : Step) (d : StandingCall) (t : Transaction) (leg : Dialog) → Passing made calls place x c step d
+    → dialog_of (other x) c.call ≡ Some leg → IsOfferIn leg t → CarriesIf t d.call.media.offer → All (CarriesOpen t) (slice_set calls place d)
+carried_elsewhere made calls place x c step d t leg p at_leg is h =
+    let tag : from_tag t ≡ tag_to (other x) c = is.tag ∙ leg_tag made (other x) c leg (call_at made calls place c p.knows p.there) at_leg in
+    alone_tagged (λ y. is_open t.parts y ≡ true → has_leg (dialog_of (asked_end t.parts y) y.call) y.call.standing ≡ true → CarriesIf t y.call.media.offer) (from_tag t) calls place c d p.knows.apart p.there
+    (tag_of_end (other x) c (from_tag t) tag) (λ has opens has_dialog. h)
+
+-- one of before is the open offer no more
+passed_by : (made : ℕ) (calls : List StandingCall) (place : ℕ) (x : End) (c : StandingCall) (step : Step) (d : StandingCall) (t : Transaction) → Passing made calls place x c step d → has_tag (from_tag t) d ≡ true
+    → is_open t.parts d ≡ true → has_leg (dialog_of (asked_end t.parts d) d.call) d.call.standing ≡ true → WasCounted t c → ⊥
+passed_by made calls place x c step d t p has opens leg was =
+    let number = t.parts.cseq.number in
+    let theirs = dialog_of (other x) d.call in
+    let now = opened t.parts d opens in
+    let next : now.0 ≡ p.on.next = same_Some now.0 p.on.next (sym now.1.stands ∙ p.stands) in
+    let end : asked_end t.parts d ≡ other x = same_is (asked_end t.parts d) (other now.0.offerer) now.1.end ∙ ap (λ (s : stage.Standing). other s.offerer) next ∙ ap other p.on.offerer in
+    let before : IsCounted number (dialog_of (other x) c.call) = subst (λ y. IsCounted number (dialog_of y c.call)) (sym (same_end t.parts c d p.same) ∙ end) (was (sym (same_tag (from_tag t) c d p.same) ∙ has)) in
+    let keeps : Keeps (counted (dialog_of (other x) c.call)) theirs = subst (λ o. Keeps o theirs) p.on.theirs (keeps_at step.call d.call (other x) p.keeps) in
+    let last : is_last_in number theirs ≡ true = subst (λ y. is_last_in number (dialog_of y d.call) ≡ true) end now.1.last in
+    let leg_now : has_leg theirs (Some p.on.next) ≡ true = subst (λ s. has_leg theirs s ≡ true) p.stands (subst (λ y. has_leg (dialog_of y d.call) d.call.standing ≡ true) end leg) in
+    not_last number p.on.next (dialog_of (other x) c.call) theirs p.on.not_asked before keeps last leg_now
 
 -- those of before in its leg have lower numbers
 offer_above : (made : ℕ) (calls : List StandingCall) (place : ℕ) (x : End) (c : StandingCall) (step : Step) (d : StandingCall) (t v : Transaction) (leg : Dialog) → Passing made calls place x c step d
@@ -125,9 +146,9 @@ at_leg : (A : Type 0) (o : Option Dialog) (t : Transaction) → ((leg : Dialog) 
 at_leg A None t f h = absurd h
 at_leg A (Some d) t f h = f d refl h
 
-put_all : (t : Transaction) (b : Bool) (xs ys : List StandingCall) → b ≡ true → All (FitsCall t) xs → All (FitsCall t) (cond b xs ys)
-put_all t true xs ys is each = each
-put_all t false xs ys is each = absurd (false≢true is)
+put_all : (P : StandingCall → Type 0) (b : Bool) (xs ys : List StandingCall) → b ≡ true → All P xs → All P (cond b xs ys)
+put_all P true xs ys is each = each
+put_all P false xs ys is each = absurd (false≢true is)
 
 does_begins : (calls : Standing) (table : transactions.Contents) (o : Occasion) (place : ℕ) (w : ComingValue) (x : End) (c : StandingCall) (step : Step)
     → Passing o.tokens calls.calls place x c step (beside (put_with w (messages_of table o w c step)) (with_step c step)) → dialog_in (other x) w.leg c.call ≡ dialog_of (other x) c.call → FitsLeg o.tokens c w.leg
@@ -140,16 +161,24 @@ does_begins calls table o place w x c step p at_scene fits grows =
     subst (λ y. IsOfferTo y t) (scene_dialog table o w c step.description (other x) ∙ at_scene) (p.on.offered (lent_scene s) t (said_offered s (passed_id table c) step.actions t opens offers)) in
     record {
       stayed = λ t u later tag each.
-          put_or_gone u calls.calls place d (is_some step.call.standing)
+          put_or_gone (FitsCall u) calls.calls place d (is_some step.call.standing)
           (λ stands. fits_after t u c d p.same (call_grows_then c.call step.call d.call (passes_grows c.call x step p.on) p.keeps) later (λ has waits opens. absurd (none_open t.parts c p.settled opens))
           (fits_at t calls.calls place c each p.there))
           (later_all t u calls.calls later each);
       began = λ t opens offers.
-          put_all t (is_some step.call.standing) (slice_set calls.calls place d) (remove calls.calls place) (ap is_some p.on.stands)
+          put_all (FitsCall t) (is_some step.call.standing) (slice_set calls.calls place d) (remove calls.calls place) (ap is_some p.on.stands)
           (at_leg _ (dialog_of (other x) c.call) t (λ leg is offer. offer_elsewhere o.tokens calls.calls place x c step d t leg p is offer) (offered t opens offers));
       above = λ t opens offers v tag each same. at_leg _ (dialog_of (other x) c.call) t (λ leg is offer. offer_above o.tokens calls.calls place x c step d t v leg p is offer each same) (offered t opens offers);
       one = said_one s (passed_id table c) step.actions p.on.one;
       byes = λ knows. does_byes o.tokens o.tokens calls table o place w c step knows p.there fits grows;
+      keeps = λ t tag was each.
+          put_or_gone (CarriesOpen t) calls.calls place d (is_some step.call.standing)
+          (λ stands has opens leg. absurd (passed_by o.tokens calls.calls place x c step d t p has opens leg (all_at (WasCounted t) calls.calls place c was p.there))) each;
+      carries = λ t opens offers.
+          let said_it : CarriesText (Some p.on.open_offer.offer_sent) t = subst (λ y. CarriesText y t) p.on.says (said_carries s (passed_id table c) step.actions t opens offers) in
+          let kept : d.call.media.offer ≡ Some p.on.open_offer = ap (λ m. m.offer) (beside_media (with_step c step) (put_with w said)) ∙ p.on.kept in
+          put_all (CarriesOpen t) (is_some step.call.standing) (slice_set calls.calls place d) (remove calls.calls place) (ap is_some p.on.stands)
+          (at_leg _ (dialog_of (other x) c.call) t (λ leg is offer. carried_elsewhere o.tokens calls.calls place x c step d t leg p is offer (subst (CarriesIf t) (sym kept) said_it)) (offered t opens offers));
     }
 
 offers_by_begins : (calls : Standing) (table : transactions.Contents) (o : Occasion) (place : ℕ) (end : End) (method : OfferMethod) (offer : Description) (r : Request) (id : ℕ) (source : Addr) (c : StandingCall)

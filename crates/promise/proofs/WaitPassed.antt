@@ -1,7 +1,7 @@
 -- An offer inside a call that is passed on: its request is the open offer of the call, with the number that follows in its leg.
-use Rattle.std.proofs.Common.{◌≡◌, ◌≢◌, ◌∙◌, ℕ, ◌≤◌, Bool, true, false, cond, List, Option, Some, None, option_map, refl, ap, sym, subst, inl, inr, arith}
+use Rattle.std.proofs.Common.{◌≡◌, ◌≢◌, ◌∙◌, ℕ, ◌+◌, ◌≤◌, Bool, true, false, cond, List, Option, Some, None, option_map, refl, ap, sym, subst, inl, inr, arith}
 use Rattle.std.specs.Prelude.{◌⊎◌, slice_get}
-use Rattle.std.proofs.lemmas.Bool.{eq-eqb, false≢true}
+use Rattle.std.proofs.lemmas.Bool.{eq-eqb, eqb-true, false≢true}
 use Rattle.std.proofs.lemmas.Option.{none-some, same_Some}
 use Rattle.sip_message.specs.declared.message.Parts.{Parts}
 use Rattle.sip_message.specs.declared.message.Request.{Request}
@@ -12,7 +12,9 @@ use Rattle.dialogs.specs.Counting.{following, last_number}
 use Rattle.transactions.specs.declared.transaction.Transaction.{Transaction}
 use Rattle.call_media.specs.declared.end.End.{End}
 use Rattle.call_media.specs.declared.end.End.TheVariants.{Caller, Callee}
+use Rattle.call_media.specs.declared.session.OpenOffer.{OpenOffer}
 use Rattle.call_media.specs.Ends.{other}
+use Rattle.call_media.specs.Offers.{opened as opened_offer}
 use Rattle.call_core.specs.declared.call.Call.{Call}
 use Rattle.call_core.specs.declared.clash.Clash.{Clash}
 use Rattle.call_core.specs.declared.input.Input.TheVariants as inputs
@@ -35,6 +37,7 @@ use Rattle.calls.specs.declared.standing_call.StandingCall.{StandingCall}
 use Rattle.plans.specs.CallRows.{clash_reply, offer_reply}
 use Rattle.legs.specs.declared.scene.Scene.{Scene}
 use Rattle.legs.specs.Dressing.{dialog_with}
+use Rattle.promise.specs.Carried.{has_leg, is_asked}
 use Rattle.promise.specs.Waiting.{IsCounted}
 use Rattle.promise.proofs.Awaiting.{CallGrows, Grows, Keeps, grows_kept, keeps_self, opened}
 use Rattle.promise.proofs.Offering.{IsOfferTo, OfferedIn}
@@ -96,6 +99,11 @@ pub record PassesOn (c : Call) (x : End) (step : Step) : Type 0 where
   pub offered : (s : Scene) (t : Transaction) → OfferedIn s step.actions t → IsOfferTo (dialog_with (other x) s) t
   pub mine : dialog_of x step.call ≡ dialog_of x c
   pub theirs : dialog_of (other x) step.call ≡ counted (dialog_of (other x) c)
+  -- it keeps the offer that it says, and is no new call
+  pub open_offer : OpenOffer
+  pub kept : step.call.media.offer ≡ Some open_offer
+  pub says : step.description ≡ Some open_offer.offer_sent
+  pub not_asked : is_asked next.stage ≡ false
 
 either_offer : (A : Type 0) → A ⊎ ⊥ → A
 either_offer A (inl h) = h
@@ -124,6 +132,10 @@ line_passes c x Invite offer pool now = record {
   offered = λ s t h. either_offer _ h;
   mine = mine_at c x _ _;
   theirs = theirs_at c x _ _;
+  open_offer = opened_offer c.media pool x offer now;
+  kept = refl;
+  says = refl;
+  not_asked = refl;
 }
 line_passes c x Update offer pool now = record {
   next = record { offerer = x; stage = stages.Updating };
@@ -134,6 +146,10 @@ line_passes c x Update offer pool now = record {
   offered = λ s t h. either_offer _ h;
   mine = mine_at c x _ _;
   theirs = theirs_at c x _ _;
+  open_offer = opened_offer c.media pool x offer now;
+  kept = refl;
+  says = refl;
+  not_asked = refl;
 }
 
 at_settled : (c : Call) (s : stage.Standing) (x : End) (method : OfferMethod) (offer : Description) (pool : pools.Contents) (now : ℕ) → s.stage ≡ stages.Settled
@@ -175,3 +191,12 @@ passes_grows c Callee step on = record {
 pub last_counted : (number : ℕ) (d : Dialog) (e : Option Dialog) → number ≡ following d → Keeps (counted (Some d)) e → (IsCounted number e) × (is_last_in number e ≡ true)
 last_counted number d None is keeps = absurd keeps
 last_counted number d (Some e) is keeps = (omega (arith, is, keeps), eq-eqb (last_number e) number (keeps ∙ sym is))
+
+-- and one that was counted before is not, unless it was the first
+pub not_last : (number : ℕ) (n : stage.Standing) (d e : Option Dialog) → is_asked n.stage ≡ false → IsCounted number d → Keeps (counted d) e → is_last_in number e ≡ true → has_leg e (Some n) ≡ true → ⊥
+not_last number n None None not_asked was keeps last leg = false≢true (sym not_asked ∙ leg)
+not_last number n None (Some e) not_asked was keeps last leg = keeps
+not_last number n (Some d) None not_asked was keeps last leg = keeps
+not_last number n (Some d) (Some e) not_asked was keeps last leg =
+    let now : last_number e ≡ last_number d + 1 = keeps in
+    omega (arith, was, now, eqb-true (last_number e) number last)

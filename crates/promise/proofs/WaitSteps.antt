@@ -1,5 +1,5 @@
 -- The steps of calls: a request of the server's own that waits is the open offer of its call afterwards too, or of none.
-use Rattle.std.proofs.Common.{◌≡◌, ◌≢◌, ◌∙◌, ℕ, ◌≤◌, Bool, true, false, List, [], Option, Some, None, is_some, refl, ap, sym, subst}
+use Rattle.std.proofs.Common.{◌≡◌, ◌≢◌, ◌∙◌, ℕ, ◌≤◌, Bool, true, false, List, Option, Some, None, is_some, refl, ap, sym, subst}
 use Rattle.std.specs.Prelude.{slice_get}
 use Rattle.std.proofs.lemmas.Bool.{false≢true}
 use Rattle.sip_uri.specs.declared.uri.Uri.{Uri}
@@ -39,7 +39,7 @@ leg_grows_on : (c : Call) (final : Bool) (step : Step) (leg : Option LegDialog) 
 leg_grows_on c final step None fits h = tt
 leg_grows_on c final step (Some leg) fits h = subst (λ d. Grows d (Some leg.dialog)) (sym (dialog_stays c final step leg.end fits)) h
 
-leg_keeps_on : (c : Call) (final : Bool) (step : Step) (leg : Option LegDialog) → TakesFits c final step → LegKeeps c leg → LegKeeps step.call leg
+pub leg_keeps_on : (c : Call) (final : Bool) (step : Step) (leg : Option LegDialog) → TakesFits c final step → LegKeeps c leg → LegKeeps step.call leg
 leg_keeps_on c final step None fits h = tt
 leg_keeps_on c final step (Some leg) fits h = subst (λ d. Keeps d (Some leg.dialog)) (sym (dialog_stays c final step leg.end fits)) h
 
@@ -49,7 +49,7 @@ grows_from c final step d fits h = record {
   callee = subst (λ x. Grows x d.callee) fits.callee h.callee;
 }
 
-keeps_from : (c : Call) (final : Bool) (step : Step) (d : Call) → TakesFits c final step → CallKeeps step.call d → CallKeeps c d
+pub keeps_from : (c : Call) (final : Bool) (step : Step) (d : Call) → TakesFits c final step → CallKeeps step.call d → CallKeeps c d
 keeps_from c final step d fits h = record {
   caller = h.caller ∙ ap last_number fits.caller;
   callee = subst (λ x. Keeps x d.callee) fits.callee h.callee;

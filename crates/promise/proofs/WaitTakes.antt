@@ -31,14 +31,16 @@ use Rattle.call_steps.specs.Effects.{no_effect}
 use Rattle.call_steps.specs.Rows.{does, messages_of, put_with, takes_by, takes_row}
 use Rattle.call_steps.specs.Scenes.{passed_id, scene, tag_to}
 use Rattle.call_steps.specs.Values.{AskerValue, ComingValue, lent_scene, without_offer}
+use Rattle.promise.specs.Carried.{CarriesOpen}
 use Rattle.promise.specs.Knowing.{KnowsCalls}
 use Rattle.promise.specs.Waiting.{FitsCall, IsCounted, from_tag, waits}
 use Rattle.calls.specs.Carrying.{with_step}
 use Rattle.calls.specs.Changes.{beside}
-use Rattle.promise.proofs.Awaiting.{LegGrows, LegKeeps, fits_at, later_all, opened, put_or_gone}
+use Rattle.promise.proofs.Awaiting.{LegGrows, LegKeeps, all_at, fits_at, later_all, opened, put_or_gone}
 use Rattle.promise.proofs.Byes.{ByesAbove, does_byes}
 use Rattle.promise.proofs.Calls.{FitsLeg, KeepsIds, call_ids}
 use Rattle.promise.proofs.Coming.{IsLater}
+use Rattle.promise.proofs.Keeping.{carries_after, step_open}
 use Rattle.promise.proofs.Offering.{none_offered, said_offered}
 use Rattle.promise.proofs.Once.{IsSameNumber, NoneOffers}
 use Rattle.promise.proofs.Tables.{IsNoOfferInput, TakesFits, consumes_input, takes_fits}
@@ -97,6 +99,7 @@ pub record StepWaits (final : Bool) (place : ℕ) (calls : List StandingCall) (x
   pub none : NoneOffers x.dressed.changes
   pub fits : (t u : Transaction) → IsLater t u → All (FitsCall t) calls → (final ≡ true → IsLost calls place t u) → All (FitsCall u) x.outcome.standing.calls
   pub byes : (made : ℕ) → KnowsCalls made calls → ByesAbove made calls x.dressed.changes
+  pub keeps : (t : Transaction) → All (CarriesOpen t) calls → All (CarriesOpen t) x.outcome.standing.calls
 
 -- a dialog that comes with an input keeps the server's number, or counts the one that was asked, where a final response came
 pub record LegFits (final : Bool) (made : ℕ) (leg : Option LegDialog) (c : StandingCall) : Type 0 where
@@ -123,13 +126,17 @@ does_waits calls table o place made w c final step keeps leg fits there =
     record {
       none = λ t opens offers. none_offered (lent_scene s) step.actions t fits.none_offered (said_offered s (passed_id table c) step.actions t opens offers);
       fits = λ t u later each lost.
-          put_or_gone u calls.calls place (beside (put_with w said) (with_step c step)) (is_some step.call.standing)
+          put_or_gone (FitsCall u) calls.calls place (beside (put_with w said) (with_step c step)) (is_some step.call.standing)
           (after_fits final t u made calls.calls place c step (put_with w said) keeps leg fits later (fits_at t calls.calls place c each there) there lost) (later_all t u calls.calls later each);
       byes = λ m knows. does_byes m made calls table o place w c step knows there leg.tags leg.grows;
+      keeps = λ t each.
+          let d = beside (put_with w said) (with_step c step) in
+          put_or_gone (CarriesOpen t) calls.calls place d (is_some step.call.standing)
+          (λ stands. carries_after t c d (step_open made c final step (put_with w said) keeps leg.tags leg.keeps fits) (all_at (CarriesOpen t) calls.calls place c each there)) each;
     }
 
 nothing_waits : (final : Bool) (calls : Standing) (place : ℕ) → StepWaits final place calls.calls (no_effect calls)
-nothing_waits final calls place = record { none = λ t opens offers. opens; fits = λ t u later each lost. later_all t u calls.calls later each; byes = λ m knows t opens. absurd opens }
+nothing_waits final calls place = record { none = λ t opens offers. opens; fits = λ t u later each lost. later_all t u calls.calls later each; byes = λ m knows t opens. absurd opens; keeps = λ t each. each }
 
 takes_by_waits : (calls : Standing) (table : transactions.Contents) (o : Occasion) (place made : ℕ) (input : Input) (leg : Option LegDialog) (request : Option AskerValue) (c : Option StandingCall)
     → IsNoOfferInput input → slice_get calls.calls place ≡ c → ((d : StandingCall) → slice_get calls.calls place ≡ Some d → LegFits (consumes_input input) made leg d)

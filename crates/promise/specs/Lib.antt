@@ -5,4 +5,5 @@ pub mod Sending
 pub mod Waiting
 pub mod Acks
 pub mod Numbers
+pub mod Carried
 pub mod Knowledge

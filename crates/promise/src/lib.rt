@@ -3,6 +3,7 @@
 #![tactic(auto)]
 
 mod acks;
+mod carried;
 mod knowledge;
 mod numbers;
 mod sending;
@@ -10,6 +11,7 @@ mod tokens;
 mod waiting;
 
 pub use acks::acks_are_kept;
+pub use carried::open_offers_are_carried;
 pub use knowledge::messages_are_known;
 pub use numbers::numbers_rise;
 pub use sending::what_goes_again_was_sent;
