@@ -1,5 +1,5 @@
 -- Two tokens of different counts differ, and no tag is of two calls.
-use Rattle.std.proofs.Common.{◌≡◌, ◌≢◌, ◌∙◌, ℕ, ◌+◌, ◌<◌, ◌^◌, suc, List, [], ◌∷◌, ◌++◌, drop, Some, ap, sym, subst, inl, inr, arith}
+use Rattle.std.proofs.Common.{◌≡◌, ◌≢◌, ◌∙◌, ℕ, ◌<◌, ◌^◌, suc, List, [], ◌∷◌, ◌++◌, drop, Some, ap, sym, subst, inl, inr, arith}
 use Rattle.std.specs.Prelude.{slice_get, slice_set}
 use Rattle.std.specs.List.{All, remove}
 use Rattle.std.proofs.lemmas.Fmt.{decimal_injective}

@@ -26,7 +26,6 @@ use Rattle.transactions.specs.Contents.{Contents, stepped_by, table_at}
 use Rattle.transactions.specs.Slots.{at, free_number}
 use Rattle.transactions.specs.Transactions.{went}
 use Rattle.call_core.specs.declared.action.Action.{Action}
-use Rattle.call_core.specs.declared.action.Action.TheVariants.{Trying, Ack, Answer, Abandon}
 use Rattle.legs.specs.declared.scene.Scene.{Scene}
 use Rattle.legs.specs.Dressing.{dress_one, dressed}
 use Rattle.call_steps.specs.Messages.{given_up, is_abandon, messages}

@@ -32,7 +32,7 @@ use Rattle.legs.specs.declared.scene.Asker.{Asker}
 use Rattle.legs.specs.declared.scene.Scene.{Scene}
 use Rattle.legs.specs.Dressed.{asks, asks_at}
 use Rattle.legs.specs.Dressing.{asks_if, branch, dialog_with, dress_one, dressed, method_of, says_ack, says_again, says_answer, says_bye, says_cancel, says_offer, says_okay, says_provisional, says_refusal, says_trying}
-use Rattle.legs.specs.Messages.{ack, bye, offer}
+use Rattle.legs.specs.Messages.{ack, bye}
 use Rattle.call_rules.specs.Speaking.{may_offer}
 use Rattle.call_steps.specs.Messages.{given_up, is_abandon, messages}
 use Rattle.call_steps.specs.Values.{SceneValue, lent_scene}

@@ -10,7 +10,7 @@ use Rattle.call_media.specs.declared.end.End.{End}
 use Rattle.call_media.specs.declared.session.OpenOffer.{OpenOffer}
 use Rattle.call_media.specs.Ends.{is_same, other}
 use Rattle.call_core.specs.declared.action.Action.{Action}
-use Rattle.call_core.specs.declared.action.Action.TheVariants.{Offer, Provisional, Ack, Answer, Refusal, Okay, Cancel, Bye, Release, RemoveRows, Set, Stop}
+use Rattle.call_core.specs.declared.action.Action.TheVariants.{Offer, Provisional, Refusal, Okay, Cancel, Bye, Release, RemoveRows, Set, Stop}
 use Rattle.call_core.specs.declared.action.CallTimer.TheVariants as timers
 use Rattle.call_core.specs.declared.call.Call.{Call}
 use Rattle.call_core.specs.declared.input.Input.{Input}
