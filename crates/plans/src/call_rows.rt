@@ -319,16 +319,10 @@ impl<'o> Office<'o> {
             end,
             request.parts.cseq.number,
         )?;
-        self.takes_request(
-            e,
-            request,
-            begun,
-            id,
-            place,
-            &Input::Bye(end),
-            leg,
-            STATELESS,
-        )
+        let bye = Input::Bye(end);
+        let doing = self.takes_request(e, request, begun, id, place, &bye, leg, STATELESS);
+        let_go(bye);
+        doing
     }
 
     /// What a call does for a request that began transaction `id`.

@@ -128,14 +128,20 @@ impl Doing {
             sends,
             made,
         } = dressed;
-        let plan = plan_of(begun, send, changes, sends)?;
-        Ok(Doing {
-            plan,
-            calls: change,
-            fired,
-            acks: kept(id, ack),
-            made,
-        })
+        match plan_of(begun, send, changes, sends) {
+            Ok(plan) => Ok(Doing {
+                plan,
+                calls: change,
+                fired,
+                acks: kept(id, ack),
+                made,
+            }),
+            Err(error) => {
+                let_go(change);
+                let_go(ack);
+                Err(error)
+            }
+        }
     }
 }
 
