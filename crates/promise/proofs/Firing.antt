@@ -57,10 +57,11 @@ fires_append (Leaves ∷ xs) ys h k = fires_append xs ys h k
 
 said_none : (all : List Sent) (changes : List Entry) → EntriesWereSaid all changes → NoneFires changes
 said_none all [] h = tt
-said_none all (Opens t starts ∷ changes) h = said_none all changes h.1
-said_none all (Tells id input fresh ∷ changes) h = absurd h.0
-said_none all (Answers id class bytes ∷ changes) h = said_none all changes h.1
-said_none all (Leaves ∷ changes) h = said_none all changes h.1
+said_none all (Opens t starts ∷ []) h = tt
+said_none all (Tells id input fresh ∷ []) h = absurd h
+said_none all (Answers id class bytes ∷ []) h = tt
+said_none all (Leaves ∷ []) h = tt
+said_none all (change ∷ other ∷ changes) h = absurd h
 
 dressed_tells : (s : Scene) (n : ℕ) (actions : List Action) → NoneFires (dressed s n actions).changes
 dressed_tells s n [] = tt

@@ -20,6 +20,7 @@ pub mod Tagged
 pub mod Leaving
 pub mod Byes
 pub mod WaitSteps
+pub mod InOrder
 pub mod Keeping
 pub mod Carrying
 pub mod WaitTakes

@@ -25,7 +25,7 @@ use Rattle.promise.specs.Carried.{CarriesIfOffering, KnowsCarried}
 use Rattle.promise.specs.Entries.{EnterOwn}
 use Rattle.promise.specs.Knowing.{KnowsTokens}
 use Rattle.promise.specs.Knowledge.{KnowsMessages}
-use Rattle.promise.specs.Numbers.{EndsLegs, IsBelow, IsNumberedIf, IsPast, KnowsNumbers, WasCounted, begun_at, begun_in, begun_of}
+use Rattle.promise.specs.Numbers.{EndsLegs, GoInOrder, IsBelow, IsNumberedIf, IsPast, KnowsNumbers, WasCounted, begun_at, begun_in, begun_of, own_of}
 use Rattle.promise.specs.Tokens.{IsOwn}
 use Rattle.promise.specs.Waiting.{FitsCall, KnowsWaiting, from_tag}
 use Rattle.promise.proofs.Coming.{OpensIn}
@@ -128,6 +128,10 @@ after_byes s e begun tokens waiting k =
     begun_all (EndsLegs calls begun) (row s e).plan.changes
     (λ t opens i d within bye. All-weaker (IsNumberedIf (office s)) (IsPast t)
     (λ v h offers same. w.byes tokens.calls t opens i (get_or calls i d) (slice_get-get_or calls i d within) bye v (h offers).tag (h offers).counted same) begun k.numbered)
+
+-- what begins is sent
+pub after_sends : (s : Contents) (e : Event) → KnowsTokens (office s) → KnowsWaiting (office s) → GoInOrder (own_of (row s e).plan.changes) (row s e).plan.sends
+after_sends s e tokens waiting = (row_waits s tokens waiting e).sent
 
 pub new_numbers : (c : Config) (s : Contents) → IsNew c s → KnowsNumbers (office s) []
 new_numbers c s new = record { numbered = All-nil (IsNumberedIf (office s)); rise = pairs_nil }

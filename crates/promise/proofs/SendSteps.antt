@@ -43,7 +43,8 @@ use Rattle.calls.specs.declared.standing_call.StandingCall.{StandingCall}
 use Rattle.legs.specs.declared.scene.Asker.{Asker}
 use Rattle.legs.specs.declared.scene.Scene.{Scene}
 use Rattle.legs.specs.Dressed.{Dressed, asks, asks_at}
-use Rattle.legs.specs.Dressing.{asks_if, dialog_with, dress_one, dressed, says_ack, says_again, says_answer, says_bye, says_cancel, says_offer, says_okay, says_provisional, says_refusal, says_trying}
+use Rattle.legs.specs.Dressing.{asks_if, branch, dialog_with, dress_one, dressed, method_of, says_ack, says_again, says_answer, says_bye, says_cancel, says_offer, says_okay, says_provisional, says_refusal, says_trying}
+use Rattle.legs.specs.Messages.{ack, bye, offer}
 use Rattle.call_steps.specs.declared.messages.StepMessages.{StepMessages}
 use Rattle.call_steps.specs.declared.occasion.Occasion.{Occasion}
 use Rattle.call_steps.specs.Effects as steps
@@ -70,7 +71,7 @@ starts_said_by r to more false = inl refl
 
 asks_at_said : (to : Option Addr) (r : Request) (made : ℕ) → SelfSaid (asks_at to r made)
 asks_at_said None r made = tt
-asks_at_said (Some to) r made = (starts_said_by r to [] (is_method (codes "ACK") r.parts), tt)
+asks_at_said (Some to) r made = starts_said_by r to [] (is_method (codes "ACK") r.parts)
 
 asks_said : (r : Request) (made : ℕ) → SelfSaid (asks r made)
 asks_said r made = asks_at_said (address_of r.uri) r made
@@ -82,15 +83,15 @@ asks_if_said (Some r) made = asks_said r made
 offer_said : (s : Scene) (n : ℕ) (d : Option Dialog) (method : _) (description : Option Description) → SelfSaid (says_offer s n d method description)
 offer_said s n None method description = tt
 offer_said s n (Some d) method None = tt
-offer_said s n (Some d) method (Some description) = asks_if_said _ 1
+offer_said s n (Some d) method (Some description) = asks_if_said (offer s.server d (method_of method) s.hops description (branch s n)) 1
 
 ack_said : (s : Scene) (n : ℕ) (d : Option Dialog) → SelfSaid (says_ack s n d)
 ack_said s n None = tt
-ack_said s n (Some d) = asks_said _ 1
+ack_said s n (Some d) = asks_said (ack s.server d (branch s n)) 1
 
 bye_said : (s : Scene) (n : ℕ) (d : Option Dialog) → SelfSaid (says_bye s n d)
 bye_said s n None = tt
-bye_said s n (Some d) = asks_if_said _ 1
+bye_said s n (Some d) = asks_if_said (bye s.server d (branch s n)) 1
 
 cancel_said : (t : Option Transaction) → SelfSaid (says_cancel t)
 cancel_said None = tt
@@ -98,24 +99,24 @@ cancel_said (Some t) = asks_if_said (cancel_of t) 0
 
 trying_said : (a : Option Asker) → SelfSaid (says_trying a)
 trying_said None = tt
-trying_said (Some a) = (inl refl, tt)
+trying_said (Some a) = inl refl
 
 provisional_said : (server : Addr) (a : Option Asker) (status : ℕ) → SelfSaid (says_provisional server a status)
 provisional_said server None status = tt
-provisional_said server (Some a) status = (inl refl, tt)
+provisional_said server (Some a) status = inl refl
 
 answer_said : (server : Addr) (a : Option Asker) (description : Option Description) → SelfSaid (says_answer server a description)
 answer_said server None description = tt
 answer_said server (Some a) None = tt
-answer_said server (Some a) (Some description) = (inl refl, tt)
+answer_said server (Some a) (Some description) = inl refl
 
 refusal_said : (a : Option Asker) (status : ℕ) → SelfSaid (says_refusal a status)
 refusal_said None status = tt
-refusal_said (Some a) status = (inl refl, tt)
+refusal_said (Some a) status = inl refl
 
 okay_said : (server : Addr) (a : Option Asker) → SelfSaid (says_okay server a)
 okay_said server None = tt
-okay_said server (Some a) = (inl refl, tt)
+okay_said server (Some a) = inl refl
 
 again_said : (sent : Option Sent) → SelfSaid (says_again sent)
 again_said None = tt

@@ -86,25 +86,36 @@ entries_joined all (x ∷ xs) ys h k = (h.0, entries_joined all xs ys h.1 k)
 
 -- ---- changes that tell a transaction nothing
 
+abbrev pub BytesWereSaid : List Sent → Option (List ℕ) → Type 0
+BytesWereSaid all None = ⊥
+BytesWereSaid all (Some bytes) = WasSent all bytes
+
 abbrev pub EntryWasSaid : List Sent → Entry → Type 0
-EntryWasSaid all (Opens t starts) = WasSentIf all t.last
+EntryWasSaid all (Opens t starts) = BytesWereSaid all t.last
 EntryWasSaid all (Tells id input fresh) = ⊥
 EntryWasSaid all (Answers id class bytes) = WasSent all bytes
 EntryWasSaid all Leaves = Unit {0}
 
+-- one at most
 abbrev pub EntriesWereSaid : List Sent → List Entry → Type 0
 EntriesWereSaid all [] = Unit {0}
-EntriesWereSaid all (change ∷ changes) = EntryWasSaid all change × EntriesWereSaid all changes
+EntriesWereSaid all (change ∷ []) = EntryWasSaid all change
+EntriesWereSaid all (change ∷ other ∷ changes) = ⊥
+
+bytes_said : (all : List Sent) (bytes : Option (List ℕ)) → BytesWereSaid all bytes → WasSentIf all bytes
+bytes_said all None h = absurd h
+bytes_said all (Some bytes) h = h
 
 entry_said : (all : List Sent) (change : Entry) → EntryWasSaid all change → EntryWasSent all change
-entry_said all (Opens t starts) h = h
+entry_said all (Opens t starts) h = bytes_said all t.last h
 entry_said all (Tells id input fresh) h = absurd h
 entry_said all (Answers id class bytes) h = h
 entry_said all Leaves h = h
 
 pub entries_said : (all : List Sent) (changes : List Entry) → EntriesWereSaid all changes → EntriesWereSent all changes
 entries_said all [] h = h
-entries_said all (change ∷ changes) h = (entry_said all change h.0, entries_said all changes h.1)
+entries_said all (change ∷ []) h = (entry_said all change h, tt)
+entries_said all (change ∷ other ∷ changes) h = absurd h
 
 -- ---- the transactions after changes
 

@@ -38,7 +38,7 @@ use Rattle.call_steps.specs.Values.{lent_scene}
 use Rattle.plans.specs.Office.{Office}
 use Rattle.plans.specs.CallRows.{of_plan, puts_if, with_step}
 use Rattle.plans.specs.Effect.{Effect}
-use Rattle.plans.specs.Plan.{Plan}
+use Rattle.plans.specs.Plan.{Plan, goes}
 use Rattle.promise.specs.Carried.{CarriesOpen}
 use Rattle.promise.specs.Knowing.{KnowsCalls}
 use Rattle.promise.specs.Numbers.{WasCounted}
@@ -48,6 +48,7 @@ use Rattle.promise.proofs.Awaiting.{all_at, CallKeeps, Grows, IsOpen, LegGrows, 
 use Rattle.promise.proofs.Byes.{ByesAbove, ack_byes, fork_byes}
 use Rattle.promise.proofs.Calls.{FitsLeg, same_leg_put}
 use Rattle.promise.proofs.Coming.{IsLater, OpensIn, later_self}
+use Rattle.promise.proofs.InOrder.{AreSent, behind_none, messages_sent, none_sent}
 use Rattle.promise.proofs.Keeping.{carries_after, put_open}
 use Rattle.promise.proofs.Offering.{none_offered, opens_split, said_offered}
 use Rattle.promise.proofs.Once.{NoneOffers, NoneOwn, OneOffers, none_one, none_then, own_offers, own_then}
@@ -69,13 +70,14 @@ pub record Waits (s : Office) (x : Effect) : Type 0 where
   -- what is open carries the offer that its call keeps
   pub keeps : (t : Transaction) → IsMade s.tokens (from_tag t) → All (WasCounted t) s.calls.calls → All (CarriesOpen t) s.calls.calls → All (CarriesOpen t) x.calls.standing.calls
   pub carries : (t : Transaction) → OpensIn t x.plan.changes → IsOffering t → All (CarriesOpen t) x.calls.standing.calls
+  pub sent : AreSent x.plan.changes x.plan.sends
 
 -- where no offer begins
 pub calm : (s : Office) (x : Effect) → NoneOffers x.plan.changes
     → ((now id : ℕ) (t u : Transaction) → at s.table.slots id ≡ Some t → at (entered_all now s.table x.plan.changes).slots id ≡ Some u → IsLater t u → IsOffering t → All (FitsCall u) x.calls.standing.calls)
     → ((t : Transaction) → waits t.state ≡ false → All (FitsCall t) s.calls.calls → All (FitsCall t) x.calls.standing.calls) → (KnowsCalls s.tokens s.calls.calls → ByesAbove s.tokens s.calls.calls x.plan.changes)
-    → ((t : Transaction) → All (CarriesOpen t) s.calls.calls → All (CarriesOpen t) x.calls.standing.calls) → Waits s x
-calm s x none stayed counted byes keeps = record {
+    → ((t : Transaction) → All (CarriesOpen t) s.calls.calls → All (CarriesOpen t) x.calls.standing.calls) → AreSent x.plan.changes x.plan.sends → Waits s x
+calm s x none stayed counted byes keeps sent = record {
   stayed = stayed;
   began = λ t opens offers. absurd (none t opens offers);
   one = none_one x.plan.changes none;
@@ -84,6 +86,7 @@ calm s x none stayed counted byes keeps = record {
   byes = byes;
   keeps = λ t tag was each. keeps t each;
   carries = λ t opens offers. absurd (none t opens offers);
+  sent = sent;
 }
 
 none_byes : (made : ℕ) (calls : List StandingCall) (changes : List Entry) → NoneOwn changes → ByesAbove made calls changes
@@ -92,7 +95,7 @@ none_byes made calls changes none t opens place c there bye = absurd (none t ope
 pub plan_waits : (s : Office) → KnowsWaiting s → (p : Plan) → NoneOwn p.changes → Waits s (of_plan s p)
 plan_waits s k p none =
     calm s (of_plan s p) (own_offers p.changes none) (λ now id t u there e later offers. later_all t u s.calls.calls later (k.awaited id t there offers)) (λ t over each. each)
-    (λ knows. none_byes s.tokens s.calls.calls p.changes none) (λ t each. each)
+    (λ knows. none_byes s.tokens s.calls.calls p.changes none) (λ t each. each) (none_sent p.changes p.sends none)
 
 -- ---- replies
 
@@ -110,6 +113,7 @@ step_waits s k begun send id final place x none w lost =
     (λ now at_id t u there e later offers. w.fits t u later (k.awaited at_id t there offers) (λ is. lost is now at_id t u there e later offers))
     (λ t over each. w.fits t t (later_self t) each (λ is c there tag waiting opens. false≢true (sym over ∙ waiting)))
     (λ knows t opens at_place c there bye. elim (opens_split t begun x.dressed.changes opens) [ inl h ↦ absurd (none t h bye.bye.client) | inr h ↦ w.byes s.tokens knows t h at_place c there bye ]) w.keeps
+    (behind_none begun x.dressed.changes (goes send) x.dressed.sends none w.sent)
 
 -- ---- a dialog is put
 
@@ -159,7 +163,7 @@ puts_waits s k made place leg p none fits =
     calm s (record { plan = p; calls = unchanged (puts_if s.calls place leg); acks = s.acks }) (own_offers p.changes none)
     (λ now id t u there e later offers. puts_fits t u made place leg s.calls later fits (k.awaited id t there offers))
     (λ t over each. puts_fits t t made place leg s.calls (later_self t) fits each) (λ knows. none_byes s.tokens s.calls.calls p.changes none)
-    (λ t each. puts_carries t made place leg s.calls fits each)
+    (λ t each. puts_carries t made place leg s.calls fits each) (none_sent p.changes p.sends none)
 
 -- ---- a 2xx that no call takes
 
@@ -170,10 +174,11 @@ alone_waits calls o leg actions none byes = record {
   fits = λ t u later each lost. later_all t u calls.calls later each;
   byes = byes;
   keeps = λ t each. each;
+  sent = messages_sent (fork_scene o leg) None actions;
 }
 
 nothing_alone : (calls : Standing) → StepWaits false 0 calls.calls (steps.no_effect calls)
-nothing_alone calls = record { none = λ t opens offers. opens; fits = λ t u later each lost. later_all t u calls.calls later each; byes = λ made knows t opens. absurd opens; keeps = λ t each. each }
+nothing_alone calls = record { none = λ t opens offers. opens; fits = λ t u later each lost. later_all t u calls.calls later each; byes = λ made knows t opens. absurd opens; keeps = λ t each. each; sent = tt }
 
 fork_by_waits : (calls : Standing) (o : Occasion) (asked : Parts) (response : Response) (contact : Option Uri) → IsForked calls.calls asked response → StepWaits false 0 calls.calls (fork_by calls o asked response contact)
 fork_by_waits calls o asked response None why = nothing_alone calls

@@ -38,7 +38,7 @@ new_waits c s new = record {
 event_waits : (s : Contents) → KnowsTokens (office s) → KnowsWaiting (office s) → (e : Event) (taken : Option Taken) → only_counts s e ≡ taken → Waits (office s) (row_by s e taken)
 event_waits s tokens k e (Some taken) is =
     let w = plan_waits (office s) k (nothing taken) (λ t opens offers. opens) in
-    record { stayed = w.stayed; began = w.began; one = w.one; counted = w.counted; above = w.above; byes = w.byes; keeps = w.keeps; carries = w.carries }
+    record { stayed = w.stayed; began = w.began; one = w.one; counted = w.counted; above = w.above; byes = w.byes; keeps = w.keeps; carries = w.carries; sent = w.sent }
 event_waits s tokens k e None is = what_waits (office s) tokens k (few_tokens s e is) (moment_at s e.now) e.salt e.what
 
 pub row_waits : (s : Contents) → KnowsTokens (office s) → KnowsWaiting (office s) → (e : Event) → Waits (office s) (row s e)

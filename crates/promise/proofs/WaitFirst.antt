@@ -46,6 +46,7 @@ use Rattle.promise.proofs.Byes.{ByesAbove, first_byes}
 use Rattle.promise.proofs.Calls.{first_ids}
 use Rattle.promise.proofs.Carrying.{CarriesText, said_carries}
 use Rattle.promise.proofs.Coming.{IsLater, OpensIn}
+use Rattle.promise.proofs.InOrder.{AreSent, messages_sent}
 use Rattle.promise.proofs.Offering.{IsOfferIn, IsOfferTo, said_offered}
 use Rattle.promise.proofs.OneOffer.{HasOne, said_one}
 use Rattle.promise.proofs.Once.{OneOffers}
@@ -62,6 +63,7 @@ pub record BeginsOffer (made : ℕ) (calls : List StandingCall) (x : steps.Effec
   pub byes : KnowsCalls made calls → ByesAbove made calls x.dressed.changes
   pub keeps : (t : Transaction) → IsMade made (from_tag t) → All (WasCounted t) calls → All (CarriesOpen t) calls → All (CarriesOpen t) x.outcome.standing.calls
   pub carries : (t : Transaction) → OpensIn t x.dressed.changes → IsOffering t → All (CarriesOpen t) x.outcome.standing.calls
+  pub sent : AreSent x.dressed.changes x.dressed.sends
   pub one : OneOffers x.dressed.changes
 
 pub nothing_begins : (made : ℕ) (calls : Standing) → BeginsOffer made calls.calls (no_effect calls)
@@ -72,6 +74,7 @@ nothing_begins made calls = record {
   byes = λ knows t opens. absurd opens;
   keeps = λ t tag was each. each;
   carries = λ t opens offers. absurd opens;
+  sent = tt;
   one = tt;
 }
 
@@ -171,6 +174,7 @@ begins_by_offer calls o r id source target offer (Some contact) e few all =
           (All-weaker (HasMadeTags o.tokens) (CarriesOpen t)
           (λ y made has open_then leg. absurd (old_and_new o.tokens o.salt (o.tokens + 3) (from_tag t) (made_tag o.tokens y (from_tag t) made (tagged (from_tag t) y has)) (omega arith) (omega (arith, few)) (offered t opens offers).tag))
           calls.calls all.tags) (λ has open_then leg. first_carries c.call offer calls.pool o.now t (said_carries s None step.actions t opens offers));
+      sent = messages_sent s None step.actions;
       one = said_one s None step.actions (first_has_one c.call offer calls.pool o.now);
     }
 

@@ -41,6 +41,7 @@ use Rattle.promise.proofs.Byes.{does_byes}
 use Rattle.promise.proofs.Calls.{FitsLeg, call_at, call_ids, same_beside}
 use Rattle.promise.proofs.Carrying.{CarriesText, said_carries}
 use Rattle.promise.proofs.Coming.{OpensIn}
+use Rattle.promise.proofs.InOrder.{messages_sent}
 use Rattle.promise.proofs.Keeping.{beside_media}
 use Rattle.promise.proofs.Offering.{IsOfferIn, IsOfferTo, said_offered}
 use Rattle.promise.proofs.OneOffer.{said_one}
@@ -171,6 +172,7 @@ does_begins calls table o place w x c step p at_scene fits grows =
       above = λ t opens offers v tag each same. at_leg _ (dialog_of (other x) c.call) t (λ leg is offer. offer_above o.tokens calls.calls place x c step d t v leg p is offer each same) (offered t opens offers);
       one = said_one s (passed_id table c) step.actions p.on.one;
       byes = λ knows. does_byes o.tokens o.tokens calls table o place w c step knows p.there fits grows;
+      sent = messages_sent s (passed_id table c) step.actions;
       keeps = λ t tag was each.
           put_or_gone (CarriesOpen t) calls.calls place d (is_some step.call.standing)
           (λ stands has opens leg. absurd (passed_by o.tokens calls.calls place x c step d t p has opens leg (all_at (WasCounted t) calls.calls place c was p.there))) each;

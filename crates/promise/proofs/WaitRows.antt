@@ -49,6 +49,7 @@ use Rattle.promise.specs.Waiting.{KnowsWaiting}
 use Rattle.promise.proofs.Awaiting.{LegKeeps, fits_at, leg_kept}
 use Rattle.promise.proofs.Calls.{FitsLeg}
 use Rattle.promise.proofs.Coming.{later_self}
+use Rattle.promise.proofs.InOrder.{behind_none}
 use Rattle.promise.proofs.Lines.{failure_ends, success_ends, waits_after}
 use Rattle.promise.proofs.Offering.{opens_split}
 use Rattle.promise.proofs.Once.{NoneOwn, none_before, own_offers}
@@ -112,6 +113,7 @@ offer_step s tokens k begun x none b = record {
   byes = λ knows t opens place c there bye. elim (opens_split t begun x.dressed.changes opens) [ inl h ↦ absurd (none t h bye.bye.client) | inr h ↦ b.byes knows t h place c there bye ];
   keeps = b.keeps;
   carries = λ t opens offers. elim (opens_split t begun x.dressed.changes opens) [ inl h ↦ absurd (none t h offers.client) | inr h ↦ b.carries t h offers ];
+  sent = behind_none begun x.dressed.changes [] x.dressed.sends none b.sent;
 }
 
 -- ---- the rows
@@ -262,13 +264,13 @@ due_waits s k e x (fired_alone timer fired is) = subst (Waits s) (sym is) (plan_
 due_waits s k e x (timed timer t place fired times there found is) = subst (Waits s) (sym is) (timed_waits s k e timer t place fired times there (timeout_waits s.calls.calls t.parts place found))
 due_waits s k e x (ended timer fired is) =
     let w = plan_waits s k (moves (fire_of timer ∷ []) None) (λ t opens offers. opens) in
-    subst (Waits s) (sym is) (record { stayed = w.stayed; began = w.began; one = w.one; counted = w.counted; above = w.above; byes = w.byes; keeps = w.keeps; carries = w.carries })
+    subst (Waits s) (sym is) (record { stayed = w.stayed; began = w.began; one = w.one; counted = w.counted; above = w.above; byes = w.byes; keeps = w.keeps; carries = w.carries; sent = w.sent })
 due_waits s k e x (stopped timer is) =
     let w = plan_waits (without_call_timer timer s) (record { awaited = k.awaited; once = k.once }) (moves [] None) (λ t opens offers. opens) in
-    subst (Waits s) (sym is) (record { stayed = w.stayed; began = w.began; one = w.one; counted = w.counted; above = w.above; byes = w.byes; keeps = w.keeps; carries = w.carries })
+    subst (Waits s) (sym is) (record { stayed = w.stayed; began = w.began; one = w.one; counted = w.counted; above = w.above; byes = w.byes; keeps = w.keeps; carries = w.carries; sent = w.sent })
 due_waits s k e x (call_fired timer place found is) =
     let w = timer_takes (without_call_timer timer s) (record { awaited = k.awaited; once = k.once }) e place timer.timer in
-    subst (Waits s) (sym is) (record { stayed = w.stayed; began = w.began; one = w.one; counted = w.counted; above = w.above; byes = w.byes; keeps = w.keeps; carries = w.carries })
+    subst (Waits s) (sym is) (record { stayed = w.stayed; began = w.began; one = w.one; counted = w.counted; above = w.above; byes = w.byes; keeps = w.keeps; carries = w.carries; sent = w.sent })
 
 what_waits_by : (s : Office) → KnowsTokens s → KnowsWaiting s → s.tokens < 2 ^ 63 → (now salt : ℕ) (what : What) (x : Effect) → WhatRow s now salt what x → Waits s x
 what_waits_by s tokens k few now salt what x (came source bytes is row) = datagram_waits s tokens k few (setting now salt source) bytes x row

@@ -40,6 +40,7 @@ use Rattle.promise.proofs.Awaiting.{LegGrows, LegKeeps, all_at, fits_at, later_a
 use Rattle.promise.proofs.Byes.{ByesAbove, does_byes}
 use Rattle.promise.proofs.Calls.{FitsLeg, KeepsIds, call_ids}
 use Rattle.promise.proofs.Coming.{IsLater}
+use Rattle.promise.proofs.InOrder.{AreSent, messages_sent}
 use Rattle.promise.proofs.Keeping.{carries_after, step_open}
 use Rattle.promise.proofs.Offering.{none_offered, said_offered}
 use Rattle.promise.proofs.Once.{IsSameNumber, NoneOffers}
@@ -100,6 +101,7 @@ pub record StepWaits (final : Bool) (place : ℕ) (calls : List StandingCall) (x
   pub fits : (t u : Transaction) → IsLater t u → All (FitsCall t) calls → (final ≡ true → IsLost calls place t u) → All (FitsCall u) x.outcome.standing.calls
   pub byes : (made : ℕ) → KnowsCalls made calls → ByesAbove made calls x.dressed.changes
   pub keeps : (t : Transaction) → All (CarriesOpen t) calls → All (CarriesOpen t) x.outcome.standing.calls
+  pub sent : AreSent x.dressed.changes x.dressed.sends
 
 -- a dialog that comes with an input keeps the server's number, or counts the one that was asked, where a final response came
 pub record LegFits (final : Bool) (made : ℕ) (leg : Option LegDialog) (c : StandingCall) : Type 0 where
@@ -133,10 +135,11 @@ does_waits calls table o place made w c final step keeps leg fits there =
           let d = beside (put_with w said) (with_step c step) in
           put_or_gone (CarriesOpen t) calls.calls place d (is_some step.call.standing)
           (λ stands. carries_after t c d (step_open made c final step (put_with w said) keeps leg.tags leg.keeps fits) (all_at (CarriesOpen t) calls.calls place c each there)) each;
+      sent = messages_sent s (passed_id table c) step.actions;
     }
 
 nothing_waits : (final : Bool) (calls : Standing) (place : ℕ) → StepWaits final place calls.calls (no_effect calls)
-nothing_waits final calls place = record { none = λ t opens offers. opens; fits = λ t u later each lost. later_all t u calls.calls later each; byes = λ m knows t opens. absurd opens; keeps = λ t each. each }
+nothing_waits final calls place = record { none = λ t opens offers. opens; fits = λ t u later each lost. later_all t u calls.calls later each; byes = λ m knows t opens. absurd opens; keeps = λ t each. each; sent = tt }
 
 takes_by_waits : (calls : Standing) (table : transactions.Contents) (o : Occasion) (place made : ℕ) (input : Input) (leg : Option LegDialog) (request : Option AskerValue) (c : Option StandingCall)
     → IsNoOfferInput input → slice_get calls.calls place ≡ c → ((d : StandingCall) → slice_get calls.calls place ≡ Some d → LegFits (consumes_input input) made leg d)

@@ -1,9 +1,10 @@
 -- The numbers that the server gives its requests in one leg (RFC 3261 section 12.2.1.1).
-use Rattle.std.specs.Prelude.{◌≡◌, ℕ, ◌<◌, true, false, List, [], ◌∷◌, ◌++◌, Option, Some, None}
+use Rattle.std.specs.Prelude.{◌≡◌, ℕ, ◌<◌, true, false, List, [], ◌∷◌, ◌++◌, Option, Some, None, Bool, not, filter, ◌⊎◌}
 use Rattle.std.specs.List.{All, AllPairs}
 use Rattle.sip_message.specs.Words.{tag_text}
 use Rattle.dialogs.specs.declared.state.Dialog.{Dialog}
 use Rattle.events.specs.declared.event.Event.{Event}
+use Rattle.events.specs.declared.sent.Sent.{Sent}
 use Rattle.transaction_machines.specs.Machines.{is_server}
 use Rattle.transactions.specs.declared.change.Entry.{Entry as Change}
 use Rattle.transactions.specs.declared.change.Entry.TheVariants.{Opens, Tells, Answers, Leaves}
@@ -21,7 +22,7 @@ use Rattle.agent.specs.Trace.{Entry, after_entry}
 use Rattle.promise.specs.Tokens.{IsMade}
 use Rattle.promise.specs.Waiting.{IsCounted, IsOffering, from_tag}
 
--- ---- the transactions that begin, in the order in which their requests are sent or come
+-- ---- the transactions that begin, in order
 
 abbrev pub begun_of : List Change → List Transaction
 begun_of [] = []
@@ -39,6 +40,19 @@ begun_at s e (Some taken) = begun_of (row s e).plan.changes
 abbrev pub begun_in : Contents → List Entry → List Transaction
 begun_in s [] = []
 begun_in s (x ∷ xs) = begun_at s x.event x.answer ++ begun_in (after_entry s x) xs
+
+-- those of the server's own
+abbrev pub is_own : Transaction → Bool
+is_own t = not (is_server t.state)
+
+abbrev pub own_of : List Change → List Transaction
+own_of changes = filter is_own (begun_of changes)
+
+-- their requests are among these datagrams, in this order
+abbrev pub GoInOrder : List Transaction → List Sent → Type 0
+GoInOrder [] sends = Unit {0}
+GoInOrder (t ∷ own) [] = ⊥
+GoInOrder (t ∷ own) (d ∷ sends) = ((t.last ≡ Some d.bytes) × GoInOrder own sends) ⊎ GoInOrder (t ∷ own) sends
 
 -- ---- numbers
 

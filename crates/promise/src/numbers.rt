@@ -8,19 +8,22 @@ ghost use Rattle.agent.specs.Trace.{AreEntries, Entry};
 ghost use Rattle.configuration.specs.declared.config.Config.{Config};
 ghost use Rattle.events.specs.declared.event.Event.{Event};
 ghost use Rattle.promise.specs.Knowing.{KnowsTokens};
-ghost use Rattle.promise.specs.Numbers.{EndsLegs, IsBelow, KnowsNumbers, begun_in, begun_of};
+ghost use Rattle.promise.specs.Numbers.{EndsLegs, GoInOrder, IsBelow, KnowsNumbers, begun_in, begun_of, own_of};
 ghost use Rattle.promise.specs.Waiting.{KnowsWaiting};
 ghost use Rattle.transactions.specs.declared.transaction.Transaction.{Transaction};
 
 /// Of a new agent, and after any event, of all requests that the server began, also those whose transactions have ended: the call that
 /// the tag of an INVITE or UPDATE names counted its number. So these numbers rise in each leg, over any events, in the order in which the
-/// requests begin; and a BYE in a leg of a call that stands has a greater one.
+/// requests begin, and the requests that begin at an event are sent in it, in that order; and a BYE in a leg of a call that stands has a
+/// greater one.
 pub fn numbers_rise()
     ensures begins { (config : Config) (s : Contents) → IsNew config s → KnowsNumbers (office s) [] }
     ensures step { (s : Contents) (event : Event) (begun : List Transaction) → KnowsTokens (office s) → KnowsWaiting (office s) →
         KnowsNumbers (office s) begun → KnowsNumbers (office (after s event)) (begun ++ begun_of (row s event).plan.changes) }
     ensures byes { (s : Contents) (event : Event) (begun : List Transaction) → KnowsTokens (office s) → KnowsWaiting (office s) →
         KnowsNumbers (office s) begun → All (EndsLegs s.calls.calls begun) (begun_of (row s event).plan.changes) }
+    ensures sent { (s : Contents) (event : Event) → KnowsTokens (office s) → KnowsWaiting (office s) →
+        GoInOrder (own_of (row s event).plan.changes) (row s event).plan.sends }
     ensures rise { (config : Config) (s : Contents) (entries : List Entry) → IsNew config s → AreEntries s entries →
         AllPairs IsBelow (begun_in s entries) }
 {}

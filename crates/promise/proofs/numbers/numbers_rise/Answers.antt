@@ -1,4 +1,4 @@
-use Rattle.promise.proofs.Rising.{after_byes, after_numbers, new_numbers, new_rise}
+use Rattle.promise.proofs.Rising.{after_byes, after_numbers, after_sends, new_numbers, new_rise}
 use Rattle.promise.proofs.numbers.numbers_rise.Goals as goal
 
 pub returns-clause-begins : goal.returns-clause-begins
@@ -9,6 +9,9 @@ returns-clause-step c = after_numbers
 
 pub returns-clause-byes : goal.returns-clause-byes
 returns-clause-byes c = after_byes
+
+pub returns-clause-sent : goal.returns-clause-sent
+returns-clause-sent c = after_sends
 
 pub returns-clause-rise : goal.returns-clause-rise
 returns-clause-rise c = new_rise
