@@ -25,7 +25,7 @@ use Rattle.promise.specs.Carried.{CarriesIfOffering, KnowsCarried}
 use Rattle.promise.specs.Entries.{EnterOwn}
 use Rattle.promise.specs.Knowing.{KnowsTokens}
 use Rattle.promise.specs.Knowledge.{KnowsMessages}
-use Rattle.promise.specs.Numbers.{EndsLegs, GoInOrder, IsBelow, IsNumberedIf, IsPast, KnowsNumbers, WasCounted, begun_at, begun_in, begun_of, own_of}
+use Rattle.promise.specs.Numbers.{EndLegsIn, EndsLegs, GoInOrder, IsBelow, IsNumberedIf, IsPast, KnowsNumbers, WasCounted, begun_at, begun_in, begun_of, own_of}
 use Rattle.promise.specs.Tokens.{IsOwn}
 use Rattle.promise.specs.Waiting.{FitsCall, KnowsWaiting, from_tag}
 use Rattle.promise.proofs.Coming.{OpensIn}
@@ -178,6 +178,21 @@ new_begun c s xs new are = list_begun s xs [] [] are (new_messages c s new) (rec
 
 pub new_rise : (c : Config) (s : Contents) (xs : List Entry) → IsNew c s → AreEntries s xs → AllPairs IsBelow (begun_in s xs)
 new_rise c s xs new are = (new_begun c s xs new are).numbers.rise
+
+answer_ends : (s : Contents) (x : Entry) (begun : List Transaction) (taken : Option Taken) → KnowsTokens (office s) → KnowsWaiting (office s) → KnowsNumbers (office s) begun
+    → All (EndsLegs s.calls.calls begun) (begun_at s x.event taken)
+answer_ends s x begun None tokens waiting k = All-nil (EndsLegs s.calls.calls begun)
+answer_ends s x begun (Some taken) tokens waiting k = after_byes s x.event begun tokens waiting k
+
+list_ends : (s : Contents) (xs : List Entry) (sent : List Sent) (begun : List Transaction) → AreEntries s xs → KnowsMessages (office s) sent → KnowsBegun (office s) begun → EndLegsIn s begun xs
+list_ends s [] sent begun are known k = tt
+list_ends s (x ∷ xs) sent begun are known k = (
+  answer_ends s x begun x.answer known.tokens known.waiting k.numbers,
+  list_ends (after_entry s x) xs (sent ++ x.sends) (begun ++ begun_at s x.event x.answer) are.1 (answer_messages s x sent x.answer are.0 known) (answer_begun s x begun x.answer known.tokens known.waiting k),
+)
+
+pub new_ends : (c : Config) (s : Contents) (xs : List Entry) → IsNew c s → AreEntries s xs → EndLegsIn s [] xs
+new_ends c s xs new are = list_ends s xs [] [] are (new_messages c s new) (record { numbers = new_numbers c s new; carried = new_carried c s new })
 
 pub list_carried : (c : Config) (s : Contents) (xs : List Entry) → IsNew c s → AreEntries s xs → KnowsCarried (office (after_entries s xs)) (begun_in s xs)
 list_carried c s xs new are = (new_begun c s xs new are).carried

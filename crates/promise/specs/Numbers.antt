@@ -104,3 +104,8 @@ EndsLeg begun t c = IsByeOf c t → All (IsPast t) begun
 -- where it is a BYE in a leg of one of these calls
 abbrev pub EndsLegs : List StandingCall → List Transaction → Transaction → Type 0
 EndsLegs calls begun t = All (EndsLeg begun t) calls
+
+-- at each of these events, behind these requests
+abbrev pub EndLegsIn : Contents → List Transaction → List Entry → Type 0
+EndLegsIn s begun [] = Unit {0}
+EndLegsIn s begun (x ∷ xs) = All (EndsLegs s.calls.calls begun) (begun_at s x.event x.answer) × EndLegsIn (after_entry s x) (begun ++ begun_at s x.event x.answer) xs

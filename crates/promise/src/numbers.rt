@@ -8,7 +8,7 @@ ghost use Rattle.agent.specs.Trace.{AreEntries, Entry};
 ghost use Rattle.configuration.specs.declared.config.Config.{Config};
 ghost use Rattle.events.specs.declared.event.Event.{Event};
 ghost use Rattle.promise.specs.Knowing.{KnowsTokens};
-ghost use Rattle.promise.specs.Numbers.{EndsLegs, GoInOrder, IsBelow, KnowsNumbers, begun_in, begun_of, own_of};
+ghost use Rattle.promise.specs.Numbers.{EndLegsIn, EndsLegs, GoInOrder, IsBelow, KnowsNumbers, begun_in, begun_of, own_of};
 ghost use Rattle.promise.specs.Waiting.{KnowsWaiting};
 ghost use Rattle.transactions.specs.declared.transaction.Transaction.{Transaction};
 
@@ -26,4 +26,5 @@ pub fn numbers_rise()
         GoInOrder (own_of (row s event).plan.changes) (row s event).plan.sends }
     ensures rise { (config : Config) (s : Contents) (entries : List Entry) → IsNew config s → AreEntries s entries →
         AllPairs IsBelow (begun_in s entries) }
+    ensures ends { (config : Config) (s : Contents) (entries : List Entry) → IsNew config s → AreEntries s entries → EndLegsIn s [] entries }
 {}

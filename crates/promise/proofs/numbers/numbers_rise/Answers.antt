@@ -1,4 +1,4 @@
-use Rattle.promise.proofs.Rising.{after_byes, after_numbers, after_sends, new_numbers, new_rise}
+use Rattle.promise.proofs.Rising.{after_byes, after_numbers, after_sends, new_ends, new_numbers, new_rise}
 use Rattle.promise.proofs.numbers.numbers_rise.Goals as goal
 
 pub returns-clause-begins : goal.returns-clause-begins
@@ -15,3 +15,6 @@ returns-clause-sent c = after_sends
 
 pub returns-clause-rise : goal.returns-clause-rise
 returns-clause-rise c = new_rise
+
+pub returns-clause-ends : goal.returns-clause-ends
+returns-clause-ends c = new_ends
