@@ -176,7 +176,7 @@ up_at id t input fresh (Some x) is up = subst (λ (y : Transaction). is_some (ro
 
 up_in : (table : Contents) (r : Response) (id : ℕ) (t : Transaction) (found : Option ℕ) → found ≡ Some id → at table.slots id ≡ Some t → is_up (response_reception table r found).verdict ≡ true
     → is_some (row_of t.state (response_input r)) ≡ true
-up_in table r id t None is there up = absurd (false≢true (ap is_some is))
+up_in table r id t None is there up = absurd (none-some id is)
 up_in table r id t (Some at_id) is there up =
     let same : at_id ≡ id = same_Some at_id id is in
     up_at at_id t (response_input r) (ack_at (at table.slots at_id) r) (at table.slots at_id) (ap (at table.slots) same ∙ there) up

@@ -1,7 +1,8 @@
 -- What an agent knows of its tokens after an event.
-use Rattle.std.proofs.Common.{◌≡◌, ◌<◌, ◌^◌, Bool, true, false, cond, nat_le, is_some, ap, ℕ, ◌+◌, Option, Some, None, refl, subst, sym, arith}
+use Rattle.std.proofs.Common.{◌≡◌, ◌<◌, ◌^◌, Bool, true, false, cond, nat_le, ℕ, ◌+◌, Option, Some, None, refl, subst, sym, arith}
 use Rattle.std.specs.List.{All}
-use Rattle.std.proofs.lemmas.Bool.{false≢true, leb-false}
+use Rattle.std.proofs.lemmas.Bool.{leb-false}
+use Rattle.std.proofs.lemmas.Option.{none-some}
 use Rattle.std.proofs.lemmas.List.Elements.{All-nil}
 use Rattle.configuration.specs.declared.config.Config.{Config}
 use Rattle.events.specs.declared.event.Event.{Event}
@@ -22,8 +23,8 @@ new_knows c s new = record {
 }
 
 few_by : (clock spent : Bool) (late over : Taken) (other : Option Taken) → cond clock (Some late) (cond spent (Some over) other) ≡ None → spent ≡ false
-few_by true spent late over other e = absurd (false≢true (ap is_some (sym e)))
-few_by false true late over other e = absurd (false≢true (ap is_some (sym e)))
+few_by true spent late over other e = absurd (none-some late (sym e))
+few_by false true late over other e = absurd (none-some over (sym e))
 few_by false false late over other e = refl
 
 -- fewer tokens were made than may be

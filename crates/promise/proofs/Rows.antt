@@ -211,11 +211,8 @@ response_rows s k e r begun send id t x tag b (provisional place status c there 
 response_rows s k e r begun send id t x tag b (answered place c there opens class is) =
     subst (Owns s) (sym is) (
     takes_owns s k e begun send (Some id) place (inputs.Answer (described r.headers r.body)) (answers_leg s.calls.calls place t.parts r) b
-    (λ d at_d. answers_fits s.tokens s.calls.calls place t.parts r d k.calls at_d (same_open c d (sym there ∙ at_d) opens.waits))
+    (λ d at_d. answers_fits s.tokens s.calls.calls place t.parts r d k.calls at_d (subst (λ y. is_open t.parts y ≡ true) (same_Some c d (sym there ∙ at_d)) opens.waits))
     )
-  where
-    same_open : (c d : StandingCall) → Some c ≡ Some d → is_open t.parts c ≡ true → is_open t.parts d ≡ true
-    same_open c d same h = subst (λ y. is_open t.parts y ≡ true) (same_Some c d same) h
 response_rows s k e r begun send id t x tag b (again place acked is) = subst (Owns s) (sym is) (plan_owns s k (acks_again s begun id) (b (s.tokens + 0)))
 response_rows s k e r begun send id t x tag b (fork why is) = subst (Owns s) (sym is) (step_owns s begun send None _ b (fork_own s.calls (occasion s e) t.parts r tag k.calls))
 response_rows s k e r begun send id t x tag b (ack_alone is) = subst (Owns s) (sym is) (step_owns s begun send None _ b (late_own s.calls (occasion s e) t.parts r tag k.calls))

@@ -162,9 +162,6 @@ final_asked s r id t place c class to there asked is ends = record {
   ends = subst (λ k. waits_after t.state (row_of t.state (machine_inputs.Response k)) ≡ false) (sym is) ends;
 }
 
-same_asked : (t : Transaction) (c d : StandingCall) → Some c ≡ Some d → IsAsked t.parts c → IsAsked t.parts d
-same_asked t c d same h = subst (IsAsked t.parts) (same_Some c d same) h
-
 abbrev pub told_response : Office → Response → ℕ → List Entry
 told_response s r id = Tells id (response_input r) (ack_at (at s.table.slots id) r) ∷ []
 
@@ -178,7 +175,7 @@ told_waits s tokens k e r send id t x to (answered place c there asked class is)
     final_takes s k e send (Some id) place s.tokens id t c (response_input r) (ack_at (at s.table.slots id) r) (inputs.Answer (described r.headers r.body)) (answers_leg s.calls.calls place t.parts r)
     (final_asked s r id t place c Success to there asked class (success_ends t.state)) tt
     (λ d at_d.
-    let asked_d = same_asked t c d (sym there ∙ at_d) asked in
+    let asked_d = subst (IsAsked t.parts) (same_Some c d (sym there ∙ at_d)) asked in
     record {
       tags = answers_fits s.tokens s.calls.calls place t.parts r d tokens.calls at_d asked_d.waits;
       grows = answers_grows t s.calls.calls place r d at_d asked_d
