@@ -1,4 +1,4 @@
--- An offer inside a call that is passed on: what waits afterwards.
+-- An offer inside a call that is passed on: what waits afterwards, with which number, and what it carries.
 use Rattle.std.proofs.Common.{◌≡◌, ◌∙◌, ℕ, ◌<◌, Bool, true, false, cond, List, Option, Some, None, is_some, refl, ap, sym, subst, arith}
 use Rattle.std.specs.Prelude.{slice_get, slice_set}
 use Rattle.std.specs.List.{All, remove}

@@ -1,4 +1,4 @@
--- A call that takes an input other than an offer: what waits afterwards.
+-- A call that takes an input other than an offer: what waits afterwards, what was counted, and what its open offer carries.
 use Rattle.std.proofs.Common.{◌≡◌, ◌∙◌, ℕ, Bool, true, false, cond, ◌||◌, List, Option, Some, None, is_some, refl, ap, sym}
 use Rattle.std.specs.Prelude.{slice_get}
 use Rattle.std.specs.List.{All}
