@@ -102,6 +102,24 @@ impl<'o> Office<'o> {
         Doing::of_step(before, step)
     }
 
+    /// The same, of an input that comes with no dialog.
+    #[inline(never)]
+    pub(crate) fn takes_alone(
+        &self,
+        e: Setting,
+        before: Before,
+        place: usize,
+        input: Input<'_>,
+    ) -> Result<Doing, AllocError>
+        requires few { self.now.tokens < 2 ^ 63 }
+        ensures row { IfOk result (λ d. effect self.now.calls self.now.acks e.now d ≡ takes self.now e before.begun.items before.send before.id place input.entry None) }
+        ensures fits { IfOk result (Fits self.now.calls e.now) }
+    {
+        let doing = self.takes(e, before, place, &input, None);
+        let_go(input);
+        doing
+    }
+
     /// The call at this place takes an input, whose request began transaction `id` and is answered with this tag.
     #[inline(never)]
     fn takes_request(

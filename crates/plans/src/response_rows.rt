@@ -173,7 +173,7 @@ impl<'o> Office<'o> {
             ResponseRule::Silent => self.moves_row(begun, send),
             ResponseRule::Provisional { place, status } => {
                 let before = Before::sending(begun, send);
-                self.takes(e, before, place, &Input::Provisional(status), None)
+                self.takes_alone(e, before, place, Input::Provisional(status))
             }
             ResponseRule::Answer { place } => {
                 let before = Before::keeping(begun, send, id);
@@ -186,7 +186,7 @@ impl<'o> Office<'o> {
             }
             ResponseRule::Refusal { place, status } => {
                 let before = Before::sending(begun, send);
-                self.takes(e, before, place, &Input::Refusal(status), None)
+                self.takes_alone(e, before, place, Input::Refusal(status))
             }
         }
     }
@@ -265,7 +265,9 @@ impl<'o> Office<'o> {
         ensures fits { IfOk result (Fits self.now.calls e.now) }
     {
         let input = timer_input(timer.timer);
-        let step = self.step_at(e, place, &input, None, None)?;
+        let step = self.step_at(e, place, &input, None, None);
+        let_go(input);
+        let step = step?;
         let before = Before::alone(Vec::new(self.alloc));
         Doing::of_fired_step(Some(timer), before, step)
     }
