@@ -28,6 +28,7 @@ use Rattle.calls.specs.declared.standing_call.StandingCall.{StandingCall}
 use Rattle.call_rules.specs.Responses.{asked_end, awaits_final, is_last_in, is_open, is_open_in}
 use Rattle.promise.specs.Waiting.{FitsCall, IsCounted, from_tag, waits}
 use Rattle.promise.proofs.Apartness.{SameTags}
+use Rattle.promise.proofs.Besides.{beside_same}
 use Rattle.promise.proofs.Coming.{IsLater}
 
 -- ---- tags
@@ -190,29 +191,12 @@ dialog_standing : (end : End) (d : Dialog) (c : Call) → (with_dialog end d c).
 dialog_standing Caller d c = refl
 dialog_standing Callee d c = refl
 
-leg_standing : (c : StandingCall) (leg : Option LegDialog) → (with_leg leg c).call.standing ≡ c.call.standing
-leg_standing c None = refl
-leg_standing c (Some leg) = dialog_standing leg.end leg.dialog c.call
-
-taken_standing : (c : StandingCall) (taken : Option TakenOffer) → (with_taken_if taken c).call.standing ≡ c.call.standing
-taken_standing c None = refl
-taken_standing c (Some o) = refl
-
 target_standing : (end : End) (target : Uri) (c : Call) → (with_target end target c).standing ≡ c.standing
 target_standing Caller target c = refl
 target_standing Callee target c = refl
 
-reached_standing : (target : Option Uri) (c : Call) → (reached_call target c).standing ≡ c.standing
-reached_standing None c = refl
-reached_standing (Some target) c = target_standing (offerer_of c.standing) target c
-
-last_standing : (c : StandingCall) (answer : Option Sent) → (with_last answer c).call.standing ≡ c.call.standing
-last_standing c None = refl
-last_standing c (Some answer) = reached_standing c.target c.call
-
 pub beside_standing : (c : StandingCall) (kept : Beside) → (beside kept c).call.standing ≡ c.call.standing
-beside_standing c kept =
-    last_standing (with_taken_if kept.taken (with_leg kept.leg c)) kept.answer ∙ taken_standing (with_leg kept.leg c) kept.taken ∙ leg_standing c kept.leg
+beside_standing = beside_same (λ c. c.standing) dialog_standing target_standing
 
 -- ---- an offer that is open
 

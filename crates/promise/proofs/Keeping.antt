@@ -2,7 +2,6 @@
 use Rattle.std.proofs.Common.{◌≡◌, ◌∙◌, ℕ, ◌==◌, Bool, true, false, Option, Some, None, refl, ap, sym, subst, inl, inr}
 use Rattle.sip_uri.specs.declared.uri.Uri.{Uri}
 use Rattle.dialogs.specs.declared.state.Dialog.{Dialog}
-use Rattle.events.specs.declared.sent.Sent.{Sent}
 use Rattle.transactions.specs.declared.transaction.Transaction.{Transaction}
 use Rattle.call_media.specs.declared.end.End.{End}
 use Rattle.call_media.specs.declared.end.End.TheVariants.{Caller, Callee}
@@ -11,17 +10,17 @@ use Rattle.call_core.specs.declared.call.Call.{Call}
 use Rattle.call_core.specs.declared.stage.Standing as stage
 use Rattle.call_core.specs.Calls.{dialog_of, with_dialog, with_target}
 use Rattle.call_core.specs.Plans.{Step}
-use Rattle.calls.specs.Carrying.{offerer_of, reached_call, with_dialog_at, with_step}
-use Rattle.calls.specs.Changes.{beside, with_last, with_leg, with_taken_if}
+use Rattle.calls.specs.Carrying.{with_dialog_at, with_step}
+use Rattle.calls.specs.Changes.{beside}
 use Rattle.calls.specs.declared.change.Beside.{Beside}
 use Rattle.calls.specs.declared.change.LegDialog.{LegDialog}
-use Rattle.calls.specs.declared.standing_call.TakenOffer.{TakenOffer}
 use Rattle.calls.specs.declared.standing_call.StandingCall.{StandingCall}
 use Rattle.call_rules.specs.Responses.{asked_end, awaits_final, is_last_in, is_open}
-use Rattle.promise.specs.Carried.{CarriesIf, CarriesOpen, has_leg, is_asked}
+use Rattle.promise.specs.Carried.{CarriesIf, CarriesOpen, has_leg, awaits_callee}
 use Rattle.promise.specs.Waiting.{from_tag}
 use Rattle.promise.proofs.Apartness.{SameTags}
 use Rattle.promise.proofs.Awaiting.{CallKeeps, Keeps, LegKeeps, beside_keeps, beside_standing, keeps_at, open_from, opened, same_end, same_tag}
+use Rattle.promise.proofs.Besides.{beside_same}
 use Rattle.promise.proofs.Calls.{FitsLeg, KeepsIds, same_beside, same_leg_put}
 use Rattle.promise.proofs.Tables.{KeepsOffer, TakesFits}
 use Rattle.promise.proofs.WaitSteps.{keeps_from, leg_keeps_on}
@@ -32,28 +31,12 @@ dialog_media : (end : End) (d : Dialog) (c : Call) → (with_dialog end d c).med
 dialog_media Caller d c = refl
 dialog_media Callee d c = refl
 
-leg_media : (c : StandingCall) (leg : Option LegDialog) → (with_leg leg c).call.media ≡ c.call.media
-leg_media c None = refl
-leg_media c (Some leg) = dialog_media leg.end leg.dialog c.call
-
-taken_media : (c : StandingCall) (taken : Option TakenOffer) → (with_taken_if taken c).call.media ≡ c.call.media
-taken_media c None = refl
-taken_media c (Some o) = refl
-
 target_media : (end : End) (target : Uri) (c : Call) → (with_target end target c).media ≡ c.media
 target_media Caller target c = refl
 target_media Callee target c = refl
 
-reached_media : (target : Option Uri) (c : Call) → (reached_call target c).media ≡ c.media
-reached_media None c = refl
-reached_media (Some target) c = target_media (offerer_of c.standing) target c
-
-last_media : (c : StandingCall) (answer : Option Sent) → (with_last answer c).call.media ≡ c.call.media
-last_media c None = refl
-last_media c (Some answer) = reached_media c.target c.call
-
 pub beside_media : (c : StandingCall) (kept : Beside) → (beside kept c).call.media ≡ c.call.media
-beside_media c kept = last_media (with_taken_if kept.taken (with_leg kept.leg c)) kept.answer ∙ taken_media (with_leg kept.leg c) kept.taken ∙ leg_media c kept.leg
+beside_media = beside_same (λ c. c.media) dialog_media target_media
 
 -- ---- a call whose open offer is that of before
 
@@ -63,7 +46,7 @@ pub record CameFrom (c d : StandingCall) (n : stage.Standing) : Type 0 where
   pub stands : c.call.standing ≡ Some before
   pub awaits : awaits_final before.stage ≡ true
   pub offerer : n.offerer ≡ before.offerer
-  pub asked : is_asked n.stage ≡ true → is_asked before.stage ≡ true
+  pub asked : awaits_callee n.stage ≡ true → awaits_callee before.stage ≡ true
   pub keeps : CallKeeps c.call d.call
 
 pub record StillOpen (c d : StandingCall) : Type 0 where
@@ -76,7 +59,7 @@ last_back number None e h k = refl
 last_back number (Some d) None h k = absurd h
 last_back number (Some d) (Some e) h k = ap (λ n. n == number) (sym h) ∙ k
 
-leg_back : (d e : Option Dialog) (s n : stage.Standing) → Keeps d e → (is_asked n.stage ≡ true → is_asked s.stage ≡ true) → has_leg e (Some n) ≡ true → has_leg d (Some s) ≡ true
+leg_back : (d e : Option Dialog) (s n : stage.Standing) → Keeps d e → (awaits_callee n.stage ≡ true → awaits_callee s.stage ≡ true) → has_leg e (Some n) ≡ true → has_leg d (Some s) ≡ true
 leg_back None None s n h f k = f k
 leg_back None (Some e) s n h f k = absurd h
 leg_back (Some d) e s n h f k = refl

@@ -14,6 +14,7 @@ pub mod Lines
 pub mod Coming
 pub mod Tables
 pub mod Offering
+pub mod Besides
 pub mod Awaiting
 pub mod Once
 pub mod Tagged

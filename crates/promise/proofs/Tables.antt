@@ -36,7 +36,7 @@ use Rattle.call_core.specs.Settled.{settled_row}
 use Rattle.call_core.specs.Table.{row_in, row_of}
 use Rattle.call_core.specs.Updating.{fails, update_refused, updating_row}
 use Rattle.call_rules.specs.Responses.{awaits_final}
-use Rattle.promise.specs.Carried.{is_asked}
+use Rattle.promise.specs.Carried.{awaits_callee}
 
 abbrev pub is_offer : Action → Bool
 is_offer (Offer end method) = true
@@ -67,7 +67,7 @@ pub record WaitedBefore (s : Standing) (final : Bool) (n : Standing) : Type 0 wh
   pub calm : final ≡ false
   pub awaits : awaits_final s.stage ≡ true
   pub offerer : n.offerer ≡ s.offerer
-  pub asked : is_asked n.stage ≡ true → is_asked s.stage ≡ true
+  pub asked : awaits_callee n.stage ≡ true → awaits_callee s.stage ≡ true
 
 abbrev pub ComesFrom : Standing → Bool → Option Standing → Type 0
 ComesFrom s final None = Unit {0}
@@ -112,7 +112,7 @@ ended : (s : Standing) (signal : Signal) (actions : List Action) → has_offer a
 ended s signal actions h = record { none_offered = h; waits_on = λ e w. tt; comes = tt }
 
 on : (s : Standing) (signal : Signal) (actions : List Action) (x : End) (stage : Stage) → has_offer actions ≡ false → awaits_final stage ≡ true → x ≡ s.offerer → consumes signal ≡ false
-    → awaits_final s.stage ≡ true → (is_asked stage ≡ true → is_asked s.stage ≡ true) → LineFits s signal (row actions x stage)
+    → awaits_final s.stage ≡ true → (awaits_callee stage ≡ true → awaits_callee s.stage ≡ true) → LineFits s signal (row actions x stage)
 on s signal actions x stage h w o c v a = record {
   none_offered = h;
   waits_on = λ e u. (w, o);

@@ -37,7 +37,7 @@ use Rattle.calls.specs.declared.standing_call.StandingCall.{StandingCall}
 use Rattle.plans.specs.CallRows.{clash_reply, offer_reply}
 use Rattle.legs.specs.declared.scene.Scene.{Scene}
 use Rattle.legs.specs.Dressing.{dialog_with}
-use Rattle.promise.specs.Carried.{has_leg, is_asked}
+use Rattle.promise.specs.Carried.{has_leg, awaits_callee}
 use Rattle.promise.specs.Waiting.{IsCounted}
 use Rattle.promise.proofs.Awaiting.{CallGrows, Grows, Keeps, grows_kept, keeps_self, opened}
 use Rattle.promise.proofs.Offering.{IsOfferTo, OfferedIn}
@@ -103,7 +103,7 @@ pub record PassesOn (c : Call) (x : End) (step : Step) : Type 0 where
   pub open_offer : OpenOffer
   pub kept : step.call.media.offer ≡ Some open_offer
   pub says : step.description ≡ Some open_offer.offer_sent
-  pub not_asked : is_asked next.stage ≡ false
+  pub not_asked : awaits_callee next.stage ≡ false
 
 either_offer : (A : Type 0) → A ⊎ ⊥ → A
 either_offer A (inl h) = h
@@ -193,7 +193,7 @@ last_counted number d None is keeps = absurd keeps
 last_counted number d (Some e) is keeps = (omega (arith, is, keeps), eq-eqb (last_number e) number (keeps ∙ sym is))
 
 -- and one that was counted before is not, unless it was the first
-pub not_last : (number : ℕ) (n : stage.Standing) (d e : Option Dialog) → is_asked n.stage ≡ false → IsCounted number d → Keeps (counted d) e → is_last_in number e ≡ true → has_leg e (Some n) ≡ true → ⊥
+pub not_last : (number : ℕ) (n : stage.Standing) (d e : Option Dialog) → awaits_callee n.stage ≡ false → IsCounted number d → Keeps (counted d) e → is_last_in number e ≡ true → has_leg e (Some n) ≡ true → ⊥
 not_last number n None None not_asked was keeps last leg = false≢true (sym not_asked ∙ leg)
 not_last number n None (Some e) not_asked was keeps last leg = keeps
 not_last number n (Some d) None not_asked was keeps last leg = keeps

@@ -32,19 +32,19 @@ CarriesIf t None = Unit {0}
 CarriesIf t (Some offer) = Carries t offer.offer_sent
 
 -- the first INVITE was passed on, and has no final response
-abbrev pub is_asked : Stage → Bool
-is_asked (Asked rung) = true
-is_asked (Cancelling sent) = false
-is_asked (Answered interval) = false
-is_asked Settled = false
-is_asked (Reasked rung cancelled) = false
-is_asked (Reanswered interval) = false
-is_asked Updating = false
-is_asked (Ending interval) = false
+abbrev pub awaits_callee : Stage → Bool
+awaits_callee (Asked rung) = true
+awaits_callee (Cancelling sent) = false
+awaits_callee (Answered interval) = false
+awaits_callee Settled = false
+awaits_callee (Reasked rung cancelled) = false
+awaits_callee (Reanswered interval) = false
+awaits_callee Updating = false
+awaits_callee (Ending interval) = false
 
 -- there is a dialog with the end that is asked, but for the first INVITE
 abbrev pub has_leg : Option Dialog → Option Standing → Bool
-has_leg None standing = holds_in is_asked standing
+has_leg None standing = holds_in awaits_callee standing
 has_leg (Some d) standing = true
 
 -- where this request is the open offer of the call that its tag names, it carries the offer that the call keeps
