@@ -26,7 +26,7 @@ use sdp::Description;
 use std::alloc::{AllocError, Global};
 
 /// An answer that may be passed on, and what it makes of the open offer.
-#[derive(Debug, Drop)]
+#[derive(Drop)]
 pub struct PlannedAnswer {
     /// As the answerer gave it.
     pub taken: Description<'static>,

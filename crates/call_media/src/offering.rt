@@ -25,7 +25,7 @@ use sdp::Description;
 use std::alloc::{AllocError, Global};
 
 /// An offer that may be passed on, and the fresh pairs that it takes.
-#[derive(Debug, Drop)]
+#[derive(Drop)]
 pub struct PlannedOffer {
     pub offer: OpenOffer,
     pub fresh: Vec<Pair>,

@@ -7,7 +7,7 @@ use sdp::Description;
 use std::marker::Model;
 
 /// The pairs of media in order, which contracts see as a list: none for a medium without pairs.
-#[derive(Debug, Drop)]
+#[derive(Drop)]
 pub struct Seats {
     seats: Vec<Option<Seat>>,
 }
@@ -39,7 +39,7 @@ impl Seats {
 }
 
 /// Pairs in order, which contracts see as a list.
-#[derive(Debug, Drop)]
+#[derive(Drop)]
 pub struct Pairs {
     pairs: Vec<Pair>,
 }
@@ -71,7 +71,7 @@ impl Pairs {
 }
 
 /// An offer that was passed on and has no answer yet.
-#[derive(Debug, Drop)]
+#[derive(Drop)]
 pub struct OpenOffer {
     /// The end that offers.
     pub offerer: End,
@@ -84,7 +84,7 @@ pub struct OpenOffer {
 }
 
 /// The descriptions of the last exchange, which both ends go by.
-#[derive(Debug, Drop)]
+#[derive(Drop)]
 pub struct Session {
     /// The end that offered.
     pub offerer: End,
@@ -99,7 +99,7 @@ pub struct Session {
 }
 
 /// What leads to the rows of a session in place of its call's former ones, and the pairs that they are of.
-#[derive(Debug, Drop)]
+#[derive(Drop)]
 pub struct SessionRows {
     pub pairs: Pairs,
     pub changes: Vec<Change>,

@@ -5,7 +5,7 @@ use crate::versions::Versions;
 use offer_answer::OwnRange;
 
 /// The media of one call: its session, and an offer that was passed on, if any.
-#[derive(Debug, Drop)]
+#[derive(Drop)]
 pub struct CallMedia {
     pub(crate) number: u64,
     pub(crate) range: OwnRange,

@@ -18,7 +18,7 @@ pub enum Kind {
 }
 
 /// A message as the grammar reads it, whether or not the server refused it.
-#[derive(Debug, Drop)]
+#[derive(Drop)]
 pub struct Message {
     pub kind: Kind,
     /// The branch of the top Via.
@@ -39,7 +39,7 @@ pub struct Message {
 }
 
 /// A datagram of a trace. The event is the number of the step in which it was taken or sent.
-#[derive(Debug, Drop)]
+#[derive(Drop)]
 pub struct Datagram {
     pub event: u64,
     pub direction: Direction,
@@ -47,7 +47,7 @@ pub struct Datagram {
 }
 
 /// What names a dialog at this server (RFC 3261 section 12): an absent tag is the empty text.
-#[derive(Debug, Drop, PartialEq, Eq)]
+#[derive(Drop, PartialEq, Eq)]
 pub struct Dialog {
     pub call_id: Text<'static>,
     /// The tag that this server gave.

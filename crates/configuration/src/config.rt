@@ -7,7 +7,7 @@ use std::alloc::{AllocError, Global};
 use text::{Text, Texts};
 
 /// How an office is configured. It may break each rule.
-#[derive(Clone, Drop)]
+#[derive(Drop)]
 pub struct Config {
     /// The first relay port.
     pub relay_first: u16,

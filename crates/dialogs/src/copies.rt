@@ -6,14 +6,17 @@ use crate::identifiers::DialogId;
 use crate::state::{Dialog, Party};
 use sip_uri::keep_text;
 use std::alloc::{AllocError, Global};
+use text::both;
 
 fn copied_identifiers(alloc: Global, id: &DialogId) -> Result<DialogId, AllocError>
     ensures { IfOk result (λ copy. copy ≡ id.now) }
 {
+    let tags = both(id.ours.keep(alloc), id.theirs.keep(alloc));
+    let (call_id, (ours, theirs)) = both(id.call_id.keep(alloc), tags)?;
     Ok(DialogId {
-        call_id: id.call_id.keep(alloc)?,
-        ours: id.ours.keep(alloc)?,
-        theirs: id.theirs.keep(alloc)?,
+        call_id,
+        ours,
+        theirs,
     })
 }
 
@@ -31,10 +34,12 @@ impl Dialog {
     pub fn copy(&self, alloc: Global) -> Result<Dialog, AllocError>
         ensures { IfOk result (λ copy. copy ≡ self.now) }
     {
-        let id = copied_identifiers(alloc, &self.id)?;
-        let ours = copied_party(alloc, &self.ours)?;
-        let theirs = copied_party(alloc, &self.theirs)?;
-        let target = self.target.keep(alloc)?;
+        let ends = both(
+            copied_party(alloc, &self.ours),
+            copied_party(alloc, &self.theirs),
+        );
+        let place = both(copied_identifiers(alloc, &self.id), self.target.keep(alloc));
+        let ((ours, theirs), (id, target)) = both(ends, place)?;
         Ok(Dialog {
             id,
             ours,

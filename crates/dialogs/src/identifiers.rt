@@ -9,7 +9,7 @@ use sip_uri::Param;
 use text::Text;
 
 /// What names a dialog: the Call-ID, our tag and the other end's. An absent tag is the empty text.
-#[derive(Debug, Drop, PartialEq, Eq)]
+#[derive(Drop)]
 pub struct DialogId {
     pub call_id: Text<'static>,
     pub ours: Text<'static>,

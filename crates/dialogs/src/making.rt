@@ -13,7 +13,7 @@ use crate::state::{Dialog, Party};
 use sip_message::{Parts, Request, Response, tag_text};
 use sip_uri::{NameAddr, keep_text};
 use std::alloc::{AllocError, Global};
-use text::Text;
+use text::{Text, both};
 
 fn party_named(alloc: Global, name: &NameAddr<'_>) -> Result<Party, AllocError>
     ensures { IfOk result (λ party. party ≡ party_named name.now) }
@@ -58,11 +58,14 @@ impl Dialog {
         ensures dialog { IfOk result (λ d. d ≡ callees_dialog invite.now tag.now d.target) }
     {
         let parts = &invite.parts;
-        let target = read_contact_uri(alloc, invite.headers.as_slice())?;
+        let target = read_contact_uri(alloc, invite.headers.as_slice());
         let their_tag = tag_text(parts.from.params.as_slice());
-        let id = identifiers(alloc, &parts.call_id, own_tag(invite, tag), their_tag)?;
-        let ours = party_named(alloc, &parts.to)?;
-        let theirs = party_named(alloc, &parts.from)?;
+        let id = identifiers(alloc, &parts.call_id, own_tag(invite, tag), their_tag);
+        let ends = both(
+            party_named(alloc, &parts.to),
+            party_named(alloc, &parts.from),
+        );
+        let ((target, id), (ours, theirs)) = both(both(target, id), ends)?;
         Ok(Dialog {
             id,
             ours,
@@ -83,12 +86,15 @@ impl Dialog {
         ensures target { IfOk result (λ d. reached_at (contacts_of answer.now.headers) ≡ Some d.target) }
         ensures dialog { IfOk result (λ d. d ≡ callers_dialog invite.now answer.now d.target) }
     {
-        let target = read_contact_uri(alloc, answer.headers.as_slice())?;
+        let target = read_contact_uri(alloc, answer.headers.as_slice());
         let our_tag = tag_text(invite.from.params.as_slice());
         let their_tag = tag_text(answer.parts.to.params.as_slice());
-        let id = identifiers(alloc, &invite.call_id, our_tag, their_tag)?;
-        let ours = party_named(alloc, &invite.from)?;
-        let theirs = party_named(alloc, &invite.to)?;
+        let id = identifiers(alloc, &invite.call_id, our_tag, their_tag);
+        let ends = both(
+            party_named(alloc, &invite.from),
+            party_named(alloc, &invite.to),
+        );
+        let ((target, id), (ours, theirs)) = both(both(target, id), ends)?;
         Ok(Dialog {
             id,
             ours,

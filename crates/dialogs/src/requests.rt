@@ -29,7 +29,7 @@ pub struct Extras<'m, 'a> {
 }
 
 /// A request, and its number.
-#[derive(Debug, Drop)]
+#[derive(Drop)]
 pub struct NextRequest {
     pub number: u32,
     pub request: Request<'static>,

@@ -5,14 +5,14 @@ use sip_uri::Uri;
 use text::Text;
 
 /// An end of a dialog, as From and To name it: display and URI, without the tag.
-#[derive(Debug, Drop)]
+#[derive(Drop)]
 pub struct Party {
     pub display: Option<Text<'static>>,
     pub uri: Uri<'static>,
 }
 
 /// The state of a dialog (RFC 3261 section 12). No route set is kept: the server sends each request to the target.
-#[derive(Debug, Drop)]
+#[derive(Drop)]
 pub struct Dialog {
     pub id: DialogId,
     /// The local URI, with its display.

@@ -4,7 +4,7 @@ use sip_uri::Addr;
 use text::Text;
 
 /// Something that happens to the server: when, in milliseconds, and with which salt.
-#[derive(Clone, Drop)]
+#[derive(Drop)]
 pub struct Event {
     /// The moment, in milliseconds.
     pub now: u64,
@@ -14,7 +14,7 @@ pub struct Event {
 }
 
 /// What happens.
-#[derive(Clone, Drop)]
+#[derive(Drop)]
 pub enum What {
     /// Bytes came from a telephone. Contracts see them as a list.
     Datagram { source: Addr, bytes: Text<'static> },

@@ -4,7 +4,7 @@ use sip_uri::Addr;
 use text::Text;
 
 /// A datagram that is sent. Contracts see its bytes as a list.
-#[derive(Clone, Drop)]
+#[derive(Drop)]
 pub struct Sent {
     pub to: Addr,
     pub bytes: Text<'static>,

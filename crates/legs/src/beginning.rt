@@ -8,7 +8,7 @@ use dialogs::{Dialog, DialogId, Party};
 use sip_message::Parts;
 use sip_uri::{Addr, NameAddr, Uri, keep_text, put_ip4};
 use std::alloc::{AllocError, Global};
-use text::Text;
+use text::{Text, both};
 
 fn party_named(alloc: Global, name: &NameAddr<'_>) -> Result<Party, AllocError>
     ensures { IfOk result (λ party. party ≡ party_named name.now) }
@@ -54,10 +54,12 @@ pub fn new_leg(
 ) -> Result<Dialog, AllocError>
     ensures leg { IfOk result (λ d. d ≡ new_leg server caller.now target.now token.now tag.now) }
 {
-    let id = leg_id(alloc, server, token, tag)?;
-    let ours = party_named(alloc, &caller.from)?;
-    let theirs = party_named(alloc, &caller.to)?;
-    let target = target.keep(alloc)?;
+    let ends = both(
+        party_named(alloc, &caller.from),
+        party_named(alloc, &caller.to),
+    );
+    let place = both(leg_id(alloc, server, token, tag), target.keep(alloc));
+    let ((ours, theirs), (id, target)) = both(ends, place)?;
     Ok(Dialog {
         id,
         ours,

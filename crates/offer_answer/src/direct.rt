@@ -8,7 +8,7 @@ use crate::stream::{Side, Stream};
 use sdp::{Address, Description, Media, Way, keep_formats, place_of, way_of};
 use sip_uri::Addr;
 use std::alloc::{AllocError, Global};
-use text::{Text, Texts};
+use text::{Text, Texts, both};
 
 /// The address at which nothing is wanted (RFC 3264 section 8.4).
 pub(crate) const HOLD: [u8; 4] = [0, 0, 0, 0];
@@ -96,11 +96,15 @@ fn stream_of(
         return Ok(Stream::Rejected);
     }
     let (out, back) = (way_of(offer, offered), way_of(answer, answered));
-    let listed = keep_formats(alloc, &answered.formats)?;
-    let shared = matching_formats(alloc, offered, answered)?;
+    let what = both(offered.kind.keep(alloc), offered.proto.keep(alloc));
+    let formats = both(
+        keep_formats(alloc, &answered.formats),
+        matching_formats(alloc, offered, answered),
+    );
+    let ((kind, proto), (listed, shared)) = both(what, formats)?;
     Ok(Stream::Used {
-        kind: offered.kind.keep(alloc)?,
-        proto: offered.proto.keep(alloc)?,
+        kind,
+        proto,
         to_answerer: side(out, back, listed, destination(answer, answered)),
         to_offerer: side(back, out, shared, destination(offer, offered)),
     })

@@ -14,7 +14,7 @@ use crate::direct::{HOLD, is_hold};
 use sdp::{Address, Description, Line, Lines, Media, MediaList, Origin, keep_formats};
 use sip_uri::{keep_text, put_ip4};
 use std::alloc::{AllocError, Global};
-use text::{Text, cut, put_number};
+use text::{Text, both, cut, put_number};
 
 /// What the `o=` line of a description of the server's says: `o=- ID VERSION IN IP4 ADDRESS` (RFC 4566 section 5.2).
 #[derive(Clone, Copy, Debug, PartialEq, Eq)]
@@ -45,15 +45,23 @@ fn address_text(alloc: Global, ip: [u8; 4]) -> Result<Text<'static>, AllocError>
 fn origin_of(alloc: Global, origin: ServerOrigin) -> Result<Origin<'static>, AllocError>
     ensures { IfOk result (λ o. o ≡ origin_of origin) }
 {
-    let id = number_text(alloc, origin.id)?;
-    let version = number_text(alloc, origin.version)?;
-    let address = address_text(alloc, origin.ip)?;
+    let numbers = both(
+        number_text(alloc, origin.id),
+        number_text(alloc, origin.version),
+    );
+    let types = both(
+        Text::from_slice(alloc, b"IN"),
+        Text::from_slice(alloc, b"IP4"),
+    );
+    let place = both(types, address_text(alloc, origin.ip));
+    let owner = both(Text::from_slice(alloc, b"-"), numbers);
+    let ((username, (id, version)), ((network_type, address_type), address)) = both(owner, place)?;
     Ok(Origin {
-        username: Text::from_slice(alloc, b"-")?,
+        username,
         id,
         version,
-        network_type: Text::from_slice(alloc, b"IN")?,
-        address_type: Text::from_slice(alloc, b"IP4")?,
+        network_type,
+        address_type,
         address,
     })
 }
@@ -121,11 +129,13 @@ fn readdressed_medium(
 ) -> Result<Media<'static>, AllocError>
     ensures { IfOk result (λ m. m ≡ readdressed_medium ip port medium.now) }
 {
-    let kind = medium.kind.keep(alloc)?;
-    let proto = medium.proto.keep(alloc)?;
-    let formats = keep_formats(alloc, &medium.formats)?;
-    let info = keep_text(alloc, &medium.info)?;
-    let after = kept_lines(alloc, &medium.after)?;
+    let what = both(medium.kind.keep(alloc), medium.proto.keep(alloc));
+    let said = both(
+        keep_formats(alloc, &medium.formats),
+        keep_text(alloc, &medium.info),
+    );
+    let rest = both(said, kept_lines(alloc, &medium.after));
+    let ((kind, proto), ((formats, info), after)) = both(what, rest)?;
     Ok(Media {
         kind,
         port: told_port(port, medium),
@@ -164,11 +174,12 @@ fn readdressed_description(
     requires { length ports.now ≡ length description.now.media }
     ensures { IfOk result (λ d. d ≡ readdressed_description origin ports.now description.now) }
 {
-    let before = description.before.keep(alloc)?;
-    let after = kept_lines(alloc, &description.after)?;
-    let media = readdressed_media(alloc, description.media.as_slice(), ports, origin.ip)?;
+    let first = both(origin_of(alloc, origin), description.before.keep(alloc));
+    let after = kept_lines(alloc, &description.after);
+    let media = readdressed_media(alloc, description.media.as_slice(), ports, origin.ip);
+    let ((told_origin, before), (after, media)) = both(first, both(after, media))?;
     Ok(Description {
-        origin: origin_of(alloc, origin)?,
+        origin: told_origin,
         before,
         connection: readdressed_connection(&description.connection, origin.ip),
         after,

@@ -4,7 +4,7 @@ use sip_uri::Addr;
 use text::{Text, Texts};
 
 /// What goes to one end of a stream.
-#[derive(Clone, Debug, Drop)]
+#[derive(Drop)]
 pub struct Side {
     /// Whether media are sent that way.
     pub on: bool,
@@ -15,7 +15,7 @@ pub struct Side {
 }
 
 /// One medium of an offer and its answer.
-#[derive(Clone, Debug, Drop)]
+#[derive(Drop)]
 pub enum Stream {
     /// One of the two has port 0.
     Rejected,

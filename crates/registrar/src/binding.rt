@@ -8,7 +8,7 @@ use text::Text;
 /// A contact of a user, with the moment in milliseconds at which it is over, and the Call-ID and number of the
 /// REGISTER that made or refreshed it last. Of two bindings of a user, the one whose `refreshed` is greater was
 /// refreshed later; the numbers are given anew by each REGISTER.
-#[derive(Clone, Debug, Drop)]
+#[derive(Drop)]
 pub struct Binding {
     pub uri: Uri<'static>,
     pub expires_at: u64,
@@ -53,7 +53,7 @@ impl Binding {
 }
 
 /// Bindings, oldest first, which contracts see as a list.
-#[derive(Debug, Drop)]
+#[derive(Drop)]
 pub(crate) struct Bindings {
     entries: Vec<Binding>,
 }

@@ -10,7 +10,7 @@ use std::marker::Model;
 
 /// A binding while a REGISTER is applied. The number of its refresh, in place of the binding's own, has room for any
 /// count of contacts.
-#[derive(Debug, Drop)]
+#[derive(Drop)]
 pub(crate) struct Draft {
     pub binding: Binding,
     pub number: u64,

@@ -5,7 +5,7 @@ use std::marker::Model;
 use text::Text;
 
 /// What a REGISTER is to change: the bindings that its user is to have. `Registrar::carry_out` makes the change.
-#[derive(Debug, Drop)]
+#[derive(Drop)]
 pub struct Plan {
     user: Text<'static>,
     bindings: Bindings,

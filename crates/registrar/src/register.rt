@@ -6,14 +6,14 @@ use text::Text;
 
 /// A value of Contact that is no star: its URI, none where the value cannot be read as a URI of the scheme `sip`, and
 /// the seconds that its own parameter `expires` gives.
-#[derive(Clone, Debug, Drop)]
+#[derive(Drop)]
 pub struct Contact<'a> {
     pub uri: Option<Uri<'a>>,
     pub expires: Option<u32>,
 }
 
 /// Contacts in order, which contracts see as a list.
-#[derive(Clone, Debug, Drop)]
+#[derive(Drop)]
 pub struct Contacts<'a> {
     entries: Vec<Contact<'a>>,
 }
@@ -54,7 +54,7 @@ impl<'a> Contacts<'a> {
 
 /// A REGISTER (RFC 3261 section 10.2): the user that its To names, whether `*` stands among its contacts, the other
 /// contacts, a further `*` being one without a URI, the seconds of its header Expires, and its Call-ID and number.
-#[derive(Clone, Debug, Drop)]
+#[derive(Drop)]
 pub struct Register<'a> {
     pub user: Option<Text<'a>>,
     pub star: bool,

@@ -10,7 +10,7 @@ use std::alloc::{AllocError, Global};
 use text::{Text, Texts};
 
 /// A user and its bindings.
-#[derive(Debug, Drop)]
+#[derive(Drop)]
 pub(crate) struct UserBindings {
     pub user: Text<'static>,
     pub bindings: Bindings,

@@ -10,7 +10,7 @@ use registrar::{Contact, Contacts, Register, Registrar};
 use sip_message::{ContactValue, FieldValue, Request, contact_values, first_value};
 use sip_uri::{NameAddr, Param, param_named};
 use std::alloc::{AllocError, Global};
-use text::{Text, is_run_of_digits, number_upto};
+use text::{Text, both, is_run_of_digits, number_upto};
 
 /// The seconds of a text that is no number below 2^32.
 const UNREADABLE_SECONDS: u32 = 3600;
@@ -174,10 +174,13 @@ pub fn register_of(
     ensures { IfOk result (λ r. r ≡ register_of (rules_of registrar.now) request.now) }
 {
     let values = contact_values(alloc, request.headers.as_slice())?;
-    let user = kept_user(alloc, registrar.user_of(&request.parts.to.uri))?;
-    let contacts = contacts_from(alloc, &values)?;
     let expires = header_seconds(alloc, first_value(request.headers.as_slice(), b"Expires"))?;
-    let call_id = request.parts.call_id.keep(alloc)?;
+    let user = kept_user(alloc, registrar.user_of(&request.parts.to.uri));
+    let contacts = contacts_from(alloc, &values);
+    let (user, (contacts, call_id)) = both(
+        user,
+        both(contacts, request.parts.call_id.keep(alloc)),
+    )?;
     Ok(Register {
         user,
         star: any_star(&values),

@@ -3,7 +3,7 @@
 use text::Text;
 
 /// The address of a `c=` line (RFC 4566 section 5.7), of the network type `IN`.
-#[derive(Clone, Debug, Drop, PartialEq, Eq)]
+#[derive(Drop)]
 pub enum Address<'a> {
     /// Address type `IP4`: the four octets of a unicast address, which is below 224.0.0.0.
     Ip4([u8; 4]),

@@ -7,7 +7,7 @@ use text::{Text, Texts};
 
 /// The fields of an `o=` line (RFC 4566 section 5.2), as written. Of a description that was read the id and the version are
 /// decimal digits.
-#[derive(Clone, Debug, Drop, PartialEq, Eq)]
+#[derive(Drop)]
 pub struct Origin<'a> {
     pub username: Text<'a>,
     pub id: Text<'a>,
@@ -19,7 +19,7 @@ pub struct Origin<'a> {
 
 /// A medium: an `m=` line and what stands under it (RFC 4566 sections 5 and 5.14). Of a description that was read a count is 1 or
 /// more, and there is a format.
-#[derive(Clone, Debug, Drop)]
+#[derive(Drop)]
 pub struct Media<'a> {
     /// What is sent, as `audio`.
     pub kind: Text<'a>,
@@ -40,7 +40,7 @@ pub struct Media<'a> {
 }
 
 /// Media in order, which contracts see as a list.
-#[derive(Clone, Debug, Drop)]
+#[derive(Drop)]
 pub struct MediaList<'a> {
     media: Vec<Media<'a>>,
 }
@@ -80,7 +80,7 @@ impl<'a> MediaList<'a> {
 }
 
 /// A description of a session (RFC 4566 section 5), of version 0.
-#[derive(Clone, Debug, Drop)]
+#[derive(Drop)]
 pub struct Description<'a> {
     pub origin: Origin<'a>,
     /// The lines between `o=` and the session's `c=`: `s`, `i`, `u`, `e` and `p`.

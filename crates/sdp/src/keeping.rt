@@ -6,7 +6,7 @@ use crate::address::Address;
 use crate::description::{Description, Media, MediaList, Origin};
 use crate::line::{Line, Lines};
 use std::alloc::{AllocError, Global};
-use text::{Text, Texts};
+use text::{Text, Texts, both};
 
 impl<'a> Address<'a> {
     /// The same address, which borrows nothing.
@@ -86,13 +86,20 @@ impl<'a> Origin<'a> {
     pub fn keep(&self, alloc: Global) -> Result<Origin<'static>, AllocError>
         ensures { IfOk result (λ o. o ≡ self.now) }
     {
+        let owner = both(self.username.keep(alloc), self.id.keep(alloc));
+        let place = both(self.address_type.keep(alloc), self.address.keep(alloc));
+        let network = both(self.network_type.keep(alloc), place);
+        let rest = both(self.version.keep(alloc), network);
+        let ((username, id), (version, (network_type, (address_type, address)))) = both(
+            owner, rest,
+        )?;
         Ok(Origin {
-            username: self.username.keep(alloc)?,
-            id: self.id.keep(alloc)?,
-            version: self.version.keep(alloc)?,
-            network_type: self.network_type.keep(alloc)?,
-            address_type: self.address_type.keep(alloc)?,
-            address: self.address.keep(alloc)?,
+            username,
+            id,
+            version,
+            network_type,
+            address_type,
+            address,
         })
     }
 }
@@ -102,15 +109,25 @@ impl<'a> Media<'a> {
     pub fn keep(&self, alloc: Global) -> Result<Media<'static>, AllocError>
         ensures { IfOk result (λ m. m ≡ self.now) }
     {
+        let what = both(self.kind.keep(alloc), self.proto.keep(alloc));
+        let said = both(
+            keep_formats(alloc, &self.formats),
+            keep_info(alloc, &self.info),
+        );
+        let rest = both(
+            keep_connection(alloc, &self.connection),
+            self.after.keep(alloc),
+        );
+        let ((kind, proto), ((formats, info), (connection, after))) = both(what, both(said, rest))?;
         Ok(Media {
-            kind: self.kind.keep(alloc)?,
+            kind,
             port: self.port,
             count: self.count,
-            proto: self.proto.keep(alloc)?,
-            formats: keep_formats(alloc, &self.formats)?,
-            info: keep_info(alloc, &self.info)?,
-            connection: keep_connection(alloc, &self.connection)?,
-            after: self.after.keep(alloc)?,
+            proto,
+            formats,
+            info,
+            connection,
+            after,
         })
     }
 }
@@ -134,12 +151,16 @@ impl<'a> Description<'a> {
     pub fn keep(&self, alloc: Global) -> Result<Description<'static>, AllocError>
         ensures { IfOk result (λ d. d ≡ self.now) }
     {
+        let first = both(self.origin.keep(alloc), self.before.keep(alloc));
+        let place = keep_connection(alloc, &self.connection);
+        let rest = both(self.after.keep(alloc), self.media.keep(alloc));
+        let ((origin, before), (connection, (after, media))) = both(first, both(place, rest))?;
         Ok(Description {
-            origin: self.origin.keep(alloc)?,
-            before: self.before.keep(alloc)?,
-            connection: keep_connection(alloc, &self.connection)?,
-            after: self.after.keep(alloc)?,
-            media: self.media.keep(alloc)?,
+            origin,
+            before,
+            connection,
+            after,
+            media,
         })
     }
 }

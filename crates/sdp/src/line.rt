@@ -5,14 +5,14 @@ use text::Text;
 
 /// A line `type=value` (RFC 4566 section 5): the type is one letter, whose case counts. Of a description that was read the value
 /// is any bytes but NUL, CR and LF.
-#[derive(Clone, Debug, Drop, PartialEq, Eq)]
+#[derive(Drop)]
 pub struct Line<'a> {
     pub letter: u8,
     pub value: Text<'a>,
 }
 
 /// Lines in order, which contracts see as a list.
-#[derive(Clone, Debug, Drop)]
+#[derive(Drop)]
 pub struct Lines<'a> {
     lines: Vec<Line<'a>>,
 }

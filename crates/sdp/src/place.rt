@@ -8,7 +8,7 @@ use crate::description::{Description, Media};
 use std::marker::Model;
 
 /// An address and a port.
-#[derive(Debug, Drop)]
+#[derive(Drop)]
 pub struct Place<'m, 'a> {
     pub address: &'m Address<'a>,
     pub port: u16,

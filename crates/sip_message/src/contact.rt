@@ -15,7 +15,7 @@ use std::alloc::{AllocError, Global};
 use text::{Text, cut_piece, trimmed};
 
 /// One value of a Contact header field.
-#[derive(Debug, Drop)]
+#[derive(Drop)]
 pub enum ContactValue<'a> {
     /// `*`, which stands for every binding.
     Star,

@@ -11,14 +11,14 @@ use text::{Text, cut_word, is_run_of_digits, is_run_of_token, number_upto, witho
 const GREATEST_NUMBER: u32 = 2_147_483_647;
 
 /// A sequence number and a method.
-#[derive(Debug, Drop, PartialEq, Eq)]
+#[derive(Drop)]
 pub struct CSeq<'a> {
     pub number: u32,
     pub method: Text<'a>,
 }
 
 /// The value, and its text as received, unfolded and trimmed.
-#[derive(Debug, Drop)]
+#[derive(Drop)]
 pub struct Sequence<'a> {
     pub text: Text<'a>,
     pub cseq: CSeq<'a>,

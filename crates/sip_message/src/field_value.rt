@@ -11,7 +11,7 @@ use std::marker::Model;
 use text::Text;
 
 /// Where a value stands.
-#[derive(Debug, Drop)]
+#[derive(Drop)]
 enum Form<'a> {
     Whole(Text<'a>),
     /// It goes on over lines, of which these are the bytes.
@@ -20,7 +20,7 @@ enum Form<'a> {
 
 /// The value of a header field without blanks at its ends, each line end in it, and the blanks around that, read as one space
 /// (RFC 3261 section 7.3.1). Contracts see it as a list of bytes, wherever it stands.
-#[derive(Debug, Drop)]
+#[derive(Drop)]
 pub struct FieldValue<'a> {
     form: Form<'a>,
 }

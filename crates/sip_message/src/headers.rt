@@ -6,7 +6,7 @@ use std::marker::Model;
 use text::Text;
 
 /// A header field: its name, long where it was compact, and its value (RFC 3261 section 7.3.1).
-#[derive(Debug, Drop)]
+#[derive(Drop)]
 pub struct Header<'a> {
     pub name: Text<'a>,
     pub value: FieldValue<'a>,
@@ -37,7 +37,7 @@ impl<'a> Header<'a> {
 }
 
 /// Header fields in order, which contracts see as a list.
-#[derive(Debug, Drop)]
+#[derive(Drop)]
 pub struct Headers<'a> {
     entries: Vec<Header<'a>>,
 }

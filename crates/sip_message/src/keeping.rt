@@ -8,7 +8,7 @@ use crate::party::{Ends, Party};
 use crate::via::{Via, Vias};
 use sip_uri::NameAddr;
 use std::alloc::{AllocError, Global};
-use text::Text;
+use text::{Text, both};
 
 impl<'a> CSeq<'a> {
     /// The same value, which borrows nothing.
@@ -27,11 +27,13 @@ impl<'a> Via<'a> {
     pub fn keep(&self, alloc: Global) -> Result<Via<'static>, AllocError>
         ensures { IfOk result (λ v. v ≡ self.now) }
     {
+        let place = both(self.sent_by.keep(alloc), self.host.keep(alloc));
+        let ((sent_by, host), params) = both(place, self.params.keep(alloc))?;
         Ok(Via {
-            sent_by: self.sent_by.keep(alloc)?,
-            host: self.host.keep(alloc)?,
+            sent_by,
+            host,
             port: self.port,
-            params: self.params.keep(alloc)?,
+            params,
         })
     }
 }
@@ -96,10 +98,9 @@ impl<'a> Parts<'a> {
     pub fn keep(&self, alloc: Global) -> Result<Parts<'static>, AllocError>
         ensures { IfOk result (λ p. p ≡ self.now) }
     {
-        let vias = self.vias.keep(alloc)?;
-        let ends = kept_ends(alloc, self)?;
-        let call_id = self.call_id.keep(alloc)?;
-        let sequence = self.keep_sequence(alloc)?;
+        let way = both(self.vias.keep(alloc), kept_ends(alloc, self));
+        let request = both(self.call_id.keep(alloc), self.keep_sequence(alloc));
+        let ((vias, ends), (call_id, sequence)) = both(way, request)?;
         Ok(parts_with(vias, ends, call_id, sequence))
     }
 }
@@ -109,13 +110,19 @@ impl<'a> Request<'a> {
     pub fn keep(&self, alloc: Global) -> Result<Request<'static>, AllocError>
         ensures { IfOk result (λ r. r ≡ self.now) }
     {
+        let line = both(self.method.keep(alloc), self.uri.keep(alloc));
+        let rest = both(self.headers.keep(alloc), self.body.keep(alloc));
+        let ((method, uri), (parts, (headers, body))) = both(
+            line,
+            both(self.parts.keep(alloc), rest),
+        )?;
         Ok(Request {
-            method: self.method.keep(alloc)?,
-            uri: self.uri.keep(alloc)?,
-            parts: self.parts.keep(alloc)?,
+            method,
+            uri,
+            parts,
             max_forwards: self.max_forwards,
-            headers: self.headers.keep(alloc)?,
-            body: self.body.keep(alloc)?,
+            headers,
+            body,
         })
     }
 }
@@ -125,12 +132,15 @@ impl<'a> Response<'a> {
     pub fn keep(&self, alloc: Global) -> Result<Response<'static>, AllocError>
         ensures { IfOk result (λ r. r ≡ self.now) }
     {
+        let line = both(self.reason.keep(alloc), self.parts.keep(alloc));
+        let rest = both(self.headers.keep(alloc), self.body.keep(alloc));
+        let ((reason, parts), (headers, body)) = both(line, rest)?;
         Ok(Response {
             status: self.status,
-            reason: self.reason.keep(alloc)?,
-            parts: self.parts.keep(alloc)?,
-            headers: self.headers.keep(alloc)?,
-            body: self.body.keep(alloc)?,
+            reason,
+            parts,
+            headers,
+            body,
         })
     }
 }

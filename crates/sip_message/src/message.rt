@@ -12,7 +12,7 @@ use text::Text;
 
 /// What an answer repeats of its request: the values of these header fields, and beside them the texts of From, To
 /// and CSeq as received, unfolded and trimmed (RFC 3261 section 8.2.6.2).
-#[derive(Debug, Drop)]
+#[derive(Drop)]
 pub struct Parts<'a> {
     pub vias: Vias<'a>,
     pub from: NameAddr<'a>,
@@ -47,7 +47,7 @@ pub fn parts_with<'a>(
 }
 
 /// A request (RFC 3261 section 7.1). `headers` are all header fields in order but Content-Length, which the body says.
-#[derive(Debug, Drop)]
+#[derive(Drop)]
 pub struct Request<'a> {
     pub method: Text<'a>,
     pub uri: Uri<'a>,
@@ -59,7 +59,7 @@ pub struct Request<'a> {
 }
 
 /// An answer (RFC 3261 section 7.2). `headers` are all header fields in order but Content-Length, which the body says.
-#[derive(Debug, Drop)]
+#[derive(Drop)]
 pub struct Response<'a> {
     /// 100 to 699.
     pub status: u16,
@@ -70,7 +70,7 @@ pub struct Response<'a> {
 }
 
 /// A message.
-#[derive(Debug, Drop)]
+#[derive(Drop)]
 pub enum Message<'a> {
     Request(Request<'a>),
     Response(Response<'a>),

@@ -10,7 +10,7 @@ use std::alloc::{AllocError, Global};
 use text::{Text, is_run_of_token};
 
 /// The value of From or To, and its text as received, unfolded and trimmed.
-#[derive(Debug, Drop)]
+#[derive(Drop)]
 pub struct Party<'a> {
     pub text: Text<'a>,
     pub name: NameAddr<'a>,

@@ -22,7 +22,7 @@ use text::{
 };
 
 /// Where an answer goes (RFC 3261 section 18.2.2). `sent_by` is host and port as received, without blanks.
-#[derive(Debug, Drop)]
+#[derive(Drop)]
 pub struct Via<'a> {
     pub sent_by: Text<'a>,
     pub host: Host<'a>,
@@ -31,7 +31,7 @@ pub struct Via<'a> {
 }
 
 /// Via values, the top one first.
-#[derive(Debug, Drop)]
+#[derive(Drop)]
 pub struct Vias<'a> {
     vias: Vec<Via<'a>>,
 }

@@ -4,7 +4,7 @@ ghost use Rattle.std.specs.Prelude.{◌≡◌, IfOk};
 
 use crate::uri::{Host, NameAddr, Param, Params, Uri};
 use std::alloc::{AllocError, Global};
-use text::Text;
+use text::{Text, both};
 
 /// The same text, if there is one, which borrows nothing.
 pub fn keep_text(
@@ -62,12 +62,15 @@ impl<'a> Uri<'a> {
     pub fn keep(&self, alloc: Global) -> Result<Uri<'static>, AllocError>
         ensures { IfOk result (λ u. u ≡ self.now) }
     {
+        let place = both(keep_text(alloc, &self.user), self.host.keep(alloc));
+        let rest = both(self.params.keep(alloc), self.headers.keep(alloc));
+        let ((user, host), (params, headers)) = both(place, rest)?;
         Ok(Uri {
-            user: keep_text(alloc, &self.user)?,
-            host: self.host.keep(alloc)?,
+            user,
+            host,
             port: self.port,
-            params: self.params.keep(alloc)?,
-            headers: self.headers.keep(alloc)?,
+            params,
+            headers,
         })
     }
 }
@@ -77,10 +80,12 @@ impl<'a> NameAddr<'a> {
     pub fn keep(&self, alloc: Global) -> Result<NameAddr<'static>, AllocError>
         ensures { IfOk result (λ n. n ≡ self.now) }
     {
+        let name = both(keep_text(alloc, &self.display), self.uri.keep(alloc));
+        let ((display, uri), params) = both(name, self.params.keep(alloc))?;
         Ok(NameAddr {
-            display: keep_text(alloc, &self.display)?,
-            uri: self.uri.keep(alloc)?,
-            params: self.params.keep(alloc)?,
+            display,
+            uri,
+            params,
         })
     }
 }

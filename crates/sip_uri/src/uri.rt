@@ -11,21 +11,21 @@ pub struct Addr {
 }
 
 /// Where a URI leads: the four octets of an IPv4 address, or a host name as written.
-#[derive(Clone, Debug, Drop, PartialEq, Eq)]
+#[derive(Drop)]
 pub enum Host<'a> {
     Ip4([u8; 4]),
     Name(Text<'a>),
 }
 
 /// A parameter, as written: `name` or `name=value`.
-#[derive(Clone, Debug, Drop, PartialEq, Eq)]
+#[derive(Drop)]
 pub struct Param<'a> {
     pub name: Text<'a>,
     pub value: Option<Text<'a>>,
 }
 
 /// Parameters in order, which contracts see as a list.
-#[derive(Clone, Debug, Drop)]
+#[derive(Drop)]
 pub struct Params<'a> {
     entries: Vec<Param<'a>>,
 }
@@ -65,7 +65,7 @@ impl<'a> Params<'a> {
 }
 
 /// A URI of the scheme `sip` (RFC 3261 section 19.1.1). The user has its escapes undone, and has the password in it.
-#[derive(Clone, Debug, Drop)]
+#[derive(Drop)]
 pub struct Uri<'a> {
     pub user: Option<Text<'a>>,
     pub host: Host<'a>,
@@ -76,7 +76,7 @@ pub struct Uri<'a> {
 
 /// A URI with a display name and the parameters of its header, as in From, To and Contact (RFC 3261 section 20.10).
 /// The display is the text between the quotation marks, as written.
-#[derive(Clone, Debug, Drop)]
+#[derive(Drop)]
 pub struct NameAddr<'a> {
     pub display: Option<Text<'a>>,
     pub uri: Uri<'a>,

@@ -17,7 +17,7 @@ use sip_message::{
 };
 use sip_uri::{Addr, NameAddr, Param, Params, keep_text, port_or_default, put_params};
 use std::alloc::{AllocError, Global};
-use text::Text;
+use text::{Text, both};
 
 fn via_header(alloc: Global, via: &Via<'_>) -> Result<Header<'static>, AllocError>
     ensures { IfOk result (λ h. h ≡ named (codes "Via") (via_text via.now)) }
@@ -188,10 +188,10 @@ fn replied(
 ) -> Result<Parts<'static>, AllocError>
     ensures { IfOk result (λ p. p ≡ replied parts.now source status tag.now) }
 {
-    let vias = marked_top(alloc, &parts.vias, source)?;
-    let ends = replied_ends(alloc, parts, status, tag)?;
-    let call_id = parts.call_id.keep(alloc)?;
-    let cseq = parts.keep_sequence(alloc)?;
+    let ends = replied_ends(alloc, parts, status, tag);
+    let way = both(marked_top(alloc, &parts.vias, source), ends);
+    let request = both(parts.call_id.keep(alloc), parts.keep_sequence(alloc));
+    let ((vias, ends), (call_id, cseq)) = both(way, request)?;
     Ok(parts_with(vias, ends, call_id, cseq))
 }
 
@@ -206,8 +206,8 @@ fn reply(
     ensures { IfOk result (λ r. r ≡ reply_of parts.now source status tag.now) }
 {
     let parts = replied(alloc, parts, source, status, tag)?;
-    let headers = reply_headers(alloc, &parts)?;
-    let reason = Text::from_slice(alloc, reason_of(status))?;
+    let reason = Text::from_slice(alloc, reason_of(status));
+    let (headers, reason) = both(reply_headers(alloc, &parts), reason)?;
     Ok(Response {
         status,
         reason,

@@ -17,7 +17,7 @@ use sip_message::{
 };
 use sip_uri::{Addr, Host, NameAddr, Param, Params, Uri, keep_text, put_ip4, write_name_addr};
 use std::alloc::{AllocError, Global};
-use text::{Text, put_number};
+use text::{Text, both, put_number};
 
 /// What a request is made of. The body's length is written of the body.
 #[derive(Clone, Copy)]
@@ -172,10 +172,10 @@ fn one_via(alloc: Global, via: &Via<'_>) -> Result<Vias<'static>, AllocError>
 fn parts_of(alloc: Global, draft: &Draft<'_, '_>) -> Result<Parts<'static>, AllocError>
     ensures { IfOk result (λ parts. parts ≡ parts_of draft.now) }
 {
-    let vias = one_via(alloc, draft.via)?;
-    let ends = ends_of(alloc, draft)?;
-    let call_id = Text::from_slice(alloc, draft.call_id)?;
-    let sequence = sequence_of(alloc, draft.number, draft.method)?;
+    let way = both(one_via(alloc, draft.via), ends_of(alloc, draft));
+    let call_id = Text::from_slice(alloc, draft.call_id);
+    let sequence = sequence_of(alloc, draft.number, draft.method);
+    let ((vias, ends), (call_id, sequence)) = both(way, both(call_id, sequence))?;
     Ok(parts_with(vias, ends, call_id, sequence))
 }
 
@@ -231,11 +231,11 @@ fn headers_of(
 fn request_of(alloc: Global, draft: &Draft<'_, '_>) -> Result<Request<'static>, AllocError>
     ensures { IfOk result (λ r. r ≡ request_of draft.now) }
 {
-    let method = Text::from_slice(alloc, draft.method)?;
-    let uri = draft.uri.keep(alloc)?;
-    let body = Text::from_slice(alloc, draft.body)?;
     let parts = parts_of(alloc, draft)?;
-    let headers = headers_of(alloc, draft.max_forwards, &parts, draft.further)?;
+    let headers = headers_of(alloc, draft.max_forwards, &parts, draft.further);
+    let line = both(Text::from_slice(alloc, draft.method), draft.uri.keep(alloc));
+    let rest = both(headers, Text::from_slice(alloc, draft.body));
+    let ((method, uri), (headers, body)) = both(line, rest)?;
     Ok(Request {
         method,
         uri,

@@ -8,7 +8,7 @@ use text::Text;
 use transaction_machines::State;
 
 /// Bytes to send, and where to.
-#[derive(Debug, Drop)]
+#[derive(Drop)]
 pub struct Outgoing {
     pub to: Addr,
     pub bytes: Text<'static>,
@@ -30,7 +30,7 @@ pub enum Verdict {
 }
 
 /// What became of a message, and what is to be sent.
-#[derive(Debug, Drop)]
+#[derive(Drop)]
 pub struct Reception {
     pub verdict: Verdict,
     /// The state before, of the transaction that the message belongs to.
@@ -52,7 +52,7 @@ impl Reception {
 }
 
 /// What a request of the server's own began, and what is to be sent.
-#[derive(Debug, Drop)]
+#[derive(Drop)]
 pub struct Started {
     /// The number of the transaction. None for an ACK, which begins none.
     pub id: Option<usize>,
@@ -60,7 +60,7 @@ pub struct Started {
 }
 
 /// What a timer did.
-#[derive(Debug, Drop)]
+#[derive(Drop)]
 pub enum Fired {
     /// The same bytes go again.
     Send(Outgoing),
