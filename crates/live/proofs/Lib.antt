@@ -1,2 +1,3 @@
 pub mod SendLaws
+pub mod ServingLaws
 pub mod TableLaws

@@ -6,6 +6,7 @@ mod round;
 mod salt;
 mod serving;
 mod streaks;
+mod trouble;
 mod turn;
 mod wire;
 
@@ -13,5 +14,6 @@ pub use round::{Round, Signalling, datagram_buffer};
 pub use salt::{next_salt, salts_of};
 pub use serving::{Clock, serve};
 pub use streaks::{End, Streaks};
+pub use trouble::{Operator, Trouble};
 pub use turn::{Turned, live_turn};
 pub use wire::{Wire, WireFault};

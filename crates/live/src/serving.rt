@@ -1,10 +1,14 @@
 //! The signalling from its start to its end.
 
-ghost use Rattle.live.specs.Rounds.{TableAt};
+ghost use Rattle.std.specs.Prelude.{◌≡◌, MatchOption};
+ghost use Rattle.live.specs.Rounds.{TableAt, end_after, streaks_after};
+ghost use Rattle.live.specs.Serving.{Leads, Served, one_less, with_trouble};
+ghost use Rattle.live.specs.Troubles.{trouble_between};
 ghost use Rattle.live.specs.Turns.{HasTable};
 
-use crate::round::Signalling;
+use crate::round::{Round, Signalling};
 use crate::streaks::{End, Streaks};
+use crate::trouble::{Operator, tell_of};
 use crate::wire::Wire;
 use std::sync::Wait;
 use std::sync::atomic::{AtomicBool, Ordering};
@@ -16,7 +20,9 @@ pub trait Clock {
 }
 
 // One round less, or None where none is left.
-fn one_less(turns: Option<u64>) -> Option<Option<u64>> {
+fn one_less(turns: Option<u64>) -> Option<Option<u64>>
+    ensures { result ≡ one_less turns }
+{
     match turns {
         None => Some(None),
         Some(0) => None,
@@ -24,16 +30,43 @@ fn one_less(turns: Option<u64>) -> Option<Option<u64>> {
     }
 }
 
-/// Makes rounds until as many are made as are asked for, until the flag is set, or until too many in a row fail.
-pub fn serve<W: Wire, C: Clock, R: Wait>(
+// One round, of whose trouble the operator is told.
+fn go_on<W: Wire, C: Clock, O: Operator, R: Wait>(
     rt: &R,
     signalling: &mut Signalling<W>,
     clock: &mut C,
+    operator: &mut O,
+    streaks: &mut Streaks,
+) -> Round
+    requires { HasTable signalling.old.board signalling.old.agent }
+    ensures round { Leads (record { agent = signalling.old.agent; lists = signalling.old.board; taken = W.taken signalling.old.wire; sent = W.sent signalling.old.wire })
+        (record { agent = signalling.new.agent; lists = signalling.new.board; taken = W.taken signalling.new.wire; sent = W.sent signalling.new.wire }) result }
+    ensures streaks { streaks.new ≡ streaks_after streaks.old result }
+    ensures told { O.told operator.new ≡ with_trouble (O.told operator.old) (trouble_between streaks.old streaks.new) }
+    ensures table { MatchOption (end_after streaks.new result) (HasTable signalling.new.board signalling.new.agent) (λ end. TableAt signalling.new.board signalling.new.agent end) }
+{
+    let round = signalling.round(rt, clock.now());
+    let before = *streaks;
+    *streaks = before.after(round);
+    tell_of(operator, before.trouble_until(*streaks));
+    round
+}
+
+/// Makes rounds until as many are made as are asked for, until the flag is set, or until too many in a row fail. The operator is told
+/// of each kind of trouble as it begins.
+pub fn serve<W: Wire, C: Clock, O: Operator, R: Wait>(
+    rt: &R,
+    signalling: &mut Signalling<W>,
+    clock: &mut C,
+    operator: &mut O,
     stop: &AtomicBool,
     turns: Option<u64>,
 ) -> End
     requires { HasTable signalling.old.board signalling.old.agent }
-    ensures { TableAt signalling.new.board signalling.new.agent result }
+    ensures table { TableAt signalling.new.board signalling.new.agent result }
+    ensures served { Served (record { agent = signalling.old.agent; lists = signalling.old.board; taken = W.taken signalling.old.wire; sent = W.sent signalling.old.wire })
+        (record { agent = signalling.new.agent; lists = signalling.new.board; taken = W.taken signalling.new.wire; sent = W.sent signalling.new.wire })
+        (O.told operator.old) (O.told operator.new) turns result }
 {
     let mut turns = turns;
     let mut streaks = Streaks { failed: 0, lost: 0 };
@@ -45,11 +78,10 @@ pub fn serve<W: Wire, C: Clock, R: Wait>(
             return End::Turns;
         };
         turns = left;
-        let round = signalling.round(rt, clock.now());
-        streaks = streaks.after(round);
+        let round = go_on(rt, signalling, clock, operator, &mut streaks);
         if let Some(end) = streaks.end(round) {
             return end;
         }
     }
-    End::Turns
+    unreachable!()
 }

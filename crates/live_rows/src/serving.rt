@@ -2,7 +2,7 @@
 
 use crate::memory_wire::MemoryWire;
 use crate::playing::new_office;
-use live::{Clock, End, next_salt, salts_of, serve};
+use live::{Clock, End, Operator, Trouble, next_salt, salts_of, serve};
 use std::alloc::{AllocError, Global};
 use std::sync::Wait;
 use std::sync::atomic::AtomicBool;
@@ -17,6 +17,26 @@ impl Clock for Still {
     }
 }
 
+/// An operator who counts what is told.
+#[derive(Drop)]
+struct Counting {
+    told: Option<Trouble>,
+    sockets: u32,
+    memories: u32,
+}
+
+impl Operator for Counting {
+    ghost told = { λ o. o.told };
+
+    fn tell(&mut self, trouble: Trouble) {
+        self.told = Some(trouble);
+        match trouble {
+            Trouble::Socket => self.sockets = self.sockets.saturating_add(1),
+            Trouble::Memory => self.memories = self.memories.saturating_add(1),
+        }
+    }
+}
+
 fn end_word(end: End) -> &'static str {
     match end {
         End::Turns => "turns",
@@ -26,7 +46,8 @@ fn end_word(end: End) -> &'static str {
     }
 }
 
-/// How the signalling ends, where so many receives in a row fail before one doesn't, and after how many receives and waits.
+/// How the signalling ends, where so many receives in a row fail before one doesn't, and after how many receives and waits; and how
+/// often an operator was told that the socket fails, and that memory is refused.
 pub(crate) fn serve_text<R: Wait + AllocGlobal>(
     rt: &R,
     turns: u64,
@@ -37,11 +58,26 @@ pub(crate) fn serve_text<R: Wait + AllocGlobal>(
     wire.failing_receives = failing;
     let (mut signalling, _viewer) = new_office(rt, rt.alloc(), wire)?;
     let stop = AtomicBool::new(is_stopped);
-    let end = serve(rt, &mut signalling, &mut Still, &stop, Some(turns));
+    let mut operator = Counting {
+        told: None,
+        sockets: 0,
+        memories: 0,
+    };
+    let end = serve(
+        rt,
+        &mut signalling,
+        &mut Still,
+        &mut operator,
+        &stop,
+        Some(turns),
+    );
     let (receives, waits) = (signalling.wire.receives, signalling.wire.waits);
     signalling.close(rt);
     let word = end_word(end);
-    format!(in rt.alloc(); "{word} after {receives} receives and {waits} waits\n")
+    let (sockets, memories) = (operator.sockets, operator.memories);
+    format!(in rt.alloc();
+        "{word} after {receives} receives and {waits} waits, told {sockets} and {memories}\n"
+    )
 }
 
 /// The first two salts of a key of zeros in the second 0.

@@ -11,6 +11,7 @@ mod ready;
 mod shared;
 mod sip_socket;
 mod telephony;
+mod troubles;
 mod watch;
 
 use crate::disk::Disk;

@@ -9,10 +9,11 @@ use crate::media::MediaSockets;
 use crate::ready::Ready;
 use crate::shared::Shared;
 use crate::sip_socket::SipSocket;
+use crate::troubles::Troubles;
 use crate::watch::Watch;
 use agent::{Agent, Tally};
 use configuration::Config;
-use live::{Clock as Moments, End, Signalling, datagram_buffer, salts_of};
+use live::{Clock as Moments, End, Operator, Signalling, datagram_buffer, salts_of};
 use mio::Poll;
 use mio::net::UdpSocket;
 use relay::{Board, Unopened, Viewer, Worker, serve_media};
@@ -108,16 +109,17 @@ fn signalling_of(
 }
 
 /// The signalling until its end, which ends the workers too.
-fn signal<R: Wait, M: Moments>(
+fn signal<R: Wait, M: Moments, O: Operator>(
     rt: &R,
     signalling: &mut Signalling<SipSocket>,
     watch: &mut M,
+    operator: &mut O,
     stop: &AtomicBool,
     turns: Option<u64>,
 ) -> End
     requires { HasTable signalling.old.board signalling.old.agent }
 {
-    let end = live::serve(rt, signalling, watch, stop, turns);
+    let end = live::serve(rt, signalling, watch, operator, stop, turns);
     stop.store(true, Ordering::SeqCst);
     end
 }
@@ -163,10 +165,11 @@ fn report<R: Eprint>(rt: &R, tally: Tally) {
 }
 
 /// Serves on a board to which nothing was published, and ends it. Gives how events were answered, too.
-fn serve_on<R: Threads + Wait + Sync, M: Moments>(
+fn serve_on<R: Threads + Wait + Sync, M: Moments, O: Operator>(
     rt: &R,
     mut signalling: Signalling<SipSocket>,
     watch: &mut M,
+    operator: &mut O,
     workers: Vec<Worker<MediaSockets>>,
     turns: Option<u64>,
 ) -> (Tally, Result<(), HostFault>)
@@ -178,7 +181,7 @@ fn serve_on<R: Threads + Wait + Sync, M: Moments>(
         || relay_media(rt, workers, &stop),
         || -> End
             requires { HasTable signalling.board signalling.agent }
-        { signal(rt, &mut signalling, watch, &stop, turns) },
+        { signal(rt, &mut signalling, watch, operator, &stop, turns) },
     );
     let tally = signalling.agent.tally();
     signalling.close(rt);
@@ -237,7 +240,15 @@ impl<R: Net + Clock + Threads + Wait + Sync + Shared + Print + Eprint + AllocGlo
         let start = self.rt.since_1970().map_err(host_fault)?.as_secs();
         let (signalling, workers) = parts_of(self.rt, alloc, config, sockets, start)?;
         announce(self.rt, config);
-        let (tally, served) = serve_on(self.rt, signalling, &mut watch, workers, turns);
+        let mut troubles = Troubles::new(self.rt);
+        let (tally, served) = serve_on(
+            self.rt,
+            signalling,
+            &mut watch,
+            &mut troubles,
+            workers,
+            turns,
+        );
         report(self.rt, tally);
         served
     }

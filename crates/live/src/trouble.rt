@@ -1,0 +1,51 @@
+//! Trouble that an operator is told of, as it begins.
+
+ghost use Rattle.std.specs.Prelude.{◌≡◌, Option, Some};
+ghost use Rattle.live.specs.Troubles.{trouble_between};
+ghost use Rattle.live.specs.Serving.{with_trouble};
+ghost use Rattle.live.specs.declared.trouble.Trouble as declared;
+
+use crate::streaks::Streaks;
+
+/// A kind of trouble.
+#[derive(Clone, Copy, Debug, PartialEq, Eq)]
+pub enum Trouble {
+    /// A receive or a wait failed, and none before it since one succeeded.
+    Socket,
+    /// Memory was refused for an event, and for none before it since one was taken.
+    Memory,
+}
+
+/// Who is told of trouble.
+pub trait Operator {
+    /// What was told last.
+    ghost told: { Self → Option declared.Trouble };
+
+    /// A kind of trouble begins.
+    fn tell(&mut self, trouble: Trouble)
+        ensures told { told self.new ≡ Some trouble };
+}
+
+impl Streaks {
+    /// The trouble that begins with a round before which these are the counts, and after which the others are. Takes no memory.
+    pub fn trouble_until(self, after: Streaks) -> Option<Trouble>
+        ensures { result ≡ trouble_between self after }
+    {
+        if self.failed == 0 && after.failed > 0 {
+            Some(Trouble::Socket)
+        } else if self.lost == 0 && after.lost > 0 {
+            Some(Trouble::Memory)
+        } else {
+            None
+        }
+    }
+}
+
+/// The operator is told, where there is any trouble.
+pub(crate) fn tell_of<O: Operator>(operator: &mut O, trouble: Option<Trouble>)
+    ensures { O.told operator.new ≡ with_trouble (O.told operator.old) trouble }
+{
+    if let Some(trouble) = trouble {
+        operator.tell(trouble);
+    }
+}
