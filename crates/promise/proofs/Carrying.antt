@@ -98,7 +98,7 @@ dressed_carries s n (action ∷ later) t h offers =
       | inr k ↦ dressed_carries s (n + one.made) later t k offers
     ]
 
-lent_text : (d : Option Description) → option_copied (option_map lent d) ≡ d
+pub lent_text : (d : Option Description) → option_copied (option_map lent d) ≡ d
 lent_text None = refl
 lent_text (Some d) = refl
 

@@ -156,7 +156,7 @@ told_answered table id other input fresh now f a = elim (cases_eq id other) [
 ]
 
 -- the place of one that begins was free
-free_differs : (slots : List (Option Transaction)) (id : ℕ) (t : Transaction) → at slots id ≡ Some t → id ≢ free_number slots
+pub free_differs : (slots : List (Option Transaction)) (id : ℕ) (t : Transaction) → at slots id ≡ Some t → id ≢ free_number slots
 free_differs [] id t there same = none-some t there
 free_differs (None ∷ slots) zero t there same = none-some t there
 free_differs (None ∷ slots) (suc id) t there same = omega (arith, same)

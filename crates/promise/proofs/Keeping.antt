@@ -59,12 +59,12 @@ last_back number None e h k = refl
 last_back number (Some d) None h k = absurd h
 last_back number (Some d) (Some e) h k = ap (λ n. n == number) (sym h) ∙ k
 
-leg_back : (d e : Option Dialog) (s n : stage.Standing) → Keeps d e → (awaits_callee n.stage ≡ true → awaits_callee s.stage ≡ true) → has_leg e (Some n) ≡ true → has_leg d (Some s) ≡ true
+pub leg_back : (d e : Option Dialog) (s n : stage.Standing) → Keeps d e → (awaits_callee n.stage ≡ true → awaits_callee s.stage ≡ true) → has_leg e (Some n) ≡ true → has_leg d (Some s) ≡ true
 leg_back None None s n h f k = f k
 leg_back None (Some e) s n h f k = absurd h
 leg_back (Some d) e s n h f k = refl
 
-offer_after : (t : Transaction) (c d : Call) → KeepsOffer c d → CarriesIf t c.media.offer → CarriesIf t d.media.offer
+pub offer_after : (t : Transaction) (c d : Call) → KeepsOffer c d → CarriesIf t c.media.offer → CarriesIf t d.media.offer
 offer_after t c d (inl none) h = subst (CarriesIf t) (sym none) tt
 offer_after t c d (inr same) h = subst (CarriesIf t) (sym same) h
 

@@ -4,6 +4,7 @@ use Rattle.std.specs.Prelude.{slice_get}
 use Rattle.std.proofs.lemmas.Bool.{false≢true}
 use Rattle.sip_uri.specs.declared.uri.Uri.{Uri}
 use Rattle.sip_message.specs.declared.message.Request.{Request}
+use Rattle.sip_message.specs.Contact.{contacts_of}
 use Rattle.sip_message.specs.Words.{tag_value}
 use Rattle.sdp.specs.declared.description.Description.{Description}
 use Rattle.offer_answer.specs.Checks.{offer_fault}
@@ -19,6 +20,7 @@ use Rattle.calls.specs.Finding.{place_by_offer}
 use Rattle.calls.specs.declared.standing_call.StandingCall.{StandingCall}
 use Rattle.call_rules.specs.Content.{described}
 use Rattle.call_rules.specs.Offers.{offer_rule, plain_rule}
+use Rattle.call_rules.specs.Reach.{contact_address}
 use Rattle.call_rules.specs.Requests.{dialog_rule}
 use Rattle.call_rules.specs.Responses.{at_place}
 use Rattle.call_steps.specs.Rows.{counts, first_row, refreshes}
@@ -44,10 +46,12 @@ use Rattle.responses.specs.Words.{has_header, is_declined_method, is_offered_met
 
 -- ---- why
 
--- an INVITE without To tag, with an offer that the relay carries
-pub record IsFirstInvite (s : Office) (r : Request) (offer : Description) : Type 0 where
+-- an INVITE without To tag, whose Contact has an address, to a user who is bound there, with an offer that the relay carries
+pub record IsFirstInvite (s : Office) (now : ℕ) (r : Request) (to : Uri) (offer : Description) : Type 0 where
   pub invite : request_method (codes "INVITE") r ≡ true
   pub no_tag : tag_value r.parts.to.params ≡ None
+  pub reached : is_some (contact_address (contacts_of r.headers)) ≡ true
+  pub bound : target s r now ≡ Some to
   pub described : described r.headers r.body ≡ Some offer
   pub fit : is_some (offer_fault s.range offer None) ≡ false
 
@@ -58,6 +62,18 @@ pub record IsPassedOffer (s : Office) (r : Request) (place : ℕ) (end : End) (c
   pub described : described r.headers r.body ≡ Some offer
   pub fit : is_unfit c.call end offer ≡ false
   pub numbered : has_number_left (dialog_of (other end) c.call) ≡ true
+
+-- a request that may stand in a dialog: its method is offered, and is none that no dialog has
+pub record IsInside (r : Request) : Type 0 where
+  pub offered : is_offered_method r ≡ true
+  pub no_options : request_method (codes "OPTIONS") r ≡ false
+  pub no_register : request_method (codes "REGISTER") r ≡ false
+
+-- one without an offer, which the end may send there
+pub record IsRefresh (s : Office) (r : Request) (place : ℕ) (end : End) : Type 0 where
+  pub rule : dialog_rule s.calls.calls r ≡ dialogrules.Plain place end
+  pub passes : offer_reply (plain_rule s.calls.calls r place end) ≡ None
+  pub inside : IsInside r
 
 pub by_if : {X : Type 0} (P : X → Type 0) (b : Bool) (x y : X) → (b ≡ true → P x) → (b ≡ false → P y) → P (cond b x y)
 by_if P true x y p q = p refl
@@ -70,7 +86,7 @@ pub data RequestRow (s : Office) (e : Setting) (r : Request) (begun : List Entry
   replied : (reply : Reply) → x ≡ of_plan s (reply_row s e r begun id reply) → RequestRow s e r begun id x
   -- a first INVITE that is refused, and one that is passed on
   unfit : (status : ℕ) → x ≡ of_plan s (responds_in s e r begun id status [] None) → RequestRow s e r begun id x
-  asks_callee : (to : Uri) (offer : Description) → IsFirstInvite s r offer → x ≡ with_step s.acks begun None None (first_row s.calls (occasion s e) r id e.source to offer)
+  asks_callee : (to : Uri) (offer : Description) → IsFirstInvite s e.now r to offer → x ≡ with_step s.acks begun None None (first_row s.calls (occasion s e) r id e.source to offer)
       → RequestRow s e r begun id x
   -- a call takes a CANCEL, or a BYE
   cancelled : (other place : ℕ) → named s.table.slots r.parts ≡ Some other → place_by_offer other s.calls.calls ≡ Some place
@@ -82,14 +98,14 @@ pub data RequestRow (s : Office) (e : Setting) (r : Request) (begun : List Entry
   -- an offer inside a call that is passed on
   passed_on : (place : ℕ) (end : End) (c : StandingCall) (offer : Description) → dialog_rule s.calls.calls r ≡ dialogrules.Offers place end → IsPassedOffer s r place end c offer
       → x ≡ passes s e r begun id place end offer → RequestRow s e r begun id x
-  refreshed : (place : ℕ) (end : End) → dialog_rule s.calls.calls r ≡ dialogrules.Plain place end
+  refreshed : (place : ℕ) (end : End) → IsRefresh s r place end
       → x ≡ record { plan = okay_plan s e r begun id; calls = unchanged (puts_if s.calls place (refreshes s.calls.calls place end r)); acks = s.acks } → RequestRow s e r begun id x
 
 -- ---- the rows of requests
 
 first_view : (s : Office) (e : Setting) (r : Request) (begun : List Entry) (id : ℕ) (to : Uri) (offer : Description) → request_method (codes "INVITE") r ≡ true → tag_value r.parts.to.params ≡ None
-    → described r.headers r.body ≡ Some offer → RequestRow s e r begun id (first_by s e r begun id to offer)
-first_view s e r begun id to offer invite no_tag said =
+    → is_some (contact_address (contacts_of r.headers)) ≡ true → target s r e.now ≡ Some to → described r.headers r.body ≡ Some offer → RequestRow s e r begun id (first_by s e r begun id to offer)
+first_view s e r begun id to offer invite no_tag reached bound said =
     let step = first_row s.calls (occasion s e) r id e.source to offer in
     let refused = of_plan s (responds_in s e r begun id 503 [] None) in
     let unsuited = of_plan s (responds_in s e r begun id 488 [] None) in
@@ -98,14 +114,15 @@ first_view s e r begun id to offer invite no_tag said =
     by_if P (is_some (offer_fault s.range offer None)) unsuited (cond (has_pairs s e.now offer) full refused) (λ b. unfit 488 refl)
     (λ fit. by_if P (has_pairs s e.now offer) full refused
     (λ b. by_if P (are_full s) refused (with_step s.acks begun None None step) (λ f. unfit 503 refl)
-    (λ f. asks_callee to offer (record { invite = invite; no_tag = no_tag; described = said; fit = fit }) refl))
+    (λ f. asks_callee to offer (record { invite = invite; no_tag = no_tag; reached = reached; bound = bound; described = said; fit = fit }) refl))
     (λ b. unfit 503 refl))
 
 begins_view : (s : Office) (e : Setting) (r : Request) (begun : List Entry) (id : ℕ) (to : Option Uri) (offer : Option Description) → request_method (codes "INVITE") r ≡ true
-    → tag_value r.parts.to.params ≡ None → described r.headers r.body ≡ offer → RequestRow s e r begun id (begins_by s e r begun id to offer)
-begins_view s e r begun id None offer invite no_tag said = unfit 480 refl
-begins_view s e r begun id (Some to) None invite no_tag said = unfit 488 refl
-begins_view s e r begun id (Some to) (Some offer) invite no_tag said = first_view s e r begun id to offer invite no_tag said
+    → tag_value r.parts.to.params ≡ None → is_some (contact_address (contacts_of r.headers)) ≡ true → target s r e.now ≡ to → described r.headers r.body ≡ offer
+    → RequestRow s e r begun id (begins_by s e r begun id to offer)
+begins_view s e r begun id None offer invite no_tag reached bound said = unfit 480 refl
+begins_view s e r begun id (Some to) None invite no_tag reached bound said = unfit 488 refl
+begins_view s e r begun id (Some to) (Some offer) invite no_tag reached bound said = first_view s e r begun id to offer invite no_tag reached bound said
 
 passes_if_view : (s : Office) (e : Setting) (r : Request) (begun : List Entry) (id place : ℕ) (end : End) (c : StandingCall) (offer : Description) → dialog_rule s.calls.calls r ≡ dialogrules.Offers place end
     → slice_get s.calls.calls place ≡ Some c → offer_reply (offer_rule s.calls.calls r place end) ≡ None → described r.headers r.body ≡ Some offer
@@ -142,34 +159,34 @@ unfolding offers
 offers_view s e r begun id place end rule_is = offers_by_view s e r begun id place end (offer_reply (offer_rule s.calls.calls r place end)) rule_is refl
 
 refreshes_by_view : (s : Office) (e : Setting) (r : Request) (begun : List Entry) (id place : ℕ) (end : End) (reply : Option Reply) → dialog_rule s.calls.calls r ≡ dialogrules.Plain place end
-    → RequestRow s e r begun id (refreshes_by s e r begun id place end reply)
-refreshes_by_view s e r begun id place end (Some reply) rule_is = counted_alone place end reply refl
-refreshes_by_view s e r begun id place end None rule_is = refreshed place end rule_is refl
+    → offer_reply (plain_rule s.calls.calls r place end) ≡ reply → IsInside r → RequestRow s e r begun id (refreshes_by s e r begun id place end reply)
+refreshes_by_view s e r begun id place end (Some reply) rule_is passing inside = counted_alone place end reply refl
+refreshes_by_view s e r begun id place end None rule_is passing inside = refreshed place end (record { rule = rule_is; passes = passing; inside = inside }) refl
 
 refreshes_view : (s : Office) (e : Setting) (r : Request) (begun : List Entry) (id place : ℕ) (end : End) → dialog_rule s.calls.calls r ≡ dialogrules.Plain place end
-    → RequestRow s e r begun id (refreshes_at s e r begun id place end)
+    → IsInside r → RequestRow s e r begun id (refreshes_at s e r begun id place end)
 unfolding refreshes_at
-refreshes_view s e r begun id place end rule_is = refreshes_by_view s e r begun id place end (offer_reply (plain_rule s.calls.calls r place end)) rule_is
+refreshes_view s e r begun id place end rule_is inside = refreshes_by_view s e r begun id place end (offer_reply (plain_rule s.calls.calls r place end)) rule_is refl inside
 
 -- ---- the rules of requests
 
 -- why a rule is that one
 abbrev FitsRule : Office → Request → Rule → Type 0
 FitsRule s r (rules.Alone reply) = Unit {0}
-FitsRule s r (rules.Call callrules.Begins) = (request_method (codes "INVITE") r ≡ true) × (tag_value r.parts.to.params ≡ None)
+FitsRule s r (rules.Call callrules.Begins) = (request_method (codes "INVITE") r ≡ true) × (tag_value r.parts.to.params ≡ None) × (is_some (contact_address (contacts_of r.headers)) ≡ true)
 FitsRule s r (rules.Call (callrules.Cancels place)) = (other : ℕ) × (named s.table.slots r.parts ≡ Some other) × (place_by_offer other s.calls.calls ≡ Some place)
 FitsRule s r (rules.Call (callrules.Leaves place end)) = dialog_rule s.calls.calls r ≡ dialogrules.Leaves place end
 FitsRule s r (rules.Call (callrules.Offers place end)) = dialog_rule s.calls.calls r ≡ dialogrules.Offers place end
-FitsRule s r (rules.Call (callrules.Refreshes place end)) = dialog_rule s.calls.calls r ≡ dialogrules.Plain place end
+FitsRule s r (rules.Call (callrules.Refreshes place end)) = (dialog_rule s.calls.calls r ≡ dialogrules.Plain place end) × IsInside r
 
 rule_view : (s : Office) (e : Setting) (r : Request) (begun : List Entry) (id : ℕ) (rule : Rule) → FitsRule s r rule → RequestRow s e r begun id (rule_row s e r begun id rule)
 unfolding call_row
 rule_view s e r begun id (rules.Alone reply) fits = replied reply refl
-rule_view s e r begun id (rules.Call callrules.Begins) fits = begins_view s e r begun id (target s r e.now) (described r.headers r.body) fits.0 fits.1 refl
+rule_view s e r begun id (rules.Call callrules.Begins) fits = begins_view s e r begun id (target s r e.now) (described r.headers r.body) fits.0 fits.1 fits.2 refl refl
 rule_view s e r begun id (rules.Call (callrules.Cancels place)) fits = cancelled fits.0 place fits.1 fits.2 refl
 rule_view s e r begun id (rules.Call (callrules.Leaves place end)) fits = left place end fits refl
 rule_view s e r begun id (rules.Call (callrules.Offers place end)) fits = offers_view s e r begun id place end fits
-rule_view s e r begun id (rules.Call (callrules.Refreshes place end)) fits = refreshes_view s e r begun id place end fits
+rule_view s e r begun id (rules.Call (callrules.Refreshes place end)) fits = refreshes_view s e r begun id place end fits.0 fits.1
 
 abbrev FitsIf : Office → Request → Option Rule → Type 0
 FitsIf s r None = Unit {0}
@@ -195,15 +212,15 @@ cancel_fits : (s : Office) (r : Request) (id : Option ℕ) → named s.table.slo
 cancel_fits s r None there = tt
 cancel_fits s r (Some id) there = cancels_fits s r id (place_by_offer id s.calls.calls) there refl
 
-dialog_fits : (s : Office) (r : Request) (rule : DialogRule) → dialog_rule s.calls.calls r ≡ rule → FitsRule s r (checks.of_dialog rule)
-dialog_fits s r dialogrules.NoDialog e = tt
-dialog_fits s r (dialogrules.OldNumber place end) e = tt
-dialog_fits s r (dialogrules.Leaves place end) e = e
-dialog_fits s r (dialogrules.Offers place end) e = e
-dialog_fits s r (dialogrules.Plain place end) e = e
+dialog_fits : (s : Office) (r : Request) (rule : DialogRule) → IsInside r → dialog_rule s.calls.calls r ≡ rule → FitsRule s r (checks.of_dialog rule)
+dialog_fits s r dialogrules.NoDialog inside e = tt
+dialog_fits s r (dialogrules.OldNumber place end) inside e = tt
+dialog_fits s r (dialogrules.Leaves place end) inside e = e
+dialog_fits s r (dialogrules.Offers place end) inside e = e
+dialog_fits s r (dialogrules.Plain place end) inside e = (e, inside)
 
 abbrev IsFirst : Request → Type 0
-IsFirst r = (request_method (codes "INVITE") r ≡ true) × (tag_value r.parts.to.params ≡ None)
+IsFirst r = (request_method (codes "INVITE") r ≡ true) × (tag_value r.parts.to.params ≡ None) × (is_some (contact_address (contacts_of r.headers)) ≡ true)
 
 described_fits : (s : Office) (r : Request) (rule : Option ContentRule) (offer : Option Description) → IsFirst r → FitsRule s r (checks.described_rule rule offer)
 described_fits s r (Some content.Type) offer first = tt
@@ -229,29 +246,35 @@ first_of true (Some tag) e = absurd (false≢true (sym e))
 first_of false None e = absurd (false≢true (sym e))
 first_of false (Some tag) e = absurd (false≢true (sym e))
 
-first_fits : (s : Office) (r : Request) (now : ℕ) → IsFirst r → FitsRule s r (checks.first_call_rule s r now)
+not_false : (b : Bool) → not b ≡ false → b ≡ true
+not_false true e = refl
+not_false false e = absurd (false≢true (sym e))
+
+first_fits : (s : Office) (r : Request) (now : ℕ) → (request_method (codes "INVITE") r ≡ true) × (tag_value r.parts.to.params ≡ None) → FitsRule s r (checks.first_call_rule s r now)
 first_fits s r now first =
     line_fits s r (checks.hops_line r) (checks.otherwise (checks.contact_line r) (checks.callee_rule s r now)) (when_fits s r (r.max_forwards == 0) (checks.refused 483) tt)
-    (line_fits s r (checks.contact_line r) (checks.callee_rule s r now) (when_fits s r _ (checks.refused 400) tt) (user_fits s r now _ first))
+    (unless_fits s r (not (is_some (contact_address (contacts_of r.headers)))) (checks.refused 400) (checks.callee_rule s r now) tt
+    (λ e. user_fits s r now _ (first.0, first.1, not_false (is_some (contact_address (contacts_of r.headers))) e)))
 
-invite_fits : (s : Office) (r : Request) (now : ℕ) → FitsRule s r (checks.invite_rule s r now)
+invite_fits : (s : Office) (r : Request) (now : ℕ) → IsInside r → FitsRule s r (checks.invite_rule s r now)
 unfolding checks.invite_rule
-invite_fits s r now =
+invite_fits s r now inside =
     unless_fits s r (not (request_method (codes "INVITE") r) || is_some (tag_value r.parts.to.params)) (checks.of_dialog (dialog_rule s.calls.calls r)) (checks.first_call_rule s r now)
-    (dialog_fits s r (dialog_rule s.calls.calls r) refl)
+    (dialog_fits s r (dialog_rule s.calls.calls r) inside refl)
     (λ e. first_fits s r now (first_of (request_method (codes "INVITE") r) (tag_value r.parts.to.params) e))
 
-offered_fits : (s : Office) (r : Request) (now : ℕ) → FitsRule s r (checks.offered_rule s r now)
+offered_fits : (s : Office) (r : Request) (now : ℕ) → is_offered_method r ≡ true → FitsRule s r (checks.offered_rule s r now)
 unfolding checks.offered_rule
-offered_fits s r now =
+offered_fits s r now offered =
     let invite = checks.invite_rule s r now in
     let register = checks.otherwise (checks.register_line r) invite in
     let options = checks.otherwise (checks.options_line r) register in
     let route = checks.otherwise (checks.route_line r) options in
     line_fits s r (checks.extension_line r) route (when_fits s r (has_header (codes "Require") r.headers) (rules.Alone replies.ExtensionRefused) tt)
     (line_fits s r (checks.route_line r) options (when_fits s r (has_header (codes "Record-Route") r.headers) (checks.refused 400) tt)
-    (line_fits s r (checks.options_line r) register (when_fits s r (request_method (codes "OPTIONS") r) (rules.Alone replies.MethodsListed) tt)
-    (line_fits s r (checks.register_line r) invite (when_fits s r (request_method (codes "REGISTER") r) (rules.Alone replies.Registration) tt) (invite_fits s r now))))
+    (unless_fits s r (request_method (codes "OPTIONS") r) (rules.Alone replies.MethodsListed) register tt
+    (λ no_options. unless_fits s r (request_method (codes "REGISTER") r) (rules.Alone replies.Registration) invite tt
+    (λ no_register. invite_fits s r now (record { offered = offered; no_options = no_options; no_register = no_register })))))
 
 request_fits : (s : Office) (r : Request) (now : ℕ) → FitsRule s r (request_rule s r now)
 unfolding request_rule
@@ -264,7 +287,7 @@ request_fits s r now =
     line_fits s r (checks.cancel_line s r) once (when_fits s r (request_method (codes "CANCEL") r) (checks.cancel_rule s.calls.calls cancelled) (cancel_fits s r cancelled refl))
     (line_fits s r (checks.merged_line s r) declined (when_fits s r (merged s.table r.parts) (checks.refused 482) tt)
     (line_fits s r (checks.declined_line r) known (when_fits s r (is_declined_method r) (rules.Alone replies.MethodUnoffered) tt)
-    (line_fits s r (checks.unknown_line r) offered (when_fits s r (not (is_offered_method r)) (checks.refused 501) tt) (offered_fits s r now))))
+    (unless_fits s r (not (is_offered_method r)) (checks.refused 501) offered tt (λ e. offered_fits s r now (not_false (is_offered_method r) e)))))
 
 pub request_view : (s : Office) (e : Setting) (r : Request) (begun : List Entry) (id : ℕ) → RequestRow s e r begun id (rule_row s e r begun id (request_rule s r e.now))
 request_view s e r begun id = rule_view s e r begun id (request_rule s r e.now) (request_fits s r e.now)

@@ -99,7 +99,7 @@ none_own n calls all = record { entries = tt; calls = calls_more n (n + 0) calls
 
 -- ---- the INVITE that was passed on
 
-awaits_client : (state : State) → awaits_final state ≡ true → is_server state ≡ false
+pub awaits_client : (state : State) → awaits_final state ≡ true → is_server state ≡ false
 awaits_client (machine.InviteClient state) h = refl
 awaits_client (machine.InviteServer state) h = absurd (false≢true h)
 awaits_client (machine.OtherClient state) h = refl
@@ -328,7 +328,7 @@ asked_callee_by : (b : Bool) → cond b Callee Caller ≡ Callee → b ≡ true
 asked_callee_by true e = refl
 asked_callee_by false e = absurd (false≢true (ap (λ end. is_same end Callee) e))
 
-asked_leg : (asked : Parts) (c : StandingCall) → is_same (asked_end asked c) Callee ≡ true → c.callee_tag ≡ tag_text asked.from.params
+pub asked_leg : (asked : Parts) (c : StandingCall) → is_same (asked_end asked c) Callee ≡ true → c.callee_tag ≡ tag_text asked.from.params
 asked_leg asked c h = (bytes_decides c.callee_tag (tag_text asked.from.params)).0 (asked_callee_by (is_text c.callee_tag (tag_text asked.from.params)) (is_callee (asked_end asked c) h))
 
 answered_fits : (made : ℕ) (asked : Parts) (response : Response) (target : Uri) (c : StandingCall) (end : End) → is_same (asked_end asked c) end ≡ true → HasMadeTags made c

@@ -22,7 +22,7 @@ use Rattle.promise.proofs.Slots.{own_at}
 use Rattle.promise.proofs.WaitEffects.{Waits, plan_waits}
 use Rattle.promise.proofs.WaitRows.{what_waits}
 
-none_at : (slots : List (Option Transaction)) (id : ℕ) (t : Transaction) → slots ≡ [] → at slots id ≡ Some t → ⊥
+pub none_at : (slots : List (Option Transaction)) (id : ℕ) (t : Transaction) → slots ≡ [] → at slots id ≡ Some t → ⊥
 none_at slots id t is there = none_in id (subst (λ xs. at xs id ≡ Some t) is there)
   where
     none_in : (id : ℕ) → at [] id ≡ Some t → ⊥

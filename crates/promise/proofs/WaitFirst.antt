@@ -99,7 +99,7 @@ new_fits : (made salt count : ℕ) (t : Transaction) (c : StandingCall) → made
 new_fits made salt count t c new few is h = λ has. absurd (old_and_new made salt count (from_tag t) (made_tag made c (from_tag t) h (tagged (from_tag t) c has)) new few is)
 
 -- of the call itself
-first_fits : (o : Occasion) (r : Request) (id number : ℕ) (source : Addr) (contact target : Uri) (offer : Description) (pool : pools.Contents) (t : Transaction) → IsOfferIn (first_leg o r target) t
+pub first_fits : (o : Occasion) (r : Request) (id number : ℕ) (source : Addr) (contact target : Uri) (offer : Description) (pool : pools.Contents) (t : Transaction) → IsOfferIn (first_leg o r target) t
     → FitsCall t (with_step (first_standing number o r id source contact) (first_call_row (first_standing number o r id source contact).call offer pool o.now))
 unfolding first_call_row new_leg
 first_fits o r id number source contact target offer pool t is = λ has.
@@ -117,7 +117,7 @@ first_fits o r id number source contact target offer pool t is = λ has.
           );
     }
 
-offered_first : (s : SceneValue) (leg : Dialog) (c : Call) (offer : Description) (pool : pools.Contents) (now : ℕ) (t : Transaction) → s.callee ≡ Some leg
+pub offered_first : (s : SceneValue) (leg : Dialog) (c : Call) (offer : Description) (pool : pools.Contents) (now : ℕ) (t : Transaction) → s.callee ≡ Some leg
     → OpensIn t (messages s None (first_call_row c offer pool now).actions).dressed.changes → IsOffering t → IsOfferIn leg t
 unfolding first_call_row
 offered_first s leg c offer pool now t is opens offers = elim (said_offered s None (first_call_row c offer pool now).actions t opens offers) [
@@ -133,16 +133,16 @@ first_has_one : (c : Call) (offer : Description) (pool : pools.Contents) (now : 
 unfolding first_call_row
 first_has_one c offer pool now = refl
 
-first_stands : (c : Call) (offer : Description) (pool : pools.Contents) (now : ℕ) → is_some (first_call_row c offer pool now).call.standing ≡ true
+pub first_stands : (c : Call) (offer : Description) (pool : pools.Contents) (now : ℕ) → is_some (first_call_row c offer pool now).call.standing ≡ true
 unfolding first_call_row
 first_stands c offer pool now = refl
 
-pushed_all : (P : StandingCall → Type 0) (c : StandingCall) (calls : List StandingCall) (b : Bool) → b ≡ true → All P calls → P c → All P (cond b (calls ++ c ∷ []) calls)
+pub pushed_all : (P : StandingCall → Type 0) (c : StandingCall) (calls : List StandingCall) (b : Bool) → b ≡ true → All P calls → P c → All P (cond b (calls ++ c ∷ []) calls)
 pushed_all P c calls true is each h = All-push P calls c each h
 pushed_all P c calls false is each h = absurd (false≢true is)
 
 -- its open offer is what it says
-first_carries : (c : Call) (offer : Description) (pool : pools.Contents) (now : ℕ) (t : Transaction) → CarriesText (first_call_row c offer pool now).description t → CarriesIf t (first_call_row c offer pool now).call.media.offer
+pub first_carries : (c : Call) (offer : Description) (pool : pools.Contents) (now : ℕ) (t : Transaction) → CarriesText (first_call_row c offer pool now).description t → CarriesIf t (first_call_row c offer pool now).call.media.offer
 unfolding first_call_row
 first_carries c offer pool now t h = h
 

@@ -66,7 +66,7 @@ counts_beside : (end : End) (number : ℕ) (d : Option Dialog) (c : Call) → di
 counts_beside end number None c = refl
 counts_beside end number (Some d) c = put_beside end _ c
 
-counts_in_other : (calls : List StandingCall) (place : ℕ) (end : End) (number : ℕ) (c : StandingCall) → slice_get calls place ≡ Some c
+pub counts_in_other : (calls : List StandingCall) (place : ℕ) (end : End) (number : ℕ) (c : StandingCall) → slice_get calls place ≡ Some c
     → dialog_in (other end) (counts calls place end number) c.call ≡ dialog_of (other end) c.call
 unfolding counts
 counts_in_other calls place end number c there =
@@ -75,16 +75,16 @@ counts_in_other calls place end number c there =
 -- ---- the request that passes it on
 
 -- all that is needed of the call and of what it does
-record Passing (made : ℕ) (calls : List StandingCall) (place : ℕ) (x : End) (c : StandingCall) (step : Step) (d : StandingCall) : Type 0 where
-  there : slice_get calls place ≡ Some c
-  knows : KnowsCalls made calls
-  settled : holds_in is_settled c.call.standing ≡ true
-  on : PassesOn c.call x step
-  same : SameTags c d
-  keeps : CallKeeps step.call d.call
-  stands : d.call.standing ≡ Some on.next
+pub record Passing (made : ℕ) (calls : List StandingCall) (place : ℕ) (x : End) (c : StandingCall) (step : Step) (d : StandingCall) : Type 0 where
+  pub there : slice_get calls place ≡ Some c
+  pub knows : KnowsCalls made calls
+  pub settled : holds_in is_settled c.call.standing ≡ true
+  pub on : PassesOn c.call x step
+  pub same : SameTags c d
+  pub keeps : CallKeeps step.call d.call
+  pub stands : d.call.standing ≡ Some on.next
 
-offer_fits : (made : ℕ) (calls : List StandingCall) (place : ℕ) (x : End) (c : StandingCall) (step : Step) (d : StandingCall) (t : Transaction) (leg : Dialog) → Passing made calls place x c step d
+pub offer_fits : (made : ℕ) (calls : List StandingCall) (place : ℕ) (x : End) (c : StandingCall) (step : Step) (d : StandingCall) (t : Transaction) (leg : Dialog) → Passing made calls place x c step d
     → dialog_of (other x) c.call ≡ Some leg → IsOfferIn leg t → FitsCall t d
 offer_fits made calls place x c step d t leg p at_leg is = λ has.
     let tag : from_tag t ≡ tag_to (other x) c = is.tag ∙ leg_tag made (other x) c leg (call_at made calls place c p.knows p.there) at_leg in
@@ -147,7 +147,7 @@ at_leg : (A : Type 0) (o : Option Dialog) (t : Transaction) → ((leg : Dialog) 
 at_leg A None t f h = absurd h
 at_leg A (Some d) t f h = f d refl h
 
-put_all : (P : StandingCall → Type 0) (b : Bool) (xs ys : List StandingCall) → b ≡ true → All P xs → All P (cond b xs ys)
+pub put_all : (P : StandingCall → Type 0) (b : Bool) (xs ys : List StandingCall) → b ≡ true → All P xs → All P (cond b xs ys)
 put_all P true xs ys is each = each
 put_all P false xs ys is each = absurd (false≢true is)
 

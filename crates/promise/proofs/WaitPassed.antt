@@ -66,7 +66,7 @@ pub passes_settled : (calls : List StandingCall) (r : Request) (place : ℕ) (en
 unfolding offer_rule
 passes_settled calls r place end c there e = settled_at r end (slice_get calls place) c there e
 
-settled_stage : (stage : Stage) → is_settled stage ≡ true → stage ≡ stages.Settled
+pub settled_stage : (stage : Stage) → is_settled stage ≡ true → stage ≡ stages.Settled
 settled_stage (stages.Asked rung) e = absurd (false≢true e)
 settled_stage (stages.Cancelling sent) e = absurd (false≢true e)
 settled_stage (stages.Answered interval) e = absurd (false≢true e)

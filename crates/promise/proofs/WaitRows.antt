@@ -72,10 +72,10 @@ use Rattle.promise.proofs.WaitTakes.{LegFits, takes_waits}
 
 -- ---- a call takes an input after which it waits on
 
-calm_leg : (made : ℕ) (leg : Option LegDialog) (c : StandingCall) → FitsLeg made c leg → LegKeeps c.call leg → LegFits false made leg c
+pub calm_leg : (made : ℕ) (leg : Option LegDialog) (c : StandingCall) → FitsLeg made c leg → LegKeeps c.call leg → LegFits false made leg c
 calm_leg made leg c tags keeps = record { tags = tags; grows = leg_kept c.call leg keeps; keeps = λ e. keeps }
 
-no_leg : (made : ℕ) (c : StandingCall) (final : Bool) → LegFits final made None c
+pub no_leg : (made : ℕ) (c : StandingCall) (final : Bool) → LegFits final made None c
 no_leg made c final = record { tags = tt; grows = tt; keeps = λ e. tt }
 
 calm_takes : (s : Office) → KnowsWaiting s → (e : Setting) (begun : List Entry) (send : Option Outgoing) (id : Option ℕ) (place : ℕ) (input : CallInput) → NoneOwn begun → IsNoOfferInput input
@@ -213,7 +213,7 @@ response_none : (s : Office) (r : Response) (id : Option ℕ) → NoneOwn (respo
 response_none s r None = λ t opens offers. opens
 response_none s r (Some id) = λ t opens offers. opens
 
-change_none : (s : Office) (m : Message) (source : Addr) → NoneOwn (change_of s.table m source ∷ [])
+pub change_none : (s : Office) (m : Message) (source : Addr) → NoneOwn (change_of s.table m source ∷ [])
 unfolding change_of
 change_none s (Kinds.Request r) source = request_none r source (position (is_asked r.parts) s.table.slots)
 change_none s (Kinds.Response r) source = response_none s r (position (is_answered r.parts) s.table.slots)

@@ -35,7 +35,7 @@ pub dialog_stays : (c : Call) (final : Bool) (step : Step) (end : End) → Takes
 dialog_stays c final step Caller fits = ap Some fits.caller
 dialog_stays c final step Callee fits = fits.callee
 
-leg_grows_on : (c : Call) (final : Bool) (step : Step) (leg : Option LegDialog) → TakesFits c final step → LegGrows c leg → LegGrows step.call leg
+pub leg_grows_on : (c : Call) (final : Bool) (step : Step) (leg : Option LegDialog) → TakesFits c final step → LegGrows c leg → LegGrows step.call leg
 leg_grows_on c final step None fits h = tt
 leg_grows_on c final step (Some leg) fits h = subst (λ d. Grows d (Some leg.dialog)) (sym (dialog_stays c final step leg.end fits)) h
 
@@ -43,7 +43,7 @@ pub leg_keeps_on : (c : Call) (final : Bool) (step : Step) (leg : Option LegDial
 leg_keeps_on c final step None fits h = tt
 leg_keeps_on c final step (Some leg) fits h = subst (λ d. Keeps d (Some leg.dialog)) (sym (dialog_stays c final step leg.end fits)) h
 
-grows_from : (c : Call) (final : Bool) (step : Step) (d : Call) → TakesFits c final step → CallGrows step.call d → CallGrows c d
+pub grows_from : (c : Call) (final : Bool) (step : Step) (d : Call) → TakesFits c final step → CallGrows step.call d → CallGrows c d
 grows_from c final step d fits h = record {
   caller = subst (λ x. last_number x ≤ last_number d.caller) fits.caller h.caller;
   callee = subst (λ x. Grows x d.callee) fits.callee h.callee;

@@ -1,4 +1,5 @@
 pub mod Tokens
+pub mod Addresses
 pub mod Entries
 pub mod Knowing
 pub mod Sending
@@ -7,3 +8,12 @@ pub mod Acks
 pub mod Numbers
 pub mod Carried
 pub mod Knowledge
+pub mod Datagrams
+pub mod Askers
+pub mod Seeing
+pub mod Bodies
+pub mod Saying
+pub mod Sound
+pub mod OpenRequests
+pub mod CalleeDialogs
+pub mod Quiet
