@@ -1,5 +1,5 @@
 -- Each contact that a user is bound to was read, and leads to an address.
-use Rattle.std.proofs.Common.{◌≡◌, ℕ, ◌+◌, ◌==◌, Bool, true, false, cond, not, nat_lt, List, [], ◌∷◌, ◌++◌, count_by, filter, find, length, map, Option, Some, None, is_some, option_map, position, Result, Ok, Err, refl, sym, subst}
+use Rattle.std.proofs.Common.{◌≡◌, ℕ, ◌+◌, ◌==◌, Bool, true, false, cond, not, nat_lt, List, [], ◌∷◌, ◌++◌, count_by, find, length, map, Option, Some, None, is_some, option_map, position, Result, Ok, Err, refl, sym, subst}
 use Rattle.std.specs.Prelude.{unwrap_or}
 use Rattle.std.specs.List.{All, filter_map, list_all}
 use Rattle.std.proofs.lemmas.Bool.{and_parts, false≢true}

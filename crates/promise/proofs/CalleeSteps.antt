@@ -1,5 +1,5 @@
 -- The steps of calls: from the first 2xx that a call takes on it has a dialog with its callee.
-use Rattle.std.proofs.Common.{◌≡◌, ◌≢◌, ◌∙◌, ◌<◌, ◌^◌, ℕ, ◌+◌, Bool, true, false, cond, List, [], ◌∷◌, find, nat_lt, Option, Some, None, is_some, option_map, refl, ap, sym, subst, inl, inr, arith}
+use Rattle.std.proofs.Common.{◌≡◌, ◌∙◌, ◌<◌, ◌^◌, ℕ, ◌+◌, Bool, true, false, cond, List, [], ◌∷◌, find, nat_lt, Option, Some, None, is_some, option_map, refl, ap, sym, subst, inl, inr, arith}
 use Rattle.std.specs.Prelude.{slice_get, slice_set}
 use Rattle.std.specs.List.{All, remove}
 use Rattle.std.specs.Option.{option_copied}

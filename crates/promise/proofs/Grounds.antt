@@ -5,7 +5,6 @@ use Rattle.sip_message.specs.declared.error.MessageError.{MessageError}
 use Rattle.sip_message.specs.declared.message.Message.{Message}
 use Rattle.sip_message.specs.declared.message.Parts.{Parts}
 use Rattle.sip_message.specs.AnswerableParts.{answerable_of, is_asking_line, parts_behind}
-use Rattle.sip_message.specs.Grammar.{ReadsMessage}
 use Rattle.sip_message.specs.Lines.{after_line_end, before_line_end}
 use Rattle.sip_message.specs.Read.{message_of}
 use Rattle.sip_message.specs.Repeatable.{CanBeRepeated, parts_in}

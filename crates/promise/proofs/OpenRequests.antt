@@ -31,7 +31,7 @@ use Rattle.call_media.specs.Ends.{other}
 use Rattle.call_media.specs.declared.end.End.{End}
 use Rattle.call_core.specs.Calls.{dialog_of}
 use Rattle.call_core.specs.declared.action.Action.{Action}
-use Rattle.call_core.specs.declared.action.Action.TheVariants.{Offer, Trying}
+use Rattle.call_core.specs.declared.action.Action.TheVariants.{Offer}
 use Rattle.call_core.specs.declared.signal.OfferMethod.{OfferMethod}
 use Rattle.call_core.specs.declared.signal.OfferMethod.TheVariants.{Invite, Update}
 use Rattle.call_core.specs.declared.stage.Standing as stage

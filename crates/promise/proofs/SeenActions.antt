@@ -7,7 +7,6 @@ use Rattle.sip_uri.specs.declared.uri.Uri.{Uri}
 use Rattle.sip_uri.specs.Address.{address_of}
 use Rattle.sip_message.specs.declared.message.Message.TheVariants as Kinds
 use Rattle.sip_message.specs.declared.message.Request.{Request}
-use Rattle.sip_message.specs.declared.message.Response.{Response}
 use Rattle.sip_writing.specs.Writing.{message_text}
 use Rattle.sdp.specs.declared.description.Description.{Description}
 use Rattle.dialogs.specs.declared.method.Method.TheVariants as methods

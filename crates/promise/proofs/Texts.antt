@@ -2,13 +2,12 @@
 use Rattle.std.proofs.Common.{◌≡◌, ◌∙◌, ℕ, zero, suc, ◌+◌, ◌/◌, ◌%◌, ◌<◌, ◌≤◌, ◌^◌, ◌==◌, Bool, true, false, not, ◌&&◌, ◌||◌, List, [], ◌∷◌, ◌++◌, codes, length, Some, refl, ap, sym, subst, inl, inr, arith}
 use Rattle.std.specs.Prelude.{decimal, slice_index}
 use Rattle.std.specs.Char.{is_ascii_alphanumeric}
-use Rattle.std.specs.Int.{w64, to_be_bytes}
-use Rattle.std.specs.List.{list_all, list_any}
+use Rattle.std.specs.List.{list_all}
 use Rattle.std.proofs.lemmas.Bool.{and_from, and_parts, cases_lt, false≢true, ne_eqb}
 use Rattle.std.proofs.lemmas.Fmt.{decimal_by_steps}
 use Rattle.std.proofs.lemmas.List.{append_assoc}
 use Rattle.std.proofs.lemmas.List.Folds.{list_all-append, list_any-append}
-use Rattle.hex.specs.Hex.{encode_with, lower_digits}
+use Rattle.hex.specs.Hex.{lower_digits}
 use Rattle.text.specs.Class.{is_blank, is_one_of, is_run_of, is_token_byte}
 use Rattle.text.specs.Cut.{after, before}
 use Rattle.text.specs.Trim.{kept, without_blanks, without_end}

@@ -1,5 +1,5 @@
 -- The descriptions that the calls keep: each was read, or is what the server sends in place of one that was read (RFC 3264).
-use Rattle.std.specs.Prelude.{◌≡◌, ℕ, ◌≤◌, IsTrue, List, length, slice_index, Option, Some, None}
+use Rattle.std.specs.Prelude.{◌≡◌, ℕ, ◌≤◌, List, length, Option, Some, None}
 use Rattle.std.specs.List.{All}
 use Rattle.sip_message.specs.Read.{greatest_datagram}
 use Rattle.sdp.specs.declared.description.Description.{Description}

@@ -1,7 +1,5 @@
 -- The responses of the server's own, and where requests come from (RFC 3261 sections 7.2 and 18.2.1).
-use Rattle.std.specs.Prelude.{◌≡◌, ℕ, ◌≤◌, List, length, map, slice_index, ◌⊎◌}
-use Rattle.configuration.specs.declared.config.Config.{Config}
-use Rattle.configuration.specs.Rules.{KeepsRules}
+use Rattle.std.specs.Prelude.{◌≡◌, ℕ, List, map, ◌⊎◌}
 use Rattle.events.specs.declared.event.What.{What}
 use Rattle.events.specs.declared.event.What.TheVariants as whats
 use Rattle.events.specs.declared.sent.Sent.{Sent}
@@ -14,7 +12,6 @@ use Rattle.sip_message.specs.declared.message.Response.{Response}
 use Rattle.sip_uri.specs.declared.uri.Addr.{Addr}
 use Rattle.sip_writing.specs.Writing.{message_text}
 use Rattle.sip_writing.specs.WritingMessage.{IsWrittenMessage}
-use Rattle.agent.specs.State.{server_of}
 use Rattle.agent.specs.Trace.{Entry}
 use Rattle.promise.specs.Addresses.{IsSource}
 

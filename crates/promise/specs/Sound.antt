@@ -1,5 +1,5 @@
 -- The dialogs of the calls that stand are of messages that were read (RFC 3261 section 12.1), and each leads to an address.
-use Rattle.std.specs.Prelude.{◌≡◌, ℕ, ◌≤◌, true, false, is_some, IsTrue, List, Option, Some, None, slice_index}
+use Rattle.std.specs.Prelude.{◌≡◌, ℕ, true, false, is_some, IsTrue, List, Option, Some, None}
 use Rattle.std.specs.List.{All}
 use Rattle.text.specs.Class.{is_run_of, is_token_byte}
 use Rattle.sip_uri.specs.Address.{address_of}
