@@ -157,10 +157,10 @@ response_as : (bytes : List ℕ) (parts : Parts) (source : Addr) (status : ℕ) 
 unfolding trace_message responds reply_of replied
 response_as bytes parts source status tag further body description said = record {
   kind = refl;
-  branch = branch_kept source parts.vias;
+  branch = branch_kept parts source status tag;
   call_id = refl;
   from_tag = refl;
-  to_tag = ap (λ (o : Option Param). unwrap_or (value_found o) []) (to_kept status parts.to tag);
+  to_tag = ap (λ (o : Option Param). unwrap_or (value_found o) []) (to_kept parts source status tag);
   number = refl;
   method = refl;
   description = said;
