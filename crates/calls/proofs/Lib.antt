@@ -1,3 +1,3 @@
-mod KeptLaws
+pub mod KeptLaws
 mod CarryLaws
 mod TimingLaws

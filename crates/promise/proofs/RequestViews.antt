@@ -46,7 +46,7 @@ use Rattle.responses.specs.Words.{has_header, is_declined_method, is_offered_met
 
 -- ---- why
 
--- an INVITE without To tag, whose Contact has an address, to a user who is bound there, with an offer that the relay carries
+-- an INVITE without To tag, whose Contact has an address, to a user who is bound there, with an offer that the relay carries and has pairs for
 pub record IsFirstInvite (s : Office) (now : ℕ) (r : Request) (to : Uri) (offer : Description) : Type 0 where
   pub invite : request_method (codes "INVITE") r ≡ true
   pub no_tag : tag_value r.parts.to.params ≡ None
@@ -54,13 +54,15 @@ pub record IsFirstInvite (s : Office) (now : ℕ) (r : Request) (to : Uri) (offe
   pub bound : target s r now ≡ Some to
   pub described : described r.headers r.body ≡ Some offer
   pub fit : is_some (offer_fault s.range offer None) ≡ false
+  pub paired : has_pairs s now offer ≡ true
 
--- an offer that the end may make there, and that the relay carries
-pub record IsPassedOffer (s : Office) (r : Request) (place : ℕ) (end : End) (c : StandingCall) (offer : Description) : Type 0 where
+-- an offer that the end may make there, and that the relay carries and has pairs for
+pub record IsPassedOffer (s : Office) (now : ℕ) (r : Request) (place : ℕ) (end : End) (c : StandingCall) (offer : Description) : Type 0 where
   pub there : slice_get s.calls.calls place ≡ Some c
   pub passes : offer_reply (offer_rule s.calls.calls r place end) ≡ None
   pub described : described r.headers r.body ≡ Some offer
   pub fit : is_unfit c.call end offer ≡ false
+  pub paired : has_pairs_for s now c.call end offer ≡ true
   pub numbered : has_number_left (dialog_of (other end) c.call) ≡ true
 
 -- a request that may stand in a dialog: its method is offered, and is none that no dialog has
@@ -96,7 +98,7 @@ pub data RequestRow (s : Office) (e : Setting) (r : Request) (begun : List Entry
   -- a request in a dialog that the server answers by itself
   counted_alone : (place : ℕ) (end : End) (reply : Reply) → x ≡ refuses s e r begun id place end reply → RequestRow s e r begun id x
   -- an offer inside a call that is passed on
-  passed_on : (place : ℕ) (end : End) (c : StandingCall) (offer : Description) → dialog_rule s.calls.calls r ≡ dialogrules.Offers place end → IsPassedOffer s r place end c offer
+  passed_on : (place : ℕ) (end : End) (c : StandingCall) (offer : Description) → dialog_rule s.calls.calls r ≡ dialogrules.Offers place end → IsPassedOffer s e.now r place end c offer
       → x ≡ passes s e r begun id place end offer → RequestRow s e r begun id x
   refreshed : (place : ℕ) (end : End) → IsRefresh s r place end
       → x ≡ record { plan = okay_plan s e r begun id; calls = unchanged (puts_if s.calls place (refreshes s.calls.calls place end r)); acks = s.acks } → RequestRow s e r begun id x
@@ -114,7 +116,7 @@ first_view s e r begun id to offer invite no_tag reached bound said =
     by_if P (is_some (offer_fault s.range offer None)) unsuited (cond (has_pairs s e.now offer) full refused) (λ b. unfit 488 refl)
     (λ fit. by_if P (has_pairs s e.now offer) full refused
     (λ b. by_if P (are_full s) refused (with_step s.acks begun None None step) (λ f. unfit 503 refl)
-    (λ f. asks_callee to offer (record { invite = invite; no_tag = no_tag; reached = reached; bound = bound; described = said; fit = fit }) refl))
+    (λ f. asks_callee to offer (record { invite = invite; no_tag = no_tag; reached = reached; bound = bound; described = said; fit = fit; paired = b }) refl))
     (λ b. unfit 503 refl))
 
 begins_view : (s : Office) (e : Setting) (r : Request) (begun : List Entry) (id : ℕ) (to : Option Uri) (offer : Option Description) → request_method (codes "INVITE") r ≡ true
@@ -135,7 +137,7 @@ passes_if_view s e r begun id place end c offer rule_is there passing said =
     by_if P (is_unfit c.call end offer) (refused 488) (cond (has_pairs_for s e.now c.call end offer) numbered (refused 503)) (λ b. refused_view 488)
     (λ fit. by_if P (has_pairs_for s e.now c.call end offer) numbered (refused 503)
     (λ b. by_if P (has_number_left (dialog_of (other end) c.call)) (passes s e r begun id place end offer) (refused 500)
-    (λ left. passed_on place end c offer rule_is (record { there = there; passes = passing; described = said; fit = fit; numbered = left }) refl) (λ f. refused_view 500)) (λ b. refused_view 503))
+    (λ left. passed_on place end c offer rule_is (record { there = there; passes = passing; described = said; fit = fit; paired = b; numbered = left }) refl) (λ f. refused_view 500)) (λ b. refused_view 503))
 
 passes_in_view : (s : Office) (e : Setting) (r : Request) (begun : List Entry) (id place : ℕ) (end : End) (c : StandingCall) (offer : Option Description)
     → dialog_rule s.calls.calls r ≡ dialogrules.Offers place end → slice_get s.calls.calls place ≡ Some c → offer_reply (offer_rule s.calls.calls r place end) ≡ None
