@@ -1,0 +1,7 @@
+//! What the agent's pool of ports and relay table serve: the sessions of the calls that stand, each as it asks, and nothing else, after
+//! any events. Nothing here runs.
+#![tactic(auto)]
+
+mod serving;
+
+pub use serving::{calls_are_served, served_as_told};
