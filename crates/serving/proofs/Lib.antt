@@ -5,3 +5,5 @@ pub mod StandingSteps
 pub mod ServingRows
 pub mod NamedRows
 pub mod ToldSessions
+pub mod Holders
+pub mod TracedCalls

@@ -27,7 +27,7 @@ use Rattle.serving.proofs.NamedRows.{named_row, names_port}
 
 -- ---- some member, and each
 
-any_with : {X : Type 0} (P Q R : X → Type 0) → ((x : X) → P x → Q x → R x) → (xs : List X) → AllOf P xs → AnyOf Q xs → AnyOf R xs
+pub any_with : {X : Type 0} (P Q R : X → Type 0) → ((x : X) → P x → Q x → R x) → (xs : List X) → AllOf P xs → AnyOf Q xs → AnyOf R xs
 any_with P Q R gives [] all any = absurd any
 any_with P Q R gives (x ∷ xs) all (inl here) = inl (gives x all.0 here)
 any_with P Q R gives (x ∷ xs) all (inr later) = inr (any_with P Q R gives xs all.1 later)
@@ -51,7 +51,7 @@ module _ (s : Office) (k : KnowsServing s) where
   abbrev Known : StandingCall → Type 0
   Known c = IsServed c.call s.calls.pool × IsServedAsAsked s.range s.calls.pool c.call.media
 
-  all_known : AllOf Known s.calls.calls
+  pub all_known : AllOf Known s.calls.calls
   all_known = all_with_served (λ c. IsServedAsAsked s.range s.calls.pool c.call.media) s.calls.pool s.calls.calls k.calls.kept.served k.calls.calls
 
   session_stands : (c : StandingCall) → Known c → (x : Session) → IsSessionOf x c → Stands s.range.ip c.call.media.number s.calls.pool x

@@ -1,5 +1,5 @@
 -- The sessions of the calls that stand, as the pool of ports and the relay table serve them.
-use Rattle.std.specs.Prelude.{◌≡◌, ◌≢◌, ℕ, true, false, is_some, Option, Some, None, IfSome, option_map}
+use Rattle.std.specs.Prelude.{◌≡◌, ◌≢◌, ℕ, true, false, is_some, List, find, Option, Some, None, IfSome, option_map}
 use Rattle.std.specs.FinMap.{get}
 use Rattle.port_pool.specs.Holdings.{even_of, holder_at, is_among}
 use Rattle.port_pool.specs.Pool.{Contents, IsPool, is_port_of}
@@ -11,6 +11,7 @@ use Rattle.call_media.specs.Sessions.{pairs_listed}
 use Rattle.call_core.specs.declared.call.Call.{Call}
 use Rattle.call_core.specs.Calls.{awaits_answer, has_session, holds_in}
 use Rattle.calls.specs.declared.standing_call.StandingCall.{StandingCall}
+use Rattle.calls.specs.Finding.{has_number}
 use Rattle.calls.specs.State.{AreKept, Standing}
 use Rattle.plans.specs.Office.{Office}
 use Rattle.call_trace.specs.declared.call.Session as traces
@@ -28,7 +29,7 @@ trace_session x = record { offer_taken = x.offer_taken; answer_sent = x.answer_s
 abbrev pub trace_table : Contents → ℕ → Option Hop
 trace_table pool port = option_map (λ h. record { to = h.to; from = h.from }) (get pool.rows port)
 
--- the call that holds the pair of a port
+-- the number of the call that holds the pair of a port
 abbrev pub holder_in : Contents → ℕ → Option ℕ
 holder_in pool port = holder_at pool.holdings port
 
@@ -97,6 +98,23 @@ HoldTheirPairs s = OfEach (λ c x. (port : ℕ) → IsPairOf port (trace_session
 -- a port is held by a call that stands, by its number
 abbrev pub AreHeldByCalls : Office → Type 0
 AreHeldByCalls s = (port number : ℕ) → holder_in s.calls.pool port ≡ Some number → AnyOf (λ c. c.call.number ≡ number) s.calls.calls
+
+-- the call that stands under this number
+abbrev pub call_numbered : List StandingCall → Option ℕ → Option StandingCall
+call_numbered calls None = None
+call_numbered calls (Some number) = find (has_number number) calls
+
+-- the call that holds the pair of a port
+abbrev pub call_holding : Office → ℕ → Option StandingCall
+call_holding s port = call_numbered s.calls.calls (holder_in s.calls.pool port)
+
+-- each pair that a session names is held by its call, and by no other one
+abbrev pub HeldByTheirCalls : Office → Type 0
+HeldByTheirCalls s = OfEach (λ c x. (port : ℕ) → IsPairOf port (trace_session x) → call_holding s port ≡ Some c) s
+
+-- a port is held by a call that stands
+abbrev pub HoldersStand : Office → Type 0
+HoldersStand s = (port : ℕ) (c : StandingCall) → call_holding s port ≡ Some c → AnyOf (λ x. x ≡ c) s.calls.calls
 
 -- while no offer is open in a call, it holds the pairs of its session alone
 abbrev pub HoldNoOthers : Office → Type 0

@@ -3,5 +3,7 @@
 #![tactic(auto)]
 
 mod serving;
+mod traced;
 
 pub use serving::{calls_are_served, served_as_told};
+pub use traced::traced_calls_are_served;

@@ -8,7 +8,7 @@ ghost use Rattle.configuration.specs.declared.config.Config.{Config};
 ghost use Rattle.configuration.specs.Rules.{KeepsRules};
 ghost use Rattle.events.specs.declared.event.Event.{Event};
 ghost use Rattle.plans.specs.Office.{Office};
-ghost use Rattle.serving.specs.Serving.{AreHeldByCalls, AreLed, AreStaged, AreTold, HasNoOtherRow, HoldNoOthers, HoldTheirPairs, KnowsServing};
+ghost use Rattle.serving.specs.Serving.{AreHeldByCalls, AreLed, AreStaged, AreTold, HasNoOtherRow, HeldByTheirCalls, HoldNoOthers, HoldTheirPairs, HoldersStand, KnowsServing};
 
 /// Of a new agent, whose configuration keeps the rules, and after any event: the pool serves each call that stands, in the server's
 /// range; the relay table leads each port that its session names as the session asks; a port is held by a call that stands alone, which
@@ -25,7 +25,8 @@ pub fn calls_are_served()
 
 /// Where the calls are served so, a session stands in each call whose stage has one, and in no other. Each end of it was told what is
 /// alike to what the other said, at the server; the table leads the ports that it names as it asks, and has no other row, so none
-/// outlives its call; its call holds the pairs that it names, and no pair is held but by a call that stands.
+/// outlives its call; its call holds the pairs that it names, and no other one while no offer is open; and no pair is held but by a call
+/// that stands.
 pub fn served_as_told()
     ensures staged { (s : Office) → KnowsServing s → AreStaged s }
     ensures told { (s : Office) → KnowsServing s → AreTold s }
@@ -33,5 +34,7 @@ pub fn served_as_told()
     ensures had { (s : Office) → KnowsServing s → HasNoOtherRow s }
     ensures pairs { (s : Office) → KnowsServing s → HoldTheirPairs s }
     ensures holders { (s : Office) → KnowsServing s → AreHeldByCalls s }
+    ensures call { (s : Office) → KnowsServing s → HeldByTheirCalls s }
+    ensures stand { (s : Office) → KnowsServing s → HoldersStand s }
     ensures exact { (s : Office) → KnowsServing s → HoldNoOthers s }
 {}
