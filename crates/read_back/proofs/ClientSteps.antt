@@ -77,7 +77,7 @@ unfolding is_waiting_invite
 waiting_sound slots tag id None all there waits = tt
 waiting_sound slots tag id (Some t) all there waits = client_at slots id t all there (awaits_client t.state (and_parts _ _ waits).0)
 
-passed_sound : (slots : List (Option Transaction)) (tag : List ℕ) (id : Option ℕ) → All IsSoundClientIf slots → position (is_waiting_invite tag) slots ≡ id → WasSoundIf (at_id slots id)
+pub passed_sound : (slots : List (Option Transaction)) (tag : List ℕ) (id : Option ℕ) → All IsSoundClientIf slots → position (is_waiting_invite tag) slots ≡ id → WasSoundIf (at_id slots id)
 passed_sound slots tag None all there = tt
 passed_sound slots tag (Some id) all there = waiting_sound slots tag id (at slots id) all refl (position-Some (is_waiting_invite tag) slots id None there).1
 

@@ -6,3 +6,5 @@ pub mod SoundAsks
 pub mod ClientSlots
 pub mod ClientSteps
 pub mod ClientRows
+pub mod Scenes
+pub mod Comings

@@ -1,3 +1,4 @@
 pub mod Said
 pub mod SoundScenes
 pub mod SoundClients
+pub mod Comings

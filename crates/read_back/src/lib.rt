@@ -4,6 +4,8 @@
 
 mod actions;
 mod clients;
+mod steps;
 
 pub use actions::actions_are_said;
 pub use clients::clients_are_sound;
+pub use steps::{comings_are_sound, steps_are_said};
