@@ -50,7 +50,7 @@ use Rattle.promise.proofs.Reading.{Reading, callers_sound}
 use Rattle.promise.proofs.SoundCalls.{IsSoundPut, coming_sound, counts_sound}
 use Rattle.promise.proofs.Steps.{awaits_client}
 use Rattle.read_back.specs.SoundClients.{CountsLowIf, HasLowNumbers, IsSoundClientIf}
-use Rattle.read_back.specs.SoundScenes.{CanAskFrom, CanAskIn, CanAskInIf, CountsLow, IsSoundRequest, WasSoundIf}
+use Rattle.read_back.specs.SoundScenes.{CanAskFrom, CanAskIn, CanAskInIf, CountsLow, IsSoundRequest, IsSoundRequestIf}
 use Rattle.read_back.proofs.ClientSlots.{client_at}
 use Rattle.read_back.proofs.LowCalls.{IsLowPut, beside_low, coming_low, counts_low, pushed_low, step_low}
 use Rattle.read_back.proofs.LowNumbers.{HasNumberFor, KeepsLow, call_low, first_call_low}
@@ -72,12 +72,12 @@ pub record AreKnown (table : transactions.Contents) (calls : List StandingCall) 
 
 -- ---- the INVITE that was passed on
 
-waiting_sound : (slots : List (Option Transaction)) (tag : List ℕ) (id : ℕ) (t : Option Transaction) → All IsSoundClientIf slots → at slots id ≡ t → is_waiting_invite tag t ≡ true → WasSoundIf t
+waiting_sound : (slots : List (Option Transaction)) (tag : List ℕ) (id : ℕ) (t : Option Transaction) → All IsSoundClientIf slots → at slots id ≡ t → is_waiting_invite tag t ≡ true → IsSoundRequestIf t
 unfolding is_waiting_invite
 waiting_sound slots tag id None all there waits = tt
 waiting_sound slots tag id (Some t) all there waits = client_at slots id t all there (awaits_client t.state (and_parts _ _ waits).0)
 
-pub passed_sound : (slots : List (Option Transaction)) (tag : List ℕ) (id : Option ℕ) → All IsSoundClientIf slots → position (is_waiting_invite tag) slots ≡ id → WasSoundIf (at_id slots id)
+pub passed_sound : (slots : List (Option Transaction)) (tag : List ℕ) (id : Option ℕ) → All IsSoundClientIf slots → position (is_waiting_invite tag) slots ≡ id → IsSoundRequestIf (at_id slots id)
 passed_sound slots tag None all there = tt
 passed_sound slots tag (Some id) all there = waiting_sound slots tag id (at slots id) all refl (position-Some (is_waiting_invite tag) slots id None there).1
 

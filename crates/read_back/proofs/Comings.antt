@@ -43,20 +43,20 @@ use Rattle.promise.proofs.ReadBodies.{body_read, body_read_if}
 use Rattle.promise.proofs.ReadParts.{IsTokenRun, same_method}
 use Rattle.promise.proofs.Reading.{Reading}
 use Rattle.promise.proofs.SpokenSteps.{tag_run}
-use Rattle.read_back.specs.Comings.{CanAskPut, CanCome, ComesWithFitStatus, KnowsScenes, is_offer}
-use Rattle.read_back.specs.SoundScenes.{CanAnswer, CanAskIn, CanAskInIf, IsNoInvite, IsSoundRequest}
+use Rattle.read_back.specs.Comings.{CanAskPut, CanCome, ComesWithFitStatus, KnowsScenes, is_offer_input}
+use Rattle.read_back.specs.SoundScenes.{CanSay, CanAskIn, CanAskInIf, IsNoInvite, IsSoundRequest}
 use Rattle.read_back.proofs.ClientSlots.{client_at}
 use Rattle.read_back.proofs.ClientSteps.{fork_can, late_can}
 use Rattle.read_back.proofs.Scenes.{hops_low, own_can}
 
 -- ---- nothing comes with the input
 
-pub alone_comes : (input : Input) → ComesWithFitStatus input → is_offer input ≡ false → WasReadIn input → CanCome input (without_offer None None)
+pub alone_comes : (input : Input) → ComesWithFitStatus input → is_offer_input input ≡ false → WasReadIn input → CanCome input (without_offer None None)
 alone_comes input fit none read = record { leg = tt; offer = tt; request = tt; hops = omega arith; status = fit; read = read; asked = λ e. absurd (false≢true (sym none ∙ e)) }
 
 -- ---- a request that was read
 
-can_answer : (text : List ℕ) (e : Setting) (r : Request) (tag : List ℕ) → message_of text ≡ Ok (Kinds.Request r) → IsSource e.source → IsTokenRun tag → CanAnswer r.parts e.source tag
+can_answer : (text : List ℕ) (e : Setting) (r : Request) (tag : List ℕ) → message_of text ≡ Ok (Kinds.Request r) → IsSource e.source → IsTokenRun tag → CanSay r.parts e.source tag
 can_answer text e r tag read from token = record { repeats = read_repeats text (Kinds.Request r) read; from = from; token = token }
 
 tag_at_run : (s : Office) (place : ℕ) (c : Option StandingCall) → KnowsScenes s → slice_get s.calls.calls place ≡ c → IsTokenRun (tag_at c)

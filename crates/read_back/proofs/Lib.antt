@@ -8,3 +8,11 @@ pub mod ClientSteps
 pub mod ClientRows
 pub mod Scenes
 pub mod Comings
+pub mod Listing
+pub mod ReadReplies
+pub mod Registered
+pub mod ReadSends
+pub mod ReadSteps
+pub mod ReadRows
+pub mod ReadEvents
+pub mod ReadKnown

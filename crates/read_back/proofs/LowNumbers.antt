@@ -60,58 +60,58 @@ opened_low c Callee next media left = record { caller = λ h. left_low c.caller 
 abbrev StepsLow : Call → Step → Type 0
 StepsLow c step = KeepsLow c step.call
 
-signal_kept : (c : Call) (pool : pools.Contents) (now : ℕ) (row : Row) → StepsLow c (signal_step c pool now row)
-signal_kept c pool now row =
+line_signal_low : (c : Call) (pool : pools.Contents) (now : ℕ) (row : Row) → StepsLow c (signal_step c pool now row)
+line_signal_low c pool now row =
     by_if (StepsLow c) (ends_media row) (end_step c pool now row) (cond (releases row) (release_step c pool now row) (kept_step c pool row)) (moved_low c row.next _)
     (by_if (StepsLow c) (releases row) (release_step c pool now row) (kept_step c pool row) (moved_low c row.next _) (moved_low c row.next c.media))
 
-line_kept : (c : Call) (pool : pools.Contents) (step : Row → Step) (row : Option Row) → ((r : Row) → StepsLow c (step r)) → StepsLow c (at_line c pool step row)
-line_kept c pool step None h = moved_low c c.standing c.media
-line_kept c pool step (Some r) h = h r
+line_low : (c : Call) (pool : pools.Contents) (step : Row → Step) (row : Option Row) → ((r : Row) → StepsLow c (step r)) → StepsLow c (at_line c pool step row)
+line_low c pool step None h = moved_low c c.standing c.media
+line_low c pool step (Some r) h = h r
 
-signalled : (c : Call) (s : stage.Standing) (signal : Signal) (pool : pools.Contents) (now : ℕ) → StepsLow c (signal_at c s signal pool now)
-signalled c s signal pool now = line_kept c pool (signal_step c pool now) (row_of s signal) (signal_kept c pool now)
+signal_low : (c : Call) (s : stage.Standing) (signal : Signal) (pool : pools.Contents) (now : ℕ) → StepsLow c (signal_at c s signal pool now)
+signal_low c s signal pool now = line_low c pool (signal_step c pool now) (row_of s signal) (line_signal_low c pool now)
 
-offered : (c : Call) (s : stage.Standing) (signal : Signal) (x : End) (offer : Option Description) (pool : pools.Contents) (now : ℕ) → has_number_left (dialog_of (other x) c) ≡ true
+offer_low : (c : Call) (s : stage.Standing) (signal : Signal) (x : End) (offer : Option Description) (pool : pools.Contents) (now : ℕ) → has_number_left (dialog_of (other x) c) ≡ true
     → StepsLow c (offer_at c s signal x offer pool now)
-offered c s signal x None pool now left = moved_low c c.standing c.media
-offered c s signal x (Some offer) pool now left = line_kept c pool (offer_step c pool now x offer) (row_of s signal) (λ r. opened_low c x r.next _ left)
+offer_low c s signal x None pool now left = moved_low c c.standing c.media
+offer_low c s signal x (Some offer) pool now left = line_low c pool (offer_step c pool now x offer) (row_of s signal) (λ r. opened_low c x r.next _ left)
 
-fit_kept : (c : Call) (s : stage.Standing) (waiting : Option OpenOffer) (answer : Option Description) (pool : pools.Contents) (now : ℕ) → StepsLow c (fit_at c s waiting answer pool now)
-fit_kept c s None answer pool now = moved_low c c.standing c.media
-fit_kept c s (Some o) None pool now = moved_low c c.standing c.media
-fit_kept c s (Some o) (Some answer) pool now = line_kept c pool (answer_step c pool now o answer) (row_of s signals.FitAnswer) (λ r. moved_low c r.next _)
+fit_low : (c : Call) (s : stage.Standing) (waiting : Option OpenOffer) (answer : Option Description) (pool : pools.Contents) (now : ℕ) → StepsLow c (fit_at c s waiting answer pool now)
+fit_low c s None answer pool now = moved_low c c.standing c.media
+fit_low c s (Some o) None pool now = moved_low c c.standing c.media
+fit_low c s (Some o) (Some answer) pool now = line_low c pool (answer_step c pool now o answer) (row_of s signals.FitAnswer) (λ r. moved_low c r.next _)
 
-answered : (c : Call) (s : stage.Standing) (answer : Option Description) (pool : pools.Contents) (now : ℕ) → StepsLow c (answer_at c s answer pool now)
-answered c s answer pool now =
+answer_low : (c : Call) (s : stage.Standing) (answer : Option Description) (pool : pools.Contents) (now : ℕ) → StepsLow c (answer_at c s answer pool now)
+answer_low c s answer pool now =
     by_if (StepsLow c) (is_fit c c.media.offer answer) (fit_at c s c.media.offer answer pool now) (signal_at c s signals.UnfitAnswer pool now)
-    (fit_kept c s c.media.offer answer pool now) (signalled c s signals.UnfitAnswer pool now)
+    (fit_low c s c.media.offer answer pool now) (signal_low c s signals.UnfitAnswer pool now)
 
 -- a number is left for an offer that comes
 abbrev pub HasNumberFor : Call → Input → Type 0
 HasNumberFor c (inputs.Offer x method offer) = has_number_left (dialog_of (other x) c) ≡ true
 HasNumberFor c input = Unit {0}
 
-at_kept : (c : Call) (s : stage.Standing) (input : Input) (pool : pools.Contents) (now : ℕ) → HasNumberFor c input → StepsLow c (step_at c s input pool now)
-at_kept c s (inputs.Offer x method offer) pool now left = offered c s (signals.Offer x method) x offer pool now left
-at_kept c s (inputs.Provisional status) pool now left = signalled c s (signals.Provisional status) pool now
-at_kept c s (inputs.Answer answer) pool now left = answered c s answer pool now
-at_kept c s (inputs.Refusal status) pool now left = signalled c s (signals.Refusal status) pool now
-at_kept c s inputs.TimedOut pool now left = signalled c s signals.TimedOut pool now
-at_kept c s inputs.Ack pool now left = signalled c s signals.Ack pool now
-at_kept c s inputs.Cancel pool now left = signalled c s signals.Cancel pool now
-at_kept c s (inputs.Bye end) pool now left = signalled c s (signals.Bye end) pool now
-at_kept c s inputs.Limit pool now left = signalled c s signals.Limit pool now
-at_kept c s inputs.Repeat pool now left = signalled c s signals.Repeat pool now
-at_kept c s inputs.Wait pool now left = signalled c s signals.Wait pool now
+at_low : (c : Call) (s : stage.Standing) (input : Input) (pool : pools.Contents) (now : ℕ) → HasNumberFor c input → StepsLow c (step_at c s input pool now)
+at_low c s (inputs.Offer x method offer) pool now left = offer_low c s (signals.Offer x method) x offer pool now left
+at_low c s (inputs.Provisional status) pool now left = signal_low c s (signals.Provisional status) pool now
+at_low c s (inputs.Answer answer) pool now left = answer_low c s answer pool now
+at_low c s (inputs.Refusal status) pool now left = signal_low c s (signals.Refusal status) pool now
+at_low c s inputs.TimedOut pool now left = signal_low c s signals.TimedOut pool now
+at_low c s inputs.Ack pool now left = signal_low c s signals.Ack pool now
+at_low c s inputs.Cancel pool now left = signal_low c s signals.Cancel pool now
+at_low c s (inputs.Bye end) pool now left = signal_low c s (signals.Bye end) pool now
+at_low c s inputs.Limit pool now left = signal_low c s signals.Limit pool now
+at_low c s inputs.Repeat pool now left = signal_low c s signals.Repeat pool now
+at_low c s inputs.Wait pool now left = signal_low c s signals.Wait pool now
 
-in_kept : (c : Call) (s : Option stage.Standing) (input : Input) (pool : pools.Contents) (now : ℕ) → HasNumberFor c input → StepsLow c (step_in c s input pool now)
-in_kept c None input pool now left = moved_low c c.standing c.media
-in_kept c (Some s) input pool now left = at_kept c s input pool now left
+in_low : (c : Call) (s : Option stage.Standing) (input : Input) (pool : pools.Contents) (now : ℕ) → HasNumberFor c input → StepsLow c (step_in c s input pool now)
+in_low c None input pool now left = moved_low c c.standing c.media
+in_low c (Some s) input pool now left = at_low c s input pool now left
 
 pub call_low : (c : Call) (input : Input) (pool : pools.Contents) (now : ℕ) → HasNumberFor c input → KeepsLow c (call_row c input pool now).call
 unfolding call_row
-call_low c input pool now left = in_kept c c.standing input pool now left
+call_low c input pool now left = in_low c c.standing input pool now left
 
 pub first_call_low : (c : Call) (offer : Description) (pool : pools.Contents) (now : ℕ) → KeepsLow c (first_call_row c offer pool now).call
 unfolding first_call_row

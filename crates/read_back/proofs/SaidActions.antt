@@ -43,7 +43,7 @@ use Rattle.promise.proofs.Repeats.{responds_written}
 use Rattle.promise.proofs.SeenMessages.{ack_sees, answer_sees, bye_sees, cancel_sees, offer_sees, response_sees}
 use Rattle.promise.proofs.WrittenRequests.{ack_stands, bye_stands, cancel_stands, offer_stands}
 use Rattle.read_back.specs.Said.{IsSaid, SaysAction, SaysActions}
-use Rattle.read_back.specs.SoundScenes.{CanAnswerIf, CanAskFrom, CanAskInIf, CanOkayIf, HasFitStatus, HaveFitStatuses, IsShortIf, IsSoundScene, WasSoundIf, answer_offer, answers_offer}
+use Rattle.read_back.specs.SoundScenes.{CanSayIf, CanAskFrom, CanAskInIf, CanOkay, HasFitStatus, HaveFitStatuses, IsShortIf, IsSoundScene, IsSoundRequestIf, answer_offer, answers_offer}
 use Rattle.read_back.proofs.AnyToken.{any_token_run}
 
 -- ---- requests, where there is an address to send them to
@@ -87,19 +87,19 @@ bye_said s tokens (Some d) reached can =
       bye_sees (message_text (Kinds.Request r)) s.server d (branch s tokens) r is,
     ))
 
-cancel_said : (t : Option Transaction) → WasSoundIf t → OneIf (IsSaid (SeesCancel t)) (says_cancel t).sends
+cancel_said : (t : Option Transaction) → IsSoundRequestIf t → OneIf (IsSaid (SeesCancel t)) (says_cancel t).sends
 cancel_said None h = tt
 cancel_said (Some t) h = asked_if (SeesCancel (Some t)) (cancel_of t) 0 (λ r is. (cancel_stands t r h.values h.via h.to is, cancel_sees (message_text (Kinds.Request r)) t r is))
 
 -- ---- responses
 
 -- one without a body
-plain_written : (a : Asker) (status : ℕ) (further : List Header) → CanAnswerIf (Some a) → IsStatus status → FollowsIn status a.parts.now.cseq.method further
+plain_written : (a : Asker) (status : ℕ) (further : List Header) → CanSayIf (Some a) → IsStatus status → FollowsIn status a.parts.now.cseq.method further
     → IsWrittenMessage (Kinds.Response (response_to a status further))
 unfolding responds reply_of replied
 plain_written a status further can is follows = responds_written a.parts.now a.source status a.tag.now further [] can.from can.repeats can.token is follows (omega arith)
 
-trying_said : (a : Option Asker) → CanAnswerIf a → OneIf (IsSaid (SeesTo a 100 None)) (says_trying a).sends
+trying_said : (a : Option Asker) → CanSayIf a → OneIf (IsSaid (SeesTo a 100 None)) (says_trying a).sends
 trying_said None can = tt
 trying_said (Some a) can = (
   Kinds.Response (trying a),
@@ -108,7 +108,7 @@ trying_said (Some a) can = (
   response_sees _ a.parts.now a.source 100 a.tag.now [],
 )
 
-provisional_said : (server : Addr) (a : Option Asker) (status : ℕ) → IsReached server → (100 ≤ status) × (status < 200) → CanAnswerIf a → OneIf (IsSaid (SeesTo a status None)) (says_provisional server a status).sends
+provisional_said : (server : Addr) (a : Option Asker) (status : ℕ) → IsReached server → (100 ≤ status) × (status < 200) → CanSayIf a → OneIf (IsSaid (SeesTo a status None)) (says_provisional server a status).sends
 provisional_said server None status reached is can = tt
 provisional_said server (Some a) status reached is can = (
   Kinds.Response (provisional server a status),
@@ -117,7 +117,7 @@ provisional_said server (Some a) status reached is can = (
   response_sees _ a.parts.now a.source status a.tag.now (contact server ∷ []),
 )
 
-answer_said : BodiesDescribe → (server : Addr) (a : Option Asker) (description : Option Description) → IsReached server → CanAnswerIf a → ReadsBackIf description → IsShortIf description
+answer_said : BodiesDescribe → (server : Addr) (a : Option Asker) (description : Option Description) → IsReached server → CanSayIf a → ReadsBackIf description → IsShortIf description
     → OneIf (IsSaid (SeesTo a 200 description)) (says_answer server a description).sends
 answer_said describes server None description reached can reads short = tt
 answer_said describes server (Some a) None reached can reads short = tt
@@ -129,7 +129,7 @@ answer_said describes server (Some a) (Some description) reached can reads short
   answer_sees describes (message_text (Kinds.Response (answer server a description))) server a description reads,
 )
 
-refusal_said : (a : Option Asker) (status : ℕ) → (300 ≤ status) × (status ≤ 699) → CanAnswerIf a → OneIf (IsSaid (SeesTo a status None)) (says_refusal a status).sends
+refusal_said : (a : Option Asker) (status : ℕ) → (300 ≤ status) × (status ≤ 699) → CanSayIf a → OneIf (IsSaid (SeesTo a status None)) (says_refusal a status).sends
 refusal_said None status is can = tt
 refusal_said (Some a) status is can = (
   Kinds.Response (refusal a status),
@@ -143,7 +143,7 @@ okay_follows_by : (server : Addr) (method : List ℕ) (b : Bool) → IsReached s
 okay_follows_by server method true reached invite update = contact_follows server 200 method reached
 okay_follows_by server method false reached invite update = none_follows 200 method (other_needs_none 200 method invite update)
 
-okay_said : (server : Addr) (a : Option Asker) → IsReached server → CanOkayIf a → OneIf (IsSaid (SeesTo a 200 None)) (says_okay server a).sends
+okay_said : (server : Addr) (a : Option Asker) → IsReached server → CanOkay a → OneIf (IsSaid (SeesTo a 200 None)) (says_okay server a).sends
 okay_said server None reached can = tt
 okay_said server (Some a) reached can =
     let method = a.parts.now.cseq.method in (

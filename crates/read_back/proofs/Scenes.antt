@@ -62,13 +62,14 @@ use Rattle.promise.proofs.Reading.{Reading}
 use Rattle.promise.proofs.Serving.{served_asked, unanswered_server}
 use Rattle.promise.proofs.SoundRows.{known_leg}
 use Rattle.promise.proofs.Speaking as speaking
-use Rattle.promise.proofs.SpokenLines.{CallSpeaks, FitsInput, call_speaks, is_offer_input}
+use Rattle.promise.proofs.SpokenLines as lines
+use Rattle.promise.proofs.SpokenLines.{CallSpeaks, FitsInput, call_speaks}
 use Rattle.promise.proofs.SpokenSteps.{tag_run}
 use Rattle.promise.proofs.WrittenLengths.{written_short}
-use Rattle.read_back.specs.Comings.{CanAnswerTo, CanAskPut, CanCome, CanOkayTo, ComesWithFitStatus, KnowsScenes, is_offer}
+use Rattle.read_back.specs.Comings.{CanSayTo, CanAskPut, CanCome, CanOkayTo, ComesWithFitStatus, KnowsScenes, is_offer_input}
 use Rattle.read_back.specs.Said.{SaysActions}
 use Rattle.read_back.specs.SoundClients.{HasLowNumbers}
-use Rattle.read_back.specs.SoundScenes.{CanAnswerIf, CanAskIn, CanAskInIf, CanOkayIf, HasFitStatus, HaveFitStatuses, IsShortIf, IsSoundScene, answer_offer, answers_offer}
+use Rattle.read_back.specs.SoundScenes.{CanSayIf, CanAskIn, CanAskInIf, CanOkay, HasFitStatus, HaveFitStatuses, IsShortIf, IsSoundScene, answer_offer, answers_offer}
 use Rattle.read_back.proofs.AnyToken.{any_token_run}
 use Rattle.read_back.proofs.ClientSteps.{can_ask_in, first_scene_asks, fork_scene_asks, passed_sound}
 use Rattle.read_back.proofs.LowCalls.{dialog_low}
@@ -135,7 +136,7 @@ fits_input inputs.Limit h = tt
 fits_input inputs.Repeat h = tt
 fits_input inputs.Wait h = tt
 
-same_offer : (input : Input) → is_offer_input input ≡ true → is_offer input ≡ true
+same_offer : (input : Input) → lines.is_offer_input input ≡ true → is_offer_input input ≡ true
 same_offer (inputs.Offer end method offer) e = refl
 same_offer (inputs.Provisional status) e = absurd (false≢true e)
 same_offer (inputs.Answer answer) e = absurd (false≢true e)
@@ -150,11 +151,11 @@ same_offer inputs.Wait e = absurd (false≢true e)
 
 -- ---- what is lent
 
-lent_answer : (a : Option AskerValue) → CanAnswerTo a → CanAnswerIf (option_map lent_asker a)
+lent_answer : (a : Option AskerValue) → CanSayTo a → CanSayIf (option_map lent_asker a)
 lent_answer None h = tt
 lent_answer (Some a) h = record { repeats = h.repeats; from = h.from; token = h.token }
 
-lent_okay : (a : Option AskerValue) → CanOkayTo a → CanOkayIf (option_map lent_asker a)
+lent_okay : (a : Option AskerValue) → CanOkayTo a → CanOkay (option_map lent_asker a)
 lent_okay None h = tt
 lent_okay (Some a) h = (record { repeats = h.0.repeats; from = h.0.from; token = h.0.token }, h.1)
 
@@ -195,11 +196,11 @@ own_can s place c k there end =
 
 -- ---- the offer that a call answers
 
-asker_can : (c : StandingCall) (t : Option Transaction) → IsSource c.asked.source → IsTokenRun (offerer_tag c.call) → ((x : Transaction) → t ≡ Some x → CanBeRepeated x.parts) → CanAnswerTo (asker_by c t)
+asker_can : (c : StandingCall) (t : Option Transaction) → IsSource c.asked.source → IsTokenRun (offerer_tag c.call) → ((x : Transaction) → t ≡ Some x → CanBeRepeated x.parts) → CanSayTo (asker_by c t)
 asker_can c None from token h = tt
 asker_can c (Some t) from token h = record { repeats = h t refl; from = from; token = token }
 
-waiting_can : (s : Office) (place : ℕ) (c : StandingCall) → KnowsScenes s → slice_get s.calls.calls place ≡ Some c → waits_for c ≡ true → CanAnswerTo (asker_by c (at s.table.slots c.asked.id))
+waiting_can : (s : Office) (place : ℕ) (c : StandingCall) → KnowsScenes s → slice_get s.calls.calls place ≡ Some c → waits_for c ≡ true → CanSayTo (asker_by c (at s.table.slots c.asked.id))
 waiting_can s place c k there waits =
     let a = at_place (IsServed s.table.slots) s.calls.calls place c k.askers.offers.served there waits in
     asker_can c (at s.table.slots c.asked.id) (at_place CameFromSource s.calls.calls place c k.askers.offers.sources there)
@@ -207,7 +208,7 @@ waiting_can s place c k there waits =
     (λ x is. subst (λ (t : Transaction). CanBeRepeated t.parts) (same_Some a.transaction x (sym a.stands ∙ is))
     (served_asked s.table.slots c.asked.id k.askers.slots a (unanswered_server a.transaction.state a.unanswered) (unanswered_server a.transaction.state a.unanswered)))
 
-asker_in_can : (offer : Option AskerValue) (c : StandingCall) (t : Option Transaction) → CanAnswerTo offer → (is_some offer ≡ false → CanAnswerTo (asker_by c t)) → CanAnswerTo (asker_in offer c t)
+asker_in_can : (offer : Option AskerValue) (c : StandingCall) (t : Option Transaction) → CanSayTo offer → (is_some offer ≡ false → CanSayTo (asker_by c t)) → CanSayTo (asker_in offer c t)
 asker_in_can None c t can own = own refl
 asker_in_can (Some a) c t can own = can
 
@@ -223,10 +224,10 @@ module _ (law : SentIsRead) (s : Office) (e : Setting) (place : ℕ) (c : Standi
   known : KnowsStep s.range.ip step
   known = call_known s.range.ip k.descriptions.address c.call (call_at s.range.ip s.calls.calls place c k.descriptions.calls.calls there) s.calls.pool k.descriptions.calls.pairs e.now input can.read
 
-  speaks : CallSpeaks c.call (is_offer_input input) step
+  speaks : CallSpeaks c.call (lines.is_offer_input input) step
   speaks = call_speaks c.call input s.calls.pool e.now (fits_input input can.status)
 
-  asked_can : answer_offer step.actions ≡ true → CanAnswerTo value.offer
+  asked_can : answer_offer step.actions ≡ true → CanSayTo value.offer
   asked_can answers = elim (speaks.answers (sym (same_answer_offer step.actions) ∙ answers)) [
     | inl offers ↦ asker_in_can w.offer c (at s.table.slots c.asked.id) can.offer (λ none. absurd (false≢true (sym none ∙ can.asked (same_offer input offers))))
     | inr waits ↦ asker_in_can w.offer c (at s.table.slots c.asked.id) can.offer (λ none. waiting_can s place c k there waits)

@@ -45,7 +45,7 @@ use Rattle.promise.specs.Addresses.{IsReached}
 use Rattle.promise.proofs.Coming.{OpensIn}
 use Rattle.promise.proofs.Drafts.{via_stands}
 use Rattle.promise.proofs.Offering.{again_none, answer_none, given_up_none, okay_none, opens_split, provisional_none, refusal_none, trying_none}
-use Rattle.read_back.specs.SoundScenes.{CanAskFrom, CanAskInIf, IsSoundRequest, WasSoundIf}
+use Rattle.read_back.specs.SoundScenes.{CanAskFrom, CanAskInIf, IsSoundRequest, IsSoundRequestIf}
 use Rattle.read_back.proofs.AnyToken.{any_token_run}
 use Rattle.read_back.proofs.LowNumbers.{number_low}
 
@@ -154,7 +154,7 @@ cancel_by_sound t (machine.InviteServer state) h = tt
 cancel_by_sound t (machine.OtherClient state) h = tt
 cancel_by_sound t (machine.OtherServer state) h = tt
 
-cancel_sound : (t : Option Transaction) → WasSoundIf t → AllSound (says_cancel t).changes
+cancel_sound : (t : Option Transaction) → IsSoundRequestIf t → AllSound (says_cancel t).changes
 cancel_sound None h u opens = absurd opens
 cancel_sound (Some t) h u opens = asks_if_sound (cancel_of t) 0 (cancel_by_sound t t.state h) u opens
 
@@ -198,11 +198,11 @@ lent_can : (d : Option Dialog) → CanAskInIf d → CanAskInIf (option_copied (o
 lent_can None h = h
 lent_can (Some d) h = h
 
-lent_passed : (t : Option Transaction) → WasSoundIf t → WasSoundIf (option_copied (option_map lent t))
+lent_passed : (t : Option Transaction) → IsSoundRequestIf t → IsSoundRequestIf (option_copied (option_map lent t))
 lent_passed None h = h
 lent_passed (Some t) h = h
 
-pub lent_asks : (s : SceneValue) → IsReached s.server → CanAskInIf s.caller → CanAskInIf s.callee → WasSoundIf s.passed → CanAskFrom (lent_scene s)
+pub lent_asks : (s : SceneValue) → IsReached s.server → CanAskInIf s.caller → CanAskInIf s.callee → IsSoundRequestIf s.passed → CanAskFrom (lent_scene s)
 lent_asks s reached caller callee passed = record { server = reached; caller = lent_can s.caller caller; callee = lent_can s.callee callee; passed = lent_passed s.passed passed }
 
 pub messages_sound : (s : SceneValue) (passed : Option ℕ) (actions : List Action) → CanAskFrom (lent_scene s) → AllSound (messages s passed actions).dressed.changes

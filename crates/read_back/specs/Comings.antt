@@ -10,7 +10,7 @@ use Rattle.promise.specs.Bodies.{KnowsDescriptions, WasReadIn}
 use Rattle.promise.specs.Knowing.{KnowsTokens}
 use Rattle.promise.specs.Sound.{KnowsDialogs}
 use Rattle.read_back.specs.SoundClients.{KnowsClients}
-use Rattle.read_back.specs.SoundScenes.{CanAnswer, CanAskIn, IsNoInvite}
+use Rattle.read_back.specs.SoundScenes.{CanSay, CanAskIn, IsNoInvite}
 
 -- ---- what the agent knows of what it says
 
@@ -30,13 +30,13 @@ CanAskPut None = Unit {0}
 CanAskPut (Some leg) = CanAskIn leg.dialog
 
 -- a request that offers, if one comes, and one that gets a 200 now
-abbrev pub CanAnswerTo : Option AskerValue → Type 0
-CanAnswerTo None = Unit {0}
-CanAnswerTo (Some a) = CanAnswer a.parts a.source a.tag
+abbrev pub CanSayTo : Option AskerValue → Type 0
+CanSayTo None = Unit {0}
+CanSayTo (Some a) = CanSay a.parts a.source a.tag
 
 abbrev pub CanOkayTo : Option AskerValue → Type 0
 CanOkayTo None = Unit {0}
-CanOkayTo (Some a) = CanAnswer a.parts a.source a.tag × IsNoInvite a.parts
+CanOkayTo (Some a) = CanSay a.parts a.source a.tag × IsNoInvite a.parts
 
 -- the status of a response is of its class
 abbrev pub ComesWithFitStatus : Input → Type 0
@@ -44,16 +44,16 @@ ComesWithFitStatus (inputs.Provisional status) = (100 ≤ status) × (status < 2
 ComesWithFitStatus (inputs.Refusal status) = (300 ≤ status) × (status ≤ 699)
 ComesWithFitStatus input = Unit {0}
 
-abbrev pub is_offer : Input → Bool
-is_offer (inputs.Offer end method offer) = true
-is_offer input = false
+abbrev pub is_offer_input : Input → Bool
+is_offer_input (inputs.Offer end method offer) = true
+is_offer_input input = false
 
 -- this input, with what comes with it; an offer comes with its request
 pub record CanCome (input : Input) (w : ComingValue) : Type 0 where
   pub leg : CanAskPut w.leg
-  pub offer : CanAnswerTo w.offer
+  pub offer : CanSayTo w.offer
   pub request : CanOkayTo w.request
   pub hops : w.hops ≤ 255
   pub status : ComesWithFitStatus input
   pub read : WasReadIn input
-  pub asked : is_offer input ≡ true → is_some w.offer ≡ true
+  pub asked : is_offer_input input ≡ true → is_some w.offer ≡ true

@@ -45,36 +45,36 @@ pub record IsSoundRequest (uri : Uri) (parts : Parts) : Type 0 where
   pub via : HasReadVia parts.vias
   pub to : IsEnd parts.to
 
-abbrev pub WasSoundIf : Option Transaction → Type 0
-WasSoundIf None = Unit {0}
-WasSoundIf (Some t) = IsSoundRequest t.uri t.parts
+abbrev pub IsSoundRequestIf : Option Transaction → Type 0
+IsSoundRequestIf None = Unit {0}
+IsSoundRequestIf (Some t) = IsSoundRequest t.uri t.parts
 
 -- what the requests of a scene are made of
 pub record CanAskFrom (s : Scene) : Type 0 where
   pub server : IsReached s.server
   pub caller : CanAskInIf (option_copied s.caller)
   pub callee : CanAskInIf (option_copied s.callee)
-  pub passed : WasSoundIf (option_copied s.passed)
+  pub passed : IsSoundRequestIf (option_copied s.passed)
 
 -- ---- responses
 
 -- a request to which a response can be said, with this tag in its To
-pub record CanAnswer (parts : Parts) (source : Addr) (tag : List ℕ) : Type 0 where
+pub record CanSay (parts : Parts) (source : Addr) (tag : List ℕ) : Type 0 where
   pub repeats : CanBeRepeated parts
   pub from : IsSource source
   pub token : IsTrue (is_run_of is_token_byte tag)
 
-abbrev pub CanAnswerIf : Option Asker → Type 0
-CanAnswerIf None = Unit {0}
-CanAnswerIf (Some a) = CanAnswer a.parts.now a.source a.tag.now
+abbrev pub CanSayIf : Option Asker → Type 0
+CanSayIf None = Unit {0}
+CanSayIf (Some a) = CanSay a.parts.now a.source a.tag.now
 
 -- one that gets a 200 without a description is no INVITE
 abbrev pub IsNoInvite : Parts → Type 0
 IsNoInvite parts = pointwise nat_eq parts.cseq.method (codes "INVITE") ≡ false
 
-abbrev pub CanOkayIf : Option Asker → Type 0
-CanOkayIf None = Unit {0}
-CanOkayIf (Some a) = CanAnswer a.parts.now a.source a.tag.now × IsNoInvite a.parts.now
+abbrev pub CanOkay : Option Asker → Type 0
+CanOkay None = Unit {0}
+CanOkay (Some a) = CanSay a.parts.now a.source a.tag.now × IsNoInvite a.parts.now
 
 -- the action is a response to the offer
 abbrev pub answers_offer : Action → Bool
@@ -111,7 +111,7 @@ IsShortIf (Some d) = length (description_text d) ≤ greatest_length
 pub record IsSoundScene (s : Scene) (answers : Bool) : Type 0 where
   pub asks : CanAskFrom s
   pub hops : s.hops ≤ 255
-  pub offer : answers ≡ true → CanAnswerIf s.offer
-  pub request : CanOkayIf s.request
+  pub offer : answers ≡ true → CanSayIf s.offer
+  pub request : CanOkay s.request
   pub reads : ReadsBackIf (option_copied s.description)
   pub short : IsShortIf (option_copied s.description)

@@ -4,8 +4,10 @@
 
 mod actions;
 mod clients;
+mod sends;
 mod steps;
 
 pub use actions::actions_are_said;
 pub use clients::clients_are_sound;
+pub use sends::sends_are_read;
 pub use steps::{comings_are_sound, steps_are_said};

@@ -22,7 +22,7 @@ ghost use Rattle.plans.specs.Office.{Office};
 ghost use Rattle.plans.specs.declared.setting.Setting.{Setting};
 ghost use Rattle.promise.specs.Addresses.{IsSource};
 ghost use Rattle.promise.specs.Bodies.{WasReadIn};
-ghost use Rattle.read_back.specs.Comings.{CanCome, ComesWithFitStatus, KnowsScenes, is_offer};
+ghost use Rattle.read_back.specs.Comings.{CanCome, ComesWithFitStatus, KnowsScenes, is_offer_input};
 ghost use Rattle.read_back.specs.Said.{SaysActions};
 ghost use Rattle.read_back.specs.SoundScenes.{CanAskIn, HaveFitStatuses};
 ghost use Rattle.responses.specs.Responding.{stateless};
@@ -70,21 +70,21 @@ pub fn steps_are_said()
 /// What comes to a call with a message that was read can come: with a CANCEL, a BYE, an offer and a 2xx that a call takes; and alone, with an ACK,
 /// a response of another class, or a timer. In the dialog of a 2xx that no call takes a request can be said.
 pub fn comings_are_sound()
-    ensures alone { (input : Input) → ComesWithFitStatus input → is_offer input ≡ false → WasReadIn input → CanCome input (without_offer None None) }
-    ensures cancelled { (s : Office) (e : Setting) (text : List ℕ) (r : Request) (id place : ℕ) → KnowsScenes s → IsSource e.source →
+    ensures alone { (input : Input) → ComesWithFitStatus input → is_offer_input input ≡ false → WasReadIn input → CanCome input (without_offer None None) }
+    ensures cancel { (s : Office) (e : Setting) (text : List ℕ) (r : Request) (id place : ℕ) → KnowsScenes s → IsSource e.source →
         message_of text ≡ Ok (Kinds.Request r) → r.method ≡ codes "CANCEL" →
         CanCome inputs.Cancel (without_offer None (Some (asker r e id (tag_at (slice_get s.calls.calls place))))) }
-    ensures left { (s : Office) (e : Setting) (text : List ℕ) (r : Request) (id place : ℕ) (end : End) → KnowsScenes s → IsSource e.source →
+    ensures bye { (s : Office) (e : Setting) (text : List ℕ) (r : Request) (id place : ℕ) (end : End) → KnowsScenes s → IsSource e.source →
         message_of text ≡ Ok (Kinds.Request r) → is_bye r.parts ≡ true →
         CanCome (inputs.Bye end) (without_offer (counts s.calls.calls place end r.parts.cseq.number) (Some (asker r e id stateless))) }
-    ensures passed { (s : Office) (e : Setting) (text : List ℕ) (r : Request) (id place : ℕ) (end : End) (c : StandingCall) (method : OfferMethod)
+    ensures offer { (s : Office) (e : Setting) (text : List ℕ) (r : Request) (id place : ℕ) (end : End) (c : StandingCall) (method : OfferMethod)
         (offer : Description) → KnowsScenes s → IsSource e.source → message_of text ≡ Ok (Kinds.Request r) → slice_get s.calls.calls place ≡ Some c →
         described r.headers r.body ≡ Some offer →
         CanCome (inputs.Offer end method (Some offer)) (offer_coming (counts s.calls.calls place end r.parts.cseq.number) end r id e.source c) }
-    ensures answered { (s : Office) (text : List ℕ) (r : Response) (id place : ℕ) (t : Transaction) → KnowsScenes s →
+    ensures answer { (s : Office) (text : List ℕ) (r : Response) (id place : ℕ) (t : Transaction) → KnowsScenes s →
         message_of text ≡ Ok (Kinds.Response r) → at s.table.slots id ≡ Some t → is_server t.state ≡ false →
         CanCome (inputs.Answer (described r.headers r.body)) (without_offer (answers_leg s.calls.calls place t.parts r) None) }
-    ensures forked { (s : Office) (text : List ℕ) (r : Response) (id : ℕ) (t : Transaction) (to : Uri) → KnowsScenes s →
+    ensures fork { (s : Office) (text : List ℕ) (r : Response) (id : ℕ) (t : Transaction) (to : Uri) → KnowsScenes s →
         message_of text ≡ Ok (Kinds.Response r) → at s.table.slots id ≡ Some t → is_server t.state ≡ false →
         reached_at (contacts_of r.headers) ≡ Some to → CanAskIn (callers_dialog t.parts r to) }
     ensures late { (s : Office) (text : List ℕ) (r : Response) (id : ℕ) (t : Transaction) (to : Uri) → KnowsScenes s →
