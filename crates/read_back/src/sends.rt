@@ -1,6 +1,6 @@
 //! What the server sends.
 
-ghost use Rattle.std.specs.Prelude.{◌++◌, ℕ, List};
+ghost use Rattle.std.specs.Prelude.{◌++◌, [], ℕ, List};
 ghost use Rattle.std.specs.List.{All};
 ghost use Rattle.agent.specs.Rows.{row};
 ghost use Rattle.agent.specs.State.{Contents, IsNew, office};
@@ -25,9 +25,11 @@ use offer_answer::sent_is_read;
 use sip_writing::written_is_read;
 use trace_reading::bodies_describe;
 
-/// Each datagram that is sent at an event that came from an address, or at any events of a new agent, is the bytes of a message of the
-/// written form: a request, or a response, the 200 to a REGISTER among them. So it reads back as the message that it was dressed as.
+/// Of a new agent, which sent nothing, and at any event, where datagrams come from addresses: each datagram that is sent is the bytes of a
+/// message of the written form: a request, or a response, the 200 to a REGISTER among them. So it reads back as the message that it was
+/// dressed as.
 pub fn sends_are_read()
+    ensures begins { All IsReadDatagram [] }
     ensures step { (s : Contents) (event : Event) (sent : List Sent) → ComesFromSource event.what → KnowsDialogs (office s) → KnowsClients (office s) →
         KnowsDescriptions (office s) → KnowsAskers (office s) → KnowsTokens (office s) → KnowsSent (office s) sent → All IsReadDatagram sent →
         All IsReadDatagram (sent ++ (row s event).plan.sends) }

@@ -1,9 +1,14 @@
 use Rattle.std.proofs.Common.{List, sym, subst, ℕ}
 use Rattle.sip_message.specs.Grammar.{ReadsMessage}
 use Rattle.promise.proofs.ReadMessages.{message_reads, name_reads}
+use Rattle.std.proofs.lemmas.List.Elements.{All-nil}
+use Rattle.read_back.specs.ReadDatagrams.{IsReadDatagram}
 use Rattle.read_back.proofs.ReadEvents.{after_reads}
 use Rattle.read_back.proofs.ReadKnown.{known_reads}
 use Rattle.read_back.proofs.sends.sends_are_read.Goals as goal
+
+pub returns-clause-begins : goal.returns-clause-begins
+returns-clause-begins c = All-nil IsReadDatagram
 
 pub returns-clause-step : goal.returns-clause-step
 returns-clause-step c =
