@@ -172,12 +172,12 @@ reply_tells begun id p is none = subst (λ changes. NoneFires changes) (sym is.c
 -- ---- the rows
 
 request_acks : (s : Office) → KnowsAcks s → (e : Setting) (r : Request) (begun : List Entry) (id : ℕ) (x : Effect) → NoneFires begun → RequestRow s e r begun id x → Acks s x
-request_acks s k e r begun id x none (replied reply is) = subst (Acks s) (sym is) (quiet s k _ refl (reply_tells begun id _ (row_reply s e r begun id reply) none))
-request_acks s k e r begun id x none (unfit status is) = subst (Acks s) (sym is) (quiet s k _ refl (reply_tells begun id _ (responds_reply s e r begun id status [] None) none))
+request_acks s k e r begun id x none (replied reply why is) = subst (Acks s) (sym is) (quiet s k _ refl (reply_tells begun id _ (row_reply s e r begun id reply) none))
+request_acks s k e r begun id x none (unfit status low is) = subst (Acks s) (sym is) (quiet s k _ refl (reply_tells begun id _ (responds_reply s e r begun id status [] None) none))
 request_acks s k e r begun id x none (asks_callee to offer why is) = subst (Acks s) (sym is) (quiet s k _ refl (fires_append begun _ none (first_tells s.calls _ r id e.source to offer)))
 request_acks s k e r begun id x none (cancelled other place named_is found is) = subst (Acks s) (sym is) (quiet s k _ refl (fires_append begun _ none (takes_tells s.calls s.table _ place _ _ _)))
 request_acks s k e r begun id x none (left place end rule_is is) = subst (Acks s) (sym is) (quiet s k _ refl (fires_append begun _ none (takes_tells s.calls s.table _ place _ _ _)))
-request_acks s k e r begun id x none (counted_alone place end reply is) = subst (Acks s) (sym is) (quiet s k _ refl (reply_tells begun id _ (row_reply s e r begun id reply) none))
+request_acks s k e r begun id x none (counted_alone place end reply why is) = subst (Acks s) (sym is) (quiet s k _ refl (reply_tells begun id _ (row_reply s e r begun id reply) none))
 request_acks s k e r begun id x none (passed_on place end c offer rule_is why is) =
     subst (Acks s) (sym is) (quiet s k _ refl (fires_append begun _ none (offers_tells s.calls s.table _ place _ end r id e.source)))
 request_acks s k e r begun id x none (refreshed place end rule_is is) = subst (Acks s) (sym is) (quiet s k _ refl (reply_tells begun id _ (okay_reply s e r begun id) none))

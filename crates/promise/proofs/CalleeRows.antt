@@ -192,8 +192,8 @@ late_callee made calls o asked r none = late_by_callee made calls o asked r (rea
 -- ---- the rows
 
 request_callees : (s : Office) → KnowsTokens s → s.tokens < 2 ^ 63 → (e : Setting) (r : Request) (begun : List Entry) (id : ℕ) (x : Effect) → NoneOwn begun → RequestRow s e r begun id x → Callees s x
-request_callees s tokens few e r begun id x none (replied reply is) = subst (Callees s) (sym is) (plan_callees s (reply_row s e r begun id reply) (reply_none begun id _ (row_reply s e r begun id reply) none))
-request_callees s tokens few e r begun id x none (unfit status is) =
+request_callees s tokens few e r begun id x none (replied reply why is) = subst (Callees s) (sym is) (plan_callees s (reply_row s e r begun id reply) (reply_none begun id _ (row_reply s e r begun id reply) none))
+request_callees s tokens few e r begun id x none (unfit status low is) =
     subst (Callees s) (sym is) (plan_callees s (responds_in s e r begun id status [] None) (reply_none begun id _ (responds_reply s e r begun id status [] None) none))
 request_callees s tokens few e r begun id x none (asks_callee to offer why is) =
     subst (Callees s) (sym is) (step_callees s begun None None _ none (first_callee s.calls (occasion s e) r id e.source to offer (no_tag_text r.parts why.no_tag) few tokens.calls))
@@ -208,7 +208,7 @@ request_callees s tokens few e r begun id x none (left place end rule_is is) =
     (λ d there.
     (calm_leg s.tokens _ d (counts_fits s.tokens s.calls.calls place end r.parts.cseq.number d tokens.calls there) (counts_keeps s.calls.calls place end r.parts.cseq.number d there), λ fit. absurd (false≢true fit)))
     )
-request_callees s tokens few e r begun id x none (counted_alone place end reply is) =
+request_callees s tokens few e r begun id x none (counted_alone place end reply why is) =
     subst (Callees s) (sym is) (put_callees s (reply_row s e r begun id reply) place (counts s.calls.calls place end r.parts.cseq.number) (reply_none begun id _ (row_reply s e r begun id reply) none))
 request_callees s tokens few e r begun id x none (passed_on place end c offer rule_is why is) =
     subst (Callees s) (sym is) (

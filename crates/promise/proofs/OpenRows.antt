@@ -110,8 +110,8 @@ puts_opens s made place leg p fits = record { kept = λ begun all old new each. 
 -- ---- the rows
 
 request_opens : (s : Office) → KnowsTokens s → KnowsDialogs s → (e : Setting) (r : Request) (begun : List Entry) (id : ℕ) (x : Effect) → RequestRow s e r begun id x → Opens s x
-request_opens s tokens k e r begun id x (replied reply is) = subst (Opens s) (sym is) (plan_opens s _)
-request_opens s tokens k e r begun id x (unfit status is) = subst (Opens s) (sym is) (plan_opens s _)
+request_opens s tokens k e r begun id x (replied reply why is) = subst (Opens s) (sym is) (plan_opens s _)
+request_opens s tokens k e r begun id x (unfit status low is) = subst (Opens s) (sym is) (plan_opens s _)
 request_opens s tokens k e r begun id x (asks_callee to offer why is) =
     subst (Opens s) (sym is) (step_opens s begun None None _ (first_open s.calls (occasion s e) r id e.source to offer (callee_target s k r e.now to why.bound).leads))
 request_opens s tokens k e r begun id x (cancelled other place named_is found is) =
@@ -121,7 +121,7 @@ request_opens s tokens k e r begun id x (left place end rule_is is) =
     asked_opens s e r begun id place s.tokens (inputs.Bye end) _ _ tt
     (λ d there. calm_leg s.tokens _ d (counts_fits s.tokens s.calls.calls place end r.parts.cseq.number d tokens.calls there) (counts_keeps s.calls.calls place end r.parts.cseq.number d there))
     )
-request_opens s tokens k e r begun id x (counted_alone place end reply is) =
+request_opens s tokens k e r begun id x (counted_alone place end reply why is) =
     subst (Opens s) (sym is) (
     puts_opens s s.tokens place _ (reply_row s e r begun id reply)
     (λ d there. (counts_fits s.tokens s.calls.calls place end r.parts.cseq.number d tokens.calls there, counts_keeps s.calls.calls place end r.parts.cseq.number d there))

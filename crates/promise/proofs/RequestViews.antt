@@ -1,5 +1,5 @@
 -- A request, as a list of cases: each row of the agent for it, with why it is that one.
-use Rattle.std.proofs.Common.{◌≡◌, ℕ, ◌==◌, Bool, true, false, cond, not, ◌||◌, List, [], codes, Option, Some, None, is_some, refl, sym}
+use Rattle.std.proofs.Common.{◌≡◌, ℕ, ◌≤◌, ◌==◌, Bool, true, false, cond, not, ◌||◌, List, [], codes, Option, Some, None, is_some, refl, sym, arith}
 use Rattle.std.specs.Prelude.{slice_get}
 use Rattle.std.proofs.lemmas.Bool.{false≢true}
 use Rattle.sip_uri.specs.declared.uri.Uri.{Uri}
@@ -39,6 +39,7 @@ use Rattle.agent.specs.Rules as checks
 use Rattle.agent.specs.Rules.{request_rule}
 use Rattle.call_rules.specs.declared.content.ContentRule.{ContentRule}
 use Rattle.call_rules.specs.declared.content.ContentRule.TheVariants as content
+use Rattle.call_rules.specs.declared.offers.OfferRule.{OfferRule}
 use Rattle.call_rules.specs.declared.requests.DialogRule.{DialogRule}
 use Rattle.call_rules.specs.declared.requests.DialogRule.TheVariants as dialogrules
 use Rattle.responses.specs.Responding.{stateless}
@@ -77,6 +78,11 @@ pub record IsRefresh (s : Office) (r : Request) (place : ℕ) (end : End) : Type
   pub passes : offer_reply (plain_rule s.calls.calls r place end) ≡ None
   pub inside : IsInside r
 
+-- a reply of the server's own to a request in a dialog: what the rules of offers give, or a refusal
+pub data IsAlone (reply : Reply) : Type 0 where
+  by_rule : (rule : OfferRule) → offer_reply rule ≡ Some reply → IsAlone reply
+  by_status : (status : ℕ) → 300 ≤ status → reply ≡ replies.Refusal status → IsAlone reply
+
 pub by_if : {X : Type 0} (P : X → Type 0) (b : Bool) (x y : X) → (b ≡ true → P x) → (b ≡ false → P y) → P (cond b x y)
 by_if P true x y p q = p refl
 by_if P false x y p q = q refl
@@ -85,9 +91,9 @@ by_if P false x y p q = q refl
 
 pub data RequestRow (s : Office) (e : Setting) (r : Request) (begun : List Entry) (id : ℕ) (x : Effect) : Type 0 where
   -- no call has to do with it
-  replied : (reply : Reply) → x ≡ of_plan s (reply_row s e r begun id reply) → RequestRow s e r begun id x
+  replied : (reply : Reply) → request_rule s r e.now ≡ rules.Alone reply → x ≡ of_plan s (reply_row s e r begun id reply) → RequestRow s e r begun id x
   -- a first INVITE that is refused, and one that is passed on
-  unfit : (status : ℕ) → x ≡ of_plan s (responds_in s e r begun id status [] None) → RequestRow s e r begun id x
+  unfit : (status : ℕ) → 300 ≤ status → x ≡ of_plan s (responds_in s e r begun id status [] None) → RequestRow s e r begun id x
   asks_callee : (to : Uri) (offer : Description) → IsFirstInvite s e.now r to offer → x ≡ with_step s.acks begun None None (first_row s.calls (occasion s e) r id e.source to offer)
       → RequestRow s e r begun id x
   -- a call takes a CANCEL, or a BYE
@@ -96,7 +102,7 @@ pub data RequestRow (s : Office) (e : Setting) (r : Request) (begun : List Entry
   left : (place : ℕ) (end : End) → dialog_rule s.calls.calls r ≡ dialogrules.Leaves place end
       → x ≡ takes_request s e r begun id place (inputs.Bye end) (counts s.calls.calls place end r.parts.cseq.number) stateless → RequestRow s e r begun id x
   -- a request in a dialog that the server answers by itself
-  counted_alone : (place : ℕ) (end : End) (reply : Reply) → x ≡ refuses s e r begun id place end reply → RequestRow s e r begun id x
+  counted_alone : (place : ℕ) (end : End) (reply : Reply) → IsAlone reply → x ≡ refuses s e r begun id place end reply → RequestRow s e r begun id x
   -- an offer inside a call that is passed on
   passed_on : (place : ℕ) (end : End) (c : StandingCall) (offer : Description) → dialog_rule s.calls.calls r ≡ dialogrules.Offers place end → IsPassedOffer s e.now r place end c offer
       → x ≡ passes s e r begun id place end offer → RequestRow s e r begun id x
@@ -113,17 +119,17 @@ first_view s e r begun id to offer invite no_tag reached bound said =
     let unsuited = of_plan s (responds_in s e r begun id 488 [] None) in
     let full = unless_full s e r begun id step in
     let P : Effect → Type 0 = RequestRow s e r begun id in
-    by_if P (is_some (offer_fault s.range offer None)) unsuited (cond (has_pairs s e.now offer) full refused) (λ b. unfit 488 refl)
+    by_if P (is_some (offer_fault s.range offer None)) unsuited (cond (has_pairs s e.now offer) full refused) (λ b. unfit 488 (omega arith) refl)
     (λ fit. by_if P (has_pairs s e.now offer) full refused
-    (λ b. by_if P (are_full s) refused (with_step s.acks begun None None step) (λ f. unfit 503 refl)
+    (λ b. by_if P (are_full s) refused (with_step s.acks begun None None step) (λ f. unfit 503 (omega arith) refl)
     (λ f. asks_callee to offer (record { invite = invite; no_tag = no_tag; reached = reached; bound = bound; described = said; fit = fit; paired = b }) refl))
-    (λ b. unfit 503 refl))
+    (λ b. unfit 503 (omega arith) refl))
 
 begins_view : (s : Office) (e : Setting) (r : Request) (begun : List Entry) (id : ℕ) (to : Option Uri) (offer : Option Description) → request_method (codes "INVITE") r ≡ true
     → tag_value r.parts.to.params ≡ None → is_some (contact_address (contacts_of r.headers)) ≡ true → target s r e.now ≡ to → described r.headers r.body ≡ offer
     → RequestRow s e r begun id (begins_by s e r begun id to offer)
-begins_view s e r begun id None offer invite no_tag reached bound said = unfit 480 refl
-begins_view s e r begun id (Some to) None invite no_tag reached bound said = unfit 488 refl
+begins_view s e r begun id None offer invite no_tag reached bound said = unfit 480 (omega arith) refl
+begins_view s e r begun id (Some to) None invite no_tag reached bound said = unfit 488 (omega arith) refl
 begins_view s e r begun id (Some to) (Some offer) invite no_tag reached bound said = first_view s e r begun id to offer invite no_tag reached bound said
 
 passes_if_view : (s : Office) (e : Setting) (r : Request) (begun : List Entry) (id place : ℕ) (end : End) (c : StandingCall) (offer : Description) → dialog_rule s.calls.calls r ≡ dialogrules.Offers place end
@@ -132,27 +138,27 @@ passes_if_view : (s : Office) (e : Setting) (r : Request) (begun : List Entry) (
 passes_if_view s e r begun id place end c offer rule_is there passing said =
     let P : Effect → Type 0 = RequestRow s e r begun id in
     let refused : ℕ → Effect = λ status. refuses s e r begun id place end (replies.Refusal status) in
-    let refused_view : (status : ℕ) → P (refused status) = λ status. counted_alone place end (replies.Refusal status) refl in
+    let refused_view : (status : ℕ) → 300 ≤ status → P (refused status) = λ status low. counted_alone place end (replies.Refusal status) (by_status status low refl) refl in
     let numbered = cond (has_number_left (dialog_of (other end) c.call)) (passes s e r begun id place end offer) (refused 500) in
-    by_if P (is_unfit c.call end offer) (refused 488) (cond (has_pairs_for s e.now c.call end offer) numbered (refused 503)) (λ b. refused_view 488)
+    by_if P (is_unfit c.call end offer) (refused 488) (cond (has_pairs_for s e.now c.call end offer) numbered (refused 503)) (λ b. refused_view 488 (omega arith))
     (λ fit. by_if P (has_pairs_for s e.now c.call end offer) numbered (refused 503)
     (λ b. by_if P (has_number_left (dialog_of (other end) c.call)) (passes s e r begun id place end offer) (refused 500)
-    (λ left. passed_on place end c offer rule_is (record { there = there; passes = passing; described = said; fit = fit; paired = b; numbered = left }) refl) (λ f. refused_view 500)) (λ b. refused_view 503))
+    (λ left. passed_on place end c offer rule_is (record { there = there; passes = passing; described = said; fit = fit; paired = b; numbered = left }) refl) (λ f. refused_view 500 (omega arith))) (λ b. refused_view 503 (omega arith)))
 
 passes_in_view : (s : Office) (e : Setting) (r : Request) (begun : List Entry) (id place : ℕ) (end : End) (c : StandingCall) (offer : Option Description)
     → dialog_rule s.calls.calls r ≡ dialogrules.Offers place end → slice_get s.calls.calls place ≡ Some c → offer_reply (offer_rule s.calls.calls r place end) ≡ None
     → described r.headers r.body ≡ offer → RequestRow s e r begun id (passes_in s e r begun id place end c.call offer)
-passes_in_view s e r begun id place end c None rule_is there passing said = counted_alone place end (replies.Refusal 488) refl
+passes_in_view s e r begun id place end c None rule_is there passing said = counted_alone place end (replies.Refusal 488) (by_status 488 (omega arith) refl) refl
 passes_in_view s e r begun id place end c (Some offer) rule_is there passing said = passes_if_view s e r begun id place end c offer rule_is there passing said
 
 passes_at_view : (s : Office) (e : Setting) (r : Request) (begun : List Entry) (id place : ℕ) (end : End) (c : Option StandingCall) → dialog_rule s.calls.calls r ≡ dialogrules.Offers place end
     → slice_get s.calls.calls place ≡ c → offer_reply (offer_rule s.calls.calls r place end) ≡ None → RequestRow s e r begun id (passes_at s e r begun id place end c)
-passes_at_view s e r begun id place end None rule_is there passing = counted_alone place end (replies.Refusal 481) refl
+passes_at_view s e r begun id place end None rule_is there passing = counted_alone place end (replies.Refusal 481) (by_status 481 (omega arith) refl) refl
 passes_at_view s e r begun id place end (Some c) rule_is there passing = passes_in_view s e r begun id place end c (described r.headers r.body) rule_is there passing refl
 
 offers_by_view : (s : Office) (e : Setting) (r : Request) (begun : List Entry) (id place : ℕ) (end : End) (reply : Option Reply) → dialog_rule s.calls.calls r ≡ dialogrules.Offers place end
     → offer_reply (offer_rule s.calls.calls r place end) ≡ reply → RequestRow s e r begun id (offers_by s e r begun id place end reply)
-offers_by_view s e r begun id place end (Some reply) rule_is passing = counted_alone place end reply refl
+offers_by_view s e r begun id place end (Some reply) rule_is passing = counted_alone place end reply (by_rule (offer_rule s.calls.calls r place end) passing) refl
 offers_by_view s e r begun id place end None rule_is passing = passes_at_view s e r begun id place end (slice_get s.calls.calls place) rule_is refl passing
 
 offers_view : (s : Office) (e : Setting) (r : Request) (begun : List Entry) (id place : ℕ) (end : End) → dialog_rule s.calls.calls r ≡ dialogrules.Offers place end
@@ -162,7 +168,7 @@ offers_view s e r begun id place end rule_is = offers_by_view s e r begun id pla
 
 refreshes_by_view : (s : Office) (e : Setting) (r : Request) (begun : List Entry) (id place : ℕ) (end : End) (reply : Option Reply) → dialog_rule s.calls.calls r ≡ dialogrules.Plain place end
     → offer_reply (plain_rule s.calls.calls r place end) ≡ reply → IsInside r → RequestRow s e r begun id (refreshes_by s e r begun id place end reply)
-refreshes_by_view s e r begun id place end (Some reply) rule_is passing inside = counted_alone place end reply refl
+refreshes_by_view s e r begun id place end (Some reply) rule_is passing inside = counted_alone place end reply (by_rule (plain_rule s.calls.calls r place end) passing) refl
 refreshes_by_view s e r begun id place end None rule_is passing inside = refreshed place end (record { rule = rule_is; passes = passing; inside = inside }) refl
 
 refreshes_view : (s : Office) (e : Setting) (r : Request) (begun : List Entry) (id place : ℕ) (end : End) → dialog_rule s.calls.calls r ≡ dialogrules.Plain place end
@@ -181,14 +187,14 @@ FitsRule s r (rules.Call (callrules.Leaves place end)) = dialog_rule s.calls.cal
 FitsRule s r (rules.Call (callrules.Offers place end)) = dialog_rule s.calls.calls r ≡ dialogrules.Offers place end
 FitsRule s r (rules.Call (callrules.Refreshes place end)) = (dialog_rule s.calls.calls r ≡ dialogrules.Plain place end) × IsInside r
 
-rule_view : (s : Office) (e : Setting) (r : Request) (begun : List Entry) (id : ℕ) (rule : Rule) → FitsRule s r rule → RequestRow s e r begun id (rule_row s e r begun id rule)
+rule_view : (s : Office) (e : Setting) (r : Request) (begun : List Entry) (id : ℕ) (rule : Rule) → request_rule s r e.now ≡ rule → FitsRule s r rule → RequestRow s e r begun id (rule_row s e r begun id rule)
 unfolding call_row
-rule_view s e r begun id (rules.Alone reply) fits = replied reply refl
-rule_view s e r begun id (rules.Call callrules.Begins) fits = begins_view s e r begun id (target s r e.now) (described r.headers r.body) fits.0 fits.1 fits.2 refl refl
-rule_view s e r begun id (rules.Call (callrules.Cancels place)) fits = cancelled fits.0 place fits.1 fits.2 refl
-rule_view s e r begun id (rules.Call (callrules.Leaves place end)) fits = left place end fits refl
-rule_view s e r begun id (rules.Call (callrules.Offers place end)) fits = offers_view s e r begun id place end fits
-rule_view s e r begun id (rules.Call (callrules.Refreshes place end)) fits = refreshes_view s e r begun id place end fits.0 fits.1
+rule_view s e r begun id (rules.Alone reply) rule_is fits = replied reply rule_is refl
+rule_view s e r begun id (rules.Call callrules.Begins) rule_is fits = begins_view s e r begun id (target s r e.now) (described r.headers r.body) fits.0 fits.1 fits.2 refl refl
+rule_view s e r begun id (rules.Call (callrules.Cancels place)) rule_is fits = cancelled fits.0 place fits.1 fits.2 refl
+rule_view s e r begun id (rules.Call (callrules.Leaves place end)) rule_is fits = left place end fits refl
+rule_view s e r begun id (rules.Call (callrules.Offers place end)) rule_is fits = offers_view s e r begun id place end fits
+rule_view s e r begun id (rules.Call (callrules.Refreshes place end)) rule_is fits = refreshes_view s e r begun id place end fits.0 fits.1
 
 abbrev FitsIf : Office → Request → Option Rule → Type 0
 FitsIf s r None = Unit {0}
@@ -292,4 +298,4 @@ request_fits s r now =
     (unless_fits s r (not (is_offered_method r)) (checks.refused 501) offered tt (λ e. offered_fits s r now (not_false (is_offered_method r) e)))))
 
 pub request_view : (s : Office) (e : Setting) (r : Request) (begun : List Entry) (id : ℕ) → RequestRow s e r begun id (rule_row s e r begun id (request_rule s r e.now))
-request_view s e r begun id = rule_view s e r begun id (request_rule s r e.now) (request_fits s r e.now)
+request_view s e r begun id = rule_view s e r begun id (request_rule s r e.now) refl (request_fits s r e.now)

@@ -185,8 +185,8 @@ no_leg : (s : Office) (place : ℕ) (d : StandingCall) → slice_get s.calls.cal
 no_leg s place d there = tt
 
 request_rows : (s : Office) → KnowsTokens s → s.tokens < 2 ^ 63 → (e : Setting) (r : Request) (begun : List Entry) (id : ℕ) (x : Effect) → BeginsNone begun → RequestRow s e r begun id x → Owns s x
-request_rows s k few e r begun id x b (replied reply is) = subst (Owns s) (sym is) (reply_owns s k begun id _ (row_reply s e r begun id reply) b)
-request_rows s k few e r begun id x b (unfit status is) = subst (Owns s) (sym is) (reply_owns s k begun id _ (responds_reply s e r begun id status [] None) b)
+request_rows s k few e r begun id x b (replied reply why is) = subst (Owns s) (sym is) (reply_owns s k begun id _ (row_reply s e r begun id reply) b)
+request_rows s k few e r begun id x b (unfit status low is) = subst (Owns s) (sym is) (reply_owns s k begun id _ (responds_reply s e r begun id status [] None) b)
 request_rows s k few e r begun id x b (asks_callee to offer why is) =
     subst (Owns s) (sym is) (step_owns s begun None None _ b (first_own s.calls (occasion s e) r id e.source to offer (no_tag_text r.parts why.no_tag) few k.calls))
   where
@@ -198,7 +198,7 @@ request_rows s k few e r begun id x b (left place end rule_is is) =
     request_owns s k e r begun id place (inputs.Bye end) (counts s.calls.calls place end r.parts.cseq.number) _ b
     (λ d there. counts_fits s.tokens s.calls.calls place end r.parts.cseq.number d k.calls there)
     )
-request_rows s k few e r begun id x b (counted_alone place end reply is) = subst (Owns s) (sym is) (counted_owns s k r place end (reply_row s e r begun id reply) (reply_own s begun id _ (row_reply s e r begun id reply) b))
+request_rows s k few e r begun id x b (counted_alone place end reply why is) = subst (Owns s) (sym is) (counted_owns s k r place end (reply_row s e r begun id reply) (reply_own s begun id _ (row_reply s e r begun id reply) b))
 request_rows s k few e r begun id x b (passed_on place end c offer rule_is why is) =
     subst (Owns s) (sym is) (step_owns s begun None None _ b (offers_own s.calls s.table (occasion s e) place _ end r id e.source k.slots k.calls))
 request_rows s k few e r begun id x b (refreshed place end rule_is is) = subst (Owns s) (sym is) (refreshed_owns s k e r begun id place end b)

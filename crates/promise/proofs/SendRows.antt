@@ -172,15 +172,15 @@ refreshed_sent before s k e r begun id place end b =
 
 request_goes_by : (before : List Sent) (s : Office) → KnowsSent s before → (e : Setting) (r : Request) (begun : List Entry) (id : ℕ) (x : Effect) → GoAlone begun → RequestRow s e r begun id x
     → SentEffect before x
-request_goes_by before s k e r begun id x b (replied reply is) = subst (SentEffect before) (sym is) (plan_sent before s k (reply_row s e r begun id reply) (reply_sent begun id _ (row_reply s e r begun id reply) b))
-request_goes_by before s k e r begun id x b (unfit status is) =
+request_goes_by before s k e r begun id x b (replied reply why is) = subst (SentEffect before) (sym is) (plan_sent before s k (reply_row s e r begun id reply) (reply_sent begun id _ (row_reply s e r begun id reply) b))
+request_goes_by before s k e r begun id x b (unfit status low is) =
     subst (SentEffect before) (sym is) (plan_sent before s k (responds_in s e r begun id status [] None) (reply_sent begun id _ (responds_reply s e r begun id status [] None) b))
 request_goes_by before s k e r begun id x b (asks_callee to offer why is) =
     subst (SentEffect before) (sym is) (step_sent before s k begun None None _ b (first_sends before s.calls (occasion s e) r id e.source to offer k.calls))
 request_goes_by before s k e r begun id x b (cancelled other place named_is found is) = subst (SentEffect before) (sym is) (request_goes before s k e r begun id place inputs.Cancel None _ b)
 request_goes_by before s k e r begun id x b (left place end rule_is is) =
     subst (SentEffect before) (sym is) (request_goes before s k e r begun id place (inputs.Bye end) (counts s.calls.calls place end r.parts.cseq.number) _ b)
-request_goes_by before s k e r begun id x b (counted_alone place end reply is) =
+request_goes_by before s k e r begun id x b (counted_alone place end reply why is) =
     subst (SentEffect before) (sym is) (counted_sent before s k r place end (reply_row s e r begun id reply) (reply_sent begun id _ (row_reply s e r begun id reply) b))
 request_goes_by before s k e r begun id x b (passed_on place end c offer rule_is why is) =
     subst (SentEffect before) (sym is) (step_sent before s k begun None None _ b (offers_sent before s.calls s.table (occasion s e) place _ end r id e.source k.calls))

@@ -7,6 +7,7 @@ use Rattle.std.proofs.lemmas.List.{get_or-set_other, get_or-set_same, get_or_app
 use Rattle.std.proofs.lemmas.List.Elements.{All-push, All-set}
 use Rattle.std.proofs.lemmas.Option.{none-some, same_Some}
 use Rattle.sip_message.specs.declared.words.Class.TheVariants as classes
+use Rattle.sip_message.specs.declared.message.Parts.{Parts}
 use Rattle.transaction_machines.specs.declared.input.Input.{Input}
 use Rattle.transaction_machines.specs.declared.input.Input.TheVariants as inputs
 use Rattle.transaction_machines.specs.declared.invite_server.InviteServer.{InviteServer}
@@ -101,51 +102,74 @@ line_waits (machine.OtherServer state) input h o = other_waits state input h o
 
 -- ---- a transaction
 
+-- it stands with these parts, and has sent no final response
+pub record StandsAs (parts : Parts) (slots : List (Option Transaction)) (id : ℕ) : Type 0 where
+  pub transaction : Transaction
+  pub stands : at slots id ≡ Some transaction
+  pub unanswered : is_unanswered transaction.state ≡ true
+  pub same : transaction.parts ≡ parts
+
 went_waits : (slots : List (Option Transaction)) (id : ℕ) (t : Transaction) (fresh : Option (List ℕ)) (next : Option State) (n : State) → next ≡ Some n → is_unanswered n ≡ true
-    → at slots id ≡ option_map (went t fresh) next → IsUnanswered slots id
+    → at slots id ≡ option_map (went t fresh) next → StandsAs t.parts slots id
 went_waits slots id t fresh None n is h e = absurd (none-some n is)
-went_waits slots id t fresh (Some m) n is h e = record { transaction = went t fresh m; stands = e; unanswered = ap is_unanswered (same_Some m n is) ∙ h }
+went_waits slots id t fresh (Some m) n is h e = record { transaction = went t fresh m; stands = e; unanswered = ap is_unanswered (same_Some m n is) ∙ h; same = refl }
 
 stepped_waits : (table : Contents) (id : ℕ) (t : Transaction) (fresh : Option (List ℕ)) (now : ℕ) (line : Option Step) → at table.slots id ≡ Some t → is_unanswered t.state ≡ true → WaitsIf line
-    → IsUnanswered (stepped_by table id t fresh now line).slots id
-stepped_waits table id t fresh now None there h w = record { transaction = t; stands = there; unanswered = h }
+    → StandsAs t.parts (stepped_by table id t fresh now line).slots id
+stepped_waits table id t fresh now None there h w = record { transaction = t; stands = there; unanswered = h; same = refl }
 stepped_waits table id t fresh now (Some step) there h w =
     went_waits (stepped_by table id t fresh now (Some step)).slots id t fresh step.next w.0 w.1 w.2
     (get_or-set_same table.slots id (option_map (went t fresh) step.next) None (inside table.slots id t there))
 
 same_waits : (table : Contents) (id : ℕ) (t : Transaction) (input : Input) (fresh : Option (List ℕ)) (now : ℕ) (o : Option Transaction) → o ≡ Some t → at table.slots id ≡ Some t → is_unanswered t.state ≡ true
-    → OnlyEarly input → IsUnanswered (table_at table id o input fresh now).slots id
+    → OnlyEarly input → StandsAs t.parts (table_at table id o input fresh now).slots id
 same_waits table id t input fresh now None is there h e = absurd (none-some t is)
 same_waits table id t input fresh now (Some x) is there h e =
     let open_x : is_unanswered x.state ≡ true = ap (λ (y : Transaction). is_unanswered y.state) (same_Some x t is) ∙ h in
-    stepped_waits table id x fresh now (row_of x.state input) (there ∙ sym is) open_x (line_waits x.state input open_x e)
+    subst (λ (y : Transaction). StandsAs y.parts (stepped_by table id x fresh now (row_of x.state input)).slots id) (same_Some x t is)
+    (stepped_waits table id x fresh now (row_of x.state input) (there ∙ sym is) open_x (line_waits x.state input open_x e))
 
-told_waits : (table : Contents) (id other : ℕ) (input : Input) (fresh : Option (List ℕ)) (now : ℕ) → (id ≡ other → OnlyEarly input) → IsUnanswered table.slots id
-    → IsUnanswered (table_at table other (at table.slots other) input fresh now).slots id
-told_waits table id other input fresh now e a = elim (cases_eq id other) [
-  | inl same ↦ subst (λ n. IsUnanswered (table_at table other (at table.slots other) input fresh now).slots n) (sym same)
-      (same_waits table other a.transaction input fresh now (at table.slots other) (ap (at table.slots) (sym same) ∙ a.stands) (ap (at table.slots) (sym same) ∙ a.stands) a.unanswered (e same))
-  | inr differ ↦ record { transaction = a.transaction; stands = told_elsewhere table id other (at table.slots other) input fresh now differ ∙ a.stands; unanswered = a.unanswered }
+told_waits : (parts : Parts) (table : Contents) (id other : ℕ) (input : Input) (fresh : Option (List ℕ)) (now : ℕ) → (id ≡ other → OnlyEarly input) → StandsAs parts table.slots id
+    → StandsAs parts (table_at table other (at table.slots other) input fresh now).slots id
+told_waits parts table id other input fresh now e a = elim (cases_eq id other) [
+  | inl same ↦ subst (λ n. StandsAs parts (table_at table other (at table.slots other) input fresh now).slots n) (sym same)
+      (subst (λ p. StandsAs p (table_at table other (at table.slots other) input fresh now).slots other) a.same
+      (same_waits table other a.transaction input fresh now (at table.slots other) (ap (at table.slots) (sym same) ∙ a.stands) (ap (at table.slots) (sym same) ∙ a.stands) a.unanswered (e same)))
+  | inr differ ↦ record { transaction = a.transaction; stands = told_elsewhere table id other (at table.slots other) input fresh now differ ∙ a.stands; unanswered = a.unanswered; same = a.same }
 ]
 
-opened_waits : (slots : List (Option Transaction)) (place id : ℕ) (t : Transaction) (b : Bool) → id ≢ place → IsUnanswered slots id → IsUnanswered (cond b (slice_set slots place (Some t)) (slots ++ Some t ∷ [])) id
-opened_waits slots place id t true differ a = record { transaction = a.transaction; stands = get_or-set_other slots place id (Some t) None differ ∙ a.stands; unanswered = a.unanswered }
-opened_waits slots place id t false differ a = record {
+opened_waits : (parts : Parts) (slots : List (Option Transaction)) (place id : ℕ) (t : Transaction) (b : Bool) → id ≢ place → StandsAs parts slots id → StandsAs parts (cond b (slice_set slots place (Some t)) (slots ++ Some t ∷ [])) id
+opened_waits parts slots place id t true differ a = record { transaction = a.transaction; stands = get_or-set_other slots place id (Some t) None differ ∙ a.stands; unanswered = a.unanswered; same = a.same }
+opened_waits parts slots place id t false differ a = record {
   transaction = a.transaction;
   stands = get_or_append_left slots (Some t ∷ []) None id (inside slots id a.transaction a.stands) ∙ a.stands;
   unanswered = a.unanswered;
+  same = a.same;
 }
 
+one_stands : (parts : Parts) (now : ℕ) (table : Contents) (change : Entry) (id : ℕ) → Spares id change → StandsAs parts table.slots id → StandsAs parts (entered now table change).slots id
+one_stands parts now table (Opens t starts) id e a =
+    opened_waits parts table.slots (free_number table.slots) id t (nat_lt (free_number table.slots) (length table.slots)) (free_differs table.slots id a.transaction a.stands) a
+one_stands parts now table (Tells other input fresh) id e a = told_waits parts table id other input fresh now (λ same. e) a
+one_stands parts now table (Answers other class bytes) id e a = told_waits parts table id other (inputs.Answer class) (Some bytes) now e a
+one_stands parts now table Leaves id e a = a
+
+-- a request that waits goes on to wait
+pub all_stand : (parts : Parts) (now : ℕ) (table : Contents) (changes : List Entry) (id : ℕ) → SpareAll id changes → StandsAs parts table.slots id → StandsAs parts (entered_all now table changes).slots id
+all_stand parts now table [] id e a = a
+all_stand parts now table (change ∷ changes) id e a = all_stand parts now (entered now table change) changes id e.1 (one_stands parts now table change id e.0 a)
+
+pub stands_as : (slots : List (Option Transaction)) (id : ℕ) (a : IsUnanswered slots id) → StandsAs a.transaction.parts slots id
+stands_as slots id a = record { transaction = a.transaction; stands = a.stands; unanswered = a.unanswered; same = refl }
+
+waits_as : (parts : Parts) (slots : List (Option Transaction)) (id : ℕ) → StandsAs parts slots id → IsUnanswered slots id
+waits_as parts slots id a = record { transaction = a.transaction; stands = a.stands; unanswered = a.unanswered }
+
 pub one_waits : (now : ℕ) (table : Contents) (change : Entry) (id : ℕ) → Spares id change → IsUnanswered table.slots id → IsUnanswered (entered now table change).slots id
-one_waits now table (Opens t starts) id e a =
-    opened_waits table.slots (free_number table.slots) id t (nat_lt (free_number table.slots) (length table.slots)) (free_differs table.slots id a.transaction a.stands) a
-one_waits now table (Tells other input fresh) id e a = told_waits table id other input fresh now (λ same. e) a
-one_waits now table (Answers other class bytes) id e a = told_waits table id other (inputs.Answer class) (Some bytes) now e a
-one_waits now table Leaves id e a = a
+one_waits now table change id e a = waits_as a.transaction.parts (entered now table change).slots id (one_stands a.transaction.parts now table change id e (stands_as table.slots id a))
 
 pub all_waits : (now : ℕ) (table : Contents) (changes : List Entry) (id : ℕ) → SpareAll id changes → IsUnanswered table.slots id → IsUnanswered (entered_all now table changes).slots id
-all_waits now table [] id e a = a
-all_waits now table (change ∷ changes) id e a = all_waits now (entered now table change) changes id e.1 (one_waits now table change id e.0 a)
+all_waits now table changes id e a = waits_as a.transaction.parts (entered_all now table changes).slots id (all_stand a.transaction.parts now table changes id e (stands_as table.slots id a))
 
 -- ---- each request that is answered was read, after changes too
 

@@ -108,16 +108,16 @@ stopped_knows s k timer = record { server = k.server; bindings = k.bindings; req
 
 request_sounds : Reading → (s : Office) → KnowsDialogs s → s.tokens < 2 ^ 63 → (e : Setting) (text : List ℕ) (r : Request) (begun : List Entry) (id : ℕ) (x : Effect) → message_of text ≡ Ok (Kinds.Request r) → NoneOwn begun
     → RequestRow s e r begun id x → Sounds s x
-request_sounds reading s k few e text r begun id x read none (replied reply is) =
+request_sounds reading s k few e text r begun id x read none (replied reply why is) =
     subst (Sounds s) (sym is) (plan_sounds s k (reply_row s e r begun id reply) (reply_none begun id _ (row_reply s e r begun id reply) none) (reply_bound reading s e r begun id reply k.bindings))
-request_sounds reading s k few e text r begun id x read none (unfit status is) =
+request_sounds reading s k few e text r begun id x read none (unfit status low is) =
     subst (Sounds s) (sym is) (plan_sounds s k (responds_in s e r begun id status [] None) (reply_none begun id _ (responds_reply s e r begun id status [] None) none) tt)
 request_sounds reading s k few e text r begun id x read none (asks_callee to offer why is) =
     subst (Sounds s) (sym is) (step_sounds s begun None None _ none (first_sound reading s.calls (occasion s e) text r id e.source to offer read why.reached k.server few k.calls))
 request_sounds reading s k few e text r begun id x read none (cancelled other place named_is found is) = subst (Sounds s) (sym is) (asked_sounds s k e r begun id place inputs.Cancel None _ none tt)
 request_sounds reading s k few e text r begun id x read none (left place end rule_is is) =
     subst (Sounds s) (sym is) (asked_sounds s k e r begun id place (inputs.Bye end) _ _ none (counts_sound s.calls.calls place end r.parts.cseq.number k.calls))
-request_sounds reading s k few e text r begun id x read none (counted_alone place end reply is) =
+request_sounds reading s k few e text r begun id x read none (counted_alone place end reply why is) =
     subst (Sounds s) (sym is) (
     put_sounds s k (reply_row s e r begun id reply) place (counts s.calls.calls place end r.parts.cseq.number) (reply_none begun id _ (row_reply s e r begun id reply) none)
     (counts_sound s.calls.calls place end r.parts.cseq.number k.calls) (reply_bound reading s e r begun id reply k.bindings)

@@ -120,8 +120,8 @@ offer_step s tokens k begun x none b = record {
 
 request_waits : (s : Office) → KnowsTokens s → KnowsWaiting s → s.tokens < 2 ^ 63 → (e : Setting) (r : Request) (begun : List Entry) (id : ℕ) (x : Effect) → NoneOwn begun → RequestRow s e r begun id x
     → Waits s x
-request_waits s tokens k few e r begun id x none (replied reply is) = subst (Waits s) (sym is) (plan_waits s k (reply_row s e r begun id reply) (reply_none begun id _ (row_reply s e r begun id reply) none))
-request_waits s tokens k few e r begun id x none (unfit status is) =
+request_waits s tokens k few e r begun id x none (replied reply why is) = subst (Waits s) (sym is) (plan_waits s k (reply_row s e r begun id reply) (reply_none begun id _ (row_reply s e r begun id reply) none))
+request_waits s tokens k few e r begun id x none (unfit status low is) =
     subst (Waits s) (sym is) (plan_waits s k (responds_in s e r begun id status [] None) (reply_none begun id _ (responds_reply s e r begun id status [] None) none))
 request_waits s tokens k few e r begun id x none (asks_callee to offer why is) =
     subst (Waits s) (sym is) (offer_step s tokens k begun _ none (first_begins s.calls (occasion s e) r id e.source to offer (no_tag_text r.parts why.no_tag) few tokens.calls))
@@ -135,7 +135,7 @@ request_waits s tokens k few e r begun id x none (left place end rule_is is) =
     asked_takes s k e r begun id place s.tokens (inputs.Bye end) _ _ none tt refl
     (λ d there. calm_leg s.tokens _ d (counts_fits s.tokens s.calls.calls place end r.parts.cseq.number d tokens.calls there) (counts_keeps s.calls.calls place end r.parts.cseq.number d there))
     )
-request_waits s tokens k few e r begun id x none (counted_alone place end reply is) =
+request_waits s tokens k few e r begun id x none (counted_alone place end reply why is) =
     subst (Waits s) (sym is) (
     puts_waits s k s.tokens place _ (reply_row s e r begun id reply) (reply_none begun id _ (row_reply s e r begun id reply) none)
     (λ d there. (counts_fits s.tokens s.calls.calls place end r.parts.cseq.number d tokens.calls there, counts_keeps s.calls.calls place end r.parts.cseq.number d there))

@@ -124,9 +124,9 @@ number_for c d calls place end there also h = subst (λ (x : StandingCall). has_
 
 request_row : Reading → (s : Office) → IsKnown s → s.tokens < 2 ^ 63 → (e : Setting) (text : List ℕ) (r : Request) (begun : List Entry) (id : ℕ) (x : Effect) → message_of text ≡ Ok (Kinds.Request r) → NoneOwn begun
     → RequestRow s e r begun id x → ClientRow s x
-request_row reading s k few e text r begun id x read none (replied reply is) =
+request_row reading s k few e text r begun id x read none (replied reply why is) =
     subst (ClientRow s) (sym is) (plan_row s k (reply_row s e r begun id reply) (reply_none begun id _ (row_reply s e r begun id reply) none))
-request_row reading s k few e text r begun id x read none (unfit status is) =
+request_row reading s k few e text r begun id x read none (unfit status low is) =
     subst (ClientRow s) (sym is) (plan_row s k (responds_in s e r begun id status [] None) (reply_none begun id _ (responds_reply s e r begun id status [] None) none))
 request_row reading s k few e text r begun id x read none (asks_callee to offer why is) =
     subst (ClientRow s) (sym is) (step_row s begun None None _ none (first_asks s.calls (occasion s e) r id e.source to offer k.clients.server k.clients.calls
@@ -136,7 +136,7 @@ request_row reading s k few e text r begun id x read none (cancelled named_id pl
 request_row reading s k few e text r begun id x read none (left place end rule_is is) =
     subst (ClientRow s) (sym is) (asked_row s k e r begun id place (inputs.Bye end) _ _ none (counts_sound s.calls.calls place end r.parts.cseq.number k.dialogs.calls)
     (counts_low s.calls.calls place end r.parts.cseq.number k.clients.calls) (λ c. tt))
-request_row reading s k few e text r begun id x read none (counted_alone place end reply is) =
+request_row reading s k few e text r begun id x read none (counted_alone place end reply why is) =
     subst (ClientRow s) (sym is) (put_row s k (reply_row s e r begun id reply) place (counts s.calls.calls place end r.parts.cseq.number) (reply_none begun id _ (row_reply s e r begun id reply) none)
     (counts_low s.calls.calls place end r.parts.cseq.number k.clients.calls))
 request_row reading s k few e text r begun id x read none (passed_on place end c offer rule_is why is) =

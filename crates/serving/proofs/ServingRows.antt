@@ -185,13 +185,13 @@ module _ (own : Owns) (once : Once) (have : HaveRows) (law : Spared) where
 
   module _ (s : Office) (k : KnowsServing s) (e : Setting) where
     request_serves : (r : Request) (begun : List Entry) (id : ℕ) (x : Effect) → RequestRow s e r begun id x → LeavesServed s x
-    request_serves r begun id x (replied reply is) = subst (LeavesServed s) (sym is) k.calls
-    request_serves r begun id x (unfit status is) = subst (LeavesServed s) (sym is) k.calls
+    request_serves r begun id x (replied reply why is) = subst (LeavesServed s) (sym is) k.calls
+    request_serves r begun id x (unfit status low is) = subst (LeavesServed s) (sym is) k.calls
     request_serves r begun id x (asks_callee to offer why is) =
         subst (LeavesServed s) (sym is) (first_row_serves s.range s.calls (occasion s e) r id e.source to offer k.address refl k.calls (leb-true _ _ why.paired))
     request_serves r begun id x (cancelled other place named_is found is) = subst (LeavesServed s) (sym is) (taken_serves s k e place inputs.Cancel _ _ (λ c there. tt))
     request_serves r begun id x (left place end rule_is is) = subst (LeavesServed s) (sym is) (taken_serves s k e place (inputs.Bye end) _ _ (λ c there. tt))
-    request_serves r begun id x (counted_alone place end reply is) = subst (LeavesServed s) (sym is) (puts_serves s.range s.calls place (counts s.calls.calls place end r.parts.cseq.number) k.calls)
+    request_serves r begun id x (counted_alone place end reply why is) = subst (LeavesServed s) (sym is) (puts_serves s.range s.calls place (counts s.calls.calls place end r.parts.cseq.number) k.calls)
     request_serves r begun id x (passed_on place end c offer rule_is why is) =
         subst (LeavesServed s) (sym is)
         (offers_serves s.range s.calls s.table (occasion s e) place _ end r id e.source k.calls (one_there s e.now place end (offer_method r) c offer why.there why.paired))
