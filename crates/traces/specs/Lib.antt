@@ -1,0 +1,5 @@
+pub mod Messages
+pub mod Traces
+pub mod Knowing
+pub mod Kinds
+pub mod Asked
