@@ -1,0 +1,7 @@
+pub mod Listing
+pub mod Shows
+pub mod Said
+pub mod Heard
+pub mod Scenes
+pub mod Inputs
+pub mod Lines
