@@ -1,0 +1,9 @@
+pub mod Tags
+pub mod Fitting
+pub mod Legs
+pub mod Askers
+pub mod Leaving
+pub mod OfferRequests
+pub mod GoingOn
+pub mod Counting
+pub mod CountingRows
