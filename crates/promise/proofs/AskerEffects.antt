@@ -2,7 +2,7 @@
 use Rattle.std.proofs.Common.{◌≡◌, ℕ, ◌<◌, ◌^◌, Bool, true, false, cond, List, [], ◌∷◌, find, Option, Some, None, option_map, refl, sym, subst, inl, inr}
 use Rattle.std.specs.Prelude.{slice_get, ◌==◌}
 use Rattle.std.specs.List.{All}
-use Rattle.std.proofs.lemmas.List.Elements.{All-append, All-head, All-nil, All-tail, All-weaker}
+use Rattle.std.proofs.lemmas.List.Elements.{All-append, All-head, All-nil, All-set, All-tail, All-weaker}
 use Rattle.events.specs.declared.sent.Sent.{Sent}
 use Rattle.sip_message.specs.declared.message.Request.{Request}
 use Rattle.transactions.specs.declared.change.Entry.{Entry}
@@ -24,7 +24,7 @@ use Rattle.plans.specs.CallRows.{acks_again, again, asker, occasion, of_plan, pu
 use Rattle.plans.specs.Effect.{Effect}
 use Rattle.plans.specs.Plan.{Plan, goes, moves, nothing}
 use Rattle.promise.specs.Bodies.{KnowsDescriptions, WasReadIn}
-use Rattle.promise.specs.Askers.{CameFromSource, IsServed, IsUnanswered, KnowsAskers, KnowsOffers}
+use Rattle.promise.specs.Askers.{CameFromSource, IsServed, IsUnanswered, KeepsAsked, KeepsRequest, KnowsAskers, KnowsOffers}
 use Rattle.promise.specs.Knowing.{HasMadeTags, KnowsTokens}
 use Rattle.promise.specs.Datagrams.{IsOwnDatagram, IsOwnMessage}
 use Rattle.promise.specs.Sending.{AckWasSent, AnswerWasSent, CallWasSent, KnowsSent, LastWasSent, WasSent, WasSentIf}
@@ -35,7 +35,7 @@ use Rattle.promise.proofs.Serving.{SpareAll, all_waits, spare_joined}
 use Rattle.promise.proofs.Speaking.{AgainIsOwn, CanOkay, EnterAsked, asked_joined}
 use Rattle.promise.proofs.SpokenLines.{FitsInput, is_offer_input}
 use Rattle.promise.proofs.SpokenOffers.{same_offers, takes_speak}
-use Rattle.promise.proofs.SpokenSteps.{IsBegun, IsOccasion, SpokenStep, differs, goes_on_by}
+use Rattle.promise.proofs.SpokenSteps.{IsBegun, IsOccasion, SpokenStep, differs, goes_on_by, keeps_all, same_kept}
 
 -- ---- what is known before an event
 
@@ -100,6 +100,7 @@ pub record AskedEffect (s : Office) (x : Effect) : Type 0 where
   pub sends : All IsOwnDatagram x.plan.sends
   pub entries : EnterAsked x.plan.changes
   pub offers : (now : ℕ) → KnowsOffers (entered_all now s.table x.plan.changes).slots x.calls.standing.calls
+  pub keeps : (now : ℕ) → All (KeepsAsked s.table.slots (entered_all now s.table x.plan.changes).slots) x.calls.standing.calls
 
 -- changes that spare what waits
 abbrev pub SpareOpen : Office → List Entry → Type 0
@@ -108,8 +109,11 @@ SpareOpen s changes = (id : ℕ) → IsUnanswered s.table.slots id → SpareAll 
 offers_after : (s : Office) (changes : List Entry) (now : ℕ) → IsReady s → SpareOpen s changes → KnowsOffers (entered_all now s.table changes).slots s.calls.calls
 offers_after s changes now k spares = same_offers s.table.slots _ s.calls.calls (λ id a. all_waits now s.table changes id (spares id a) a) k.askers.offers
 
+kept_after : (s : Office) (changes : List Entry) (now : ℕ) → IsReady s → SpareOpen s changes → All (KeepsAsked s.table.slots (entered_all now s.table changes).slots) s.calls.calls
+kept_after s changes now k spares = same_kept s.table.slots (entered_all now s.table changes).slots s.calls.calls (λ id a. keeps_all s.table changes id now (spares id a) a) k.askers.offers
+
 pub plan_asks : (s : Office) → IsReady s → (p : Plan) → All IsOwnDatagram p.sends → EnterAsked p.changes → SpareOpen s p.changes → AskedEffect s (of_plan s p)
-plan_asks s k p sends entries spares = record { sends = sends; entries = entries; offers = λ now. offers_after s p.changes now k spares }
+plan_asks s k p sends entries spares = record { sends = sends; entries = entries; offers = λ now. offers_after s p.changes now k spares; keeps = λ now. kept_after s p.changes now k spares }
 
 pub nothing_asks : (s : Office) → IsReady s → (taken : _) → AskedEffect s (of_plan s (nothing taken))
 nothing_asks s k taken = plan_asks s k (nothing taken) (All-nil IsOwnDatagram) tt (λ id a. tt)
@@ -141,6 +145,7 @@ step_asks s acks begun send id x b own said = record {
   sends = All-append IsOwnDatagram (goes send) x.dressed.sends own said.sends;
   entries = asked_joined begun x.dressed.changes b.asked said.entries;
   offers = said.offers;
+  keeps = said.keeps;
 }
 
 pub takes_ask : (s : Office) → IsReady s → (e : Setting) (begun : List Entry) (send : Option Outgoing) (id : Option ℕ) (place : ℕ) (input : Input) (leg : Option LegDialog) → IsBegun begun → GoesOwn send → FitsInput input
@@ -180,6 +185,18 @@ puts_offers : (slots : List (Option Transaction)) (s : Office) (place : ℕ) (le
 puts_offers slots s place None k = k
 puts_offers slots s place (Some leg) k = put_offers slots s.calls.calls place leg (slice_get s.calls.calls place) refl k
 
+put_kept : (before after : List (Option Transaction)) (calls : List StandingCall) (place : ℕ) (leg : LegDialog) (c : Option StandingCall) → slice_get calls place ≡ c → All (KeepsAsked before after) calls
+    → All (KeepsAsked before after) (changed_at (with_dialog_at leg.end leg.dialog) place calls c)
+put_kept before after calls place leg None there all = all
+put_kept before after calls place leg (Some c) there all =
+    let d = with_dialog_at leg.end leg.dialog c in
+    let on = same_on c d (dialog_same leg c) in
+    All-set (KeepsAsked before after) calls place d (λ waits. subst (KeepsRequest before after) (sym on.id) (at_place (KeepsAsked before after) calls place c all there (on.waits waits))) all
+
+puts_kept : (before after : List (Option Transaction)) (s : Office) (place : ℕ) (leg : Option LegDialog) → All (KeepsAsked before after) s.calls.calls → All (KeepsAsked before after) (puts_if s.calls place leg).calls
+puts_kept before after s place None all = all
+puts_kept before after s place (Some leg) all = put_kept before after s.calls.calls place leg (slice_get s.calls.calls place) refl all
+
 -- a reply in a dialog
 pub put_asks : (s : Office) → IsReady s → (begun : List Entry) (id place : ℕ) (leg : Option LegDialog) (p : Plan) → IsReply begun id p → IsBegun begun → at s.table.slots id ≡ None → All IsOwnDatagram p.sends
     → AskedEffect s (record { plan = p; calls = unchanged (puts_if s.calls place leg); acks = s.acks })
@@ -187,4 +204,5 @@ put_asks s k begun id place leg p is b free own = record {
   sends = own;
   entries = reply_entries begun id p is b;
   offers = λ now. puts_offers _ s place leg (offers_after s p.changes now k (reply_spares s begun id p is b free));
+  keeps = λ now. puts_kept s.table.slots (entered_all now s.table p.changes).slots s place leg (kept_after s p.changes now k (reply_spares s begun id p is b free));
 }

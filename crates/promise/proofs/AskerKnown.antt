@@ -56,7 +56,7 @@ use Rattle.promise.specs.Bodies.{KnowsDescriptions, WasRead}
 use Rattle.promise.proofs.BodyRows.{after_bodies, new_bodies}
 use Rattle.promise.proofs.Describing.{BodiesDescribe}
 use Rattle.promise.proofs.ReadBodies.{body_read, body_read_if}
-use Rattle.promise.specs.Askers.{IsAskedIf, KnowsAskers, KnowsOffers, CameFromSource, IsServed}
+use Rattle.promise.specs.Askers.{CameFromSource, IsAskedIf, IsServed, KeepsAsked, KnowsAskers, KnowsOffers}
 use Rattle.promise.specs.Knowing.{KnowsTokens}
 use Rattle.promise.specs.Knowledge.{KnowsMessages, sends_of}
 use Rattle.promise.specs.Datagrams.{ComesFromSource, EntersFromSource, IsOwnDatagram}
@@ -73,7 +73,7 @@ use Rattle.promise.proofs.ReadParts.{response_status, same_method}
 use Rattle.promise.proofs.Repeats.{CanAnswer, one_own, responds_read, stateless_token}
 use Rattle.promise.proofs.RequestViews.{by_if}
 use Rattle.promise.proofs.Serving.{all_entered_asked}
-use Rattle.promise.proofs.SpokenSteps.{IsBegun, IsBegunAs}
+use Rattle.promise.proofs.SpokenSteps.{IsBegun, IsBegunAs, same_kept}
 use Rattle.promise.proofs.UnsupportedField.{unsupported_written}
 use Rattle.promise.proofs.Views.{DueRow, WhatRow, call_fired, came, due, ended, fired_alone, idle, sent_again, stopped, timed, what_view}
 
@@ -197,7 +197,7 @@ stopped_ready s k timer = record {
 
 -- the calls without a timer are these calls
 stopped_effect : (s : Office) (timer : CallTimerId) (x : Effect) → AskedEffect (without_call_timer timer s) x → AskedEffect s x
-stopped_effect s timer x h = record { sends = h.sends; entries = h.entries; offers = h.offers }
+stopped_effect s timer x h = record { sends = h.sends; entries = h.entries; offers = h.offers; keeps = h.keeps }
 
 timer_asks : (s : Office) → IsReady s → (e : Setting) (timer : CallTimer) (place : ℕ) → AskedEffect s (takes s e [] None None place (timer_input timer) None)
 timer_asks s k e timers.Limit place = takes_ask s k e [] None None place inputs.Limit None none_begun (All-nil IsOwnDatagram) tt refl tt
@@ -213,7 +213,7 @@ due_asks s k e x (timed timer t place fired times there found is) =
     subst (AskedEffect s) (sym is) (takes_ask s k e (fire_of timer ∷ []) None None place inputs.TimedOut None (fire_begun timer) (All-nil IsOwnDatagram) tt refl tt)
 due_asks s k e x (ended timer fired is) =
     let h = moves_ask s k (fire_of timer ∷ []) None (fire_begun timer) (All-nil IsOwnDatagram) in
-    subst (AskedEffect s) (sym is) (record { sends = h.sends; entries = h.entries; offers = h.offers })
+    subst (AskedEffect s) (sym is) (record { sends = h.sends; entries = h.entries; offers = h.offers; keeps = h.keeps })
 due_asks s k e x (stopped timer is) =
     let h = moves_ask (without_call_timer timer s) (stopped_ready s k timer) [] None none_begun (All-nil IsOwnDatagram) in
     subst (AskedEffect s) (sym is) (stopped_effect s timer _ h)
@@ -237,16 +237,23 @@ what_asks describes s k now salt whats.Due from = due_view_asks s k now salt (wh
 pub record EventSends (s : Contents) (x : Effect) : Type 0 where
   pub sends : All IsOwnDatagram x.plan.sends
   pub askers : (now : ℕ) → KnowsAskers (office (after_event s now x))
+  pub keeps : (now : ℕ) → All (KeepsAsked s.table.slots (office (after_event s now x)).table.slots) (office (after_event s now x)).calls.calls
 
 entered_knows : (s : Contents) → KnowsAskers (office s) → (x : Effect) → AskedEffect (office s) x → EventSends s x
 unfolding after_event
 entered_knows s k x h = record {
   sends = h.sends;
   askers = λ now. record { slots = all_entered_asked now s.table x.plan.changes h.entries k.slots; offers = h.offers now; server = k.server; least = k.least };
+  keeps = h.keeps;
 }
 
 counted_asks : (s : Contents) → KnowsAskers (office s) → (taken : Taken) → AskedEffect (office s) (of_plan (office s) (nothing taken))
-counted_asks s k taken = record { sends = All-nil IsOwnDatagram; entries = tt; offers = λ now. k.offers }
+counted_asks s k taken = record {
+  sends = All-nil IsOwnDatagram;
+  entries = tt;
+  offers = λ now. k.offers;
+  keeps = λ now. same_kept s.table.slots s.table.slots s.calls.calls (λ id a x there. (x, there, refl)) k.offers;
+}
 
 event_asks : BodiesDescribe → (s : Contents) (sent : List Sent) → KnowsAskers (office s) → KnowsTokens (office s) → KnowsSent (office s) sent → All IsOwnDatagram sent → KnowsDescriptions (office s) → (e : Event) (taken : Option Taken) → only_counts s e ≡ taken
     → ComesFromSource e.what → AskedEffect (office s) (row_by s e taken)
@@ -259,6 +266,10 @@ row_asks describes s sent k tokens was own media e from = event_asks describes s
 
 pub after_askers : BodiesDescribe → (s : Contents) (e : Event) (sent : List Sent) → ComesFromSource e.what → KnowsTokens (office s) → KnowsSent (office s) sent → KnowsDescriptions (office s) → KnowsAskers (office s) → All IsOwnDatagram sent → KnowsAskers (office (after s e))
 after_askers describes s e sent from tokens was media k own = (entered_knows s k (row s e) (row_asks describes s sent k tokens was own media e from)).askers (moment_after s e)
+
+pub after_kept : BodiesDescribe → (s : Contents) (e : Event) (sent : List Sent) → ComesFromSource e.what → KnowsTokens (office s) → KnowsSent (office s) sent → KnowsDescriptions (office s) → KnowsAskers (office s) → All IsOwnDatagram sent
+    → All (KeepsAsked (office s).table.slots (office (after s e)).table.slots) (office (after s e)).calls.calls
+after_kept describes s e sent from tokens was media k own = (entered_knows s k (row s e) (row_asks describes s sent k tokens was own media e from)).keeps (moment_after s e)
 
 pub after_own : BodiesDescribe → (s : Contents) (e : Event) (sent : List Sent) → ComesFromSource e.what → KnowsTokens (office s) → KnowsSent (office s) sent → KnowsDescriptions (office s) → KnowsAskers (office s) → All IsOwnDatagram sent
     → All IsOwnDatagram (sent ++ (row s e).plan.sends)

@@ -66,10 +66,10 @@ rise_one (Tells id input fresh ∷ changes) one = rise_one changes one
 rise_one (Answers id class bytes ∷ changes) one = rise_one changes one
 rise_one (Leaves ∷ changes) one = rise_one changes one
 
-pairs_head : (t : Transaction) (xs : List Transaction) → AllPairs IsBelow (t ∷ xs) → All (IsBelow t) xs
+pub pairs_head : (t : Transaction) (xs : List Transaction) → AllPairs IsBelow (t ∷ xs) → All (IsBelow t) xs
 pairs_head t xs pairs = λ k d within. pairs 0 (suc k) d (omega arith) (omega (arith, within))
 
-pairs_tail : (t : Transaction) (xs : List Transaction) → AllPairs IsBelow (t ∷ xs) → AllPairs IsBelow xs
+pub pairs_tail : (t : Transaction) (xs : List Transaction) → AllPairs IsBelow (t ∷ xs) → AllPairs IsBelow xs
 pairs_tail t xs pairs = λ i j d lt within. pairs (suc i) (suc j) d (omega (arith, lt)) (omega (arith, within))
 
 abbrev AreBelow : List Transaction → Transaction → Type 0

@@ -44,13 +44,13 @@ use Rattle.promise.specs.Bodies.{IsOfReadIf, KnowsStanding, WasRead, WasReadIn}
 use Rattle.promise.proofs.BodyCalls.{call_known, first_known}
 use Rattle.promise.proofs.BodySteps.{call_at}
 use Rattle.promise.proofs.WrittenLengths.{written_short}
-use Rattle.promise.specs.Askers.{AskedApart, CameFromSource, IsServed, IsUnanswered, KnowsOffers}
+use Rattle.promise.specs.Askers.{AskedApart, CameFromSource, IsServed, IsUnanswered, KnowsOffers, KeepsAsked, KeepsRequest}
 use Rattle.promise.specs.Knowing.{HasMadeTags}
 use Rattle.promise.specs.Datagrams.{IsOwnDatagram}
 use Rattle.promise.proofs.AskedCalls.{ApartFromAll, at_place, beside_taken, push_new}
 use Rattle.promise.proofs.Speaking.{AgainIsOwn, CanOkay, FitActions, IsOwnScene, IsShortIf, answer_offer}
 use Rattle.promise.proofs.SpokenLines.{CallSpeaks, FitsInput, call_speaks, is_offer_input, says_final, waits_in}
-use Rattle.promise.proofs.SpokenSteps.{short_copied, IsBegun, IsBegunAs, IsComing, IsOccasion, SaysStep, SpokenStep, again_copied, differs, does_speak, is_new_by, opens_through, says_step, tag_run, waits_through}
+use Rattle.promise.proofs.SpokenSteps.{short_copied, IsBegun, IsBegunAs, IsComing, IsOccasion, SaysStep, SpokenStep, again_copied, differs, does_speak, is_new_by, opens_through, says_step, tag_run, waits_through, free_keeps, keeps_through, kept_new, same_kept}
 use Rattle.promise.proofs.TokenRuns.{token_run}
 
 -- what is sent in place of a description that was read is short
@@ -78,6 +78,7 @@ none_spoken table begun calls o k b = record {
   sends = All-nil IsOwnDatagram;
   entries = tt;
   offers = λ now. same_offers table.slots _ calls.calls (λ id a. waits_through table begun [] id now b tt a) k.offers;
+  keeps = λ now. same_kept table.slots (entered_all now table (begun ++ [])).slots calls.calls (λ id a. keeps_through table begun [] id now b tt a) k.offers;
 }
 
 -- ---- a call takes an input that is no offer
@@ -149,12 +150,21 @@ module _ (table : transactions.Contents) (begun : List Entry) (calls : Standing)
       waits_through table begun x.dressed.changes y.asked.id now b
       (said_own.spares y.asked.id (λ same. absurd (differs table.slots y.asked.id id opens.free (served waits) same)) tt) (served waits)
 
+  others_kept : (now : ℕ) (y : StandingCall) → IsServed table.slots y → KeepsAsked table.slots (after now) y
+  others_kept now y served waits =
+      keeps_through table begun x.dressed.changes y.asked.id now b
+      (said_own.spares y.asked.id (λ same. absurd (differs table.slots y.asked.id id opens.free (served waits) same)) tt) (served waits)
+
+  next_kept : (now : ℕ) → KeepsAsked table.slots (after now) next
+  next_kept now waits = subst (KeepsRequest table.slots (after now)) (sym id_is) (free_keeps table.slots (after now) id opens.free)
+
   offer_speaks : SpokenStep table begun x
   offer_speaks = record {
     sends = said_own.sends;
     entries = said_own.entries;
     offers = λ now. is_new_by (is_some step.call.standing) table.slots (after now) calls.calls place next k.offers (new_apart table.slots calls.calls id next opens.free k.offers.served id_is)
         (subst (λ (y : OfferRequest). IsSource y.source) (sym taken.0) from) (next_served now) (others_served now);
+    keeps = λ now. kept_new (is_some step.call.standing) table.slots (after now) calls.calls place next k.offers (next_kept now) (others_kept now);
   }
 
 offers_by_speaks : (table : transactions.Contents) (begun : List Entry) (calls : Standing) (o : Occasion) (place : ℕ) (input : Input) (end : End) (r : Request) (id : ℕ) (source : Addr) (leg : Option LegDialog) (c : Option StandingCall)
@@ -186,6 +196,11 @@ pushed_offers false before after calls d k new from served others = record {
   served = All-weaker (IsServed before) (IsServed after) others calls k.served;
   apart = k.apart;
 }
+
+kept_pushed : (b : Bool) (before after : List (Option Transaction)) (calls : List StandingCall) (d : StandingCall) → KnowsOffers before calls → KeepsAsked before after d
+    → ((x : StandingCall) → IsServed before x → KeepsAsked before after x) → All (KeepsAsked before after) (cond b (calls ++ d ∷ []) calls)
+kept_pushed true before after calls d k own others = All-push (KeepsAsked before after) calls d (All-weaker (IsServed before) (KeepsAsked before after) others calls k.served) own
+kept_pushed false before after calls d k own others = All-weaker (IsServed before) (KeepsAsked before after) others calls k.served
 
 module _ (table : transactions.Contents) (begun : List Entry) (calls : Standing) (o : Occasion) (r : Request) (id : ℕ) (source : Addr) (target : Uri) (offer : Description) (contact : Uri) (k : IsOccasion table calls.calls o) (b : IsBegun begun) (opens : IsBegunAs table begun id) (from : IsSource source) (repeats : CanBeRepeated r.parts) (ip : List ℕ) (server : IsServerAddress ip) (range : o.range.ip ≡ ip) (media : KnowsStanding ip calls) (read : WasRead offer) where
   abbrev first : StandingCall
@@ -227,12 +242,19 @@ module _ (table : transactions.Contents) (begun : List Entry) (calls : Standing)
       waits_through table begun first_effect.dressed.changes y.asked.id now b
       (first_own.spares y.asked.id (λ same. absurd (differs table.slots y.asked.id id opens.free (served waits) same)) tt) (served waits)
 
+  first_kept : (now : ℕ) (y : StandingCall) → IsServed table.slots y → KeepsAsked table.slots (first_after now) y
+  first_kept now y served waits =
+      keeps_through table begun first_effect.dressed.changes y.asked.id now b
+      (first_own.spares y.asked.id (λ same. absurd (differs table.slots y.asked.id id opens.free (served waits) same)) tt) (served waits)
+
   first_speaks_with : SpokenStep table begun first_effect
   first_speaks_with = record {
     sends = first_own.sends;
     entries = first_own.entries;
     offers = λ now. pushed_offers (is_some first_step.call.standing) table.slots (first_after now) calls.calls (with_step first first_step) k.offers
         (new_apart table.slots calls.calls id (with_step first first_step) opens.free k.offers.served refl) from (first_served now) (first_others now);
+    keeps = λ now. kept_pushed (is_some first_step.call.standing) table.slots (first_after now) calls.calls (with_step first first_step) k.offers
+        (λ waits. free_keeps table.slots (first_after now) id opens.free) (first_kept now);
   }
 
 begins_by_speaks : (table : transactions.Contents) (begun : List Entry) (calls : Standing) (o : Occasion) (r : Request) (id : ℕ) (source : Addr) (target : Uri) (offer : Description) (contact : Option Uri)
@@ -256,6 +278,7 @@ alone_speaks table begun calls o leg actions k b f =
       sends = own.sends;
       entries = own.entries;
       offers = λ now. same_offers table.slots _ calls.calls (λ id a. waits_through table begun later id now b (own.spares id tt tt) a) k.offers;
+      keeps = λ now. same_kept table.slots (entered_all now table (begun ++ later)).slots calls.calls (λ id a. keeps_through table begun later id now b (own.spares id tt tt) a) k.offers;
     }
 
 fork_by_speaks : (table : transactions.Contents) (begun : List Entry) (calls : Standing) (o : Occasion) (asked : Parts) (response : Response) (contact : Option Uri) → IsOccasion table calls.calls o → IsBegun begun

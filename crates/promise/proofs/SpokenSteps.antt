@@ -35,12 +35,12 @@ use Rattle.call_steps.specs.Rows.{does, messages_of, put_with}
 use Rattle.call_steps.specs.Scenes.{asker_by, offerer_tag, passed_id, scene, tag_or, tag_with}
 use Rattle.call_steps.specs.Values.{AskerValue, ComingValue, SceneValue, dressed_in, lent, lent_asker, lent_scene, without_offer}
 use Rattle.promise.specs.Addresses.{IsReached, IsSource}
-use Rattle.promise.specs.Askers.{AskedApart, CameFromSource, IsAskedIf, IsServed, IsUnanswered, KnowsOffers, waits_for}
+use Rattle.promise.specs.Askers.{AskedApart, CameFromSource, IsAskedIf, IsServed, IsUnanswered, KeepsAsked, KeepsRequest, KnowsOffers, waits_for}
 use Rattle.promise.specs.Knowing.{HasLegTag, HasMadeTags}
 use Rattle.promise.specs.Datagrams.{IsOwnDatagram}
 use Rattle.promise.proofs.AskedCalls.{ApartFromAll, GoesOn, SameOffer, all_removed, all_removed_besides, all_set_besides, apart_removed, at_place, besides_apart, beside_same, set_new, set_on}
 use Rattle.promise.proofs.ReadParts.{IsTokenRun}
-use Rattle.promise.proofs.Serving.{SpareAll, all_waits, served_asked, spare_joined, unanswered_server}
+use Rattle.promise.proofs.Serving.{SpareAll, all_stand, all_waits, served_asked, spare_joined, stands_as, unanswered_server}
 use Rattle.promise.proofs.Sparing.{SparedBy, dressed_spares, given_up_spares}
 use Rattle.promise.proofs.Speaking.{AgainIsOwn, CanOkay, CanSayIf, EnterAsked, FitActions, IsOwnScene, IsShortIf, all_speak, answer_offer, answers_offer, asked_joined}
 use Rattle.promise.proofs.SpokenLines.{CallSpeaks, is_final, says_final, waits_in}
@@ -68,6 +68,7 @@ pub record SpokenStep (table : transactions.Contents) (begun : List Entry) (x : 
   pub sends : All IsOwnDatagram x.dressed.sends
   pub entries : EnterAsked x.dressed.changes
   pub offers : (now : ℕ) → KnowsOffers (entered_all now table (begun ++ x.dressed.changes)).slots x.outcome.standing.calls
+  pub keeps : (now : ℕ) → All (KeepsAsked table.slots (entered_all now table (begun ++ x.dressed.changes)).slots) x.outcome.standing.calls
 
 -- what is known before it: of the transactions, the calls, the tags and what goes again
 pub record IsOccasion (table : transactions.Contents) (calls : List StandingCall) (o : Occasion) : Type 0 where
@@ -83,6 +84,25 @@ pub record IsOccasion (table : transactions.Contents) (calls : List StandingCall
 pub waits_through : (table : transactions.Contents) (begun later : List Entry) (id : ℕ) (now : ℕ) → IsBegun begun → SpareAll id later → IsUnanswered table.slots id
     → IsUnanswered (entered_all now table (begun ++ later)).slots id
 waits_through table begun later id now b spares a = all_waits now table (begun ++ later) id (spare_joined id begun later (b.spares id) spares) a
+
+-- of the same request
+pub keeps_all : (table : transactions.Contents) (changes : List Entry) (id : ℕ) (now : ℕ) → SpareAll id changes → IsUnanswered table.slots id → KeepsRequest table.slots (entered_all now table changes).slots id
+keeps_all table changes id now spares a = λ x there.
+    let kept = all_stand a.transaction.parts now table changes id spares (stands_as table.slots id a) in
+    (kept.transaction, kept.stands, kept.same ∙ ap (λ (t : Transaction). t.parts) (same_Some a.transaction x (sym a.stands ∙ there)))
+
+pub keeps_through : (table : transactions.Contents) (begun later : List Entry) (id : ℕ) (now : ℕ) → IsBegun begun → SpareAll id later → IsUnanswered table.slots id
+    → KeepsRequest table.slots (entered_all now table (begun ++ later)).slots id
+keeps_through table begun later id now b spares a = keeps_all table (begun ++ later) id now (spare_joined id begun later (b.spares id) spares) a
+
+-- where none stood
+pub free_keeps : (before after : List (Option Transaction)) (id : ℕ) → at before id ≡ None → KeepsRequest before after id
+free_keeps before after id free = λ x there. absurd (none-some x (sym free ∙ there))
+
+-- of all calls, where no request of one that waits is answered
+pub same_kept : (before after : List (Option Transaction)) (calls : List StandingCall) → ((id : ℕ) → IsUnanswered before id → KeepsRequest before after id) → KnowsOffers before calls
+    → All (KeepsAsked before after) calls
+same_kept before after calls keeps k = All-weaker (IsServed before) (KeepsAsked before after) (λ x served waits. keeps x.asked.id (served waits)) calls k.served
 
 -- one that began now
 pub opens_through : (table : transactions.Contents) (begun later : List Entry) (id : ℕ) (now : ℕ) → IsBegunAs table begun id → SpareAll id later → IsUnanswered (entered_all now table (begun ++ later)).slots id
@@ -192,6 +212,18 @@ goes_on_by false before after calls place c d there k on from served others = re
   apart = apart_removed calls place k.apart;
 }
 
+pub kept_on : (b : Bool) (before after : List (Option Transaction)) (calls : List StandingCall) (place : ℕ) (c d : StandingCall) → slice_get calls place ≡ Some c → KnowsOffers before calls → KeepsAsked before after d
+    → ((x : StandingCall) → IsServed before x → AskedApart c x → KeepsAsked before after x) → All (KeepsAsked before after) (cond b (slice_set calls place d) (remove calls place))
+kept_on true before after calls place c d there k own others =
+    all_set_besides (IsServed before) (AskedApart c) (KeepsAsked before after) d calls place others own k.served (besides_apart c calls place there k.apart)
+kept_on false before after calls place c d there k own others =
+    all_removed_besides (IsServed before) (AskedApart c) (KeepsAsked before after) calls place others k.served (besides_apart c calls place there k.apart)
+
+pub kept_new : (b : Bool) (before after : List (Option Transaction)) (calls : List StandingCall) (place : ℕ) (d : StandingCall) → KnowsOffers before calls → KeepsAsked before after d
+    → ((x : StandingCall) → IsServed before x → KeepsAsked before after x) → All (KeepsAsked before after) (cond b (slice_set calls place d) (remove calls place))
+kept_new true before after calls place d k own others = All-set (KeepsAsked before after) calls place d own (All-weaker (IsServed before) (KeepsAsked before after) others calls k.served)
+kept_new false before after calls place d k own others = all_removed (KeepsAsked before after) calls place (All-weaker (IsServed before) (KeepsAsked before after) others calls k.served)
+
 -- it waits for an offer that no other call waits for
 pub is_new_by : (b : Bool) (before after : List (Option Transaction)) (calls : List StandingCall) (place : ℕ) (d : StandingCall) → KnowsOffers before calls → ApartFromAll d calls → CameFromSource d
     → IsServed after d → ((x : StandingCall) → IsServed before x → IsServed after x) → KnowsOffers after (cond b (slice_set calls place d) (remove calls place))
@@ -247,10 +279,14 @@ module _ (table : transactions.Contents) (begun : List Entry) (calls : Standing)
   abbrev after : ℕ → List (Option Transaction)
   after now = (entered_all now table (begun ++ x.dressed.changes)).slots
 
+  spares : (id : ℕ) → (id ≡ c.asked.id → says_final step.actions ≡ false) → IsUnanswered table.slots id → SpareAll id x.dressed.changes
+  spares id open_id a = said_own.spares id (asker_spared id c (at table.slots c.asked.id) (says_final step.actions) open_id) (coming_spared table request id coming a)
+
   through : (now : ℕ) (id : ℕ) → (id ≡ c.asked.id → says_final step.actions ≡ false) → IsUnanswered table.slots id → IsUnanswered (after now) id
-  through now id open_id a =
-      waits_through table begun x.dressed.changes id now b
-      (said_own.spares id (asker_spared id c (at table.slots c.asked.id) (says_final step.actions) open_id) (coming_spared table request id coming a)) a
+  through now id open_id a = waits_through table begun x.dressed.changes id now b (spares id open_id a) a
+
+  kept : (now : ℕ) (id : ℕ) → (id ≡ c.asked.id → says_final step.actions ≡ false) → IsUnanswered table.slots id → KeepsRequest table.slots (after now) id
+  kept now id open_id a = keeps_through table begun x.dressed.changes id now b (spares id open_id a) a
 
   abbrev next : StandingCall
   next = beside (put_with w (messages_of table o w c step)) (with_step c step)
@@ -264,15 +300,25 @@ module _ (table : transactions.Contents) (begun : List Entry) (calls : Standing)
   waited : waits_for next ≡ true → waits_for c ≡ true
   waited h = elim (speaks.comes (next_waits h)) [ inl n ↦ absurd (false≢true n) | inr waits ↦ waits ]
 
+  apart_final : (y : StandingCall) → AskedApart c y → waits_for y ≡ true → y.asked.id ≡ c.asked.id → says_final step.actions ≡ false
+  apart_final y apart waits is =
+      false_from_ne_true (says_final step.actions) (λ final. elim (speaks.answers (final_answers step.actions final)) [ inl n ↦ false≢true n | inr own ↦ apart own waits (sym is) ])
+
   others_served : (now : ℕ) (y : StandingCall) → IsServed table.slots y → AskedApart c y → IsServed (after now) y
-  others_served now y served apart waits =
-      through now y.asked.id
-      (λ is. false_from_ne_true (says_final step.actions) (λ final. elim (speaks.answers (final_answers step.actions final)) [ inl n ↦ false≢true n | inr own ↦ apart own waits (sym is) ])) (served waits)
+  others_served now y served apart waits = through now y.asked.id (apart_final y apart waits) (served waits)
+
+  others_kept : (now : ℕ) (y : StandingCall) → IsServed table.slots y → AskedApart c y → KeepsAsked table.slots (after now) y
+  others_kept now y served apart waits = kept now y.asked.id (apart_final y apart waits) (served waits)
 
   next_served : (now : ℕ) → IsServed (after now) next
   next_served now waits =
       subst (IsUnanswered (after now)) (ap (λ (y : OfferRequest). y.id) (sym same.0))
       (through now c.asked.id (λ is. speaks.waits_on (next_waits waits)) (at_place (IsServed table.slots) calls.calls place c k.offers.served there (waited waits)))
+
+  next_kept : (now : ℕ) → KeepsAsked table.slots (after now) next
+  next_kept now waits =
+      subst (KeepsRequest table.slots (after now)) (ap (λ (y : OfferRequest). y.id) (sym same.0))
+      (kept now c.asked.id (λ is. speaks.waits_on (next_waits waits)) (at_place (IsServed table.slots) calls.calls place c k.offers.served there (waited waits)))
 
   next_from : CameFromSource next
   next_from = subst (λ (y : OfferRequest). IsSource y.source) (sym same.0) (at_place CameFromSource calls.calls place c k.offers.sources there)
@@ -283,4 +329,5 @@ module _ (table : transactions.Contents) (begun : List Entry) (calls : Standing)
     entries = said_own.entries;
     offers = λ now. goes_on_by (is_some step.call.standing) table.slots (after now) calls.calls place c next there k.offers
         (record { waits = waited; id = ap (λ (y : OfferRequest). y.id) same.0 }) next_from (next_served now) (others_served now);
+    keeps = λ now. kept_on (is_some step.call.standing) table.slots (after now) calls.calls place c next there k.offers (next_kept now) (others_kept now);
   }

@@ -12,7 +12,7 @@ ghost use Rattle.sip_message.specs.declared.message.Message.TheVariants as Kinds
 ghost use Rattle.sip_message.specs.Grammar.{ReadsMessage};
 ghost use Rattle.promise.specs.Addresses.{IsConfigured};
 ghost use Rattle.promise.specs.Bodies.{KnowsDescriptions};
-ghost use Rattle.promise.specs.Askers.{KnowsAskers};
+ghost use Rattle.promise.specs.Askers.{KeepsAsked, KnowsAskers};
 ghost use Rattle.promise.specs.Knowing.{KnowsTokens};
 ghost use Rattle.promise.specs.Knowledge.{sends_of};
 ghost use Rattle.promise.specs.Datagrams.{ComesFromSource, EntersFromSource, IsOwnDatagram, IsReadResponse};
@@ -39,5 +39,15 @@ pub fn responses_are_read()
         ReadsMessage bytes (Kinds.Response h.response) }
 {
     written_is_read();
+    bodies_describe();
+}
+
+/// At any event of a datagram that came from an address: where a call waits for an answer afterwards, and a transaction stood before in place
+/// of that of its offer, it stands with the same request, so that the answer goes to the request that offered (RFC 3261 section 17.2).
+pub fn open_offers_keep_their_requests()
+    ensures { (s : Contents) (event : Event) (sent : List Sent) → ComesFromSource event.what → KnowsTokens (office s) → KnowsSent (office s) sent →
+        KnowsDescriptions (office s) → KnowsAskers (office s) → All IsOwnDatagram sent →
+        All (KeepsAsked (office s).table.slots (office (after s event)).table.slots) (office (after s event)).calls.calls }
+{
     bodies_describe();
 }

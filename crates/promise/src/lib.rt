@@ -24,7 +24,7 @@ pub use bodies::{
 };
 pub use callee_dialogs::answered_calls_have_callees;
 pub use carried::open_offers_are_carried;
-pub use datagrams::responses_are_read;
+pub use datagrams::{open_offers_keep_their_requests, responses_are_read};
 pub use knowledge::messages_are_known;
 pub use numbers::numbers_rise;
 pub use open_requests::open_offers_have_requests;
