@@ -18,3 +18,7 @@ pub mod ByeLines
 pub mod HiddenLines
 pub mod Stages
 pub mod FitLines
+pub mod Unanswered
+pub mod Untouched
+pub mod Afterwards
+pub mod Spots

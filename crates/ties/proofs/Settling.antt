@@ -23,7 +23,7 @@ use Rattle.call_trace.specs.declared.datagram.Kind.{Kind}
 use Rattle.call_trace.specs.declared.datagram.Message.{Message}
 use Rattle.call_trace.specs.Events.{IsUnused, is_plain}
 use Rattle.call_trace.specs.Listed.{AllOf}
-use Rattle.call_trace.specs.Messages.{is_listed, is_success, offering}
+use Rattle.call_trace.specs.Messages.{is_listed, offering}
 use Rattle.promise.specs.Saying.{SeesIn, SeesTo}
 use Rattle.promise.specs.Seeing.{SeesRequest, SeesResponse}
 use Rattle.traces.specs.Messages.{IsMessage}
@@ -35,6 +35,7 @@ use Rattle.ties.proofs.Fresh.{new_answer, other_bytes}
 use Rattle.ties.specs.Scenes.{AreAllRead, AreOwn, AskedLeg, AskerIn, LegIn}
 use Rattle.ties.proofs.SaidActions.{acknowledges_of}
 use Rattle.ties.proofs.Reading.{Reading}
+use Rattle.ties.proofs.SeenWords.{answer_of}
 use Rattle.ties.proofs.Taking.{ack_one, answer_one, made_small, offer_one, puts_none, skip, take_one}
 
 answers_of : Reading → (t : List Datagram) → AreAllRead t → (s : Scene) (x : Dialog) (p : TraceOffer) (z : Session) (bytes : List ℕ) (end : End) → AskerIn s x p → option_copied s.description ≡ Some z.answer_sent
@@ -49,7 +50,7 @@ answers_of r t read s x p z bytes end a said listed none tokens m is h =
       seen = seen;
       reply_tag = a.reply_tag;
       ours = a.ours;
-      new = new_answer r t read bytes x.ours p.came.number m is (subst (λ (k : Kind). IsTrue (is_success k)) (sym seen.kind) refl)
+      new = new_answer r t read bytes x.ours p.came.number m is (answer_of m z.answer_sent seen.kind seen.description)
           (subst (λ v. IsTrue (is_listed offering v)) (a.request.method ∙ sym seen.method) listed) (seen.to_tag ∙ a.ours) (seen.number ∙ sym a.request.number) none;
     }
 

@@ -5,3 +5,4 @@ pub mod Heard
 pub mod Scenes
 pub mod Inputs
 pub mod Lines
+pub mod Afterwards

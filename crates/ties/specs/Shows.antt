@@ -23,7 +23,7 @@ use Rattle.call_trace.specs.declared.datagram.Datagram.{Datagram}
 use Rattle.call_trace.specs.declared.datagram.Dialog.{Dialog}
 use Rattle.call_trace.specs.declared.datagram.Direction.TheVariants.{Sent}
 use Rattle.call_trace.specs.Exchanges.{At}
-use Rattle.call_trace.specs.Messages.{invite, is_listed, is_success, offering, update}
+use Rattle.call_trace.specs.Messages.{invite, is_listed, is_answer, offering, update}
 use Rattle.call_trace.specs.Stands.{leg}
 use Rattle.trace_reading.specs.Message.{dialog_named}
 use Rattle.promise.specs.OpenRequests.{IsAmong}
@@ -70,10 +70,10 @@ pub record Came (slots : List (Option Transaction)) (id : ℕ) (p : Offer) : Typ
 abbrev pub Went : List Transaction → StandingCall → Offer → Type 0
 Went begun c p = (u : Transaction) → IsAmong begun u → IsOffering u → has_tag (from_tag u) c ≡ true → is_open u.parts c ≡ true → IsRequestOf u.parts p.went
 
--- no 2xx to an INVITE or UPDATE of this number was sent in the offerer's dialog
+-- no 2xx with an answer to an INVITE or UPDATE of this number was sent in the offerer's dialog
 abbrev pub IsUnanswered : List Datagram → List ℕ → ℕ → Type 0
 IsUnanswered t tag number =
-    (i : ℕ) (p : Datagram) → At t i p → p.direction ≡ Sent → IsTrue (is_success p.message.kind) → IsTrue (is_listed offering p.message.method) → p.message.to_tag ≡ tag
+    (i : ℕ) (p : Datagram) → At t i p → p.direction ≡ Sent → IsTrue (is_answer p.message) → IsTrue (is_listed offering p.message.method) → p.message.to_tag ≡ tag
     → p.message.number ≢ number
 
 -- the offer that the call keeps as open came and went by requests of this method

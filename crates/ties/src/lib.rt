@@ -6,8 +6,10 @@ mod answers;
 mod hearing;
 mod lines;
 mod offers;
+mod staying;
 
 pub use answers::answers_are_moves;
 pub use hearing::actions_are_heard;
 pub use lines::{hidden_lines_move_none, lines_are_moves};
 pub use offers::offers_are_moves;
+pub use staying::{calls_left_stay_shown, listed_calls_have_spots, open_offers_stay_unanswered};
