@@ -1,0 +1,5 @@
+pub mod ListedStages
+pub mod Comings
+pub mod OpenOffers
+pub mod Responses
+pub mod FirstAnswers
