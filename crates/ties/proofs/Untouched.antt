@@ -57,7 +57,7 @@ counts : (s : Office) (begun : List Transaction) → KnowsNumbers s begun → (p
 counts s begun k place c there t among offers = at_place (WasCounted t) s.calls.calls place c (all_among (IsNumberedIf s) begun t k.numbered among offers).counted there
 
 -- one that begins has a greater number in its leg
-older : (s : Office) (begun more : List Transaction) → KnowsNumbers s (begun ++ more) → (place : ℕ) (c : StandingCall) → slice_get s.calls.calls place ≡ Some c → (t : Transaction) → IsAmong begun t → IsOpenRequest c t
+pub older : (s : Office) (begun more : List Transaction) → KnowsNumbers s (begun ++ more) → (place : ℕ) (c : StandingCall) → slice_get s.calls.calls place ≡ Some c → (t : Transaction) → IsAmong begun t → IsOpenRequest c t
     → (u : Transaction) → IsAmong (begun ++ more) u → IsOffering u → has_tag (from_tag u) c ≡ true → is_open u.parts c ≡ true → IsAmong begun u
 older s begun more k place c there t among opens u later offers tag open_u = elim (among_split begun more u later) [
   | inl old ↦ old
@@ -69,7 +69,7 @@ older s begun more k place c there t among opens u later offers tag open_u = eli
 
 -- ---- the call
 
-came_stays : (slots later : List (Option Transaction)) (id : ℕ) (p : Offer) → KeepsRequest slots later id → Came slots id p → Came later id p
+pub came_stays : (slots later : List (Option Transaction)) (id : ℕ) (p : Offer) → KeepsRequest slots later id → Came slots id p → Came later id p
 came_stays slots later id p keeps a =
     let b = keeps a.transaction a.stands in
     record { transaction = b.0; stands = b.1; request = subst (λ x. IsRequestOf x p.came) (sym b.2) a.request }

@@ -1,0 +1,6 @@
+pub mod OwnCall
+pub mod SignalSteps
+pub mod Numbers
+pub mod Lines
+pub mod GoingOn
+pub mod Again

@@ -1,0 +1,6 @@
+//! What the calls of a trace show after a step of a call that stands: laws of how the calls go on. Nothing here runs.
+#![tactic(auto)]
+
+mod steps;
+
+pub use steps::{answers_go_again, lines_go_on, signal_steps_are_lines, signals_go_on};
