@@ -233,7 +233,7 @@ module _ (law : SentIsRead) (s : Office) (e : Setting) (place : ℕ) (c : Standi
     | inr waits ↦ asker_in_can w.offer c (at s.table.slots c.asked.id) can.offer (λ none. waiting_can s place c k there waits)
   ]
 
-  step_scene : IsSoundScene (lent_scene value) (answer_offer step.actions)
+  pub step_scene : IsSoundScene (lent_scene value) (answer_offer step.actions)
   step_scene = record {
     asks = lent_asks value k.clients.server (coming_can Caller w.leg c.call can.leg (own_can s place c k there)) (coming_can Callee w.leg c.call can.leg (own_can s place c k there))
         (passed_sound s.table.slots _ (passed_id s.table c) k.clients.slots refl);
@@ -244,9 +244,12 @@ module _ (law : SentIsRead) (s : Office) (e : Setting) (place : ℕ) (c : Standi
     short = lent_short step.description (short_if s.range.ip step.description known.sent);
   }
 
+  pub step_fits : HaveFitStatuses step.actions
+  step_fits = fit_statuses step.actions speaks.fit
+
   pub step_says : BodiesDescribe → SaysActions (lent_scene value) s.tokens step.actions (messages_of s.table (occasion s e) w c step).dressed.sends
   unfolding messages
-  step_says describes = actions_said describes (lent_scene value) s.tokens step.actions step_scene (fit_statuses step.actions speaks.fit)
+  step_says describes = actions_said describes (lent_scene value) s.tokens step.actions step_scene step_fits
 
 -- ---- a call that begins
 

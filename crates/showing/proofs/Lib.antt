@@ -4,3 +4,5 @@ pub mod Numbers
 pub mod Lines
 pub mod GoingOn
 pub mod Again
+pub mod Hearing
+pub mod Takes

@@ -43,7 +43,7 @@ use Rattle.showing.proofs.OwnCall.{is_shown, listing_has, listing_on, listing_wa
 
 -- ---- lists
 
-got_set : {X : Type 0} (xs : List X) (k : ℕ) (x y : X) → slice_get xs k ≡ Some x → slice_get (slice_set xs k y) k ≡ Some y
+pub got_set : {X : Type 0} (xs : List X) (k : ℕ) (x y : X) → slice_get xs k ≡ Some x → slice_get (slice_set xs k y) k ≡ Some y
 got_set [] k x y e = absurd cc
 got_set (z ∷ xs) zero x y e = refl
 got_set (z ∷ xs) (suc k) x y e = got_set xs k x y e
@@ -55,7 +55,7 @@ set_same (z ∷ xs) (suc k) x e = ap (λ l. z ∷ l) (set_same xs k x e)
 
 -- ---- the step
 
-module _ (slots : List (Option Transaction)) (begun : List Transaction) (t : List Datagram) (cs : List StandingCall) (old : List Call) (place : ℕ) (c : StandingCall) (n : Standing) (stands : c.call.standing ≡ Some n) (at_c : slice_get cs place ≡ Some c) (spot : HasSpot slots begun t cs old place c) (asked : HasAsked begun c) (staged : IsStaged c.call) (new : StandingCall) (next : Option Standing) (on : GoesOnAt c new next) (s : Office) (more : List Transaction) (k : ℕ) (taken : Option Message) (sent : List Message) (apart : (calls : List Call) → Move offering t old taken sent calls → AllApart calls) (numbers : KnowsNumbers s (begun ++ more)) (keeps : All (KeepsAsked slots s.table.slots) s.calls.calls) (after : s.calls.calls ≡ calls_after cs place new next) (staged_new : IsStaged new.call) where
+module _ (slots : List (Option Transaction)) (begun : List Transaction) (t : List Datagram) (cs : List StandingCall) (old : List Call) (place : ℕ) (c : StandingCall) (n : Standing) (stands : c.call.standing ≡ Some n) (at_c : slice_get cs place ≡ Some c) (spot : HasSpot slots begun t cs old place c) (asked : HasAsked begun c) (staged : IsStaged c.call) (new : StandingCall) (next : Option Standing) (on : GoesOnAt c new next) (s : Office) (more : List Transaction) (k : ℕ) (taken : Option Message) (sent : List Message) (apart : (calls : List Call) → Move offering t old taken sent calls → AllApart calls) (numbers : KnowsNumbers s (begun ++ more)) (keeps : All (KeepsAsked slots s.table.slots) s.calls.calls) (after : s.calls.calls ≡ calls_after cs place new next) (staged_new : (m : Standing) → next ≡ Some m → IsStaged new.call) where
   abbrev d : Call
   d = spot.call
 
@@ -99,7 +99,7 @@ module _ (slots : List (Option Transaction)) (begun : List Transaction) (t : Lis
         offers = h.offers;
         tag = tag_alike (from_tag u) ∙ h.tag;
         opens = alike u ∙ h.opens;
-        carries = subst (CarriesIf u) (sym (offer_of c new m on.media staged_new at_new waits)) h.carries;
+        carries = subst (CarriesIf u) (sym (offer_of c new m on.media (staged_new m is) at_new waits)) h.carries;
       }
 
       offer_on : (p : Offer) → d.offer ≡ Some p → OfferOn slots s.table.slots begun (begun ++ more) t (t ++ passed k taken sent) c new d p
@@ -125,8 +125,8 @@ module _ (slots : List (Option Transaction)) (begun : List Transaction) (t : Lis
           (subst (λ x. ShowsListing s.table.slots (begun ++ more) (t ++ passed k taken sent) new x (listing m.stage) d) (sym offerer)
           (subst (λ l. ShowsListing s.table.slots (begun ++ more) (t ++ passed k taken sent) new n.offerer l d) (sym same)
           (listing_on slots s.table.slots begun (begun ++ more) t (t ++ passed k taken sent) c new d n.offerer (listing n.stage)
-          (λ has. session_of c new m on.media staged_new at_new (stage_has m.stage ∙ (ap listing_has same ∙ has)))
-          (λ waits. offer_of c new m on.media staged_new at_new (stage_waits m.stage ∙ (ap listing_waits same ∙ waits)))
+          (λ has. session_of c new m on.media (staged_new m is) at_new (stage_has m.stage ∙ (ap listing_has same ∙ has)))
+          (λ waits. offer_of c new m on.media (staged_new m is) at_new (stage_waits m.stage ∙ (ap listing_waits same ∙ waits)))
           (none_on c new on.dialogs)
           (λ waits. offer_on old move spot.place_there spot.there offerer (stage_waits n.stage ∙ waits) (stage_waits m.stage ∙ (ap listing_waits same ∙ waits))) shows_before)));
     }
@@ -162,8 +162,8 @@ module _ (slots : List (Option Transaction)) (begun : List Transaction) (t : Lis
     -- its open offer was refused
     release : listing m.stage ≡ talking → Move offering t old taken sent (slice_set old spot.place_there (without_offer d)) → Goes
     release is_talking move =
-        let kept = session_of c new m on.media staged_new at_new (stage_has m.stage ∙ ap listing_has is_talking) in
-        let some : is_some c.call.media.session ≡ true = ap is_some (sym kept) ∙ (staged_new.session ∙ (ap (holds_in has_session) at_new ∙ (stage_has m.stage ∙ ap listing_has is_talking))) in
+        let kept = session_of c new m on.media (staged_new m is) at_new (stage_has m.stage ∙ ap listing_has is_talking) in
+        let some : is_some c.call.media.session ≡ true = ap is_some (sym kept) ∙ ((staged_new m is).session ∙ (ap (holds_in has_session) at_new ∙ (stage_has m.stage ∙ ap listing_has is_talking))) in
         let had : listing_has (listing n.stage) ≡ true = sym (stage_has n.stage) ∙ (sym (ap (holds_in has_session) stands) ∙ (sym staged.session ∙ some)) in
         let settled : ShowsSettled new.call.media.session d.stage = subst (λ o. ShowsSettled o d.stage) (sym kept) (settled_in slots begun t c n.offerer (listing n.stage) d had shows_before) in
         in_place (without_offer d) (ap is_shown is_talking) move (record {

@@ -21,6 +21,16 @@ use Rattle.call_trace.specs.Messages.{offering}
 use Rattle.call_trace.specs.Moves.{Move}
 use Rattle.ties.specs.Lines.{actions_in, next_in}
 use Rattle.ties.specs.Listing.{Listed}
+use Rattle.ties.specs.Shows.{ShowsCall}
+use Rattle.std.specs.List.{All}
+use Rattle.transactions.specs.declared.transaction.Transaction.{Transaction}
+use Rattle.plans.specs.Office.{Office}
+use Rattle.call_trace.specs.Lives.{Stands}
+use Rattle.promise.specs.Askers.{KeepsAsked}
+use Rattle.promise.specs.Numbers.{KnowsNumbers}
+use Rattle.promise.specs.OpenRequests.{HasAsked}
+use Rattle.read_back.specs.Comings.{KnowsScenes}
+use Rattle.serving.specs.Serving.{AreStaged}
 
 -- the signal that the call sees of an input; of an offer none, nor of an answer that is fit
 abbrev pub IsSignalOf : ServerCall → Input → Signal → Type 0
@@ -69,3 +79,19 @@ calls_after calls place new (Some next) = slice_set calls place new
 -- what the calls of the trace come to: this move leads to calls that show those that stand afterwards
 abbrev pub GoOn : (StandingCall → Call → Type 0) → List StandingCall → List Datagram → List Call → Option Message → List Message → Type 0
 GoOn shows after t old taken sent = (calls : List Call) × Move offering t old taken sent calls × Listed shows after calls
+
+-- ---- before an event, and after it
+
+-- the trace's calls show the server's, which have begun the requests of their open offers, and whose media are as their stages ask
+pub record StandsShown (s : Office) (begun : List Transaction) (t : List Datagram) (old : List Call) (k : ℕ) : Type 0 where
+  pub listed : Listed (ShowsCall s.table.slots begun t) s.calls.calls old
+  pub asked : All (HasAsked begun) s.calls.calls
+  pub stands : Stands offering old k t
+  pub staged : AreStaged s
+  pub scenes : KnowsScenes s
+
+-- the requests of open offers were kept, and the numbers of what was begun rise
+pub record IsAfter (s after : Office) (begun : List Transaction) : Type 0 where
+  pub numbers : KnowsNumbers after begun
+  pub keeps : All (KeepsAsked s.table.slots after.table.slots) after.calls.calls
+  pub staged : AreStaged after

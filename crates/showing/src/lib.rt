@@ -2,5 +2,7 @@
 #![tactic(auto)]
 
 mod steps;
+mod taking;
 
 pub use steps::{answers_go_again, lines_go_on, signal_steps_are_lines, signals_go_on};
+pub use taking::{steps_are_heard, takes_go_on};

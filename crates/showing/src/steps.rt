@@ -63,7 +63,8 @@ pub fn signal_steps_are_lines()
 pub fn lines_go_on()
     ensures { (slots : List (Option Transaction)) (begun more : List Transaction) (t : List Datagram) (cs : List StandingCall) (old : List Call) (place : ℕ)
         (c : StandingCall) (n : Standing) → c.call.standing ≡ Some n → slice_get cs place ≡ Some c → (spot : HasSpot slots begun t cs old place c) →
-        HasAsked begun c → IsStaged c.call → (new : StandingCall) (next : Option Standing) → GoesOnAt c new next → IsStaged new.call → (s : Office) (k : ℕ)
+        HasAsked begun c → IsStaged c.call → (new : StandingCall) (next : Option Standing) → GoesOnAt c new next →
+        ((m : Standing) → next ≡ Some m → IsStaged new.call) → (s : Office) (k : ℕ)
         (taken : Option Message) (sent : List Message) → Stands offering old k t → KnowsNumbers s (begun ++ more) →
         All (KeepsAsked slots s.table.slots) s.calls.calls → s.calls.calls ≡ calls_after cs place new next →
         LineMove t old spot.place_there spot.call taken sent n next →
@@ -87,7 +88,8 @@ pub fn answers_go_again()
 pub fn signals_go_on()
     ensures { (slots : List (Option Transaction)) (begun more : List Transaction) (t : List Datagram) (cs : List StandingCall) (old : List Call) (place : ℕ)
         (c : StandingCall) (n : Standing) → c.call.standing ≡ Some n → slice_get cs place ≡ Some c → (spot : HasSpot slots begun t cs old place c) →
-        HasAsked begun c → IsStaged c.call → (new : StandingCall) (signal : Signal) → GoesOnAt c new (next_in n (row_of n signal)) → IsStaged new.call →
+        HasAsked begun c → IsStaged c.call → (new : StandingCall) (signal : Signal) → GoesOnAt c new (next_in n (row_of n signal)) →
+        ((m : Standing) → next_in n (row_of n signal) ≡ Some m → IsStaged new.call) →
         (s : Office) (k : ℕ) (taken : Option Message) (before ms : List Message) (scene : Scene) (tokens : ℕ) → Stands offering old k t →
         KnowsNumbers s (begun ++ more) → All (KeepsAsked slots s.table.slots) s.calls.calls →
         s.calls.calls ≡ calls_after cs place new (next_in n (row_of n signal)) → AllOf (IsIdle offering t taken) before →
