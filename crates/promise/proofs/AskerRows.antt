@@ -175,12 +175,12 @@ new_asks s k e r begun id n = rule_asks s k e r begun id (request_rule s r e.now
 
 -- ---- a response to a request of the server's own
 
-class_by : (a b : Bool) → cond a classes.Provisional (cond b classes.Success classes.Failure) ≡ classes.Provisional → a ≡ true
+pub class_by : (a b : Bool) → cond a classes.Provisional (cond b classes.Success classes.Failure) ≡ classes.Provisional → a ≡ true
 class_by true b e = refl
 class_by false true e = absurd cc
 class_by false false e = absurd cc
 
-failure_by : (a b : Bool) → cond a classes.Provisional (cond b classes.Success classes.Failure) ≡ classes.Failure → b ≡ false
+pub failure_by : (a b : Bool) → cond a classes.Provisional (cond b classes.Success classes.Failure) ≡ classes.Failure → b ≡ false
 failure_by true b e = absurd cc
 failure_by false true e = absurd cc
 failure_by false false e = refl

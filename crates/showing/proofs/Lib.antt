@@ -6,3 +6,5 @@ pub mod GoingOn
 pub mod Again
 pub mod Hearing
 pub mod Takes
+pub mod Timers
+pub mod Responses

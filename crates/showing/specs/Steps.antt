@@ -46,6 +46,14 @@ IsSignalOf c inputs.Limit signal = signal ≡ signals.Limit
 IsSignalOf c inputs.Repeat signal = signal ≡ signals.Repeat
 IsSignalOf c inputs.Wait signal = signal ≡ signals.Wait
 
+-- that of a timer: of the call's own, or of its request that has no final response in time
+abbrev pub due_signal : Input → Option Signal
+due_signal inputs.TimedOut = Some signals.TimedOut
+due_signal inputs.Limit = Some signals.Limit
+due_signal inputs.Repeat = Some signals.Repeat
+due_signal inputs.Wait = Some signals.Wait
+due_signal input = None
+
 -- its session and its open offer are kept, or given up
 pub record KeepsMedia (c new : ServerCall) : Type 0 where
   pub session : (new.media.session ≡ c.media.session) ⊎ (new.media.session ≡ None)

@@ -1,6 +1,6 @@
 //! Inputs that a call takes.
 
-ghost use Rattle.std.specs.Prelude.{◌++◌, ◌≡◌, ℕ, List, [], Option, slice_get, Some, true};
+ghost use Rattle.std.specs.Prelude.{◌++◌, ◌≡◌, ℕ, List, [], None, Option, slice_get, Some, true};
 ghost use Rattle.call_core.specs.CallRows.{call_row};
 ghost use Rattle.call_core.specs.declared.action.Action.TheVariants.{AnswerAgain};
 ghost use Rattle.call_core.specs.declared.input.Input.{Input};
@@ -16,19 +16,24 @@ ghost use Rattle.call_trace.specs.Listed.{AllOf};
 ghost use Rattle.call_trace.specs.Messages.{offering};
 ghost use Rattle.calls.specs.declared.change.LegDialog.{LegDialog};
 ghost use Rattle.calls.specs.declared.standing_call.StandingCall.{StandingCall};
-ghost use Rattle.plans.specs.CallRows.{occasion};
+ghost use Rattle.plans.specs.CallRows.{occasion, takes};
+ghost use Rattle.plans.specs.Effect.{Effect};
+ghost use Rattle.events.specs.declared.sent.Sent.{Sent};
+ghost use Rattle.promise.specs.Sending.{KnowsSent};
 ghost use Rattle.plans.specs.Office.{Office};
 ghost use Rattle.plans.specs.declared.setting.Setting.{Setting};
 ghost use Rattle.read_back.specs.Comings.{CanCome, KnowsScenes};
 ghost use Rattle.scenes.specs.Coming.{FitsComing, scene_at};
-ghost use Rattle.showing.specs.Steps.{GoOn, IsAfter, IsSignalOf, StandsShown};
-ghost use Rattle.signals.specs.Taking.{TakesSignal};
+ghost use Rattle.showing.specs.Steps.{GoOn, IsAfter, IsSignalOf, StandsShown, due_signal};
+ghost use Rattle.signals.specs.Taking.{KnowsLegs, TakesSignal};
 ghost use Rattle.ties.specs.Heard.{HearsActions};
 ghost use Rattle.ties.specs.Inputs.{is_bye_signal};
 ghost use Rattle.ties.specs.Lines.{SaysNone};
 ghost use Rattle.ties.specs.Listing.{is_listed};
 ghost use Rattle.ties.specs.Shows.{ShowsCall};
+ghost use Rattle.traces.specs.Knowing.{KnowsTrace};
 ghost use Rattle.traces.specs.Messages.{AreMessages};
+ghost use Rattle.transactions.specs.declared.change.Entry.{Entry};
 ghost use Rattle.transactions.specs.declared.transaction.Transaction.{Transaction};
 
 use call_trace::moves_keep;
@@ -64,6 +69,23 @@ pub fn takes_go_on()
         AreMessages (takes_row s.calls s.table (occasion s e) place input leg request).dressed.sends ms →
         after.calls.calls ≡ (takes_row s.calls s.table (occasion s e) place input leg request).outcome.standing.calls →
         GoOn (ShowsCall after.table.slots (begun ++ more) (t ++ passed k taken (before ++ ms))) after.calls.calls t old taken (before ++ ms) }
+{
+    moves_keep();
+    bytes_say_all();
+    written_is_read();
+    bodies_describe();
+    sent_is_read();
+}
+
+/// Where a timer is due that a call which the trace lists takes, of its own or of its request, the event is a move of the trace's calls, and after
+/// it the trace's calls show the server's, whatever is known after it as in each other event.
+pub fn timers_go_on()
+    ensures { (s after : Office) (begun more : List Transaction) (sent : List Sent) (t : List Datagram) (old : List Call) (k : ℕ) → StandsShown s begun t old k →
+        IsAfter s after (begun ++ more) → KnowsTrace s begun sent t → KnowsSent s sent → KnowsLegs s → (e : Setting) (place : ℕ) (c : StandingCall) (n : Standing)
+        (entries : List Entry) → slice_get s.calls.calls place ≡ Some c → c.call.standing ≡ Some n → is_listed c ≡ true → (input : Input) (signal : Signal) →
+        due_signal input ≡ Some signal → (x : Effect) → x ≡ takes s e entries None None place input None → (ms : List Message) → AreMessages x.plan.sends ms →
+        after.calls.calls ≡ x.calls.standing.calls →
+        GoOn (ShowsCall after.table.slots (begun ++ more) (t ++ passed k None ms)) after.calls.calls t old None ms }
 {
     moves_keep();
     bytes_say_all();

@@ -1,0 +1,14 @@
+use Rattle.call_trace.specs.Messages.{offering}
+use Rattle.promise.proofs.ReadMessages.{message_reads, name_reads}
+use Rattle.showing.proofs.Responses.{refusal_goes_on, ringing_goes_on}
+use Rattle.showing.proofs.responding.responses_go_on.Goals as goal
+
+pub returns-clause-ringing : goal.returns-clause-ringing
+returns-clause-ringing c = λ s after begun more sent t old k before later tied knows e place c' n entries there stands listed bytes r taken read took class.
+    ringing_goes_on (record { same = c.bytes_say_all.ensures.one; bytes = c.bytes_say_all.ensures.bytes; back = c.written_is_read.ensures }) (record { message = message_reads; name = name_reads; callee = c.dialogs_are_sound.ensures.callee; contact = c.contacts_are_read.ensures }) c.bodies_describe.ensures c.sent_is_read.ensures
+    (λ k t old new taken sent m h. (c.moves_keep.ensures.one offering k t old new taken sent m h).sessions.apart) s after begun more sent t old k before later tied knows e place c' n entries there stands listed bytes r taken read took class
+
+pub returns-clause-refusal : goal.returns-clause-refusal
+returns-clause-refusal c = λ s after begun more sent t old k before later tied knows e place c' n entries there stands listed bytes r taken read took id y to class.
+    refusal_goes_on (record { same = c.bytes_say_all.ensures.one; bytes = c.bytes_say_all.ensures.bytes; back = c.written_is_read.ensures }) (record { message = message_reads; name = name_reads; callee = c.dialogs_are_sound.ensures.callee; contact = c.contacts_are_read.ensures }) c.bodies_describe.ensures c.sent_is_read.ensures
+    (λ k t old new taken sent m h. (c.moves_keep.ensures.one offering k t old new taken sent m h).sessions.apart) s after begun more sent t old k before later tied knows e place c' n entries there stands listed bytes r taken read took c.replies.ensures.reply id y to class
