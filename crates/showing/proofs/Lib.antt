@@ -8,3 +8,4 @@ pub mod Hearing
 pub mod Takes
 pub mod Timers
 pub mod Responses
+pub mod Requests
