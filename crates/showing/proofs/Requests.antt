@@ -1,4 +1,4 @@
--- A BYE that a call takes: what it does is a move, and the trace's calls show the server's afterwards.
+-- A CANCEL or a BYE that a call takes: what it does is a move, and the trace's calls show the server's afterwards.
 use Rattle.std.proofs.Common.{◌≡◌, ◌∙◌, ℕ, true, false, List, ◌++◌, Option, Some, Ok, refl, sym, ap, subst, not, ◌&&◌}
 use Rattle.std.specs.Prelude.{IsTrue, slice_get}
 use Rattle.std.proofs.lemmas.Option.{same_Some}
@@ -41,19 +41,21 @@ use Rattle.showing.specs.Steps.{GoOn, IsAfter, IsSignalOf, StandsShown}
 use Rattle.showing.proofs.Again.{again_none}
 use Rattle.showing.proofs.Takes.{takes_go_on}
 use Rattle.std.proofs.lemmas.Slice.Eq.{bytes_eq-Decides}
-use Rattle.std.proofs.Common.{Bool, codes, true, false, [], not, ◌&&◌}
+use Rattle.std.proofs.Common.{Bool, None, codes, true, false, [], not, ◌&&◌}
 use Rattle.sip_message.specs.declared.message.Request.{Request}
 use Rattle.calls.specs.declared.change.LegDialog.{LegDialog}
 use Rattle.call_media.specs.declared.end.End.{End}
 use Rattle.call_rules.specs.Requests.{dialog_rule}
 use Rattle.call_steps.specs.Rows.{counts}
-use Rattle.plans.specs.CallRows.{asker, takes_request}
+use Rattle.responses.specs.Words.{is_method}
+use Rattle.promise.proofs.ReadParts.{same_method}
+use Rattle.plans.specs.CallRows.{asker, tag_at, takes_request}
 use Rattle.responses.specs.Responding.{stateless}
 use Rattle.promise.specs.Addresses.{IsSource}
-use Rattle.read_back.proofs.Comings.{bye_comes}
+use Rattle.read_back.proofs.Comings.{bye_comes, cancel_comes}
 use Rattle.scenes.specs.Coming.{FitsComing}
 use Rattle.scenes.proofs.Fitting.{counts_fits}
-use Rattle.signals.proofs.Comings.{bye_signals}
+use Rattle.signals.proofs.Comings.{bye_signals, cancel_signals}
 use Rattle.call_rules.specs.Speaking.{is_bye}
 use Rattle.promise.specs.Sending.{KnowsSent}
 use Rattle.promise.specs.Sound.{HasSoundLegs}
@@ -99,3 +101,10 @@ module _ (reads : Reading) (describes : BodiesDescribe) (law : SentIsRead) (keep
       by_request (inputs.Bye end) (signals.Bye end) (counts s.calls.calls place end r.parts.cseq.number) stateless refl (bye_comes s e bytes r id place end before.scenes from read is)
       (counts_fits s.calls.calls place end r.parts.cseq.number c there (all_at HasSoundLegs s.calls.calls place c knows.dialogs.calls there)) (bye_unlisted r is)
       (λ d shows. bye_signals s e place c (call_row c.call (inputs.Bye end) s.calls.pool e.now).description begun t n d r id end stateless bytes taken knows (shown d shows) read took rule)
+
+  pub cancel_goes_on : is_method (codes "CANCEL") r ≡ true → GoesOn inputs.Cancel None (tag_at (slice_get s.calls.calls place))
+  cancel_goes_on is =
+      let method = (bytes_eq-Decides r.method (codes "CANCEL")).0 is in
+      by_request inputs.Cancel signals.Cancel None (tag_at (slice_get s.calls.calls place)) refl (cancel_comes s e bytes r id place before.scenes from read method) tt
+      (subst (λ (v : List ℕ). is_listed offering v ≡ false) (sym (same_method bytes r read ∙ method)) refl)
+      (λ d shows. cancel_signals s e place c (call_row c.call inputs.Cancel s.calls.pool e.now).description begun t n d r id (tag_at (slice_get s.calls.calls place)) bytes taken knows (shown d shows) read took is)

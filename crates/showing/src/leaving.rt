@@ -1,6 +1,6 @@
-//! A BYE that a call takes.
+//! Requests of the ends that end a call, or give up its first offer.
 
-ghost use Rattle.std.specs.Prelude.{◌++◌, ◌≡◌, ℕ, List, None, Ok, Option, slice_get, Some, true};
+ghost use Rattle.std.specs.Prelude.{◌++◌, ◌≡◌, ℕ, codes, List, None, Ok, Option, slice_get, Some, true};
 ghost use Rattle.call_core.specs.declared.input.Input.TheVariants as inputs;
 ghost use Rattle.call_core.specs.declared.stage.Standing.{Standing};
 ghost use Rattle.call_trace.specs.declared.call.Call.{Call};
@@ -9,7 +9,7 @@ ghost use Rattle.call_trace.specs.declared.datagram.Message.{Message};
 ghost use Rattle.call_trace.specs.Events.{passed};
 ghost use Rattle.calls.specs.declared.standing_call.StandingCall.{StandingCall};
 ghost use Rattle.events.specs.declared.sent.Sent.{Sent};
-ghost use Rattle.plans.specs.CallRows.{takes_request};
+ghost use Rattle.plans.specs.CallRows.{tag_at, takes_request};
 ghost use Rattle.plans.specs.Effect.{Effect};
 ghost use Rattle.plans.specs.Office.{Office};
 ghost use Rattle.plans.specs.declared.setting.Setting.{Setting};
@@ -30,6 +30,7 @@ ghost use Rattle.call_steps.specs.Rows.{counts};
 ghost use Rattle.promise.specs.Addresses.{IsSource};
 ghost use Rattle.promise.specs.Sending.{KnowsSent};
 ghost use Rattle.responses.specs.Responding.{stateless};
+ghost use Rattle.responses.specs.Words.{is_method};
 ghost use Rattle.sip_message.specs.declared.message.Request.{Request};
 ghost use Rattle.traces.specs.Knowing.{KnowsTrace};
 
@@ -38,15 +39,23 @@ use offer_answer::sent_is_read;
 use sip_writing::written_is_read;
 use trace_reading::{bodies_describe, bytes_say_all};
 
-/// Where a call that the trace lists takes a BYE of one of its ends, the event is a move of the trace's calls, and after it the trace's calls show
-/// the server's: the call is gone, or was left by that end.
-pub fn byes_go_on()
-    ensures { (s after : Office) (begun more : List Transaction) (sent : List Sent) (t : List Datagram) (old : List Call) (k : ℕ) → StandsShown s begun t old k →
+/// Where a call that the trace lists takes a BYE of one of its ends, or the CANCEL of its offer, the event is a move of the trace's calls, and
+/// after it the trace's calls show the server's: the call is gone, was left by that end, is listed no more, or waits on.
+pub fn requests_go_on()
+    ensures bye { (s after : Office) (begun more : List Transaction) (sent : List Sent) (t : List Datagram) (old : List Call) (k : ℕ) → StandsShown s begun t old k →
         IsAfter s after (begun ++ more) → KnowsTrace s begun sent t → KnowsSent s sent → KnowsLegs s → (e : Setting) → IsSource e.source → (place : ℕ)
         (c : StandingCall) (n : Standing) (entries : List Entry) → slice_get s.calls.calls place ≡ Some c → c.call.standing ≡ Some n → is_listed c ≡ true →
-        (bytes : List ℕ) (r : Request) (id : ℕ) (taken : Option Message) → message_of bytes ≡ Ok (Kinds.Request r) → IsTakenOf bytes taken → (end : End) →
-        is_bye r.parts ≡ true → dialog_rule s.calls.calls r ≡ Leaves place end → (x : Effect) →
-        x ≡ takes_request s e r entries id place (inputs.Bye end) (counts s.calls.calls place end r.parts.cseq.number) stateless → (ms : List Message) →
+        (bytes : List ℕ) (r : Request) (id : ℕ) (taken : Option Message) → message_of bytes ≡ Ok (Kinds.Request r) → IsTakenOf bytes taken →
+        (end : End) → is_bye r.parts ≡ true → dialog_rule s.calls.calls r ≡ Leaves place end →
+        (x : Effect) → x ≡ takes_request s e r entries id place (inputs.Bye end) (counts s.calls.calls place end r.parts.cseq.number) stateless → (ms : List Message) →
+        AreMessages x.plan.sends ms → after.calls.calls ≡ x.calls.standing.calls →
+        GoOn (ShowsCall after.table.slots (begun ++ more) (t ++ passed k taken ms)) after.calls.calls t old taken ms }
+    ensures cancel { (s after : Office) (begun more : List Transaction) (sent : List Sent) (t : List Datagram) (old : List Call) (k : ℕ) → StandsShown s begun t old k →
+        IsAfter s after (begun ++ more) → KnowsTrace s begun sent t → KnowsSent s sent → KnowsLegs s → (e : Setting) → IsSource e.source → (place : ℕ)
+        (c : StandingCall) (n : Standing) (entries : List Entry) → slice_get s.calls.calls place ≡ Some c → c.call.standing ≡ Some n → is_listed c ≡ true →
+        (bytes : List ℕ) (r : Request) (id : ℕ) (taken : Option Message) → message_of bytes ≡ Ok (Kinds.Request r) → IsTakenOf bytes taken →
+        is_method (codes "CANCEL") r ≡ true →
+        (x : Effect) → x ≡ takes_request s e r entries id place inputs.Cancel None (tag_at (slice_get s.calls.calls place)) → (ms : List Message) →
         AreMessages x.plan.sends ms → after.calls.calls ≡ x.calls.standing.calls →
         GoOn (ShowsCall after.table.slots (begun ++ more) (t ++ passed k taken ms)) after.calls.calls t old taken ms }
 {

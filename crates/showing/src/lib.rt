@@ -6,7 +6,7 @@ mod responding;
 mod steps;
 mod taking;
 
-pub use leaving::byes_go_on;
+pub use leaving::requests_go_on;
 pub use responding::responses_go_on;
 pub use steps::{answers_go_again, lines_go_on, signal_steps_are_lines, signals_go_on};
 pub use taking::{steps_are_heard, takes_go_on, timers_go_on};
