@@ -85,7 +85,7 @@ abbrev pub NoneTakesMessage : (s : Office) (e : Setting) (m : Read) (begun : Lis
 NoneTakesMessage s e m begun send x (cases.dropped taken why is) = Unit {0}
 NoneTakesMessage s e m begun send x (cases.moved why is) = Unit {0}
 NoneTakesMessage s e m begun send x (cases.requested r id same verdict row) = NoneTakesRequest s e r begun id x row
-NoneTakesMessage s e m begun send x (cases.acknowledged r place same found is) = ⊥
+NoneTakesMessage s e m begun send x (cases.acknowledged r place same ack found is) = ⊥
 NoneTakesMessage s e m begun send x (cases.responded r id t same verdict to row) = NoneTakesResponse s e r begun send id t x row
 
 abbrev pub NoneTakesDatagram : (s : Office) (e : Setting) (bytes : List ℕ) (x : Effect) → DatagramCase s e bytes x → Type 0
@@ -202,7 +202,7 @@ module _ (reads : Reading) (names : ReadsNames) (describes : BodiesDescribe) (s 
     message_move m read reached x (cases.dropped answer why is) none = subst (IsQuiet (whats.Datagram source bytes)) (sym is) (λ took are. none_move (whats.Datagram source bytes) answer why took are)
     message_move m read reached x (cases.moved why is) none = subst (IsQuiet (whats.Datagram source bytes)) (sym is) (moved_move m read why)
     message_move m read reached x (cases.requested r id same verdict row) none = request_move r (read ∙ ap (λ (y : Read). Ok y) same) (begun_by s e m) id x row none
-    message_move m read reached x (cases.acknowledged r place same found is) none = absurd none
+    message_move m read reached x (cases.acknowledged r place same ack found is) none = absurd none
     message_move m read reached x (cases.responded r id y same verdict to row) none =
         response_move r (read ∙ ap (λ (n : Read). Ok n) same) (subst (λ n. is_unreachable_message n ≡ false) same reached) (begun_by s e m) (reception_of s.table m).send (ap (λ n. (reception_of s.table n).send) same) id y to x row none
 

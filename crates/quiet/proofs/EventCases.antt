@@ -14,7 +14,7 @@ use Rattle.sip_message.specs.declared.message.Response.{Response}
 use Rattle.sip_message.specs.declared.words.Class.TheVariants.{Failure, Provisional as Early, Success}
 use Rattle.sip_message.specs.AnswerableParts.{answerable_of}
 use Rattle.sip_message.specs.Read.{message_of}
-use Rattle.sip_message.specs.Words.{class_of}
+use Rattle.sip_message.specs.Words.{class_of, is_method}
 use Rattle.sip_writing.specs.Reply.{answer_address}
 use Rattle.transactions.specs.declared.change.Entry.{Entry}
 use Rattle.transactions.specs.declared.outcome.Outgoing.{Outgoing}
@@ -53,6 +53,7 @@ use Rattle.promise.proofs.ResponseViews.{IsAsked}
 use Rattle.promise.proofs.Views as views
 use Rattle.promise.proofs.Views.{DueRow, WhatRow, what_view}
 use Rattle.quiet.specs.Verdicts.{IsTransactions}
+use Rattle.quiet.proofs.AckRequests.{IsAckIf, up_is_ack}
 use Rattle.quiet.proofs.RequestCases.{RequestCase, request_view}
 use Rattle.quiet.proofs.RuleReasons.{Reason, rule_reason}
 
@@ -97,26 +98,26 @@ pub data MessageCase (s : Office) (e : Setting) (m : Message) (begun : List Entr
   dropped : (taken : Taken) → IsNotDone taken → x ≡ of_plan s (nothing taken) → MessageCase s e m begun send x
   moved : IsTransactions (reception_of s.table m).verdict → x ≡ of_plan s (moves begun send) → MessageCase s e m begun send x
   requested : (r : Request) (id : ℕ) → m ≡ Kinds.Request r → (reception_of s.table m).verdict ≡ verdicts.New id → RequestCase s e r begun id x → MessageCase s e m begun send x
-  acknowledged : (r : Request) (place : ℕ) → m ≡ Kinds.Request r → place_by_ack r.parts s.calls.calls ≡ Some place → x ≡ takes s e begun None None place inputs.Ack None → MessageCase s e m begun send x
+  acknowledged : (r : Request) (place : ℕ) → m ≡ Kinds.Request r → is_method (codes "ACK") r.parts ≡ true → place_by_ack r.parts s.calls.calls ≡ Some place → x ≡ takes s e begun None None place inputs.Ack None → MessageCase s e m begun send x
   responded : (r : Response) (id : ℕ) (t : Transaction) → m ≡ Kinds.Response r → (reception_of s.table m).verdict ≡ verdicts.Up id → IsResponseTo s r id t → ResponseCase s e r begun send id t x
       → MessageCase s e m begun send x
 
-ack_by_case : (s : Office) (e : Setting) (r : Request) (begun : List Entry) (send : Option Outgoing) (place : Option ℕ) → place_by_ack r.parts s.calls.calls ≡ place → MessageCase s e (Kinds.Request r) begun send (ack_by s e begun place)
-ack_by_case s e r begun send None there = dropped (takens.Dropped whys.Ack) tt refl
-ack_by_case s e r begun send (Some place) there = acknowledged r place refl there refl
+ack_by_case : (s : Office) (e : Setting) (r : Request) (begun : List Entry) (send : Option Outgoing) (place : Option ℕ) → is_method (codes "ACK") r.parts ≡ true → place_by_ack r.parts s.calls.calls ≡ place → MessageCase s e (Kinds.Request r) begun send (ack_by s e begun place)
+ack_by_case s e r begun send None is there = dropped (takens.Dropped whys.Ack) tt refl
+ack_by_case s e r begun send (Some place) is there = acknowledged r place refl is there refl
 
-ack_case : (s : Office) (e : Setting) (r : Request) (begun : List Entry) (send : Option Outgoing) → MessageCase s e (Kinds.Request r) begun send (ack_row s e r begun)
+ack_case : (s : Office) (e : Setting) (r : Request) (begun : List Entry) (send : Option Outgoing) → is_method (codes "ACK") r.parts ≡ true → MessageCase s e (Kinds.Request r) begun send (ack_row s e r begun)
 unfolding ack_row
-ack_case s e r begun send = ack_by_case s e r begun send (place_by_ack r.parts s.calls.calls) refl
+ack_case s e r begun send is = ack_by_case s e r begun send (place_by_ack r.parts s.calls.calls) is refl
 
-request_by_case : (s : Office) (e : Setting) (r : Request) (begun : List Entry) (verdict : Verdict) (send : Option Outgoing) → (reception_of s.table (Kinds.Request r)).verdict ≡ verdict
+request_by_case : (s : Office) (e : Setting) (r : Request) (begun : List Entry) (verdict : Verdict) (send : Option Outgoing) → (reception_of s.table (Kinds.Request r)).verdict ≡ verdict → IsAckIf r verdict
     → MessageCase s e (Kinds.Request r) begun send (request_by s e r begun verdict send)
 unfolding request_by
-request_by_case s e r begun (verdicts.New id) send is = requested r id refl is (request_view s e r begun id)
-request_by_case s e r begun verdicts.Repeat send is = moved (subst IsTransactions (sym is) tt) refl
-request_by_case s e r begun verdicts.Swallowed send is = moved (subst IsTransactions (sym is) tt) refl
-request_by_case s e r begun (verdicts.Up id) send is = ack_case s e r begun send
-request_by_case s e r begun verdicts.Stray send is = ack_case s e r begun send
+request_by_case s e r begun (verdicts.New id) send is ack = requested r id refl is (request_view s e r begun id)
+request_by_case s e r begun verdicts.Repeat send is ack = moved (subst IsTransactions (sym is) tt) refl
+request_by_case s e r begun verdicts.Swallowed send is ack = moved (subst IsTransactions (sym is) tt) refl
+request_by_case s e r begun (verdicts.Up id) send is ack = ack_case s e r begun send ack
+request_by_case s e r begun verdicts.Stray send is ack = ack_case s e r begun send ack
 
 -- a response goes up only for the transaction that it is one to
 abbrev UpFound : Office → Response → Verdict → Type 0
@@ -175,7 +176,7 @@ response_by_case s e r begun (verdicts.Up id) send is found = up_case s e r begu
 response_by_case s e r begun verdicts.Stray send is found = dropped (takens.Dropped whys.Stray) tt refl
 
 received_by_case : (s : Office) (e : Setting) (m : Message) (begun : List Entry) (send : Option Outgoing) → MessageCase s e m begun send (received_by s e m begun (reception_of s.table m).verdict send)
-received_by_case s e (Kinds.Request r) begun send = request_by_case s e r begun (reception_of s.table (Kinds.Request r)).verdict send refl
+received_by_case s e (Kinds.Request r) begun send = request_by_case s e r begun (reception_of s.table (Kinds.Request r)).verdict send refl (up_is_ack s r)
 received_by_case s e (Kinds.Response r) begun send = response_by_case s e r begun (reception_of s.table (Kinds.Response r)).verdict send refl (up_found s r)
 
 abbrev pub ReceivedCase : Office → Setting → Message → Effect → Type 0

@@ -19,6 +19,7 @@ pub mod ForkMoves
 pub mod LegsKept
 pub mod AckMoves
 pub mod RequestCases
+pub mod AckRequests
 pub mod EventCases
 pub mod CaseMoves
 pub mod MachineRows

@@ -3,6 +3,7 @@ use Rattle.std.proofs.Common.{◌≡◌, ◌∙◌, ℕ, true, false, List, ◌+
 use Rattle.std.specs.Prelude.{IsTrue, slice_get}
 use Rattle.std.proofs.lemmas.Option.{same_Some}
 use Rattle.events.specs.declared.sent.Sent.{Sent}
+use Rattle.sip_message.specs.Words.{is_method as is_ack}
 use Rattle.sip_message.specs.Read.{message_of}
 use Rattle.sip_message.specs.declared.message.Message.TheVariants as Kinds
 use Rattle.transactions.specs.declared.change.Entry.{Entry}
@@ -49,13 +50,13 @@ use Rattle.call_rules.specs.Requests.{dialog_rule}
 use Rattle.call_steps.specs.Rows.{counts}
 use Rattle.responses.specs.Words.{is_method}
 use Rattle.promise.proofs.ReadParts.{same_method}
-use Rattle.plans.specs.CallRows.{asker, tag_at, takes_request}
+use Rattle.plans.specs.CallRows.{asker, tag_at, takes_request, takes}
 use Rattle.responses.specs.Responding.{stateless}
 use Rattle.promise.specs.Addresses.{IsSource}
-use Rattle.read_back.proofs.Comings.{bye_comes, cancel_comes}
+use Rattle.read_back.proofs.Comings.{alone_comes, bye_comes, cancel_comes}
 use Rattle.scenes.specs.Coming.{FitsComing}
 use Rattle.scenes.proofs.Fitting.{counts_fits}
-use Rattle.signals.proofs.Comings.{bye_signals, cancel_signals}
+use Rattle.signals.proofs.Comings.{ack_signals, bye_signals, cancel_signals}
 use Rattle.call_rules.specs.Speaking.{is_bye}
 use Rattle.promise.specs.Sending.{KnowsSent}
 use Rattle.promise.specs.Sound.{HasSoundLegs}
@@ -77,6 +78,9 @@ none_asked bytes r taken read took none m is =
     let same : trace_message bytes (Kinds.Request r) ≡ m = same_Some (trace_message bytes (Kinds.Request r)) m (sym (taken_is bytes (Kinds.Request r) taken read took) ∙ is) in
     subst (λ (x : Message). IsTrue (not (asks offering x))) same (asks_nothing bytes r none)
 
+ack_unlisted : (r : Request) → is_ack (codes "ACK") r.parts ≡ true → is_listed offering r.parts.cseq.method ≡ false
+ack_unlisted r is = subst (λ (v : List ℕ). is_listed offering v ≡ false) (sym ((bytes_eq-Decides r.parts.cseq.method (codes "ACK")).0 is)) refl
+
 bye_unlisted : (r : Request) → is_bye r.parts ≡ true → is_listed offering r.parts.cseq.method ≡ false
 bye_unlisted r is = subst (λ (v : List ℕ). is_listed offering v ≡ false) (sym ((bytes_eq-Decides r.parts.cseq.method (codes "BYE")).0 is)) refl
 
@@ -86,11 +90,11 @@ module _ (reads : Reading) (describes : BodiesDescribe) (law : SentIsRead) (keep
       → GoOn (ShowsCall after.table.slots (begun ++ more) (t ++ passed k taken ms)) after.calls.calls t old taken ms
 
   by_request : (input : Input) (signal : Signal) (leg : Option LegDialog) (tag : List ℕ) → IsSignalOf c.call input signal → CanCome input (without_offer leg (Some (asker r e id tag))) → FitsComing c leg → is_listed offering r.parts.cseq.method ≡ false
-      → ((d : Call) → ShowsCall s.table.slots begun t c d
+      → ((d : Call) (j : ℕ) → slice_get old j ≡ Some d → ShowsCall s.table.slots begun t c d
       → TakesSignal n (scene_at s e (without_offer leg (Some (asker r e id tag))) c (call_row c.call input s.calls.pool e.now).description) d taken signal) → GoesOn input leg tag
   by_request input signal leg tag is can fits none comes x eq ms are calls =
-      takes_go_on reads describes law keep s after begun more t old k before later e place c n input signal leg (Some (asker r e id tag)) there stands listed is can fits taken [] ms tt (λ bye. refl)
-      (again_none reads s begun sent t taken known was (none_asked bytes r taken read took none) e (without_offer leg (Some (asker r e id tag))) place c (call_row c.call input s.calls.pool e.now).description n.offerer there) comes
+      takes_go_on reads describes law keep s after begun more t old k before later e place c n input signal leg (Some (asker r e id tag)) there stands listed is can taken [] ms tt (λ bye. refl)
+      (again_none reads s begun sent t taken known was (none_asked bytes r taken read took none) e (without_offer leg (Some (asker r e id tag))) place c (call_row c.call input s.calls.pool e.now).description n.offerer there) comes fits
       (subst (λ (y : Effect). AreMessages y.plan.sends ms) eq are) (calls ∙ ap (λ (y : Effect). y.calls.standing.calls) eq)
 
   shown : (d : Call) → ShowsCall s.table.slots begun t c d → IsShownAt s begun t place c n d
@@ -100,11 +104,20 @@ module _ (reads : Reading) (describes : BodiesDescribe) (law : SentIsRead) (keep
   bye_goes_on end is rule =
       by_request (inputs.Bye end) (signals.Bye end) (counts s.calls.calls place end r.parts.cseq.number) stateless refl (bye_comes s e bytes r id place end before.scenes from read is)
       (counts_fits s.calls.calls place end r.parts.cseq.number c there (all_at HasSoundLegs s.calls.calls place c knows.dialogs.calls there)) (bye_unlisted r is)
-      (λ d shows. bye_signals s e place c (call_row c.call (inputs.Bye end) s.calls.pool e.now).description begun t n d r id end stateless bytes taken knows (shown d shows) read took rule)
+      (λ d j at shows. bye_signals s e place c (call_row c.call (inputs.Bye end) s.calls.pool e.now).description begun t n d r id end stateless bytes taken knows (shown d shows) read took rule)
 
   pub cancel_goes_on : is_method (codes "CANCEL") r ≡ true → GoesOn inputs.Cancel None (tag_at (slice_get s.calls.calls place))
   cancel_goes_on is =
       let method = (bytes_eq-Decides r.method (codes "CANCEL")).0 is in
       by_request inputs.Cancel signals.Cancel None (tag_at (slice_get s.calls.calls place)) refl (cancel_comes s e bytes r id place before.scenes from read method) tt
       (subst (λ (v : List ℕ). is_listed offering v ≡ false) (sym (same_method bytes r read ∙ method)) refl)
-      (λ d shows. cancel_signals s e place c (call_row c.call inputs.Cancel s.calls.pool e.now).description begun t n d r id (tag_at (slice_get s.calls.calls place)) bytes taken knows (shown d shows) read took is)
+      (λ d j at shows. cancel_signals s e place c (call_row c.call inputs.Cancel s.calls.pool e.now).description begun t n d r id (tag_at (slice_get s.calls.calls place)) bytes taken knows (shown d shows) read took is)
+
+  -- an ACK, to which nothing is said
+  pub ack_goes_on : is_ack (codes "ACK") r.parts ≡ true → (x : Effect) → x ≡ takes s e entries None None place inputs.Ack None → (ms : List Message) → AreMessages x.plan.sends ms → after.calls.calls ≡ x.calls.standing.calls
+      → GoOn (ShowsCall after.table.slots (begun ++ more) (t ++ passed k taken ms)) after.calls.calls t old taken ms
+  ack_goes_on is x eq ms are calls =
+      takes_go_on reads describes law keep s after begun more t old k before later e place c n inputs.Ack signals.Ack None None there stands listed refl (alone_comes inputs.Ack tt refl tt) taken [] ms tt (λ bye. refl)
+      (again_none reads s begun sent t taken known was (none_asked bytes r taken read took (ack_unlisted r is)) e (without_offer None None) place c (call_row c.call inputs.Ack s.calls.pool e.now).description n.offerer there)
+      (λ d j at shows. ack_signals s e place c (call_row c.call inputs.Ack s.calls.pool e.now).description begun t n d r bytes taken knows (shown d shows) read took) tt
+      (subst (λ (y : Effect). AreMessages y.plan.sends ms) eq are) (calls ∙ ap (λ (y : Effect). y.calls.standing.calls) eq)

@@ -1,5 +1,6 @@
 -- Where a call that the trace lists takes an input that is a signal, the event is a move, and the trace's calls show the server's afterwards.
-use Rattle.std.proofs.Common.{◌≡◌, ◌∙◌, ℕ, true, cond, is_some, List, [], ◌++◌, Option, Some, None, ap, sym, subst, refl}
+use Rattle.std.proofs.Common.{◌≡◌, ◌⊎◌, ◌∙◌, ℕ, true, cond, is_some, List, [], ◌++◌, Option, Some, None, ap, sym, subst, refl, inl, inr}
+use Rattle.std.proofs.lemmas.Option.{none-some}
 use Rattle.std.specs.Prelude.{remove, slice_get, slice_set}
 use Rattle.transactions.specs.declared.transaction.Transaction.{Transaction}
 use Rattle.call_core.specs.CallRows.{call_row}
@@ -56,7 +57,20 @@ list_after : (cs : List StandingCall) (place : ℕ) (new : StandingCall) (standi
 list_after cs place new None next is = ap (calls_after cs place new) is
 list_after cs place new (Some m) next is = ap (calls_after cs place new) is
 
-module _ (reads : Reading) (describes : BodiesDescribe) (law : SentIsRead) (keep : (k : ℕ) (t : List Datagram) (old new : List Call) (taken : Option Message) (sent : List Message) → Move offering t old taken sent new → Stands offering old k t → AllApart new) (s after : Office) (begun more : List Transaction) (t : List Datagram) (old : List Call) (k : ℕ) (before : StandsShown s begun t old k) (later : IsAfter s after (begun ++ more)) (e : Setting) (place : ℕ) (c : StandingCall) (n : Standing) (input : Input) (signal : Signal) (leg : Option LegDialog) (request : Option AskerValue) (there : slice_get s.calls.calls place ≡ Some c) (stands : c.call.standing ≡ Some n) (listed : is_listed c ≡ true) (is_signal : IsSignalOf c.call input signal) (can : CanCome input (without_offer leg request)) (fits : FitsComing c leg) where
+-- the call in no place
+abbrev gone_as : StandingCall → Option Standing → StandingCall
+gone_as c next = record c { call = record c.call { standing = next } }
+
+goes_nowhere : (c : StandingCall) (next : Option Standing) → next ≡ None → GoesOnAt c (gone_as c next) next
+goes_nowhere c next gone = record {
+  standing = refl;
+  dialogs = record { caller = refl; callee = refl; tag = refl };
+  media = record { session = inl refl; offer = inl refl };
+  asked = refl;
+  opens = λ n m is next_m. absurd (none-some m (sym gone ∙ next_m));
+}
+
+module _ (reads : Reading) (describes : BodiesDescribe) (law : SentIsRead) (keep : (k : ℕ) (t : List Datagram) (old new : List Call) (taken : Option Message) (sent : List Message) → Move offering t old taken sent new → Stands offering old k t → AllApart new) (s after : Office) (begun more : List Transaction) (t : List Datagram) (old : List Call) (k : ℕ) (before : StandsShown s begun t old k) (later : IsAfter s after (begun ++ more)) (e : Setting) (place : ℕ) (c : StandingCall) (n : Standing) (input : Input) (signal : Signal) (leg : Option LegDialog) (request : Option AskerValue) (there : slice_get s.calls.calls place ≡ Some c) (stands : c.call.standing ≡ Some n) (listed : is_listed c ≡ true) (is_signal : IsSignalOf c.call input signal) (can : CanCome input (without_offer leg request)) where
   abbrev w : ComingValue
   w = without_offer leg request
 
@@ -75,32 +89,46 @@ module _ (reads : Reading) (describes : BodiesDescribe) (law : SentIsRead) (keep
   spot : HasSpot s.table.slots begun t s.calls.calls old place c
   spot = has_spot s.table.slots begun t s.calls.calls old place c before.listed before.asked there listed
 
-  on : GoesOnAt c new next
-  on = goes_on_at w (messages_of s.table (occasion s e) w c step) c n input signal s.calls.pool e.now stands is_signal fits refl
+  staged_put : (put : StandingCall) → after.calls.calls ≡ calls_after s.calls.calls place put next → (m : Standing) → next ≡ Some m → IsStaged put.call
+  staged_put put calls m is =
+      let at_put : slice_get after.calls.calls place ≡ Some put = subst (λ l. slice_get l place ≡ Some put) (sym (calls ∙ ap (calls_after s.calls.calls place put) is)) (got_set s.calls.calls place c put there) in
+      all_at (λ (x : StandingCall). IsStaged x.call) after.calls.calls place put later.staged at_put
 
-  staged_new : after.calls.calls ≡ calls_after s.calls.calls place new next → (m : Standing) → next ≡ Some m → IsStaged new.call
-  staged_new calls m is =
-      let at_new : slice_get after.calls.calls place ≡ Some new = subst (λ l. slice_get l place ≡ Some new) (sym (calls ∙ ap (calls_after s.calls.calls place new) is)) (got_set s.calls.calls place c new there) in
-      all_at (λ (x : StandingCall). IsStaged x.call) after.calls.calls place new later.staged at_new
-
-  module _ (taken : Option Message) (first ms : List Message) (idle : AllOf (IsIdle offering t taken) first) (alone : is_bye_signal signal ≡ true → first ≡ []) (again : SaysNone t taken (scene_at s e w c step.description) (AnswerAgain n.offerer)) (takes : (d : Call) → ShowsCall s.table.slots begun t c d → TakesSignal n (scene_at s e w c step.description) d taken signal) where
-    by_step : AreMessages (messages_of s.table (occasion s e) w c step).dressed.sends ms → after.calls.calls ≡ cond (is_some step.call.standing) (slice_set s.calls.calls place new) (remove s.calls.calls place)
+  module _ (taken : Option Message) (first ms : List Message) (idle : AllOf (IsIdle offering t taken) first) (alone : is_bye_signal signal ≡ true → first ≡ []) (again : SaysNone t taken (scene_at s e w c step.description) (AnswerAgain n.offerer)) (takes : (d : Call) (j : ℕ) → slice_get old j ≡ Some d → ShowsCall s.table.slots begun t c d → TakesSignal n (scene_at s e w c step.description) d taken signal) where
+    -- the call goes on here, or is gone
+    by_step : (put : StandingCall) → GoesOnAt c put next → AreMessages (messages_of s.table (occasion s e) w c step).dressed.sends ms → after.calls.calls ≡ calls_after s.calls.calls place put next
         → GoOn (Shows (passed k taken (first ++ ms))) after.calls.calls t old taken (first ++ ms)
-    by_step are calls =
+    by_step put on are list =
         let line = signal_row c.call n input signal s.calls.pool e.now stands is_signal in
-        let list = calls ∙ list_after s.calls.calls place new step.call.standing next line.next in
-        let took = takes spot.call spot.shows in
+        let took = takes spot.call spot.place_there spot.there spot.shows in
         let apart = before.stands.sessions.apart in
         let hears = subst (λ actions. HearsActions (scene_at s e w c step.description) s.tokens actions ms) line.actions (step_heard reads describes law s e place c input w before.scenes there can ms are) in
         line_goes_on s.table.slots begun t s.calls.calls old place c n stands there spot (at_place (HasAsked begun) s.calls.calls place c before.asked there)
-        (all_at (λ (x : StandingCall). IsStaged x.call) s.calls.calls place c before.staged there) new next on after more k taken (first ++ ms)
-        (λ calls m. keep k t old calls taken (first ++ ms) m before.stands) later.numbers later.keeps list (staged_new list)
+        (all_at (λ (x : StandingCall). IsStaged x.call) s.calls.calls place c before.staged there) put next on after more k taken (first ++ ms)
+        (λ calls m. keep k t old calls taken (first ++ ms) m before.stands) later.numbers later.keeps list (staged_put put list)
         (stage_moves t old spot.place_there spot.call apart spot.there (all_at HasTags old spot.place_there spot.call before.stands.sessions.tags spot.there) taken first idle (scene_at s e w c step.description) s.tokens n.offerer n.stage signal alone again
         took.legs took.at took.awaited took.took ms hears)
 
-    pub takes_go_on : AreMessages (takes_row s.calls s.table (occasion s e) place input leg request).dressed.sends ms → after.calls.calls ≡ (takes_row s.calls s.table (occasion s e) place input leg request).outcome.standing.calls
+    -- what the row comes to
+    abbrev Takes : Type 0
+    Takes = AreMessages (takes_row s.calls s.table (occasion s e) place input leg request).dressed.sends ms → after.calls.calls ≡ (takes_row s.calls s.table (occasion s e) place input leg request).outcome.standing.calls
         → GoOn (Shows (passed k taken (first ++ ms))) after.calls.calls t old taken (first ++ ms)
+
+    by_row : (put : StandingCall) → GoesOnAt c put next → calls_after s.calls.calls place new next ≡ calls_after s.calls.calls place put next → Takes
     unfolding takes_row
-    takes_go_on are calls =
-        by_step (subst (λ o. AreMessages (takes_by s.calls s.table (occasion s e) place input leg request o).dressed.sends ms) there are)
-        (calls ∙ ap (λ o. (takes_by s.calls s.table (occasion s e) place input leg request o).outcome.standing.calls) there)
+    by_row put on same are calls =
+        let line = signal_row c.call n input signal s.calls.pool e.now stands is_signal in
+        by_step put on (subst (λ o. AreMessages (takes_by s.calls s.table (occasion s e) place input leg request o).dressed.sends ms) there are)
+        ((calls ∙ ap (λ o. (takes_by s.calls s.table (occasion s e) place input leg request o).outcome.standing.calls) there) ∙ (list_after s.calls.calls place new step.call.standing next line.next ∙ same))
+
+    -- with a dialog of its own, if one comes
+    pub takes_go_on : FitsComing c leg → Takes
+    takes_go_on fits = by_row new (goes_on_at w (messages_of s.table (occasion s e) w c step) c n input signal s.calls.pool e.now stands is_signal fits refl) refl
+
+    -- or where it is gone then, whatever dialog comes
+    gone_goes_on : next ≡ None → Takes
+    gone_goes_on gone = by_row (gone_as c next) (goes_nowhere c next gone) (ap (calls_after s.calls.calls place new) gone ∙ ap (calls_after s.calls.calls place (gone_as c next)) (sym gone))
+
+    pub fits_or_gone : FitsComing c leg ⊎ (next ≡ None) → Takes
+    fits_or_gone (inl fits) = takes_go_on fits
+    fits_or_gone (inr gone) = gone_goes_on gone

@@ -48,9 +48,9 @@ module _ (reads : Reading) (describes : BodiesDescribe) (law : SentIsRead) (keep
 
   due_by : (input : Input) (signal : Signal) → IsSignalOf c.call input signal → CanCome input (without_offer None None) → is_due_signal signal ≡ true → GoesOn input
   due_by input signal is can due x eq ms are calls =
-      takes_go_on reads describes law keep s after begun more t old k before later e place c n input signal None None there stands listed is can tt None [] ms tt (λ bye. refl)
+      takes_go_on reads describes law keep s after begun more t old k before later e place c n input signal None None there stands listed is can None [] ms tt (λ bye. refl)
       (again_none reads s begun sent t None known was (λ m none. absurd (none-some m none)) e (without_offer None None) place c (call_row c.call input s.calls.pool e.now).description n.offerer there)
-      (λ d shows. due_signals s e place c (call_row c.call input s.calls.pool e.now).description begun t n d signal knows (record { there = there; stands = stands; shows = shows }) due)
+      (λ d j at shows. due_signals s e place c (call_row c.call input s.calls.pool e.now).description begun t n d signal knows (record { there = there; stands = stands; shows = shows }) due) tt
       (subst (λ (y : Effect). AreMessages y.plan.sends ms) eq are) (calls ∙ ap (λ (y : Effect). y.calls.standing.calls) eq)
 
   pub timer_goes_on : (input : Input) (signal : Signal) → due_signal input ≡ Some signal → GoesOn input

@@ -64,7 +64,7 @@ pub fn takes_go_on()
         IsSignalOf c.call input signal → CanCome input (without_offer leg request) → FitsComing c leg → (taken : Option Message) (before ms : List Message) →
         AllOf (IsIdle offering t taken) before → (is_bye_signal signal ≡ true → before ≡ []) →
         SaysNone t taken (scene_at s e (without_offer leg request) c (call_row c.call input s.calls.pool e.now).description) (AnswerAgain n.offerer) →
-        ((d : Call) → ShowsCall s.table.slots begun t c d →
+        ((d : Call) (j : ℕ) → slice_get old j ≡ Some d → ShowsCall s.table.slots begun t c d →
         TakesSignal n (scene_at s e (without_offer leg request) c (call_row c.call input s.calls.pool e.now).description) d taken signal) →
         AreMessages (takes_row s.calls s.table (occasion s e) place input leg request).dressed.sends ms →
         after.calls.calls ≡ (takes_row s.calls s.table (occasion s e) place input leg request).outcome.standing.calls →

@@ -97,14 +97,14 @@ module _ (laws : ReadingLaws) (s : Office) (e : Setting) (place : ℕ) (c : Stan
 
   -- ---- a later one
 
-  fits : is_unanswered n.stage ≡ false → FitsComing c w.leg
-  fits answered =
+  pub answered_fits : is_unanswered n.stage ≡ false → FitsComing c w.leg
+  answered_fits answered =
       let old = dialog_there c n (other (offerer_of c.call.standing)) (all_at HasCallee s.calls.calls place c knows.callees.calls h.there) h.stands answered in
       answers_fits s.calls.calls place x.parts r c old.0 h.there sound target old.1
 
   later_legs : is_unanswered n.stage ≡ false → Legs (scene_at s e w c description) d
   later_legs answered =
-      legs_there s e w c description n d sound (all_at HasNumbersLeft s.calls.calls place c knows.left h.there) (all_at HasCallee s.calls.calls place c knows.callees.calls h.there) h.shows.legs (fits answered) h.stands answered
+      legs_there s e w c description n d sound (all_at HasNumbersLeft s.calls.calls place c knows.left h.there) (all_at HasCallee s.calls.calls place c knows.callees.calls h.there) h.shows.legs (answered_fits answered) h.stands answered
 
   -- ---- the first one
 
