@@ -9,3 +9,5 @@ pub mod Takes
 pub mod Timers
 pub mod Responses
 pub mod Requests
+pub mod UnlistedCalls
+pub mod HiddenSignals

@@ -57,7 +57,7 @@ use Rattle.signals.specs.Responding.{RespondsToOffer}
 use Rattle.signals.specs.Taking.{IsShownAt, KnowsLegs, TakesSignal}
 use Rattle.traces.proofs.Taking.{ReplyLaw}
 use Rattle.promise.proofs.Rows.{answered_client}
-use Rattle.signals.proofs.FirstAnswers.{ReadingLaws, answered_fits, success_signals}
+use Rattle.signals.proofs.FirstAnswers.{ReadingLaws, later_fits, success_signals}
 use Rattle.signals.proofs.Responses.{refusal_signals, ringing_signals}
 use Rattle.scenes.specs.Coming.{FitsComing, scene_at}
 use Rattle.ties.specs.Lines.{next_in}
@@ -136,7 +136,7 @@ module _ (reads : Reading) (names : ReadsNames) (describes : BodiesDescribe) (la
   module _ (laws : ReadingLaws) (waiting : KnowsWaiting s) (id : ℕ) (x : Transaction) (to : RespondsToOffer s r id x c) (reached : is_unreachable_message (Kinds.Response r) ≡ false) (class : class_of r.status ≡ classes.Success) where
     fits_later : is_unanswered n.stage ≡ false → FitsComing c (answers_leg s.calls.calls place x.parts r)
     fits_later answered =
-        answered_fits laws s e place c None begun sent t n spot.call r id x bytes taken knows tied.tokens waiting tied.trace (shown spot.call spot.shows) (all_at (CallStands offering t) old spot.place_there spot.call before.stands.sessions.stand spot.there) to read reached took class answered
+        later_fits laws s e place c None begun sent t n spot.call r id x bytes taken knows tied.tokens waiting tied.trace (shown spot.call spot.shows) (all_at (CallStands offering t) old spot.place_there spot.call before.stands.sessions.stand spot.there) to read reached took class answered
 
     unfit_goes : (stage : Stage) → n.stage ≡ stage → FitsComing c (answers_leg s.calls.calls place x.parts r) ⊎ (next_in n (row_of n signals.UnfitAnswer) ≡ None)
     unfit_goes (Asked rung) is = inr (asked_gone n rung is)

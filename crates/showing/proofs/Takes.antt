@@ -53,7 +53,7 @@ use Rattle.showing.proofs.Lines.{got_set, line_goes_on}
 use Rattle.showing.proofs.SignalSteps.{signal_row}
 
 -- the list of calls that a step leaves
-list_after : (cs : List StandingCall) (place : ℕ) (new : StandingCall) (standing next : Option Standing) → standing ≡ next → cond (is_some standing) (slice_set cs place new) (remove cs place) ≡ calls_after cs place new next
+pub list_after : (cs : List StandingCall) (place : ℕ) (new : StandingCall) (standing next : Option Standing) → standing ≡ next → cond (is_some standing) (slice_set cs place new) (remove cs place) ≡ calls_after cs place new next
 list_after cs place new None next is = ap (calls_after cs place new) is
 list_after cs place new (Some m) next is = ap (calls_after cs place new) is
 

@@ -62,20 +62,8 @@ use Rattle.signals.specs.Responding.{RespondsToOffer}
 use Rattle.signals.specs.Taking.{IsShownAt, KnowsLegs, TakesSignal}
 use Rattle.signals.proofs.ListedStages.{dialog_there, is_at, legs_there, stage_shown, staged_legs}
 use Rattle.signals.proofs.OpenOffers.{offer_there}
+use Rattle.signals.proofs.ReachedAnswers.{answered_fits, counted, reached, target}
 use Rattle.signals.proofs.Responses.{awaited_there, offering_there, success_taken, went_is}
-
--- ---- where the 2xx reaches
-
-one_reached : (values : List ContactValue) → is_one_address values ≡ true → is_some (reached_at values) ≡ true
-one_reached [] h = absurd (false≢true h)
-one_reached (Star ∷ more) h = absurd (false≢true h)
-one_reached (Unreadable ∷ more) h = absurd (false≢true h)
-one_reached (Address name ∷ []) h = refl
-one_reached (Address name ∷ next ∷ more) h = absurd (false≢true h)
-
-some_of : (o : Option Uri) → is_some o ≡ true → (uri : Uri) × (o ≡ Some uri)
-some_of None h = absurd (false≢true h)
-some_of (Some uri) h = (uri, refl)
 
 -- what the laws of reading say
 pub record ReadingLaws : Type 0 where
@@ -89,54 +77,30 @@ module _ (laws : ReadingLaws) (s : Office) (e : Setting) (place : ℕ) (c : Stan
   abbrev w : ComingValue
   w = without_offer (answers_leg s.calls.calls place x.parts r) None
 
-  sound : HasSoundLegs c
-  sound = all_at HasSoundLegs s.calls.calls place c knows.dialogs.calls h.there
-
-  target : IsTargetIf (reached_at (contacts_of r.headers))
-  target = reached_target laws.reading r.parts r.headers (response_may_offer r.parts x to.answers to.offers) (response_reached r reaches class)
-
   -- ---- a later one
 
-  pub answered_fits : is_unanswered n.stage ≡ false → FitsComing c w.leg
-  answered_fits answered =
+  pub later_fits : is_unanswered n.stage ≡ false → FitsComing c w.leg
+  later_fits answered =
       let old = dialog_there c n (other (offerer_of c.call.standing)) (all_at HasCallee s.calls.calls place c knows.callees.calls h.there) h.stands answered in
-      answers_fits s.calls.calls place x.parts r c old.0 h.there sound target old.1
+      answered_fits laws.reading laws.names s place c n r id x bytes knows waiting h.there h.stands to read reaches class old.0 old.1
 
   later_legs : is_unanswered n.stage ≡ false → Legs (scene_at s e w c description) d
   later_legs answered =
-      legs_there s e w c description n d sound (all_at HasNumbersLeft s.calls.calls place c knows.left h.there) (all_at HasCallee s.calls.calls place c knows.callees.calls h.there) h.shows.legs (answered_fits answered) h.stands answered
+      legs_there s e w c description n d (all_at HasSoundLegs s.calls.calls place c knows.dialogs.calls h.there) (all_at HasNumbersLeft s.calls.calls place c knows.left h.there) (all_at HasCallee s.calls.calls place c knows.callees.calls h.there) h.shows.legs (later_fits answered) h.stands answered
 
   -- ---- the first one
-
-  asks_callee : n.offerer ≡ Caller → asked_end x.parts c ≡ Callee
-  asks_callee first =
-      let o = opened x.parts c to.opens in
-      let same : o.0 ≡ n = same_Some o.0 n (sym o.1.stands ∙ h.stands) in
-      same_is (asked_end x.parts c) (other o.0.offerer) o.1.end ∙ ap (λ (m : Standing). other m.offerer) same ∙ ap other first
-
-  reached : n.offerer ≡ Caller → c.call.callee ≡ None → (uri : Uri) × (reached_at (contacts_of r.headers) ≡ Some uri)
-  reached first none =
-      let tag : from_tag x ≡ c.callee_tag = sym (asked_leg x.parts c (ap (λ y. is_same y Callee) (asks_callee first))) in
-      let offers = offering_there laws.replies s place c begun sent t n d r id x bytes taken tokens trace h to read took in
-      let invite : is_invite x.parts ≡ true = all_at (AsksFirst x) s.calls.calls place c (knows.callees.requests id x to.there offers) h.there tag none in
-      let invited : is_invite r.parts ≡ true = subst (λ m. pointwise nat_eq m (codes "INVITE") ≡ true) (sym (response_method r.parts x to.answers)) invite in
-      some_of (reached_at (contacts_of r.headers)) (one_reached (contacts_of r.headers) (laws.names bytes r read invited (success_is r.status class)))
-
-  counted : n.offerer ≡ Caller → IsCounted x.parts.cseq.number c.call.callee
-  counted first =
-      let offers = offering_there laws.replies s place c begun sent t n d r id x bytes taken tokens trace h to read took in
-      subst (λ end. IsCounted x.parts.cseq.number (dialog_of end c.call)) (asks_callee first) (fits_at x s.calls.calls place c (waiting.awaited id x to.there offers) h.there to.tag).counted
 
   -- in the leg of the INVITE, by the trace
   first_leg_of : (p : Offer) → d.offer ≡ Some p → p.by_caller ≡ true → n.offerer ≡ Caller → c.call.callee ≡ None → FirstLeg (scene_at s e w c description) d
   first_leg_of p opened_is by first none =
-      let uri = reached first none in
+      let uri = reached laws.reading laws.names s place c n r id x bytes knows waiting h.there h.stands to read reaches class first none in
       let offered = (stands.offer p opened_is).4 in
       let came = first_answer s.calls.calls place x.parts r c uri.0 h.there uri.1 (ap offerer_of h.stands ∙ first) none in
       let side : leg d (not p.by_caller) ≡ d.callee = ap (λ b. leg d (not b)) by in
       record {
         callee = tagged d.callee (trace_message bytes (Kinds.Response r)).to_tag;
-        leg = first_in s e w c description d p x.parts bytes r uri.0 none came (subst IsTargetIf uri.1 target) (counted first) (went_is laws.replies s place c begun sent t n d r id x bytes taken tokens trace h to read took p opened_is)
+        leg = first_in s e w c description d p x.parts bytes r uri.0 none came (subst IsTargetIf uri.1 (target laws.reading laws.names s place c n r id x bytes knows waiting h.there h.stands to read reaches class))
+            (counted laws.reading laws.names s place c n r id x bytes knows waiting h.there h.stands to read reaches class first) (went_is laws.replies s place c begun sent t n d r id x bytes taken tokens trace h to read took p opened_is)
             (offered.went_call ∙ ap (λ (y : Dialog). y.call_id) side) (offered.went_from ∙ ap (λ (y : Dialog). y.ours) side);
         ours = refl;
       }
