@@ -42,7 +42,7 @@ module _ (s : Office) (begun : List Transaction) (sent : List Sent) (t : List Da
 
   module _ (listed : Listed (ShowsCall s.table.slots begun t) s.calls.calls ds) (tokens : KnowsTokens s) (waiting : KnowsWaiting s) (bytes : List ℕ) (r : Response) (id : ℕ) (x : Transaction)
       (there : at s.table.slots id ≡ Some x) (answers : is_answered r.parts (Some x) ≡ true) where
-    none_has : AllOf (λ d. ¬ IsTagOf d (tag_text x.parts.from.params)) ds → (b : Bool) → is_final (trace_message bytes (Kinds.Response r)).kind ≡ b
+    pub none_has : AllOf (λ d. ¬ IsTagOf d (tag_text x.parts.from.params)) ds → (b : Bool) → is_final (trace_message bytes (Kinds.Response r)).kind ≡ b
         → IsPartingTaken offering t (Some (trace_message bytes (Kinds.Response r))) ds
     none_has none true final =
         answered (trace_message bytes (Kinds.Response r)) refl final (subst (λ tag. AllOf (λ d. ¬ IsTagOf d tag) ds) (sym (same_from bytes r x answers)) none)

@@ -11,3 +11,4 @@ pub mod Responses
 pub mod Requests
 pub mod UnlistedCalls
 pub mod HiddenSignals
+pub mod HiddenInputs

@@ -1,11 +1,12 @@
 -- A timer that is due: what the call does for it is a move, and the trace's calls show the server's afterwards.
 use Rattle.std.proofs.Common.{◌≡◌, ◌∙◌, ℕ, true, List, [], ◌++◌, Option, Some, None, refl, ap, subst}
-use Rattle.std.proofs.lemmas.Option.{none-some}
+use Rattle.std.proofs.lemmas.Option.{none-some, same_Some}
 use Rattle.std.specs.Prelude.{slice_get}
 use Rattle.events.specs.declared.sent.Sent.{Sent}
 use Rattle.transactions.specs.declared.change.Entry.{Entry}
 use Rattle.transactions.specs.declared.transaction.Transaction.{Transaction}
 use Rattle.call_core.specs.CallRows.{call_row}
+use Rattle.call_core.specs.declared.call.Call.{Call as ServerCall}
 use Rattle.call_core.specs.declared.input.Input.{Input}
 use Rattle.call_core.specs.declared.input.Input.TheVariants as inputs
 use Rattle.call_core.specs.declared.signal.Signal.{Signal}
@@ -41,27 +42,37 @@ use Rattle.showing.specs.Steps.{GoOn, IsAfter, IsSignalOf, StandsShown, due_sign
 use Rattle.showing.proofs.Again.{again_none}
 use Rattle.showing.proofs.Takes.{takes_go_on}
 
+-- ---- the signal of a timer
+
+pub record IsDue (c : ServerCall) (input : Input) (signal : Signal) : Type 0 where
+  pub of : IsSignalOf c input signal
+  pub can : CanCome input (without_offer None None)
+  pub due : is_due_signal signal ≡ true
+
+pub due_input : (c : ServerCall) (input : Input) (signal : Signal) → due_signal input ≡ Some signal → IsDue c input signal
+due_input c (inputs.Offer end method offer) signal is = absurd (none-some signal is)
+due_input c (inputs.Provisional status) signal is = absurd (none-some signal is)
+due_input c (inputs.Answer answer) signal is = absurd (none-some signal is)
+due_input c (inputs.Refusal status) signal is = absurd (none-some signal is)
+due_input c inputs.TimedOut signal is = subst (IsDue c inputs.TimedOut) (same_Some signals.TimedOut signal is) (record { of = refl; can = alone_comes inputs.TimedOut tt refl tt; due = refl })
+due_input c inputs.Ack signal is = absurd (none-some signal is)
+due_input c inputs.Cancel signal is = absurd (none-some signal is)
+due_input c (inputs.Bye end) signal is = absurd (none-some signal is)
+due_input c inputs.Limit signal is = subst (IsDue c inputs.Limit) (same_Some signals.Limit signal is) (record { of = refl; can = alone_comes inputs.Limit tt refl tt; due = refl })
+due_input c inputs.Repeat signal is = subst (IsDue c inputs.Repeat) (same_Some signals.Repeat signal is) (record { of = refl; can = alone_comes inputs.Repeat tt refl tt; due = refl })
+due_input c inputs.Wait signal is = subst (IsDue c inputs.Wait) (same_Some signals.Wait signal is) (record { of = refl; can = alone_comes inputs.Wait tt refl tt; due = refl })
+
+-- ---- the event
+
 module _ (reads : Reading) (describes : BodiesDescribe) (law : SentIsRead) (keep : (k : ℕ) (t : List Datagram) (old new : List Call) (taken : Option Message) (sent : List Message) → Move offering t old taken sent new → Stands offering old k t → AllApart new) (s after : Office) (begun more : List Transaction) (sent : List Sent) (t : List Datagram) (old : List Call) (k : ℕ) (before : StandsShown s begun t old k) (later : IsAfter s after (begun ++ more)) (known : KnowsTrace s begun sent t) (was : KnowsSent s sent) (knows : KnowsLegs s) (e : Setting) (place : ℕ) (c : StandingCall) (n : Standing) (entries : List Entry) (there : slice_get s.calls.calls place ≡ Some c) (stands : c.call.standing ≡ Some n) (listed : is_listed c ≡ true) where
   abbrev GoesOn : Input → Type 0
   GoesOn input = (x : Effect) → x ≡ takes s e entries None None place input None → (ms : List Message) → AreMessages x.plan.sends ms → after.calls.calls ≡ x.calls.standing.calls
       → GoOn (ShowsCall after.table.slots (begun ++ more) (t ++ passed k None ms)) after.calls.calls t old None ms
 
-  due_by : (input : Input) (signal : Signal) → IsSignalOf c.call input signal → CanCome input (without_offer None None) → is_due_signal signal ≡ true → GoesOn input
-  due_by input signal is can due x eq ms are calls =
-      takes_go_on reads describes law keep s after begun more t old k before later e place c n input signal None None there stands listed is can None [] ms tt (λ bye. refl)
-      (again_none reads s begun sent t None known was (λ m none. absurd (none-some m none)) e (without_offer None None) place c (call_row c.call input s.calls.pool e.now).description n.offerer there)
-      (λ d j at shows. due_signals s e place c (call_row c.call input s.calls.pool e.now).description begun t n d signal knows (record { there = there; stands = stands; shows = shows }) due) tt
-      (subst (λ (y : Effect). AreMessages y.plan.sends ms) eq are) (calls ∙ ap (λ (y : Effect). y.calls.standing.calls) eq)
-
   pub timer_goes_on : (input : Input) (signal : Signal) → due_signal input ≡ Some signal → GoesOn input
-  timer_goes_on (inputs.Offer end method offer) signal due = absurd (none-some signal due)
-  timer_goes_on (inputs.Provisional status) signal due = absurd (none-some signal due)
-  timer_goes_on (inputs.Answer answer) signal due = absurd (none-some signal due)
-  timer_goes_on (inputs.Refusal status) signal due = absurd (none-some signal due)
-  timer_goes_on inputs.TimedOut signal due = due_by inputs.TimedOut signals.TimedOut refl (alone_comes inputs.TimedOut tt refl tt) refl
-  timer_goes_on inputs.Ack signal due = absurd (none-some signal due)
-  timer_goes_on inputs.Cancel signal due = absurd (none-some signal due)
-  timer_goes_on (inputs.Bye end) signal due = absurd (none-some signal due)
-  timer_goes_on inputs.Limit signal due = due_by inputs.Limit signals.Limit refl (alone_comes inputs.Limit tt refl tt) refl
-  timer_goes_on inputs.Repeat signal due = due_by inputs.Repeat signals.Repeat refl (alone_comes inputs.Repeat tt refl tt) refl
-  timer_goes_on inputs.Wait signal due = due_by inputs.Wait signals.Wait refl (alone_comes inputs.Wait tt refl tt) refl
+  timer_goes_on input signal is x eq ms are calls =
+      let due = due_input c.call input signal is in
+      takes_go_on reads describes law keep s after begun more t old k before later e place c n input signal None None there stands listed due.of due.can None [] ms tt (λ bye. refl)
+      (again_none reads s begun sent t None known was (λ m none. absurd (none-some m none)) e (without_offer None None) place c (call_row c.call input s.calls.pool e.now).description n.offerer there)
+      (λ d j at shows. due_signals s e place c (call_row c.call input s.calls.pool e.now).description begun t n d signal knows (record { there = there; stands = stands; shows = shows }) due.due) tt
+      (subst (λ (y : Effect). AreMessages y.plan.sends ms) eq are) (calls ∙ ap (λ (y : Effect). y.calls.standing.calls) eq)

@@ -1,0 +1,223 @@
+-- What a call that the trace lists no more takes moves no call of the trace, and the trace's calls show the server's afterwards.
+use Rattle.std.proofs.Common.{Bool, is_some, List, None, Ok, Option, Some, [], ap, codes, false, inl, inr, not, refl, subst, sym, true, ℕ, ◌&&◌, ◌++◌, ◌∙◌, ◌≡◌, ◌⊎◌}
+use Rattle.std.specs.Prelude.{IsTrue, nat_lt, slice_get}
+use Rattle.std.proofs.lemmas.Bool.{false≢true, ltb-false, ltb-true}
+use Rattle.std.proofs.lemmas.Option.{none-some, same_Some}
+use Rattle.events.specs.declared.sent.Sent.{Sent}
+use Rattle.sip_message.specs.Read.{message_of}
+use Rattle.sip_message.specs.declared.message.Message.TheVariants as Kinds
+use Rattle.sip_message.specs.declared.message.Response.{Response}
+use Rattle.sip_message.specs.Words.{class_of, is_method as is_ack}
+use Rattle.sip_message.specs.declared.words.Class.TheVariants as classes
+use Rattle.transactions.specs.Contents.{reception_of}
+use Rattle.transactions.specs.declared.change.Entry.{Entry}
+use Rattle.transactions.specs.declared.transaction.Transaction.{Transaction}
+use Rattle.agent.specs.Rows.{is_unreachable_message}
+use Rattle.call_core.specs.CallRows.{call_row, is_fit}
+use Rattle.call_rules.specs.Content.{described}
+use Rattle.call_core.specs.Calls.{holds_in}
+use Rattle.call_core.specs.Asked.{asked_row}
+use Rattle.call_core.specs.Table.{row_in, row_of}
+use Rattle.call_core.specs.declared.call.Call.{Call as ServerCall}
+use Rattle.call_steps.specs.Values.{AskerValue}
+use Rattle.call_core.specs.declared.input.Input.{Input}
+use Rattle.call_core.specs.declared.input.Input.TheVariants as inputs
+use Rattle.call_core.specs.declared.signal.Signal.{Signal}
+use Rattle.call_core.specs.declared.signal.Signal.TheVariants as signals
+use Rattle.call_core.specs.declared.stage.Stage.{Stage}
+use Rattle.call_core.specs.declared.stage.Stage.TheVariants.{Cancelling}
+use Rattle.call_core.specs.declared.stage.Standing.{Standing}
+use Rattle.call_steps.specs.Rows.{answers_leg, counts, takes_row}
+use Rattle.call_steps.specs.Values.{without_offer}
+use Rattle.calls.specs.declared.change.LegDialog.{LegDialog}
+use Rattle.calls.specs.declared.standing_call.StandingCall.{StandingCall}
+use Rattle.plans.specs.CallRows.{asker, occasion, tag_at, takes, takes_request}
+use Rattle.plans.specs.Effect.{Effect}
+use Rattle.plans.specs.Office.{Office}
+use Rattle.plans.specs.Plan.{goes}
+use Rattle.plans.specs.declared.setting.Setting.{Setting}
+use Rattle.call_trace.specs.declared.call.Call.{Call}
+use Rattle.call_trace.specs.declared.datagram.Datagram.{Datagram}
+use Rattle.call_trace.specs.declared.datagram.Message.{Message}
+use Rattle.call_trace.specs.Events.{NoneAsked, passed}
+use Rattle.call_trace.specs.Lives.{Stands}
+use Rattle.call_trace.specs.Messages.{is_final, offering}
+use Rattle.call_trace.specs.Moves.{Move}
+use Rattle.call_trace.specs.Stands.{AllApart, CallStands}
+use Rattle.promise.proofs.AskerRows.{class_by, failure_by}
+use Rattle.promise.proofs.Describing.{BodiesDescribe}
+use Rattle.promise.proofs.ReadParts.{response_status, same_method}
+use Rattle.promise.specs.CalleeDialogs.{is_unanswered}
+use Rattle.promise.specs.Waiting.{KnowsWaiting}
+use Rattle.promise.proofs.ReadBack.{SentIsRead}
+use Rattle.promise.proofs.Reading.{Reading as ReadsNames}
+use Rattle.read_back.specs.Comings.{CanCome}
+use Rattle.read_back.proofs.Comings.{alone_comes, answer_comes, bye_comes, cancel_comes}
+use Rattle.signals.specs.Responding.{RespondsToOffer}
+use Rattle.signals.specs.Taking.{IsShownAt, KnowsLegs, TakesSignal, is_due_signal}
+use Rattle.traces.proofs.Taking.{ReplyLaw}
+use Rattle.promise.proofs.Rows.{answered_client}
+use Rattle.signals.proofs.FirstAnswers.{ReadingLaws, later_fits, success_signals}
+use Rattle.signals.proofs.Responses.{refusal_signals, ringing_signals}
+use Rattle.scenes.specs.Coming.{FitsComing, scene_at}
+use Rattle.ties.specs.Lines.{next_in}
+use Rattle.traces.specs.Messages.{AreMessages, IsTakenOf}
+use Rattle.ties.specs.Inputs.{is_bye_signal}
+use Rattle.ties.specs.Listing.{is_listed as is_listed_call}
+use Rattle.ties.specs.Shows.{ShowsCall}
+use Rattle.ties.specs.Afterwards.{HasSpot}
+use Rattle.ties.proofs.HeardActions.{split}
+use Rattle.ties.proofs.Spots.{has_spot}
+use Rattle.ties.proofs.Reading.{Reading}
+use Rattle.quiet.specs.Ties.{AreTied}
+use Rattle.quiet.proofs.EventMoves.{sends_are_idle}
+use Rattle.quiet.proofs.ReadTexts.{taken_is}
+use Rattle.quiet.proofs.SeenResponses.{sees_kind}
+use Rattle.showing.specs.Steps.{GoOn, IsAfter, IsSignalOf, StandsShown, due_signal}
+use Rattle.showing.proofs.Again.{again_none}
+use Rattle.showing.proofs.Takes.{fits_or_gone, takes_go_on}
+use Rattle.std.proofs.lemmas.Slice.Eq.{bytes_eq-Decides}
+use Rattle.sip_message.specs.declared.message.Request.{Request}
+use Rattle.call_media.specs.declared.end.End.{End}
+use Rattle.call_rules.specs.Requests.{dialog_rule}
+use Rattle.responses.specs.Words.{is_method}
+use Rattle.responses.specs.Responding.{stateless}
+use Rattle.promise.specs.Addresses.{IsSource}
+use Rattle.scenes.proofs.Fitting.{counts_fits}
+use Rattle.signals.proofs.Comings.{ack_signals, bye_signals, cancel_signals, due_signals}
+use Rattle.call_rules.specs.Speaking.{is_bye}
+use Rattle.promise.specs.Sending.{KnowsSent}
+use Rattle.promise.specs.Sound.{HasSoundLegs}
+use Rattle.promise.proofs.Awaiting.{all_at}
+use Rattle.traces.specs.Knowing.{KnowsTrace}
+use Rattle.call_rules.specs.declared.requests.DialogRule.TheVariants.{Leaves}
+use Rattle.sip_message.specs.Words.{tag_text}
+use Rattle.sip_message.specs.declared.message.Parts.{Parts}
+use Rattle.dialogs.specs.declared.state.Dialog.{Dialog as ServerDialog}
+use Rattle.call_media.specs.Ends.{other}
+use Rattle.call_media.specs.declared.end.End.TheVariants.{Callee, Caller}
+use Rattle.call_media.specs.declared.session.OpenOffer.{OpenOffer}
+use Rattle.call_core.specs.Calls.{awaits_answer, dialog_of}
+use Rattle.sdp.specs.declared.description.Description.{Description}
+use Rattle.call_trace.specs.declared.datagram.Dialog.{Dialog}
+use Rattle.call_trace.specs.declared.call.Offer.{Offer}
+use Rattle.call_trace.specs.declared.call.Stage.TheVariants as traces
+use Rattle.call_trace.specs.Events.{IsIdle, IsIdleTaken, IsPartingTaken, calm, due, is_calm, unmoved}
+use Rattle.call_trace.specs.Listed.{AllOf}
+use Rattle.call_trace.specs.Moves.{tagged}
+use Rattle.trace_reading.specs.Message.{dialog_named, trace_message}
+use Rattle.legs.specs.declared.scene.Scene.{Scene}
+use Rattle.promise.specs.CalleeDialogs.{FitsStage, HasCallee}
+use Rattle.promise.specs.Knowing.{HasLegTag, HasMadeTags, IsTagOf as IsTagOfStanding}
+use Rattle.promise.specs.Sound.{IsTargetIf}
+use Rattle.promise.specs.Waiting.{IsOffering, from_tag}
+use Rattle.promise.proofs.Tagged.{tagged as is_tagged}
+use Rattle.scenes.specs.Coming.{HasNumbersLeft}
+use Rattle.scenes.proofs.Fitting.{first_answer}
+use Rattle.scenes.proofs.Legs.{first_in, leg_in}
+use Rattle.serving.specs.Serving.{IsStaged}
+use Rattle.signals.proofs.ReachedAnswers.{answered_fits, counted, reached, target}
+use Rattle.ties.specs.Lines.{HiddenMove, IsTagOfNone}
+use Rattle.ties.specs.Scenes.{LegIn}
+use Rattle.ties.specs.Shows.{ShowsLegs, is_caller}
+use Rattle.traces.specs.Messages.{IsRequestOf}
+use Rattle.quiet.proofs.SeenResponses.{provisional_calm}
+use Rattle.quiet.proofs.Taken.{none_has}
+use Rattle.showing.proofs.HiddenSignals.{HasNoLine, MovesNone, hidden_answered, hidden_due, hidden_ignores, hidden_refused, hidden_rings_on, hidden_stage, hidden_tag, no_ack, no_bye, no_cancel}
+use Rattle.showing.proofs.Timers.{due_input}
+use Rattle.showing.proofs.UnlistedCalls.{hidden_takes}
+
+-- a request is calm
+request_calm : (bytes : List ℕ) (r : Request) → IsTrue (is_calm offering (trace_message bytes (Kinds.Request r)))
+unfolding trace_message
+request_calm bytes r = refl
+
+-- no offer is open, so that no answer is fit
+none_fit : (c : ServerCall) (o : Option OpenOffer) (answer : Option Description) → is_some o ≡ false → is_fit c o answer ≡ false
+none_fit c None answer none = refl
+none_fit c (Some o) answer none = absurd (false≢true (sym none))
+
+module _ (reads : Reading) (names : ReadsNames) (describes : BodiesDescribe) (law : SentIsRead) (keep : (k : ℕ) (t : List Datagram) (old new : List Call) (taken : Option Message) (sent : List Message) → Move offering t old taken sent new → Stands offering old k t → AllApart new) (s after : Office) (begun more : List Transaction) (sent : List Sent) (t : List Datagram) (old : List Call) (k : ℕ) (before : StandsShown s begun t old k) (later : IsAfter s after (begun ++ more)) (tied : AreTied s begun sent t old) (knows : KnowsLegs s) (e : Setting) (place : ℕ) (c : StandingCall) (n : Standing) (entries : List Entry) (there : slice_get s.calls.calls place ≡ Some c) (stands : c.call.standing ≡ Some n) (unlisted : is_listed_call c ≡ false) where
+  abbrev After : Option Message → List Message → Type 0
+  After taken ms = GoOn (ShowsCall after.table.slots (begun ++ more) (t ++ passed k taken ms)) after.calls.calls t old taken ms
+
+  abbrev pub GoesOn : Option Message → Effect → Type 0
+  GoesOn taken row = (x : Effect) → x ≡ row → (ms : List Message) → AreMessages x.plan.sends ms → after.calls.calls ≡ x.calls.standing.calls → After taken ms
+
+  abbrev scene : Input → Option LegDialog → Option AskerValue → Scene
+  scene input leg request = scene_at s e (without_offer leg request) c (call_row c.call input s.calls.pool e.now).description
+
+  given_up : (sent : Bool) × (n.stage ≡ Cancelling sent)
+  given_up = hidden_stage c n stands unlisted
+
+  -- no call of the trace has a tag of this one
+  of_none : (tag : List ℕ) → IsTagOfStanding c tag → IsTagOfNone old tag
+  of_none tag of =
+      hidden_tag s.tokens tag (ShowsCall s.table.slots begun t) (λ c d h. h.legs) s.calls.calls old place c tied.tokens.calls.tags tied.tokens.calls.apart there unlisted of tied.listed
+
+  -- ---- timers
+
+  pub hidden_times : (input : Input) (signal : Signal) → due_signal input ≡ Some signal → GoesOn None (takes s e entries None None place input None)
+  hidden_times input signal is x eq ms are calls =
+      let d = due_input c.call input signal is in
+      hidden_takes reads describes law keep s after begun more t old k before later e place c n input signal None None there stands unlisted d.of d.can None [] ms
+      (hidden_due t old None [] tt (scene input None None) s.tokens n given_up.0 given_up.1 signal d.due (unmoved (due refl)) ms)
+      (subst (λ (y : Effect). AreMessages y.plan.sends ms) eq are) (calls ∙ ap (λ (y : Effect). y.calls.standing.calls) eq)
+
+  -- ---- requests
+
+  module _ (bytes : List ℕ) (r : Request) (taken : Option Message) (read : message_of bytes ≡ Ok (Kinds.Request r)) (took : IsTakenOf bytes taken) where
+    took_calm : IsPartingTaken offering t taken old
+    took_calm = unmoved (calm (trace_message bytes (Kinds.Request r)) (taken_is bytes (Kinds.Request r) taken read took) (request_calm bytes r))
+
+    by_request : (input : Input) (signal : Signal) (leg : Option LegDialog) (request : Option AskerValue) → IsSignalOf c.call input signal → CanCome input (without_offer leg request) → HasNoLine signal → (ms : List Message)
+        → AreMessages (takes_row s.calls s.table (occasion s e) place input leg request).dressed.sends ms → after.calls.calls ≡ (takes_row s.calls s.table (occasion s e) place input leg request).outcome.standing.calls → After taken ms
+    by_request input signal leg request is can none ms are calls =
+        hidden_takes reads describes law keep s after begun more t old k before later e place c n input signal leg request there stands unlisted is can taken [] ms
+        (hidden_ignores t old taken [] tt (scene input leg request) s.tokens n given_up.0 given_up.1 signal none took_calm ms) are calls
+
+    pub hidden_acks : GoesOn taken (takes s e entries None None place inputs.Ack None)
+    hidden_acks x eq ms are calls =
+        by_request inputs.Ack signals.Ack None None refl (alone_comes inputs.Ack tt refl tt) no_ack ms (subst (λ (y : Effect). AreMessages y.plan.sends ms) eq are) (calls ∙ ap (λ (y : Effect). y.calls.standing.calls) eq)
+
+    pub hidden_byes : IsSource e.source → (id : ℕ) (end : End) → is_bye r.parts ≡ true → GoesOn taken (takes_request s e r entries id place (inputs.Bye end) (counts s.calls.calls place end r.parts.cseq.number) stateless)
+    hidden_byes from id end is x eq ms are calls =
+        by_request (inputs.Bye end) (signals.Bye end) (counts s.calls.calls place end r.parts.cseq.number) (Some (asker r e id stateless)) refl (bye_comes s e bytes r id place end before.scenes from read is) (no_bye end) ms
+        (subst (λ (y : Effect). AreMessages y.plan.sends ms) eq are) (calls ∙ ap (λ (y : Effect). y.calls.standing.calls) eq)
+
+    pub hidden_cancels : IsSource e.source → (id : ℕ) → is_method (codes "CANCEL") r ≡ true → GoesOn taken (takes_request s e r entries id place inputs.Cancel None (tag_at (slice_get s.calls.calls place)))
+    hidden_cancels from id is x eq ms are calls =
+        by_request inputs.Cancel signals.Cancel None (Some (asker r e id (tag_at (slice_get s.calls.calls place)))) refl (cancel_comes s e bytes r id place before.scenes from read ((bytes_eq-Decides r.method (codes "CANCEL")).0 is)) no_cancel ms
+        (subst (λ (y : Effect). AreMessages y.plan.sends ms) eq are) (calls ∙ ap (λ (y : Effect). y.calls.standing.calls) eq)
+
+  -- ---- responses
+
+  module _ (bytes : List ℕ) (r : Response) (taken : Option Message) (read : message_of bytes ≡ Ok (Kinds.Response r)) (took : IsTakenOf bytes taken) where
+    by_response : (input : Input) (signal : Signal) (acked : Option ℕ) (leg : Option LegDialog) → IsSignalOf c.call input signal → CanCome input (without_offer leg None)
+        → ((first : List Message) (idle : AllOf (IsIdle offering t taken) first) → MovesNone t old taken first idle (scene input leg None) s.tokens n signal) → GoesOn taken (takes s e entries (reception_of s.table (Kinds.Response r)).send acked place input leg)
+    by_response input signal acked leg is can moves x eq ms are calls =
+        let sends = (takes_row s.calls s.table (occasion s e) place input leg None).dressed.sends in
+        let p = split (goes (reception_of s.table (Kinds.Response r)).send) sends ms (subst (λ (y : Effect). AreMessages y.plan.sends ms) eq are) in
+        let idle = sends_are_idle reads names s begun sent t old tied bytes r taken p.first read took p.of_first in
+        subst (λ l. After taken l) (sym p.whole)
+        (hidden_takes reads describes law keep s after begun more t old k before later e place c n input signal leg None there stands unlisted is can taken p.first p.rest (moves p.first idle p.rest) p.of_rest
+        (calls ∙ ap (λ (y : Effect). y.calls.standing.calls) eq))
+
+    pub hidden_ringing : class_of r.status ≡ classes.Provisional → GoesOn taken (takes s e entries (reception_of s.table (Kinds.Response r)).send None place (inputs.Provisional r.status) None)
+    hidden_ringing class =
+        by_response (inputs.Provisional r.status) (signals.Provisional r.status) None None refl
+        (alone_comes (inputs.Provisional r.status) ((response_status bytes r read).low, ltb-true r.status 200 (class_by (nat_lt r.status 200) (nat_lt r.status 300) class)) refl tt)
+        (λ first idle. hidden_rings_on t old taken first idle (scene (inputs.Provisional r.status) None None) s.tokens n given_up.0 given_up.1 r.status
+        (calm (trace_message bytes (Kinds.Response r)) (taken_is bytes (Kinds.Response r) taken read took) (provisional_calm bytes r class)))
+
+    module _ (id : ℕ) (x : Transaction) (to : RespondsToOffer s r id x c) where
+      took_untagged : IsPartingTaken offering t taken old
+      took_untagged =
+          subst (λ o. IsPartingTaken offering t o old) (sym (taken_is bytes (Kinds.Response r) taken read took))
+          (none_has s begun sent t old tied.trace tied.listed tied.tokens tied.waiting bytes r id x to.there to.answers (of_none (from_tag x) (is_tagged (from_tag x) c to.tag)) (is_final (trace_message bytes (Kinds.Response r)).kind) refl)
+
+      pub hidden_refusal : class_of r.status ≡ classes.Failure → GoesOn taken (takes s e entries (reception_of s.table (Kinds.Response r)).send None place (inputs.Refusal r.status) None)
+      hidden_refusal class =
+          by_response (inputs.Refusal r.status) (signals.Refusal r.status) None None refl
+          (alone_comes (inputs.Refusal r.status) (ltb-false r.status 300 (failure_by (nat_lt r.status 200) (nat_lt r.status 300) class), (response_status bytes r read).high) refl tt)
+          (λ first idle. hidden_refused t old taken first idle (scene (inputs.Refusal r.status) None None) s.tokens n given_up.0 given_up.1 r.status took_untagged)
