@@ -43,7 +43,8 @@ use Rattle.call_trace.specs.Events.{NoneAsked, passed}
 use Rattle.call_trace.specs.Lives.{Stands}
 use Rattle.call_trace.specs.Messages.{is_final, offering}
 use Rattle.call_trace.specs.Moves.{Move}
-use Rattle.call_trace.specs.Stands.{AllApart, CallStands}
+use Rattle.call_trace.specs.Stands.{AllApart, leg as leg_of}
+use Rattle.calls.specs.Carrying.{offerer_of}
 use Rattle.promise.proofs.AskerRows.{class_by, failure_by}
 use Rattle.promise.proofs.Describing.{BodiesDescribe}
 use Rattle.promise.proofs.ReadParts.{response_status, same_method}
@@ -119,7 +120,8 @@ use Rattle.serving.specs.Serving.{IsStaged}
 use Rattle.signals.proofs.ReachedAnswers.{answered_fits, counted, reached, target}
 use Rattle.ties.specs.Lines.{HiddenMove, IsTagOfNone}
 use Rattle.ties.specs.Scenes.{LegIn}
-use Rattle.ties.specs.Shows.{ShowsLegs, is_caller}
+use Rattle.ties.specs.Shows.{ShowsCallee, ShowsLegs, is_caller}
+use Rattle.call_trace.proofs.Members.{all_at as all_members}
 use Rattle.traces.specs.Messages.{IsRequestOf}
 use Rattle.quiet.proofs.SeenResponses.{provisional_calm}
 use Rattle.quiet.proofs.Taken.{none_has}
@@ -221,3 +223,74 @@ module _ (reads : Reading) (names : ReadsNames) (describes : BodiesDescribe) (la
           by_response (inputs.Refusal r.status) (signals.Refusal r.status) None None refl
           (alone_comes (inputs.Refusal r.status) (ltb-false r.status 300 (failure_by (nat_lt r.status 200) (nat_lt r.status 300) class), (response_status bytes r read).high) refl tt)
           (λ first idle. hidden_refused t old taken first idle (scene (inputs.Refusal r.status) None None) s.tokens n given_up.0 given_up.1 r.status took_untagged)
+
+      -- a 2xx: ACK and BYE go in the dialog that it makes, or in that with the callee
+      module _ (laws : ReadingLaws) (reaches : is_unreachable_message (Kinds.Response r) ≡ false) (class : class_of r.status ≡ classes.Success) where
+        abbrev answered : Input
+        answered = inputs.Answer (described r.headers r.body)
+
+        abbrev leg : Option LegDialog
+        leg = answers_leg s.calls.calls place x.parts r
+
+        -- as a trace would name its legs
+        abbrev named : Dialog → Call
+        named callee = record { caller = dialog_named c.call.caller.id; callee = callee; stage = traces.Asked; offer = None }
+
+        made_tags : HasMadeTags s.tokens c
+        made_tags = all_at (HasMadeTags s.tokens) s.calls.calls place c tied.tokens.calls.tags there
+
+        is_offering : IsOffering x
+        is_offering = record { client = answered_client r.parts x to.answers; offers = to.offers }
+
+        asked_there : (q : Message) × IsRequestOf x.parts q
+        asked_there =
+            let b = tied.trace.stands id x to.there is_offering in
+            let i = tied.trace.asked b.0 b.1 b.2 in
+            (i.1.message, subst (λ (p : Parts). IsRequestOf p i.1.message) b.3 i.3)
+
+        first_leg : n.offerer ≡ Caller → c.call.callee ≡ None → (callee : Dialog) × LegIn (scene answered leg None) (other n.offerer) callee × IsTagOfNone old callee.ours
+        first_leg first none =
+            let q = asked_there in
+            let uri = reached laws.reading laws.names s place c n r id x bytes knows tied.waiting there stands to read reaches class first none in
+            let came = first_answer s.calls.calls place x.parts r c uri.0 there uri.1 (ap offerer_of stands ∙ first) none in
+            let callee : Dialog = record { call_id = q.0.call_id; ours = q.0.from_tag; theirs = [] } in
+            let is_target = subst IsTargetIf uri.1 (target laws.reading laws.names s place c n r id x bytes knows tied.waiting there stands to read reaches class) in
+            let is_counted = counted laws.reading laws.names s place c n r id x bytes knows tied.waiting there stands to read reaches class first in
+            let in_callee = first_in s e (without_offer leg None) c (call_row c.call answered s.calls.pool e.now).description (named callee) (record { by_caller = true; came = q.0; went = q.0 }) x.parts bytes r uri.0 none came is_target is_counted q.1 refl refl in (
+              tagged callee (trace_message bytes (Kinds.Response r)).to_tag,
+              subst (λ end. LegIn (scene answered leg None) end (tagged callee (trace_message bytes (Kinds.Response r)).to_tag)) (sym (ap other first)) in_callee,
+              subst (IsTagOfNone old) (sym q.1.from_tag) (of_none (from_tag x) (is_tagged (from_tag x) c to.tag)),
+            )
+
+        own_leg : (end : End) (callee d : ServerDialog) → c.call.callee ≡ Some callee → dialog_of end c.call ≡ Some d → IsTagOfStanding c (leg_of (named (dialog_named callee.id)) (is_caller end)).ours
+        own_leg Caller callee d some is = inl refl
+        own_leg Callee callee d some is = inr (subst (HasLegTag c.callee_tag) some made_tags.leg)
+
+        later_leg : (callee d : ServerDialog) → c.call.callee ≡ Some callee → dialog_of (other n.offerer) c.call ≡ Some d → (y : Dialog) × LegIn (scene answered leg None) (other n.offerer) y × IsTagOfNone old y.ours
+        later_leg callee d some is =
+            let shows : ShowsLegs c (named (dialog_named callee.id)) = record { caller = refl; callee = subst (λ o. ShowsCallee c.callee_tag o (dialog_named callee.id)) (sym some) refl } in
+            let fits = answered_fits laws.reading laws.names s place c n r id x bytes knows tied.waiting there stands to read reaches class d (subst (λ (y : End). dialog_of (other y) c.call ≡ Some d) (sym (ap offerer_of stands)) is) in (
+              leg_of (named (dialog_named callee.id)) (is_caller (other n.offerer)),
+              leg_in s e (without_offer leg None) c (call_row c.call answered s.calls.pool e.now).description (named (dialog_named callee.id)) (other n.offerer) d (all_at HasSoundLegs s.calls.calls place c knows.dialogs.calls there)
+                  (all_at HasNumbersLeft s.calls.calls place c knows.left there) shows fits is,
+              of_none (leg_of (named (dialog_named callee.id)) (is_caller (other n.offerer))).ours (own_leg (other n.offerer) callee d some is),
+            )
+
+        either_end : (end : End) (callee : ServerDialog) → c.call.callee ≡ Some callee → (d : ServerDialog) × (dialog_of end c.call ≡ Some d)
+        either_end Caller callee some = (c.call.caller, refl)
+        either_end Callee callee some = (callee, some)
+
+        leg_there : (o : Option ServerDialog) → c.call.callee ≡ o → (y : Dialog) × LegIn (scene answered leg None) (other n.offerer) y × IsTagOfNone old y.ours
+        leg_there None none = first_leg (subst (λ o. FitsStage o n) none (all_at HasCallee s.calls.calls place c knows.callees.calls there n stands)).offerer none
+        leg_there (Some callee) some = let d = either_end (other n.offerer) callee some in later_leg callee d.0 some d.1
+
+        nothing_open : is_some c.call.media.offer ≡ false
+        nothing_open = (all_members (λ (y : StandingCall). IsStaged y.call) s.calls.calls place c before.staged there).offer ∙ (ap (holds_in awaits_answer) stands ∙ ap awaits_answer given_up.1)
+
+        pub hidden_success : GoesOn taken (takes s e entries (reception_of s.table (Kinds.Response r)).send (Some id) place answered leg)
+        hidden_success =
+            let y = leg_there c.call.callee refl in
+            by_response answered signals.UnfitAnswer (Some id) leg (none_fit c.call c.call.media.offer (described r.headers r.body) nothing_open, refl)
+            (answer_comes describes names s bytes r id place x before.scenes read to.there (answered_client r.parts x to.answers))
+            (λ first idle. hidden_answered t old taken first idle (scene answered leg None) s.tokens n given_up.0 given_up.1 y.0 took_untagged y.1 y.2)
+
