@@ -1,0 +1,4 @@
+pub mod Taken
+pub mod Answers
+pub mod Rising
+pub mod Answering

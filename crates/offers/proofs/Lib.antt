@@ -1,0 +1,11 @@
+pub mod NewRequests
+pub mod Above
+pub mod OfferSteps
+pub mod Begun
+pub mod Opening
+pub mod LaterSteps
+pub mod Later
+pub mod NewTags
+pub mod FirstSteps
+pub mod First
+pub mod Cases

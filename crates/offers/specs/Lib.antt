@@ -1,0 +1,3 @@
+pub mod Offering
+pub mod NextTags
+pub mod Beginning
