@@ -42,7 +42,7 @@ use Rattle.scenes.specs.Going.{KeepsDialogs, StandsBy, id_of, put_as}
 -- ---- identifiers
 
 -- of both dialogs
-record SameIds (a b : Call) : Type 0 where
+pub record SameIds (a b : Call) : Type 0 where
   pub caller : b.caller.id ≡ a.caller.id
   pub callee : id_of b.callee ≡ id_of a.callee
 
@@ -119,7 +119,7 @@ put_ids a b Callee d same h = record { caller = same.caller; callee = callee_id 
     callee_id None k = absurd k
     callee_id (Some old) k = ap Some k.id
 
-leg_ids : (c : StandingCall) (call : Call) (leg : Option Put) → SameIds c.call call → FitsComing c leg → SameIds c.call (with_leg leg (with_call call c)).call
+pub leg_ids : (c : StandingCall) (call : Call) (leg : Option Put) → SameIds c.call call → FitsComing c leg → SameIds c.call (with_leg leg (with_call call c)).call
 leg_ids c call None same fits = same
 leg_ids c call (Some leg) same fits = put_ids c.call call leg.end leg.dialog same fits
 

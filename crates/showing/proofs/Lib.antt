@@ -12,3 +12,4 @@ pub mod Requests
 pub mod UnlistedCalls
 pub mod HiddenSignals
 pub mod HiddenInputs
+pub mod Puts

@@ -27,9 +27,9 @@ use Rattle.showing.specs.Steps.{OpensAlike}
 
 -- ---- last numbers
 
-record SameNumbers (a b : Call) : Type 0 where
-  caller : last_number b.caller ≡ last_number a.caller
-  callee : option_map last_number b.callee ≡ option_map last_number a.callee
+pub record SameNumbers (a b : Call) : Type 0 where
+  pub caller : last_number b.caller ≡ last_number a.caller
+  pub callee : option_map last_number b.callee ≡ option_map last_number a.callee
 
 then_numbers : (a b c : Call) → SameNumbers a b → SameNumbers b c → SameNumbers a c
 then_numbers a b c h k = record { caller = k.caller ∙ h.caller; callee = k.callee ∙ h.callee }
@@ -42,7 +42,7 @@ put_numbers a b Callee d same h = record { caller = same.caller; callee = callee
     callee_number None k = absurd k
     callee_number (Some old) k = ap Some k.number
 
-leg_numbers : (c : StandingCall) (call : Call) (leg : Option LegDialog) → SameNumbers c.call call → FitsComing c leg → SameNumbers c.call (with_leg leg (with_call call c)).call
+pub leg_numbers : (c : StandingCall) (call : Call) (leg : Option LegDialog) → SameNumbers c.call call → FitsComing c leg → SameNumbers c.call (with_leg leg (with_call call c)).call
 leg_numbers c call None same fits = same
 leg_numbers c call (Some leg) same fits = put_numbers c.call call leg.end leg.dialog same fits
 
@@ -95,7 +95,7 @@ open_at parts c new n m tag numbers offerer waits_n waits_m =
     let end : asked_end parts new ≡ asked_end parts c = ap (λ (t : List ℕ). cond (is_text t (tag_text parts.from.params)) Callee Caller) tag in
     rw (final_of (awaits_answer m.stage) (is_cancelling m.stage) waits_m, final_of (awaits_answer n.stage) (is_cancelling n.stage) waits_n, end, offerer, last_at parts.cseq.number c.call new.call (asked_end parts c) numbers) refl
 
-open_in : (parts : Parts) (c new : StandingCall) (n m : Standing) (a b : Option Standing) → a ≡ Some n → b ≡ Some m → new.callee_tag ≡ c.callee_tag → SameNumbers c.call new.call → m.offerer ≡ n.offerer
+pub open_in : (parts : Parts) (c new : StandingCall) (n m : Standing) (a b : Option Standing) → a ≡ Some n → b ≡ Some m → new.callee_tag ≡ c.callee_tag → SameNumbers c.call new.call → m.offerer ≡ n.offerer
     → awaits_answer n.stage ≡ true → awaits_answer m.stage ≡ true → is_open_in parts new b ≡ is_open_in parts c a
 open_in parts c new n m a b is_n is_m tag numbers offerer waits_n waits_m = rw (is_n, is_m) (open_at parts c new n m tag numbers offerer waits_n waits_m)
 
