@@ -12,6 +12,7 @@ use Rattle.call_trace.specs.declared.datagram.Message.{Message}
 use Rattle.events.specs.declared.event.Event.{Event}
 use Rattle.events.specs.declared.sent.Sent.{Sent}
 use Rattle.numbers.specs.Answers.{KnowsAnswers}
+use Rattle.numbers.specs.Byes.{KnowsByes}
 use Rattle.numbers.specs.Taken.{KnowsTaken}
 use Rattle.plans.specs.Office.{Office}
 use Rattle.promise.specs.Knowing.{KnowsTokens}
@@ -49,13 +50,14 @@ pub record KnowsAgent (s : Office) (begun : List Transaction) (sent : List Sent)
 
 -- ---- the calls of the trace, after so many events
 
--- they show those of the server, and stand; what is known of late 2xx and of the answers that were sent
+-- they show those of the server, and stand; what is known of late 2xx, of the answers that were sent, and of the 200s to BYEs
 pub record IsTied (s : Office) (begun : List Transaction) (sent : List Sent) (t : List Datagram) (calls : List Call) (k : ℕ) : Type 0 where
   pub known : KnowsAgent s begun sent t
   pub stands : Stands offering calls k t
   pub listed : Listed (ShowsCall s.table.slots begun t) s.calls.calls calls
   pub late : KnowsLate s begun t calls
   pub answers : KnowsAnswers s t
+  pub byes : KnowsByes s t
 
 -- ---- an event
 

@@ -146,7 +146,7 @@ new_answers c s new = record { tag = λ i p e is. absurd (cc); counted = λ i p 
 
 -- ---- in a dialog of a call that stands
 
-dialog_tag : (made : ℕ) (c : StandingCall) (end : End) (d : Dialog) → HasMadeTags made c → dialog_of end c.call ≡ Some d → tag_to end c ≡ d.id.ours
+pub dialog_tag : (made : ℕ) (c : StandingCall) (end : End) (d : Dialog) → HasMadeTags made c → dialog_of end c.call ≡ Some d → tag_to end c ≡ d.id.ours
 dialog_tag made c Caller d tags at = ap (λ (x : Dialog). x.id.ours) (same_Some c.call.caller d at)
 dialog_tag made c Callee d tags at = sym (subst (HasLegTag c.callee_tag) at tags.leg)
 

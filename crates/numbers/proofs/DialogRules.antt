@@ -1,5 +1,5 @@
 -- Where a request counts in a dialog, its number is above what that had taken (RFC 3261 section 12.2.2).
-use Rattle.std.proofs.Common.{◌≡◌, ℕ, true, List, Option, Some, None, refl}
+use Rattle.std.proofs.Common.{◌≡◌, ℕ, true, List, Option, Some, None, refl, subst}
 use Rattle.std.specs.Prelude.{slice_get, cond}
 use Rattle.sip_message.specs.declared.message.Request.{Request}
 use Rattle.call_media.specs.declared.end.End.{End}
@@ -58,6 +58,10 @@ module _ (calls : List StandingCall) (r : Request) where
   caller_counts None = callee_counts (place_by_end Callee r.parts calls)
   caller_counts (Some place) = call_counts place Caller (slice_get calls place) refl
 
-  pub rule_counts : Counts (dialog_rule calls r)
+  rule_counts : Counts (dialog_rule calls r)
   unfolding dialog_rule
   rule_counts = caller_counts (place_by_end Caller r.parts calls)
+
+  -- of the rule that it is
+  pub counts_by_rule : (rule : DialogRule) → dialog_rule calls r ≡ rule → CountsBy calls r.parts.cseq.number rule
+  counts_by_rule rule is = subst Counts is rule_counts

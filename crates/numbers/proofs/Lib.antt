@@ -6,3 +6,8 @@ pub mod RaisedCalls
 pub mod RaisedRows
 pub mod OpenOffers
 pub mod AnswersKnown
+pub mod ByeTags
+pub mod SaidTags
+pub mod TagSteps
+pub mod TagRows
+pub mod ByesKnown

@@ -36,6 +36,7 @@ use Rattle.call_core.specs.declared.input.Input.TheVariants as inputs
 use Rattle.call_rules.specs.Content.{described}
 use Rattle.call_rules.specs.Offers.{offer_rule, plain_rule}
 use Rattle.call_rules.specs.Responses.{is_open}
+use Rattle.call_rules.specs.declared.requests.DialogRule.TheVariants as dialogrules
 use Rattle.call_steps.specs.Rows.{answers_leg, counts, first_row, refreshes}
 use Rattle.calls.specs.Finding.{place_by_ack}
 use Rattle.calls.specs.declared.change.LegDialog.{LegDialog}
@@ -72,7 +73,7 @@ use Rattle.promise.proofs.Views.{DueRow, WhatRow, call_fired, came, due, ended, 
 use Rattle.promise.proofs.WaitPassed.{passes_settled}
 use Rattle.numbers.specs.Rising.{RisesFrom}
 use Rattle.numbers.specs.Taken.{HasTakenOffer, KnowsTaken}
-use Rattle.numbers.proofs.DialogRules.{CountsIn}
+use Rattle.numbers.proofs.DialogRules.{CountsIn, counts_by_rule}
 use Rattle.numbers.proofs.RaisedCalls.{AllGo, CanPut, answers_raises, counts_raises, first_goes, fork_goes, kept_all, late_goes, offers_go, puts_go, refreshes_raises, takes_go}
 use Rattle.numbers.proofs.RequestRules.{Fits, request_fits}
 
@@ -186,11 +187,11 @@ module _ (s : Office) (k : IsReady s) (e : Setting) where
     rule_rises : (rule : Rule) → Fits s r rule → P (rule_row s e r begun id rule)
     unfolding call_row
     rule_rises (rules.Alone reply) fits = same_calls
-    rule_rises (rules.Call callrules.Begins) fits = begins_rise (target s r e.now) (described r.headers r.body) fits
+    rule_rises (rules.Call callrules.Begins) fits = begins_rise (target s r e.now) (described r.headers r.body) fits.1
     rule_rises (rules.Call (callrules.Cancels place)) fits = request_takes place inputs.Cancel None _ tt (no_leg place)
-    rule_rises (rules.Call (callrules.Leaves place end)) fits = request_takes place (inputs.Bye end) _ _ tt (counts_put place end r.parts.cseq.number fits)
-    rule_rises (rules.Call (callrules.Offers place end)) fits = offers_rise place end fits
-    rule_rises (rules.Call (callrules.Refreshes place end)) fits = refreshes_rise place end fits
+    rule_rises (rules.Call (callrules.Leaves place end)) fits = request_takes place (inputs.Bye end) _ _ tt (counts_put place end r.parts.cseq.number (counts_by_rule s.calls.calls r (dialogrules.Leaves place end) fits))
+    rule_rises (rules.Call (callrules.Offers place end)) fits = offers_rise place end (counts_by_rule s.calls.calls r (dialogrules.Offers place end) fits)
+    rule_rises (rules.Call (callrules.Refreshes place end)) fits = refreshes_rise place end (counts_by_rule s.calls.calls r (dialogrules.Plain place end) fits)
 
   -- ---- any request
 

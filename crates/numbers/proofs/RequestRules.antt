@@ -1,4 +1,4 @@
--- Which requests have a call to do with: those that count in a dialog, and a first INVITE, whose To has no tag.
+-- Which requests a call has to do with: those that a rule of dialogs gives it, and a first INVITE, whose To has no tag.
 use Rattle.std.proofs.Common.{◌≡◌, ℕ, ◌==◌, Bool, true, false, not, ◌||◌, List, codes, Option, Some, None, is_some, refl, sym}
 use Rattle.std.proofs.lemmas.Bool.{false≢true}
 use Rattle.sip_uri.specs.declared.uri.Uri.{Uri}
@@ -24,16 +24,18 @@ use Rattle.agent.specs.Rules as checks
 use Rattle.agent.specs.Rules.{request_rule}
 use Rattle.agent.specs.declared.rule.Rule.{Rule}
 use Rattle.agent.specs.declared.rule.Rule.TheVariants as rules
-use Rattle.numbers.proofs.DialogRules.{CountsBy, CountsIn, rule_counts}
 
 module _ (s : Office) (r : Request) where
+  abbrev pub IsFirst : Type 0
+  IsFirst = (is_method (codes "INVITE") r ≡ true) × (tag_value r.parts.to.params ≡ None)
+
   abbrev pub Fits : Rule → Type 0
   Fits (rules.Alone reply) = Unit {0}
-  Fits (rules.Call callrules.Begins) = tag_value r.parts.to.params ≡ None
+  Fits (rules.Call callrules.Begins) = IsFirst
   Fits (rules.Call (callrules.Cancels place)) = Unit {0}
-  Fits (rules.Call (callrules.Leaves place end)) = CountsIn s.calls.calls place end r.parts.cseq.number
-  Fits (rules.Call (callrules.Offers place end)) = CountsIn s.calls.calls place end r.parts.cseq.number
-  Fits (rules.Call (callrules.Refreshes place end)) = CountsIn s.calls.calls place end r.parts.cseq.number
+  Fits (rules.Call (callrules.Leaves place end)) = dialog_rule s.calls.calls r ≡ dialogrules.Leaves place end
+  Fits (rules.Call (callrules.Offers place end)) = dialog_rule s.calls.calls r ≡ dialogrules.Offers place end
+  Fits (rules.Call (callrules.Refreshes place end)) = dialog_rule s.calls.calls r ≡ dialogrules.Plain place end
 
   unless : (b : Bool) (rule next : Rule) → Fits rule → (b ≡ false → Fits next) → Fits (checks.otherwise (checks.when b rule) next)
   unless true rule next h n = h
@@ -51,48 +53,49 @@ module _ (s : Office) (r : Request) where
 
   -- ---- a first INVITE
 
-  described_fits : (rule : Option ContentRule) (offer : Option Description) → tag_value r.parts.to.params ≡ None → Fits (checks.described_rule rule offer)
+  described_fits : (rule : Option ContentRule) (offer : Option Description) → IsFirst → Fits (checks.described_rule rule offer)
   described_fits (Some content.Type) offer none = tt
   described_fits (Some content.Encoding) offer none = tt
   described_fits None None none = tt
   described_fits None (Some offer) none = none
 
-  target_fits : (to : Option Uri) → tag_value r.parts.to.params ≡ None → Fits (checks.target_rule r to)
+  target_fits : (to : Option Uri) → IsFirst → Fits (checks.target_rule r to)
   target_fits None none = tt
   target_fits (Some to) none = described_fits _ (described r.headers r.body) none
 
-  known_fits : (user : List ℕ) (now : ℕ) (b : Bool) → tag_value r.parts.to.params ≡ None → Fits (checks.known_rule s r user now b)
+  known_fits : (user : List ℕ) (now : ℕ) (b : Bool) → IsFirst → Fits (checks.known_rule s r user now b)
   known_fits user now false none = tt
   known_fits user now true none = target_fits _ none
 
-  user_fits : (now : ℕ) (user : Option (List ℕ)) → tag_value r.parts.to.params ≡ None → Fits (checks.user_rule s r now user)
+  user_fits : (now : ℕ) (user : Option (List ℕ)) → IsFirst → Fits (checks.user_rule s r now user)
   user_fits now None none = tt
   user_fits now (Some user) none = known_fits user now _ none
 
-  first_fits : (now : ℕ) → tag_value r.parts.to.params ≡ None → Fits (checks.first_call_rule s r now)
+  first_fits : (now : ℕ) → IsFirst → Fits (checks.first_call_rule s r now)
   first_fits now none =
       unless (r.max_forwards == 0) (checks.refused 483) (checks.otherwise (checks.contact_line r) (checks.callee_rule s r now)) tt
       (λ hops. unless (not (is_some (contact_address (contacts_of r.headers)))) (checks.refused 400) (checks.callee_rule s r now) tt (λ reached. user_fits now _ none))
 
   -- ---- in a dialog
 
-  dialog_fits : (rule : DialogRule) → CountsBy s.calls.calls r.parts.cseq.number rule → Fits (checks.of_dialog rule)
+  dialog_fits : (rule : DialogRule) → dialog_rule s.calls.calls r ≡ rule → Fits (checks.of_dialog rule)
   dialog_fits dialogrules.NoDialog h = tt
   dialog_fits (dialogrules.OldNumber place end) h = tt
   dialog_fits (dialogrules.Leaves place end) h = h
   dialog_fits (dialogrules.Offers place end) h = h
   dialog_fits (dialogrules.Plain place end) h = h
 
-  no_tag : (other : Bool) (tag : Option (List ℕ)) → (other || is_some tag) ≡ false → tag ≡ None
-  no_tag other None e = refl
-  no_tag true (Some tag) e = absurd (false≢true (sym e))
-  no_tag false (Some tag) e = absurd (false≢true (sym e))
+  first_of : (invite : Bool) (tag : Option (List ℕ)) → (not invite || is_some tag) ≡ false → (invite ≡ true) × (tag ≡ None)
+  first_of true None e = (refl, refl)
+  first_of true (Some tag) e = absurd (false≢true (sym e))
+  first_of false None e = absurd (false≢true (sym e))
+  first_of false (Some tag) e = absurd (false≢true (sym e))
 
   invite_fits : (now : ℕ) → Fits (checks.invite_rule s r now)
   unfolding checks.invite_rule
   invite_fits now =
       unless (not (is_method (codes "INVITE") r) || is_some (tag_value r.parts.to.params)) (checks.of_dialog (dialog_rule s.calls.calls r)) (checks.first_call_rule s r now)
-      (dialog_fits (dialog_rule s.calls.calls r) (rule_counts s.calls.calls r)) (λ e. first_fits now (no_tag _ (tag_value r.parts.to.params) e))
+      (dialog_fits (dialog_rule s.calls.calls r) refl) (λ e. first_fits now (first_of (is_method (codes "INVITE") r) (tag_value r.parts.to.params) e))
 
   -- ---- in their order
 

@@ -1,10 +1,13 @@
-//! What is known of the answers in the trace of an agent's events: their tags, and the numbers of the requests that they answer. Nothing here runs.
+//! What is known of the responses in the trace of an agent's events: the tags of answers and of 200s to BYEs, and the numbers of the requests that
+//! are answered. Nothing here runs.
 #![tactic(auto)]
 
 mod answering;
+mod byes;
 mod known;
 mod taken;
 
 pub use answering::moves_answer_open_offers;
+pub use byes::byes_are_known;
 pub use known::answers_are_known;
 pub use taken::taken_numbers_rise;
