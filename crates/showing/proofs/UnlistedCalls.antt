@@ -3,7 +3,9 @@ use Rattle.std.proofs.Common.{◌≡◌, ◌⊎◌, ◌∙◌, ℕ, true, false,
 use Rattle.std.proofs.lemmas.Option.{none-some}
 use Rattle.std.specs.Prelude.{remove, slice_get, slice_set}
 use Rattle.transactions.specs.declared.transaction.Transaction.{Transaction}
-use Rattle.call_core.specs.CallRows.{call_row}
+use Rattle.port_pool.specs.Pool.{Contents}
+use Rattle.call_core.specs.CallRows.{call_row, step_in, unchanged}
+use Rattle.call_core.specs.declared.call.Call.{Call as ServerCall}
 use Rattle.call_core.specs.Plans.{Step}
 use Rattle.call_core.specs.Table.{row_of}
 use Rattle.call_core.specs.declared.input.Input.{Input}
@@ -98,3 +100,43 @@ module _ (reads : Reading) (describes : BodiesDescribe) (law : SentIsRead) (keep
     hidden_takes are calls =
         by_step (subst (λ o. AreMessages (takes_by s.calls s.table (occasion s e) place input leg request o).dressed.sends ms) there are)
         (calls ∙ ap (λ o. (takes_by s.calls s.table (occasion s e) place input leg request o).outcome.standing.calls) there)
+
+-- ---- a call that stands nowhere
+
+nowhere_step : (c : ServerCall) (input : Input) (pool : Contents) (now : ℕ) → c.standing ≡ None → call_row c input pool now ≡ unchanged c pool
+unfolding call_row
+nowhere_step c input pool now nowhere = ap (λ o. step_in c o input pool now) nowhere
+
+module _ (reads : Reading) (describes : BodiesDescribe) (law : SentIsRead) (keep : (k : ℕ) (t : List Datagram) (old new : List Call) (taken : Option Message) (sent : List Message) → Move offering t old taken sent new → Stands offering old k t → AllApart new) (s after : Office) (begun more : List Transaction) (t : List Datagram) (old : List Call) (k : ℕ) (before : StandsShown s begun t old k) (later : IsAfter s after (begun ++ more)) (e : Setting) (place : ℕ) (c : StandingCall) (input : Input) (leg : Option LegDialog) (request : Option AskerValue) (there : slice_get s.calls.calls place ≡ Some c) (nowhere : c.call.standing ≡ None) (can : CanCome input (without_offer leg request)) (taken : Option Message) (ms : List Message) (move : Move offering t old taken [] old) where
+  abbrev coming : ComingValue
+  coming = without_offer leg request
+
+  abbrev done : Step
+  done = call_row c.call input s.calls.pool e.now
+
+  abbrev put : StandingCall
+  put = put_as coming (messages_of s.table (occasion s e) coming c done) done.call c
+
+  abbrev Goes : Type 0
+  Goes = GoOn (ShowsCall after.table.slots (begun ++ more) (t ++ passed k taken ms)) after.calls.calls t old taken ms
+
+  goes_silently : AreMessages (messages_of s.table (occasion s e) coming c done).dressed.sends ms → after.calls.calls ≡ cond (is_some done.call.standing) (slice_set s.calls.calls place put) (remove s.calls.calls place) → Goes
+  goes_silently are calls =
+      let same = nowhere_step c.call input s.calls.pool e.now nowhere in
+      let none : ms ≡ [] =
+          subst (λ (y : Step). HearsActions (scene_at s e coming c done.description) s.tokens y.actions ms) same (step_heard reads describes law s e place c input coming before.scenes there can ms are) in
+      let gone : done.call.standing ≡ None = ap (λ (y : Step). y.call.standing) same ∙ nowhere in
+      let moves = subst (λ l. Move offering t old taken l old) (sym none) move in (
+        old,
+        moves,
+        left_listed s.table.slots after begun more k t old taken ms old moves (keep k t old old taken ms moves before.stands) later.numbers later.keeps
+            (subst (λ l. Listed (IsLeft s.table.slots begun t) l old) (sym (calls ∙ list_after s.calls.calls place put done.call.standing None gone))
+            (hidden_goes s.table.slots begun t s.calls.calls old place c before.listed before.asked there (ap (holds_in is_listed_stage) nowhere))),
+      )
+
+  pub nowhere_takes : AreMessages (takes_row s.calls s.table (occasion s e) place input leg request).dressed.sends ms → after.calls.calls ≡ (takes_row s.calls s.table (occasion s e) place input leg request).outcome.standing.calls → Goes
+  unfolding takes_row
+  nowhere_takes are calls =
+      goes_silently (subst (λ o. AreMessages (takes_by s.calls s.table (occasion s e) place input leg request o).dressed.sends ms) there are)
+      (calls ∙ ap (λ o. (takes_by s.calls s.table (occasion s e) place input leg request o).outcome.standing.calls) there)
+
