@@ -2,6 +2,7 @@ pub mod OfferReplies
 pub mod Raising
 pub mod DialogRules
 pub mod RequestRules
+pub mod RowCases
 pub mod RaisedCalls
 pub mod RaisedRows
 pub mod OpenOffers

@@ -1,5 +1,5 @@
 -- What each event makes of the calls: their dialogs have taken what they had, and the number of each open offer.
-use Rattle.std.proofs.Common.{◌≡◌, ◌∙◌, ℕ, ◌<◌, ◌^◌, true, cond, List, [], ◌∷◌, Option, Some, None, Result, Ok, Err, is_some, refl, sym, subst}
+use Rattle.std.proofs.Common.{◌≡◌, ◌∙◌, ℕ, ◌<◌, ◌^◌, true, List, [], ◌∷◌, Option, Some, None, Result, Ok, Err, refl, sym, subst}
 use Rattle.std.specs.Prelude.{slice_get}
 use Rattle.std.specs.List.{All}
 use Rattle.std.proofs.lemmas.List.Elements.{All-nil}
@@ -8,7 +8,6 @@ use Rattle.configuration.specs.declared.config.Config.{Config}
 use Rattle.events.specs.declared.event.Event.{Event}
 use Rattle.events.specs.declared.event.What.{What}
 use Rattle.events.specs.declared.event.What.TheVariants as whats
-use Rattle.sip_uri.specs.declared.uri.Uri.{Uri}
 use Rattle.sip_message.specs.Read.{message_of}
 use Rattle.sip_message.specs.Words.{tag_text, tag_value}
 use Rattle.sip_message.specs.declared.error.MessageError.{MessageError}
@@ -17,8 +16,6 @@ use Rattle.sip_message.specs.declared.message.Message.TheVariants as Kinds
 use Rattle.sip_message.specs.declared.message.Parts.{Parts}
 use Rattle.sip_message.specs.declared.message.Request.{Request}
 use Rattle.sip_message.specs.declared.message.Response.{Response}
-use Rattle.sdp.specs.declared.description.Description.{Description}
-use Rattle.offer_answer.specs.Checks.{offer_fault}
 use Rattle.transactions.specs.Changes.{fire_of}
 use Rattle.transactions.specs.Contents.{reception_of}
 use Rattle.transactions.specs.declared.change.Entry.{Entry}
@@ -26,31 +23,24 @@ use Rattle.transactions.specs.declared.outcome.Outgoing.{Outgoing}
 use Rattle.transactions.specs.declared.outcome.Verdict.{Verdict}
 use Rattle.transactions.specs.declared.outcome.Verdict.TheVariants as verdicts
 use Rattle.transactions.specs.declared.transaction.Transaction.{Transaction}
-use Rattle.call_media.specs.Ends.{other}
 use Rattle.call_media.specs.declared.end.End.{End}
-use Rattle.call_core.specs.Calls.{dialog_of, has_number_left}
 use Rattle.call_core.specs.declared.action.CallTimer.{CallTimer}
 use Rattle.call_core.specs.declared.action.CallTimer.TheVariants as timers
 use Rattle.call_core.specs.declared.input.Input.{Input}
 use Rattle.call_core.specs.declared.input.Input.TheVariants as inputs
 use Rattle.call_rules.specs.Content.{described}
-use Rattle.call_rules.specs.Offers.{offer_rule, plain_rule}
 use Rattle.call_rules.specs.Responses.{is_open}
 use Rattle.call_rules.specs.declared.requests.DialogRule.TheVariants as dialogrules
-use Rattle.call_steps.specs.Rows.{answers_leg, counts, first_row, refreshes}
+use Rattle.call_steps.specs.Rows.{answers_leg, counts, refreshes}
 use Rattle.calls.specs.Finding.{place_by_ack}
 use Rattle.calls.specs.declared.change.LegDialog.{LegDialog}
 use Rattle.calls.specs.declared.standing_call.StandingCall.{StandingCall}
 use Rattle.calls.specs.declared.timer_id.CallTimerId.{CallTimerId}
 use Rattle.plans.specs.CallRows as rows
-use Rattle.plans.specs.CallRows.{are_full, begins_by, call_row, first_by, has_pairs, has_pairs_for, is_unfit, occasion, of_plan, offer_method, offer_reply, offers, offers_by, passes, passes_at, passes_if, passes_in, refreshes_at, refreshes_by, refuses, takes, takes_request, target, timer_input, unless_full, with_step, without_call_timer}
+use Rattle.plans.specs.CallRows.{occasion, of_plan, offer_method, puts_if, takes, timer_input, without_call_timer}
 use Rattle.plans.specs.Effect.{Effect}
 use Rattle.plans.specs.Office.{Office}
 use Rattle.plans.specs.Plan.{nothing}
-use Rattle.plans.specs.Replies.{responds_in}
-use Rattle.plans.specs.declared.rule.CallRule.TheVariants as callrules
-use Rattle.plans.specs.declared.rule.Reply.{Reply}
-use Rattle.plans.specs.declared.rule.Reply.TheVariants as replies
 use Rattle.plans.specs.declared.setting.Setting.{Setting}
 use Rattle.plans.specs.declared.taken.Taken.{Taken}
 use Rattle.plans.specs.declared.taken.Taken.TheVariants as takens
@@ -60,8 +50,6 @@ use Rattle.agent.specs.Rows.{after, by_reading, datagram_row, fit_row, is_full, 
 use Rattle.agent.specs.Rules.{request_rule}
 use Rattle.agent.specs.State.{Contents, IsNew, after_event, moment_at, office}
 use Rattle.agent.specs.Trace.{Entry as TraceEntry, after_answer, after_entries, after_entry}
-use Rattle.agent.specs.declared.rule.Rule.{Rule}
-use Rattle.agent.specs.declared.rule.Rule.TheVariants as rules
 use Rattle.promise.specs.Knowing.{KnowsTokens}
 use Rattle.promise.proofs.Events.{after_knows, few_tokens, new_knows}
 use Rattle.promise.proofs.MessageViews.{ReceivedRow, acknowledged, begun_by, dropped, moved, received_view, requested, responded}
@@ -75,7 +63,7 @@ use Rattle.numbers.specs.Rising.{RisesFrom}
 use Rattle.numbers.specs.Taken.{HasTakenOffer, KnowsTaken}
 use Rattle.numbers.proofs.DialogRules.{CountsIn, counts_by_rule}
 use Rattle.numbers.proofs.RaisedCalls.{AllGo, CanPut, answers_raises, counts_raises, first_goes, fork_goes, kept_all, late_goes, offers_go, puts_go, refreshes_raises, takes_go}
-use Rattle.numbers.proofs.RequestRules.{Fits, request_fits}
+use Rattle.numbers.proofs.RowCases.{RowCase, asks_callee, cancelled, left, passed_on, refreshed, refused as refused_in, replied, row_case, ruled, unfit}
 
 -- what is known where an event comes
 pub record IsReady (s : Office) : Type 0 where
@@ -112,86 +100,31 @@ module _ (s : Office) (k : IsReady s) (e : Setting) where
 
   -- ---- a request that begins transaction id
 
-  module _ (r : Request) (begun : List Entry) (id : ℕ) where
-    abbrev refusal : ℕ → Effect
-    refusal status = of_plan s (responds_in s e r begun id status [] None)
+  no_tag_text : (parts : Parts) → tag_value parts.to.params ≡ None → tag_text parts.to.params ≡ []
+  no_tag_text parts none = rw none refl
 
-    no_tag_text : (parts : Parts) → tag_value parts.to.params ≡ None → tag_text parts.to.params ≡ []
-    no_tag_text parts none = rw none refl
+  counted_rises : (place : ℕ) (end : End) (number : ℕ) → CountsIn s.calls.calls place end number → AllGo s.tokens s.calls.calls (puts_if s.calls place (counts s.calls.calls place end number)).calls
+  counted_rises place end number h = puts_go s.tokens s.calls place (counts s.calls.calls place end number) (counts_put place end number h) k.taken
 
-    first_by_rises : (to : Uri) (offer : Description) → tag_value r.parts.to.params ≡ None → P (first_by s e r begun id to offer)
-    first_by_rises to offer none =
-        let step = first_row s.calls (occasion s e) r id e.source to offer in
-        let full = unless_full s e r begun id step in
-        by_if P (is_some (offer_fault s.range offer None)) (refusal 488) (cond (has_pairs s e.now offer) full (refusal 503)) (λ b. same_calls)
-        (λ fit. by_if P (has_pairs s e.now offer) full (refusal 503)
-        (λ b. by_if P (are_full s) (refusal 503) (with_step s.acks begun None None step) (λ f. same_calls)
-        (λ f. first_goes s.calls (occasion s e) r id e.source to offer (no_tag_text r.parts none) k.few k.taken)) (λ b. same_calls))
-
-    begins_rise : (to : Option Uri) (offer : Option Description) → tag_value r.parts.to.params ≡ None → P (begins_by s e r begun id to offer)
-    begins_rise None offer none = same_calls
-    begins_rise (Some to) None none = same_calls
-    begins_rise (Some to) (Some offer) none = first_by_rises to offer none
-
-    -- in a dialog
-    refuses_rises : (place : ℕ) (end : End) (reply : Reply) → CountsIn s.calls.calls place end r.parts.cseq.number → P (refuses s e r begun id place end reply)
-    refuses_rises place end reply h = puts_go s.tokens s.calls place (counts s.calls.calls place end r.parts.cseq.number) (counts_put place end r.parts.cseq.number h) k.taken
-
-    passes_rise : (place : ℕ) (end : End) (c : StandingCall) (offer : Description) → CountsIn s.calls.calls place end r.parts.cseq.number → slice_get s.calls.calls place ≡ Some c
-        → offer_reply (offer_rule s.calls.calls r place end) ≡ None → P (passes s e r begun id place end offer)
-    passes_rise place end c offer h there passing =
-        offers_go s.tokens s.calls s.table (occasion s e) place end (offer_method r) offer r id e.source c k.tokens.calls k.taken there (passes_settled s.calls.calls r place end c there passing) h
-
-    passes_if_rises : (place : ℕ) (end : End) (c : StandingCall) (offer : Description) → CountsIn s.calls.calls place end r.parts.cseq.number → slice_get s.calls.calls place ≡ Some c
-        → offer_reply (offer_rule s.calls.calls r place end) ≡ None → P (passes_if s e r begun id place end c.call offer)
-    passes_if_rises place end c offer h there passing =
-        let refused : ℕ → Effect = λ status. refuses s e r begun id place end (replies.Refusal status) in
-        let numbered = cond (has_number_left (dialog_of (other end) c.call)) (passes s e r begun id place end offer) (refused 500) in
-        by_if P (is_unfit c.call end offer) (refused 488) (cond (has_pairs_for s e.now c.call end offer) numbered (refused 503)) (λ b. refuses_rises place end (replies.Refusal 488) h)
-        (λ fit. by_if P (has_pairs_for s e.now c.call end offer) numbered (refused 503)
-        (λ b. by_if P (has_number_left (dialog_of (other end) c.call)) (passes s e r begun id place end offer) (refused 500) (λ left. passes_rise place end c offer h there passing)
-        (λ f. refuses_rises place end (replies.Refusal 500) h)) (λ b. refuses_rises place end (replies.Refusal 503) h))
-
-    passes_in_rises : (place : ℕ) (end : End) (c : StandingCall) (offer : Option Description) → CountsIn s.calls.calls place end r.parts.cseq.number → slice_get s.calls.calls place ≡ Some c
-        → offer_reply (offer_rule s.calls.calls r place end) ≡ None → P (passes_in s e r begun id place end c.call offer)
-    passes_in_rises place end c None h there passing = refuses_rises place end (replies.Refusal 488) h
-    passes_in_rises place end c (Some offer) h there passing = passes_if_rises place end c offer h there passing
-
-    passes_at_rises : (place : ℕ) (end : End) (c : Option StandingCall) → CountsIn s.calls.calls place end r.parts.cseq.number → slice_get s.calls.calls place ≡ c → offer_reply (offer_rule s.calls.calls r place end) ≡ None
-        → P (passes_at s e r begun id place end c)
-    passes_at_rises place end None h there passing = refuses_rises place end (replies.Refusal 481) h
-    passes_at_rises place end (Some c) h there passing = passes_in_rises place end c (described r.headers r.body) h there passing
-
-    offers_by_rise : (place : ℕ) (end : End) (reply : Option Reply) → CountsIn s.calls.calls place end r.parts.cseq.number → offer_reply (offer_rule s.calls.calls r place end) ≡ reply → P (offers_by s e r begun id place end reply)
-    offers_by_rise place end (Some reply) h passing = refuses_rises place end reply h
-    offers_by_rise place end None h passing = passes_at_rises place end (slice_get s.calls.calls place) h refl passing
-
-    offers_rise : (place : ℕ) (end : End) → CountsIn s.calls.calls place end r.parts.cseq.number → P (offers s e r begun id place end)
-    unfolding offers
-    offers_rise place end h = offers_by_rise place end (offer_reply (offer_rule s.calls.calls r place end)) h refl
-
-    refreshes_by_rise : (place : ℕ) (end : End) (reply : Option Reply) → CountsIn s.calls.calls place end r.parts.cseq.number → P (refreshes_by s e r begun id place end reply)
-    refreshes_by_rise place end (Some reply) h = refuses_rises place end reply h
-    refreshes_by_rise place end None h =
-        puts_go s.tokens s.calls place (refreshes s.calls.calls place end r)
-        (λ d there. record { fits = refreshes_fits s.tokens s.calls.calls place end r d k.tokens.calls there; raises = refreshes_raises s.calls.calls place end r d h there }) k.taken
-
-    refreshes_rise : (place : ℕ) (end : End) → CountsIn s.calls.calls place end r.parts.cseq.number → P (refreshes_at s e r begun id place end)
-    unfolding refreshes_at
-    refreshes_rise place end h = refreshes_by_rise place end (offer_reply (plain_rule s.calls.calls r place end)) h
-
-    request_takes : (place : ℕ) (input : Input) (leg : Option LegDialog) (tag : List ℕ) → IsNoOfferInput input → ((d : StandingCall) → slice_get s.calls.calls place ≡ Some d → CanPut s.tokens d leg)
-        → P (takes_request s e r begun id place input leg tag)
-    request_takes place input leg tag n can = takes_go s.tokens s.calls s.table (occasion s e) place input leg _ n k.taken can
-
-    rule_rises : (rule : Rule) → Fits s r rule → P (rule_row s e r begun id rule)
-    unfolding call_row
-    rule_rises (rules.Alone reply) fits = same_calls
-    rule_rises (rules.Call callrules.Begins) fits = begins_rise (target s r e.now) (described r.headers r.body) fits.1
-    rule_rises (rules.Call (callrules.Cancels place)) fits = request_takes place inputs.Cancel None _ tt (no_leg place)
-    rule_rises (rules.Call (callrules.Leaves place end)) fits = request_takes place (inputs.Bye end) _ _ tt (counts_put place end r.parts.cseq.number (counts_by_rule s.calls.calls r (dialogrules.Leaves place end) fits))
-    rule_rises (rules.Call (callrules.Offers place end)) fits = offers_rise place end (counts_by_rule s.calls.calls r (dialogrules.Offers place end) fits)
-    rule_rises (rules.Call (callrules.Refreshes place end)) fits = refreshes_rise place end (counts_by_rule s.calls.calls r (dialogrules.Plain place end) fits)
+  case_rises : (r : Request) (begun : List Entry) (id : ℕ) (x : Effect) → RowCase s e r begun id x → P x
+  case_rises r begun id x (replied reply rule fits is) = subst P (sym is) same_calls
+  case_rises r begun id x (unfit status low high is) = subst P (sym is) same_calls
+  case_rises r begun id x (asks_callee to offer first bound said is) = subst P (sym is) (first_goes s.calls (occasion s e) r id e.source to offer (no_tag_text r.parts first.1) k.few k.taken)
+  case_rises r begun id x (cancelled place method is) = subst P (sym is) (takes_go s.tokens s.calls s.table (occasion s e) place inputs.Cancel None _ tt k.taken (no_leg place))
+  case_rises r begun id x (left place end rule bye is) =
+      subst P (sym is) (takes_go s.tokens s.calls s.table (occasion s e) place (inputs.Bye end) (counts s.calls.calls place end r.parts.cseq.number) _ tt k.taken
+      (counts_put place end r.parts.cseq.number (counts_by_rule s.calls.calls r (dialogrules.Leaves place end) rule)))
+  case_rises r begun id x (ruled place end reply rule h why is) = subst P (sym is) (counted_rises place end r.parts.cseq.number h)
+  case_rises r begun id x (refused_in place end status h low high is) = subst P (sym is) (counted_rises place end r.parts.cseq.number h)
+  case_rises r begun id x (passed_on place end c offer why is) =
+      subst P (sym is)
+      (offers_go s.tokens s.calls s.table (occasion s e) place end (offer_method r) offer r id e.source c k.tokens.calls k.taken why.there (passes_settled s.calls.calls r place end c why.there why.passes)
+      (counts_by_rule s.calls.calls r (dialogrules.Offers place end) why.rule))
+  case_rises r begun id x (refreshed place end rule is) =
+      let h = counts_by_rule s.calls.calls r (dialogrules.Plain place end) rule in
+      subst P (sym is)
+      (puts_go s.tokens s.calls place (refreshes s.calls.calls place end r)
+      (λ d there. record { fits = refreshes_fits s.tokens s.calls.calls place end r d k.tokens.calls there; raises = refreshes_raises s.calls.calls place end r d h there }) k.taken)
 
   -- ---- any request
 
@@ -205,7 +138,7 @@ module _ (s : Office) (k : IsReady s) (e : Setting) where
 
   request_by_rises : (r : Request) (begun : List Entry) (verdict : Verdict) (send : Option Outgoing) → P (request_by s e r begun verdict send)
   unfolding request_by
-  request_by_rises r begun (verdicts.New id) send = rule_rises r begun id (request_rule s r e.now) (request_fits s r e.now)
+  request_by_rises r begun (verdicts.New id) send = case_rises r begun id (rule_row s e r begun id (request_rule s r e.now)) (row_case s e r begun id)
   request_by_rises r begun verdicts.Repeat send = same_calls
   request_by_rises r begun verdicts.Swallowed send = same_calls
   request_by_rises r begun (verdicts.Up id) send = ack_rises r begun

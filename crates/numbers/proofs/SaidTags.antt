@@ -78,12 +78,12 @@ heard : Reading → (sees : Message → Type 0) (d : Sent) (m : Message) → IsM
 heard r sees d m is said = subst sees (sym (message_is r d.bytes m said.0 is said.1 said.2)) said.3
 
 module _ (reads : Reading) (s : Scene) (t : List Datagram) (made : ℕ) where
-  in_dialog : (d : Option Dialog) (name : List ℕ) (number : Dialog → ℕ) (method : List ℕ) (body : Option Description) (m : Message) → SeesIn d name number method body m → IsTagged t made m
-  in_dialog None name number method body m h = absurd h
-  in_dialog (Some d) name number method body m h = request_tagged t made m (ap is_request h.kind)
+  seen_tagged : (d : Option Dialog) (name : List ℕ) (number : Dialog → ℕ) (method : List ℕ) (body : Option Description) (m : Message) → SeesIn d name number method body m → IsTagged t made m
+  seen_tagged None name number method body m h = absurd h
+  seen_tagged (Some d) name number method body m h = request_tagged t made m (ap is_request h.kind)
 
   in_tagged : (d : Option Dialog) (name : List ℕ) (number : Dialog → ℕ) (method : List ℕ) (body : Option Description) (x : Sent) (m : Message) → IsMessage x.bytes m → IsSaid (SeesIn d name number method body) x → IsTagged t made m
-  in_tagged d name number method body x m is h = in_dialog d name number method body m (heard reads (SeesIn d name number method body) x m is h)
+  in_tagged d name number method body x m is h = seen_tagged d name number method body m (heard reads (SeesIn d name number method body) x m is h)
 
   cancel_tagged : (x : Option Transaction) (m : Message) → SeesCancel x m → IsTagged t made m
   cancel_tagged None m h = absurd h

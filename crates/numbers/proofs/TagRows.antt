@@ -1,42 +1,31 @@
 -- What each event sends: no 200 to a BYE but those that went before and the one to a BYE that comes in a dialog of a call.
-use Rattle.std.proofs.Common.{◌≡◌, ◌∙◌, ℕ, ◌==◌, ◌≤◌, ◌<◌, Bool, true, false, cond, List, [], ◌∷◌, ◌++◌, codes, find, nat_le, nat_lt, Option, Some, None, Ok, is_some, refl, ap, sym, subst, arith}
+use Rattle.std.proofs.Common.{◌≡◌, ◌∙◌, ℕ, ◌==◌, ◌≤◌, ◌<◌, Bool, true, false, cond, List, [], ◌∷◌, ◌++◌, codes, find, nat_le, nat_lt, Option, Some, None, Ok, refl, ap, sym, subst, arith}
 use Rattle.std.specs.Prelude.{IsTrue, nat_eq, slice_get}
 use Rattle.std.specs.Cmp.Lexicographic.{bytes_decides, pointwise}
 use Rattle.std.specs.List.{All}
 use Rattle.std.proofs.lemmas.Bool.{and_right, false≢true, le-ltb, ltb-false, ltb-true}
 use Rattle.std.proofs.lemmas.List.Elements.{All-head, All-tail}
 use Rattle.events.specs.declared.sent.Sent.{Sent}
-use Rattle.sip_uri.specs.declared.uri.Uri.{Uri}
 use Rattle.sip_message.specs.Read.{message_of}
 use Rattle.sip_message.specs.declared.message.Message.{Message as ReadMessage}
 use Rattle.sip_message.specs.declared.message.Message.TheVariants as Kinds
 use Rattle.sip_message.specs.declared.message.Request.{Request}
 use Rattle.sip_message.specs.declared.message.Response.{Response}
 use Rattle.sip_message.specs.declared.words.Class.TheVariants as classes
-use Rattle.sdp.specs.declared.description.Description.{Description}
-use Rattle.offer_answer.specs.Checks.{offer_fault}
 use Rattle.transactions.specs.Contents.{reception_of}
 use Rattle.transactions.specs.declared.change.Entry.{Entry}
 use Rattle.transactions.specs.declared.outcome.Outgoing.{Outgoing}
 use Rattle.transactions.specs.declared.outcome.Verdict.{Verdict}
 use Rattle.transactions.specs.declared.outcome.Verdict.TheVariants as verdicts
 use Rattle.transactions.specs.declared.transaction.Transaction.{Transaction}
-use Rattle.call_media.specs.Ends.{other}
-use Rattle.call_media.specs.declared.end.End.{End}
-use Rattle.call_core.specs.Calls.{dialog_of, has_number_left}
 use Rattle.call_core.specs.declared.input.Input.{Input}
 use Rattle.call_core.specs.declared.input.Input.TheVariants as inputs
 use Rattle.call_rules.specs.Content.{described}
-use Rattle.call_rules.specs.Offers.{offer_rule, plain_rule}
-use Rattle.call_rules.specs.Requests.{dialog_rule}
 use Rattle.call_rules.specs.Speaking.{is_bye}
-use Rattle.call_rules.specs.declared.offers.OfferRule.{OfferRule}
-use Rattle.call_rules.specs.declared.requests.DialogRule.TheVariants as dialogrules
-use Rattle.call_steps.specs.Rows.{answers_leg, counts, first_row}
+use Rattle.call_steps.specs.Rows.{answers_leg, counts}
 use Rattle.call_steps.specs.Values.{without_offer}
 use Rattle.calls.specs.Finding.{place_by_ack}
 use Rattle.calls.specs.declared.change.LegDialog.{LegDialog}
-use Rattle.calls.specs.declared.standing_call.StandingCall.{StandingCall}
 use Rattle.plans.specs.CallRows as rows
 use Rattle.plans.specs.CallRows.{are_full, asker, begins_by, call_row, first_by, has_pairs, has_pairs_for, is_unfit, occasion, of_plan, offer_method, offer_reply, offers, offers_by, okay_plan, passes, passes_at, passes_if, passes_in, refreshes_at, refreshes_by, refuses, tag_at, takes, takes_request, target, timer_input, unless_full, with_step, without_call_timer}
 use Rattle.plans.specs.Effect.{Effect}
@@ -44,7 +33,6 @@ use Rattle.plans.specs.Office.{Office}
 use Rattle.plans.specs.Plan.{goes, nothing}
 use Rattle.plans.specs.Replies.{responds_in, reply_row, unsupported}
 use Rattle.plans.specs.declared.acks.KeptAck.{KeptAck}
-use Rattle.plans.specs.declared.rule.CallRule.TheVariants as callrules
 use Rattle.plans.specs.declared.rule.Reply.{Reply}
 use Rattle.plans.specs.declared.rule.Reply.TheVariants as replies
 use Rattle.plans.specs.declared.setting.Setting.{Setting}
@@ -53,8 +41,6 @@ use Rattle.responses.specs.Responding.{stateless}
 use Rattle.responses.specs.Words.{is_method}
 use Rattle.agent.specs.Rows.{is_full, received, received_by, request_by, rule_row}
 use Rattle.agent.specs.Rules.{request_rule}
-use Rattle.agent.specs.declared.rule.Rule.{Rule}
-use Rattle.agent.specs.declared.rule.Rule.TheVariants as rules
 use Rattle.call_trace.specs.declared.call.Call.{Call}
 use Rattle.call_trace.specs.declared.datagram.Datagram.{Datagram}
 use Rattle.call_trace.specs.declared.datagram.Message.{Message}
@@ -67,7 +53,7 @@ use Rattle.trace_reading.specs.Message.{trace_message}
 use Rattle.promise.specs.Addresses.{IsSource}
 use Rattle.promise.specs.Quiet.{IsQuietReply}
 use Rattle.promise.specs.Sending.{AckWasSent, WasSentIf}
-use Rattle.promise.proofs.FitReplies.{FitsAlone, FitsReplyIf, offer_reply_fits, request_fits as alone_fits}
+use Rattle.promise.proofs.FitReplies.{FitsReplyIf, offer_reply_fits}
 use Rattle.promise.proofs.Further.{IsPlain}
 use Rattle.promise.proofs.Grounds.{read_repeats}
 use Rattle.promise.proofs.MessageViews.{IsResponseTo, ReceivedRow, acknowledged, begun_by, dropped, moved, received_view, requested, responded}
@@ -91,7 +77,7 @@ use Rattle.quiet.proofs.QuietSends.{SaysPlain, all_seen}
 use Rattle.quiet.proofs.Receptions.{LastGoes, last_sent, request_goes}
 use Rattle.quiet.proofs.Replies.{okay_says, refusal_says, reply_says}
 use Rattle.numbers.proofs.ByeTags.{IsTagged, all_idle, all_plain}
-use Rattle.numbers.proofs.RequestRules.{Fits, request_fits}
+use Rattle.numbers.proofs.RowCases.{RowCase, asks_callee, cancelled, left, passed_on, refreshed, refused as refused_in, replied, row_case, ruled, unfit}
 use Rattle.numbers.proofs.TagSteps.{IsRequestTagged, Laws, before_tagged, bye_tagged, first_tagged, fork_tagged, late_tagged, offers_tagged, silent, takes_tagged}
 
 refused_is_none : (status : ℕ) → 300 ≤ status → is_success (kinds.Response status) ≡ false
@@ -179,100 +165,28 @@ module _ (laws : Laws) (s : Office) (begun : List Transaction) (sent : List Sent
     says reply fits quiet =
         plain_sent (reply_row s e r entries id reply).sends (reply_says s e r entries id reply can k.scenes.askers.least (answer_bound laws.names s e r entries id k.scenes.dialogs.bindings) fits quiet)
 
-    abbrev refusal : ℕ → Effect
-    refusal status = of_plan s (responds_in s e r entries id status [] None)
-
-    refusal_sent : (status : ℕ) → 300 ≤ status → status ≤ 699 → Sends (refusal status)
-    refusal_sent status low high = plain_sent (responds_in s e r entries id status [] None).sends (refusal_says s e r entries id status can low high)
-
-    abbrev refused_in : ℕ → End → ℕ → Effect
-    refused_in place end status = refuses s e r entries id place end (replies.Refusal status)
-
-    refuses_sent : (place : ℕ) (end : End) (status : ℕ) → 300 ≤ status → status ≤ 699 → Sends (refused_in place end status)
-    refuses_sent place end status low high = says (replies.Refusal status) (low, high) (refused_is_none status low)
-
     no_bye : is_method (codes "INVITE") r ≡ true → is_bye r.parts ≡ false
     no_bye is = ap (λ name. pointwise nat_eq name (codes "BYE")) (same_method text r read ∙ (bytes_decides r.method (codes "INVITE")).0 is)
 
-    first_by_sent : (to : Uri) (offer : Description) → target s r e.now ≡ Some to → described r.headers r.body ≡ Some offer → is_bye r.parts ≡ false → Sends (first_by s e r entries id to offer)
-    first_by_sent to offer bound said other_method =
-        let step = first_row s.calls (occasion s e) r id e.source to offer in
-        let full = unless_full s e r entries id step in
-        by_if Sends (is_some (offer_fault s.range offer None)) (refusal 488) (cond (has_pairs s e.now offer) full (refusal 503)) (λ b. refusal_sent 488 (omega arith) (omega arith))
-        (λ fit. by_if Sends (has_pairs s e.now offer) full (refusal 503)
-        (λ b. by_if Sends (are_full s) (refusal 503) (with_step s.acks entries None None step) (λ f. refusal_sent 503 (omega arith) (omega arith))
-        (λ f. first_tagged laws s begun sent t ds k asked e text r id to offer from read bound said other_method)) (λ b. refusal_sent 503 (omega arith) (omega arith)))
-
-    begins_sent : (to : Option Uri) (offer : Option Description) → target s r e.now ≡ to → described r.headers r.body ≡ offer → is_bye r.parts ≡ false → Sends (begins_by s e r entries id to offer)
-    begins_sent None offer bound said other_method = refusal_sent 480 (omega arith) (omega arith)
-    begins_sent (Some to) None bound said other_method = refusal_sent 488 (omega arith) (omega arith)
-    begins_sent (Some to) (Some offer) bound said other_method = first_by_sent to offer bound said other_method
-
-    -- in a dialog
-    ruled_sent : (place : ℕ) (end : End) (reply : Reply) (rule : OfferRule) → offer_reply rule ≡ Some reply → Sends (refuses s e r entries id place end reply)
-    ruled_sent place end reply rule is = says reply (subst (FitsReplyIf r) is (offer_reply_fits r rule)) (offer_quiet r rule reply is)
-
-    passes_if_sent : (place : ℕ) (end : End) (c : StandingCall) (offer : Description) → dialog_rule s.calls.calls r ≡ dialogrules.Offers place end → described r.headers r.body ≡ Some offer
-        → Sends (passes_if s e r entries id place end c.call offer)
-    passes_if_sent place end c offer rule said =
-        let numbered = cond (has_number_left (dialog_of (other end) c.call)) (passes s e r entries id place end offer) (refused_in place end 500) in
-        by_if Sends (is_unfit c.call end offer) (refused_in place end 488) (cond (has_pairs_for s e.now c.call end offer) numbered (refused_in place end 503)) (λ b. refuses_sent place end 488 (omega arith) (omega arith))
-        (λ fit. by_if Sends (has_pairs_for s e.now c.call end offer) numbered (refused_in place end 503)
-        (λ b. by_if Sends (has_number_left (dialog_of (other end) c.call)) (passes s e r entries id place end offer) (refused_in place end 500)
-        (λ left. offers_tagged laws s begun sent t ds k asked e text r id place end (offer_method r) offer from read said rule) (λ f. refuses_sent place end 500 (omega arith) (omega arith)))
-        (λ b. refuses_sent place end 503 (omega arith) (omega arith)))
-
-    passes_in_sent : (place : ℕ) (end : End) (c : StandingCall) (offer : Option Description) → dialog_rule s.calls.calls r ≡ dialogrules.Offers place end → described r.headers r.body ≡ offer
-        → Sends (passes_in s e r entries id place end c.call offer)
-    passes_in_sent place end c None rule said = refuses_sent place end 488 (omega arith) (omega arith)
-    passes_in_sent place end c (Some offer) rule said = passes_if_sent place end c offer rule said
-
-    passes_at_sent : (place : ℕ) (end : End) (c : Option StandingCall) → dialog_rule s.calls.calls r ≡ dialogrules.Offers place end → Sends (passes_at s e r entries id place end c)
-    passes_at_sent place end None rule = refuses_sent place end 481 (omega arith) (omega arith)
-    passes_at_sent place end (Some c) rule = passes_in_sent place end c (described r.headers r.body) rule refl
-
-    offers_by_sent : (place : ℕ) (end : End) (reply : Option Reply) → dialog_rule s.calls.calls r ≡ dialogrules.Offers place end → offer_reply (offer_rule s.calls.calls r place end) ≡ reply → Sends (offers_by s e r entries id place end reply)
-    offers_by_sent place end (Some reply) rule is = ruled_sent place end reply (offer_rule s.calls.calls r place end) is
-    offers_by_sent place end None rule is = passes_at_sent place end (slice_get s.calls.calls place) rule
-
-    offers_sent : (place : ℕ) (end : End) → dialog_rule s.calls.calls r ≡ dialogrules.Offers place end → Sends (offers s e r entries id place end)
-    unfolding offers
-    offers_sent place end rule = offers_by_sent place end (offer_reply (offer_rule s.calls.calls r place end)) rule refl
-
-    refreshes_by_sent : (place : ℕ) (end : End) (reply : Option Reply) → dialog_rule s.calls.calls r ≡ dialogrules.Plain place end → offer_reply (plain_rule s.calls.calls r place end) ≡ reply
-        → Sends (refreshes_by s e r entries id place end reply)
-    refreshes_by_sent place end (Some reply) rule is = ruled_sent place end reply (plain_rule s.calls.calls r place end) is
-    refreshes_by_sent place end None rule is = plain_sent (okay_plan s e r entries id).sends (okay_says s e r entries id can k.scenes.askers.server (plain_other s.calls.calls r place end rule))
-
-    refreshes_sent : (place : ℕ) (end : End) → dialog_rule s.calls.calls r ≡ dialogrules.Plain place end → Sends (refreshes_at s e r entries id place end)
-    unfolding refreshes_at
-    refreshes_sent place end rule = refreshes_by_sent place end (offer_reply (plain_rule s.calls.calls r place end)) rule refl
-
-    -- a CANCEL, and a BYE
     cancel_tag : (tag : List ℕ) → r.method ≡ codes "CANCEL" → IsRequestTagged s.tokens (Some (asker r e id tag))
     cancel_tag tag is by = absurd (false≢true (sym (ap (λ name. pointwise nat_eq name (codes "BYE")) (same_method text r read ∙ is)) ∙ by))
 
-    cancels_sent : (place : ℕ) → r.method ≡ codes "CANCEL" → Sends (takes_request s e r entries id place inputs.Cancel None (tag_at (slice_get s.calls.calls place)))
-    cancels_sent place is =
-        takes_tagged laws s begun sent t ds k asked e place inputs.Cancel None (Some (asker r e id (tag_at (slice_get s.calls.calls place)))) tt refl (cancel_comes s e text r id place k.scenes from read is) (cancel_tag _ is)
-
-    leaves_sent : (place : ℕ) (end : End) → is_bye r.parts ≡ true → dialog_rule s.calls.calls r ≡ dialogrules.Leaves place end
-        → Sends (takes_request s e r entries id place (inputs.Bye end) (counts s.calls.calls place end r.parts.cseq.number) stateless)
-    leaves_sent place end is rule =
-        takes_tagged laws s begun sent t ds k asked e place (inputs.Bye end) (counts s.calls.calls place end r.parts.cseq.number) (Some (asker r e id stateless)) tt refl (bye_comes s e text r id place end k.scenes from read is)
-        (bye_tagged laws s begun sent t ds k asked e r id place end rule)
-
-    rule_sent : (rule : Rule) → request_rule s r e.now ≡ rule → Fits s r rule → FitsAlone r rule → Sends (rule_row s e r entries id rule)
-    unfolding call_row
-    rule_sent (rules.Alone reply) is fits alone = says reply alone (alone_quiet s r e.now reply (same_method text r read) is)
-    rule_sent (rules.Call callrules.Begins) is fits alone = begins_sent (target s r e.now) (described r.headers r.body) refl refl (no_bye fits.0)
-    rule_sent (rules.Call (callrules.Cancels place)) is fits alone = cancels_sent place alone
-    rule_sent (rules.Call (callrules.Leaves place end)) is fits alone = leaves_sent place end alone fits
-    rule_sent (rules.Call (callrules.Offers place end)) is fits alone = offers_sent place end fits
-    rule_sent (rules.Call (callrules.Refreshes place end)) is fits alone = refreshes_sent place end fits
-
-    pub new_sent : Sends (rule_row s e r entries id (request_rule s r e.now))
-    new_sent = rule_sent (request_rule s r e.now) refl (request_fits s r e.now) (alone_fits s r e.now)
+    pub case_sent : (x : Effect) → RowCase s e r entries id x → Sends x
+    case_sent x (replied reply rule fits is) = subst Sends (sym is) (says reply fits (alone_quiet s r e.now reply (same_method text r read) rule))
+    case_sent x (unfit status low high is) = subst Sends (sym is) (plain_sent (responds_in s e r entries id status [] None).sends (refusal_says s e r entries id status can low high))
+    case_sent x (asks_callee to offer first bound said is) = subst Sends (sym is) (first_tagged laws s begun sent t ds k asked e text r id to offer from read bound said (no_bye first.0))
+    case_sent x (cancelled place method is) =
+        subst Sends (sym is)
+        (takes_tagged laws s begun sent t ds k asked e place inputs.Cancel None (Some (asker r e id (tag_at (slice_get s.calls.calls place)))) tt refl (cancel_comes s e text r id place k.scenes from read method) (cancel_tag _ method))
+    case_sent x (left place end rule bye is) =
+        subst Sends (sym is)
+        (takes_tagged laws s begun sent t ds k asked e place (inputs.Bye end) (counts s.calls.calls place end r.parts.cseq.number) (Some (asker r e id stateless)) tt refl (bye_comes s e text r id place end k.scenes from read bye)
+        (bye_tagged laws s begun sent t ds k asked e r id place end rule))
+    case_sent x (ruled place end reply rule h why is) = subst Sends (sym is) (says reply (subst (FitsReplyIf r) why (offer_reply_fits r rule)) (offer_quiet r rule reply why))
+    case_sent x (refused_in place end status h low high is) = subst Sends (sym is) (says (replies.Refusal status) (low, high) (refused_is_none status low))
+    case_sent x (passed_on place end c offer why is) = subst Sends (sym is) (offers_tagged laws s begun sent t ds k asked e text r id place end (offer_method r) offer from read why.described why.rule)
+    case_sent x (refreshed place end rule is) =
+        subst Sends (sym is) (plain_sent (okay_plan s e r entries id).sends (okay_says s e r entries id can k.scenes.askers.server (plain_other s.calls.calls r place end rule)))
 
   -- ---- any request
 
@@ -286,7 +200,7 @@ module _ (laws : Laws) (s : Office) (begun : List Transaction) (sent : List Sent
 
   request_by_sent : IsSource e.source → (text : List ℕ) (r : Request) → message_of text ≡ Ok (Kinds.Request r) → (entries : List Entry) (verdict : Verdict) → Sends (request_by s e r entries verdict (reception_of s.table (Kinds.Request r)).send)
   unfolding request_by
-  request_by_sent from text r read entries (verdicts.New id) = new_sent from text r read entries id
+  request_by_sent from text r read entries (verdicts.New id) = case_sent from text r read entries id (rule_row s e r entries id (request_rule s r e.now)) (row_case s e r entries id)
   request_by_sent from text r read entries verdicts.Repeat = request_sent r
   request_by_sent from text r read entries verdicts.Swallowed = request_sent r
   request_by_sent from text r read entries (verdicts.Up id) = ack_sent r entries

@@ -3,11 +3,11 @@
 #![tactic(auto)]
 
 mod answering;
+mod answers;
 mod byes;
-mod known;
 mod taken;
 
 pub use answering::moves_answer_open_offers;
+pub use answers::answers_are_known;
 pub use byes::byes_are_known;
-pub use known::answers_are_known;
 pub use taken::taken_numbers_rise;

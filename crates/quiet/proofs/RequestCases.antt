@@ -44,7 +44,7 @@ use Rattle.call_rules.specs.declared.requests.DialogRule.{DialogRule}
 use Rattle.call_rules.specs.declared.requests.DialogRule.TheVariants as dialogrules
 use Rattle.responses.specs.Responding.{stateless}
 use Rattle.responses.specs.Words.{has_header, is_declined_method, is_offered_method, is_method as request_method}
-use Rattle.promise.proofs.RequestViews.{IsFirstInvite, IsInside, IsPassedOffer, IsRefresh, by_if}
+use Rattle.promise.proofs.RequestViews.{IsCancel, IsFirstInvite, IsInside, IsPassedOffer, IsRefresh, by_if}
 
 -- ---- a request that begins transaction id, behind what the transactions do
 
@@ -56,7 +56,7 @@ pub data RequestCase (s : Office) (e : Setting) (r : Request) (begun : List Entr
   asks_callee : (to : Uri) (offer : Description) → IsFirstInvite s e.now r to offer → x ≡ with_step s.acks begun None None (first_row s.calls (occasion s e) r id e.source to offer)
       → RequestCase s e r begun id x
   -- a call takes a CANCEL, or a BYE
-  cancelled : (other place : ℕ) → named s.table.slots r.parts ≡ Some other → place_by_offer other s.calls.calls ≡ Some place
+  cancelled : (other place : ℕ) → IsCancel s r other → place_by_offer other s.calls.calls ≡ Some place
       → x ≡ takes_request s e r begun id place inputs.Cancel None (tag_at (slice_get s.calls.calls place)) → RequestCase s e r begun id x
   left : (place : ℕ) (end : End) → dialog_rule s.calls.calls r ≡ dialogrules.Leaves place end
       → x ≡ takes_request s e r begun id place (inputs.Bye end) (counts s.calls.calls place end r.parts.cseq.number) stateless → RequestCase s e r begun id x
@@ -142,7 +142,7 @@ refreshes_view s e r begun id place end rule_is inside = refreshes_by_view s e r
 abbrev FitsRule : Office → Request → Rule → Type 0
 FitsRule s r (rules.Alone reply) = Unit {0}
 FitsRule s r (rules.Call callrules.Begins) = (request_method (codes "INVITE") r ≡ true) × (tag_value r.parts.to.params ≡ None) × (is_some (contact_address (contacts_of r.headers)) ≡ true)
-FitsRule s r (rules.Call (callrules.Cancels place)) = (other : ℕ) × (named s.table.slots r.parts ≡ Some other) × (place_by_offer other s.calls.calls ≡ Some place)
+FitsRule s r (rules.Call (callrules.Cancels place)) = (other : ℕ) × IsCancel s r other × (place_by_offer other s.calls.calls ≡ Some place)
 FitsRule s r (rules.Call (callrules.Leaves place end)) = dialog_rule s.calls.calls r ≡ dialogrules.Leaves place end
 FitsRule s r (rules.Call (callrules.Offers place end)) = dialog_rule s.calls.calls r ≡ dialogrules.Offers place end
 FitsRule s r (rules.Call (callrules.Refreshes place end)) = (dialog_rule s.calls.calls r ≡ dialogrules.Plain place end) × IsInside r
@@ -168,17 +168,21 @@ when_fits : (s : Office) (r : Request) (b : Bool) (rule : Rule) → FitsRule s r
 when_fits s r true rule h = h
 when_fits s r false rule h = tt
 
+when_true_fits : (s : Office) (r : Request) (b : Bool) (rule : Rule) → (b ≡ true → FitsRule s r rule) → FitsIf s r (checks.when b rule)
+when_true_fits s r true rule h = h refl
+when_true_fits s r false rule h = tt
+
 unless_fits : (s : Office) (r : Request) (b : Bool) (rule next : Rule) → FitsRule s r rule → (b ≡ false → FitsRule s r next) → FitsRule s r (checks.otherwise (checks.when b rule) next)
 unless_fits s r true rule next h n = h
 unless_fits s r false rule next h n = n refl
 
-cancels_fits : (s : Office) (r : Request) (id : ℕ) (place : Option ℕ) → named s.table.slots r.parts ≡ Some id → place_by_offer id s.calls.calls ≡ place → FitsRule s r (checks.cancels id place)
+cancels_fits : (s : Office) (r : Request) (id : ℕ) (place : Option ℕ) → IsCancel s r id → place_by_offer id s.calls.calls ≡ place → FitsRule s r (checks.cancels id place)
 cancels_fits s r id None there at_place = tt
 cancels_fits s r id (Some place) there at_place = (id, there, at_place)
 
-cancel_fits : (s : Office) (r : Request) (id : Option ℕ) → named s.table.slots r.parts ≡ id → FitsRule s r (checks.cancel_rule s.calls.calls id)
-cancel_fits s r None there = tt
-cancel_fits s r (Some id) there = cancels_fits s r id (place_by_offer id s.calls.calls) there refl
+cancel_fits : (s : Office) (r : Request) (id : Option ℕ) → request_method (codes "CANCEL") r ≡ true → named s.table.slots r.parts ≡ id → FitsRule s r (checks.cancel_rule s.calls.calls id)
+cancel_fits s r None method there = tt
+cancel_fits s r (Some id) method there = cancels_fits s r id (place_by_offer id s.calls.calls) (record { method = method; named = there }) refl
 
 dialog_fits : (s : Office) (r : Request) (rule : DialogRule) → IsInside r → dialog_rule s.calls.calls r ≡ rule → FitsRule s r (checks.of_dialog rule)
 dialog_fits s r dialogrules.NoDialog inside e = tt
@@ -252,7 +256,7 @@ request_fits s r now =
     let declined = checks.otherwise (checks.declined_line r) known in
     let once = checks.otherwise (checks.merged_line s r) declined in
     let cancelled = named s.table.slots r.parts in
-    line_fits s r (checks.cancel_line s r) once (when_fits s r (request_method (codes "CANCEL") r) (checks.cancel_rule s.calls.calls cancelled) (cancel_fits s r cancelled refl))
+    line_fits s r (checks.cancel_line s r) once (when_true_fits s r (request_method (codes "CANCEL") r) (checks.cancel_rule s.calls.calls cancelled) (λ method. cancel_fits s r cancelled method refl))
     (line_fits s r (checks.merged_line s r) declined (when_fits s r (merged s.table r.parts) (checks.refused 482) tt)
     (line_fits s r (checks.declined_line r) known (when_fits s r (is_declined_method r) (rules.Alone replies.MethodUnoffered) tt)
     (unless_fits s r (not (is_offered_method r)) (checks.refused 501) offered tt (λ e. offered_fits s r now (not_false (is_offered_method r) e)))))

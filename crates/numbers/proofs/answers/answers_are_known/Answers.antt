@@ -1,5 +1,5 @@
 use Rattle.numbers.proofs.AnswersKnown.{answers_after, in_dialog, new_answers}
-use Rattle.numbers.proofs.known.answers_are_known.Goals as goal
+use Rattle.numbers.proofs.answers.answers_are_known.Goals as goal
 
 pub returns-clause-begins : goal.returns-clause-begins
 returns-clause-begins c = new_answers
