@@ -1,3 +1,5 @@
 pub mod Laws
 pub mod Takes
 pub mod Dues
+pub mod Requests
+pub mod Responses

@@ -130,7 +130,7 @@ use Rattle.showing.proofs.Timers.{due_input}
 use Rattle.showing.proofs.UnlistedCalls.{hidden_takes}
 
 -- a request is calm
-request_calm : (bytes : List ℕ) (r : Request) → IsTrue (is_calm offering (trace_message bytes (Kinds.Request r)))
+pub request_calm : (bytes : List ℕ) (r : Request) → IsTrue (is_calm offering (trace_message bytes (Kinds.Request r)))
 unfolding trace_message
 request_calm bytes r = refl
 
