@@ -3,3 +3,5 @@ pub mod Takes
 pub mod Dues
 pub mod Requests
 pub mod Responses
+pub mod Datagrams
+pub mod Events

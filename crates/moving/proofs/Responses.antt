@@ -146,6 +146,30 @@ use Rattle.signals.proofs.Responses.{responds_to}
 use Rattle.answers.proofs.Answering.{answer_goes_on}
 use Rattle.plans.specs.declared.taken.Taken.TheVariants.{Done}
 use Rattle.moving.proofs.Takes.{shown, ties}
+use Rattle.sip_uri.specs.declared.uri.Uri.{Uri}
+use Rattle.sip_message.specs.declared.message.Parts.{Parts}
+use Rattle.sip_message.specs.Contact.{contacts_of}
+use Rattle.dialogs.specs.Making.{reached_at}
+use Rattle.calls.specs.State.{Standing as Calls}
+use Rattle.call_steps.specs.Rows.{fork_by, late_by}
+use Rattle.call_steps.specs.declared.occasion.Occasion.{Occasion}
+
+-- a 2xx that no call takes changes none
+fork_at : (calls : Calls) (o : Occasion) (asked : Parts) (r : Response) (target : Option Uri) → (fork_by calls o asked r target).outcome.standing.calls ≡ calls.calls
+fork_at calls o asked r None = refl
+fork_at calls o asked r (Some uri) = refl
+
+fork_same : (calls : Calls) (o : Occasion) (asked : Parts) (r : Response) → (fork_row calls o asked r).outcome.standing.calls ≡ calls.calls
+unfolding fork_row
+fork_same calls o asked r = fork_at calls o asked r (reached_at (contacts_of r.headers))
+
+late_at : (calls : Calls) (o : Occasion) (asked : Parts) (r : Response) (target : Option Uri) → (late_by calls o asked r target).outcome.standing.calls ≡ calls.calls
+late_at calls o asked r None = refl
+late_at calls o asked r (Some uri) = refl
+
+late_same : (calls : Calls) (o : Occasion) (asked : Parts) (r : Response) → (late_row calls o asked r).outcome.standing.calls ≡ calls.calls
+unfolding late_row
+late_same calls o asked r = late_at calls o asked r (reached_at (contacts_of r.headers))
 
 module _ (laws : Laws) (s after : Office) (begun more : List Transaction) (sent : List Sent) (t : List Datagram) (old : List Call) (k : ℕ) (tied : IsTied s begun sent t old k) (later : IsAfter s after (begun ++ more)) (taken : Option Message) (ms : List Message) (e : Setting) (bytes : List ℕ) (r : Response) (read : message_of bytes ≡ Ok (Kinds.Response r)) (reaches : is_unreachable_message (Kinds.Response r) ≡ false) (entries : List Entry) (id : ℕ) (y : Transaction) (to : IsResponseTo s r id y) (x : Effect) (took : x.plan.taken ≡ Done → IsTakenOf bytes taken) (are : AreMessages x.plan.sends ms) (calls : after.calls.calls ≡ x.calls.standing.calls) where
   abbrev Goes : Type 0
@@ -202,7 +226,7 @@ module _ (laws : Laws) (s after : Office) (begun more : List Transaction) (sent 
   response_goes send goes (cases.answered place c there asked class is) alone =
       success_goes place c there asked class (is ∙ ap (λ o. takes s e entries o (Some id) place (inputs.Answer (described r.headers r.body)) (answers_leg s.calls.calls place y.parts r)) goes) (is_listed_call c) refl
   response_goes send goes (cases.again place rule is) alone = stays (alone tt) (calls ∙ ap (λ (z : Effect). z.calls.standing.calls) is)
-  response_goes send goes (cases.fork rule is) alone = stays (alone tt) ?
-  response_goes send goes (cases.ack_alone rule is) alone = stays (alone tt) ?
+  response_goes send goes (cases.fork rule is) alone = stays (alone tt) (calls ∙ (ap (λ (z : Effect). z.calls.standing.calls) is ∙ fork_same s.calls (occasion s e) y.parts r))
+  response_goes send goes (cases.ack_alone rule is) alone = stays (alone tt) (calls ∙ (ap (λ (z : Effect). z.calls.standing.calls) is ∙ late_same s.calls (occasion s e) y.parts r))
   response_goes send goes (cases.refused place status c there asked class same is) alone =
       refusal_goes place c there asked class (is ∙ (ap (λ o. takes s e entries o None place (inputs.Refusal status) None) goes ∙ ap (λ (n : ℕ). takes s e entries (reception_of s.table (Kinds.Response r)).send None place (inputs.Refusal n) None) same)) (is_listed_call c) refl

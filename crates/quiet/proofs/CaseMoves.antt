@@ -109,7 +109,7 @@ NoneTakes s now salt what x (cases.due is row) = NoneTakesDue s (setting now sal
 
 -- ---- what was taken
 
-nothing_taken : (what : What) (answer : Taken) (taken : Option Message) → IsNotDone answer → IsTaken what answer taken → taken ≡ None
+pub nothing_taken : (what : What) (answer : Taken) (taken : Option Message) → IsNotDone answer → IsTaken what answer taken → taken ≡ None
 nothing_taken (whats.Datagram source bytes) takens.Done taken not_done h = absurd not_done
 nothing_taken (whats.Datagram source bytes) (takens.Dropped why) taken not_done h = h
 nothing_taken (whats.Datagram source bytes) takens.Shed taken not_done h = h
