@@ -1,0 +1,164 @@
+-- What is known of an agent, whatever events came, stays known at each event.
+use Rattle.std.proofs.Common.{ℕ, suc, ◌<◌, ◌^◌, List, [], ◌++◌, Option}
+use Rattle.std.specs.List.{All}
+use Rattle.std.proofs.lemmas.List.Elements.{All-nil}
+use Rattle.agent.specs.Rows.{after, row}
+use Rattle.agent.specs.State.{Contents, IsNew, office}
+use Rattle.call_trace.specs.declared.call.Call.{Call}
+use Rattle.call_trace.specs.declared.datagram.Datagram.{Datagram}
+use Rattle.call_trace.specs.declared.datagram.Message.{Message}
+use Rattle.call_trace.specs.Events.{passed}
+use Rattle.call_trace.specs.Lives.{Stands}
+use Rattle.call_trace.specs.Messages.{offering}
+use Rattle.call_trace.specs.Moves.{Move}
+use Rattle.configuration.specs.declared.config.Config.{Config}
+use Rattle.configuration.specs.Rules.{KeepsRules}
+use Rattle.events.specs.declared.event.Event.{Event}
+use Rattle.events.specs.declared.sent.Sent.{Sent}
+use Rattle.moving.specs.Known.{KnowsAgent}
+use Rattle.numbers.specs.Byes.{KnowsByes}
+use Rattle.numbers.specs.Taken.{KnowsTaken}
+use Rattle.numbers.proofs.RaisedRows.{after_taken, new_taken}
+use Rattle.plans.specs.Office.{Office}
+use Rattle.promise.specs.Addresses.{IsConfigured}
+use Rattle.promise.specs.Askers.{KnowsAskers}
+use Rattle.promise.specs.Bodies.{KnowsDescriptions}
+use Rattle.promise.specs.CalleeDialogs.{KnowsCallees}
+use Rattle.promise.specs.Datagrams.{ComesFromSource, IsOwnDatagram}
+use Rattle.promise.specs.Knowing.{KnowsTokens}
+use Rattle.promise.specs.Numbers.{KnowsNumbers, begun_of}
+use Rattle.promise.specs.OpenRequests.{KnowsRequests}
+use Rattle.promise.specs.Sending.{KnowsSent}
+use Rattle.promise.specs.Sound.{KnowsDialogs}
+use Rattle.promise.specs.Waiting.{KnowsWaiting}
+use Rattle.promise.proofs.AskerKnown.{after_askers, after_kept, after_own, new_askers}
+use Rattle.promise.proofs.Asking.{all_asked}
+use Rattle.promise.proofs.BodyRows.{after_bodies, new_bodies}
+use Rattle.promise.proofs.CalleeRows.{NamesContact, after_callees, new_callees}
+use Rattle.promise.proofs.Events.{after_knows, new_knows}
+use Rattle.promise.proofs.OpenRows.{after_requests, new_requests}
+use Rattle.promise.proofs.Rising.{after_numbers, new_numbers}
+use Rattle.promise.proofs.SendRows.{after_sent, new_sent}
+use Rattle.promise.proofs.SoundRows.{after_dialogs, new_dialogs}
+use Rattle.promise.proofs.WaitEvents.{after_waits, new_waits}
+use Rattle.quiet.specs.Machines.{KnowsMachines}
+use Rattle.quiet.specs.Ties.{AreTied}
+use Rattle.quiet.proofs.MachineEvents.{after_machines, new_machines}
+use Rattle.read_back.specs.SoundClients.{KnowsClients}
+use Rattle.read_back.proofs.ClientRows.{after_clients, new_clients}
+use Rattle.scenes.specs.Coming.{KnowsNumbersLeft}
+use Rattle.scenes.proofs.CountingRows.{after_leaves, new_leaves}
+use Rattle.serving.specs.Serving.{AreStaged, KnowsServing}
+use Rattle.showing.specs.Steps.{IsAfter}
+use Rattle.traces.specs.Asked.{KnowsAsked}
+use Rattle.traces.specs.Knowing.{KnowsTrace}
+use Rattle.traces.specs.Messages.{AreMessages}
+use Rattle.traces.specs.Traces.{IsPassed}
+use Rattle.traces.proofs.AskedRows.{after_asked, new_asked}
+use Rattle.traces.proofs.KnownTraces.{Laws as TraceLaws, after_trace, new_trace}
+use Rattle.transactions.specs.declared.transaction.Transaction.{Transaction}
+
+-- the laws of the crates below
+pub record Laws : Type 0 where
+  pub texts : TraceLaws
+  pub names : NamesContact
+  pub serves_new : (c : Config) (s : Contents) → KeepsRules c → IsNew c s → KnowsServing (office s)
+  pub serves : (s : Contents) (e : Event) → KnowsServing (office s) → KnowsServing (office (after s e))
+  pub staged : (s : Office) → KnowsServing s → AreStaged s
+  pub byes_new : (c : Config) (s : Contents) → IsNew c s → KnowsByes (office s) []
+  pub byes : (s : Contents) (e : Event) (begun : List Transaction) (sent : List Sent) (t : List Datagram) (ds : List Call) (k : ℕ) (taken : Option Message) (ms : List Message) → AreTied (office s) begun sent t ds → KnowsAsked (office s)
+      → ComesFromSource e.what → AreMessages (row s e).plan.sends ms → KnowsByes (office s) t → KnowsByes (office (after s e)) (t ++ passed k taken ms)
+  pub none_stand : Stands offering [] 0 []
+  pub moved : (n : ℕ) (t : List Datagram) (old new : List Call) (taken : Option Message) (sent : List Message) → Move offering t old taken sent new → Stands offering old n t → Stands offering new (suc n) (t ++ passed n taken sent)
+
+-- the agent, which began these transactions and sent these datagrams, and the trace of it
+pub record Knows (s : Office) (begun : List Transaction) (sent : List Sent) (t : List Datagram) : Type 0 where
+  pub trace : KnowsTrace s begun sent t
+  pub tokens : KnowsTokens s
+  pub waiting : KnowsWaiting s
+  pub again : KnowsSent s sent
+  pub machines : KnowsMachines s
+  pub dialogs : KnowsDialogs s
+  pub clients : KnowsClients s
+  pub media : KnowsDescriptions s
+  pub askers : KnowsAskers s
+  pub own : All IsOwnDatagram sent
+  pub callees : KnowsCallees s
+  pub left : KnowsNumbersLeft s
+  pub numbers : KnowsNumbers s begun
+  pub requests : KnowsRequests s begun
+  pub offers : KnowsAsked s
+  pub counted : KnowsTaken s
+  pub serving : KnowsServing s
+
+pub new_known : Laws → (c : Config) (s : Contents) → IsConfigured c → IsNew c s → Knows (office s) [] [] []
+new_known laws c s is new = record {
+  trace = new_trace c s new;
+  tokens = new_knows c s new;
+  waiting = new_waits c s new;
+  again = new_sent c s new;
+  machines = new_machines c s new;
+  dialogs = new_dialogs c s new is.source.octets;
+  clients = new_clients c s is new;
+  media = new_bodies c s is.rules (record { four = is.four; octets = is.source.octets }) new;
+  askers = new_askers c s is new;
+  own = All-nil IsOwnDatagram;
+  callees = new_callees c s new;
+  left = new_leaves c s new;
+  numbers = new_numbers c s new;
+  requests = new_requests c s new;
+  offers = new_asked c s new;
+  counted = new_taken c s new;
+  serving = laws.serves_new c s is.rules new;
+}
+
+module _ (laws : Laws) (s : Contents) (e : Event) (n : ℕ) (begun : List Transaction) (sent : List Sent) (t : List Datagram) (k : Knows (office s) begun sent t) (from : ComesFromSource e.what) where
+  askers_after : KnowsAskers (office (after s e))
+  askers_after = after_askers laws.texts.describes s e sent from k.tokens k.again k.media k.askers k.own
+
+  pub known_after : (taken : Option Message) (ms : List Message) → IsPassed e.what (row s e).plan.taken (row s e).plan.sends taken ms
+      → Knows (office (after s e)) (begun ++ begun_of (row s e).plan.changes) (sent ++ (row s e).plan.sends) (t ++ passed n taken ms)
+  known_after taken ms shows = record {
+    trace = after_trace laws.texts s e n begun sent t taken ms (record { tokens = k.tokens; was = k.again; askers = k.askers; dialogs = k.dialogs; media = k.media; values = k.clients }) shows k.trace;
+    tokens = after_knows s e k.tokens;
+    waiting = after_waits s e k.tokens k.waiting;
+    again = after_sent s e sent k.again;
+    machines = after_machines s e k.machines;
+    dialogs = after_dialogs laws.texts.reading s e k.dialogs;
+    clients = after_clients laws.texts.reading s e k.dialogs k.clients;
+    media = after_bodies laws.texts.describes s e k.media;
+    askers = askers_after;
+    own = after_own laws.texts.describes s e sent from k.tokens k.again k.media k.askers k.own;
+    callees = after_callees laws.names s e k.tokens k.waiting k.callees;
+    left = after_leaves s e k.waiting k.left;
+    numbers = after_numbers s e begun k.tokens k.waiting k.numbers;
+    requests = after_requests s e begun k.tokens k.waiting k.dialogs k.requests;
+    offers = after_asked s e askers_after k.offers;
+    counted = after_taken s e k.tokens k.counted;
+    serving = laws.serves s e k.serving;
+  }
+
+  -- the office afterwards, beside that of before
+  pub is_after : IsAfter (office s) (office (after s e)) (begun ++ begun_of (row s e).plan.changes)
+  is_after = record {
+    numbers = after_numbers s e begun k.tokens k.waiting k.numbers;
+    keeps = after_kept laws.texts.describes s e sent from k.tokens k.again k.media k.askers k.own;
+    staged = laws.staged (office (after s e)) (laws.serves s e k.serving);
+  }
+
+-- while tokens are left
+pub agent_known : Laws → (s : Contents) (begun : List Transaction) (sent : List Sent) (t : List Datagram) → Knows (office s) begun sent t → s.tokens < 2 ^ 63 → KnowsAgent (office s) begun sent t
+agent_known laws s begun sent t k few = record {
+  trace = k.trace;
+  tokens = k.tokens;
+  waiting = k.waiting;
+  again = k.again;
+  machines = k.machines;
+  scenes = record { dialogs = k.dialogs; clients = k.clients; descriptions = k.media; askers = k.askers; tokens = k.tokens; few = few };
+  legs = record { dialogs = k.dialogs; callees = k.callees; left = k.left };
+  numbers = k.numbers;
+  asked = all_asked s begun k.callees k.requests;
+  offers = k.offers;
+  counted = k.counted;
+  staged = laws.staged (office s) k.serving;
+}

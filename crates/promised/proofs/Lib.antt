@@ -1,0 +1,9 @@
+pub mod Knowing
+pub mod Begun
+pub mod Openings
+pub mod Later
+pub mod Sessions
+pub mod Invariant
+pub mod Counted
+pub mod AllEntries
+pub mod Keeping

@@ -1,0 +1,6 @@
+//! After any events of a new agent the calls of their trace stand, show the agent's, and keep the whole media promise. Nothing here runs.
+#![tactic(auto)]
+
+mod promised;
+
+pub use promised::agents_keep_the_promise;
