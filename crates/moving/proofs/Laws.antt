@@ -1,131 +1,18 @@
 -- What the laws of the crates below say of reading and of moves, as the proofs of whole events ask for it.
-use Rattle.std.proofs.Common.{◌∷◌, Bool, Err, List, None, Ok, Option, Result, Some, [], ap, codes, cond, false, inl, inr, is_some, not, refl, subst, sym, true, ℕ, ◌&&◌, ◌++◌, ◌∙◌, ◌≡◌, ◌⊎◌}
-use Rattle.std.specs.Prelude.{IsTrue, nat_lt, remove, slice_get, slice_set}
-use Rattle.std.proofs.lemmas.Bool.{false≢true, ltb-false, ltb-true}
-use Rattle.std.proofs.lemmas.Option.{none-some, same_Some}
-use Rattle.events.specs.declared.sent.Sent.{Sent}
-use Rattle.sip_message.specs.Read.{message_of}
-use Rattle.sip_message.specs.declared.message.Message.TheVariants as Kinds
-use Rattle.sip_message.specs.declared.message.Response.{Response}
-use Rattle.sip_message.specs.Words.{class_of, is_method as is_ack, tag_text}
-use Rattle.sip_message.specs.declared.words.Class.TheVariants as classes
-use Rattle.transactions.specs.Contents.{reception_of}
-use Rattle.transactions.specs.declared.change.Entry.{Entry}
-use Rattle.transactions.specs.declared.transaction.Transaction.{Transaction}
-use Rattle.agent.specs.Rows.{is_unreachable_message, no_source, setting}
-use Rattle.call_core.specs.CallRows.{call_row, is_fit, step_in, unchanged}
-use Rattle.call_rules.specs.Content.{described}
-use Rattle.call_core.specs.Calls.{awaits_answer, dialog_of, holds_in, with_dialog}
-use Rattle.call_core.specs.declared.call.Call.{Call as ServerCall}
-use Rattle.call_steps.specs.Values.{AskerValue, ComingValue, without_offer}
-use Rattle.call_core.specs.declared.input.Input.{Input}
-use Rattle.call_core.specs.declared.input.Input.TheVariants as inputs
-use Rattle.call_core.specs.declared.signal.Signal.TheVariants as signals
-use Rattle.call_core.specs.declared.stage.Standing.{Standing}
-use Rattle.call_steps.specs.Rows.{answers_leg, counts, fork_row, late_row, messages_of, takes_by, takes_row}
-use Rattle.calls.specs.declared.change.LegDialog.{LegDialog}
-use Rattle.calls.specs.declared.standing_call.StandingCall.{StandingCall}
-use Rattle.plans.specs.CallRows.{asker, occasion, of_plan, puts_if, tag_at, takes, takes_request, with_step}
-use Rattle.plans.specs.Effect.{Effect}
-use Rattle.plans.specs.Office.{Office}
-use Rattle.plans.specs.Plan.{goes, moves}
-use Rattle.plans.specs.declared.setting.Setting.{Setting}
+use Rattle.std.proofs.Common.{List, Option, ℕ}
 use Rattle.call_trace.specs.declared.call.Call.{Call}
 use Rattle.call_trace.specs.declared.datagram.Datagram.{Datagram}
 use Rattle.call_trace.specs.declared.datagram.Message.{Message}
-use Rattle.call_trace.specs.Events.{IsIdle, IsIdleTaken, IsPartingTaken, NoneAsked, calm, due, is_calm, passed, unmoved}
 use Rattle.call_trace.specs.Lives.{Stands}
-use Rattle.call_trace.specs.Messages.{is_final, offering}
-use Rattle.call_trace.specs.Moves.{Move, tagged}
-use Rattle.call_trace.specs.Stands.{AllApart, HasTags, leg as leg_of}
-use Rattle.calls.specs.Carrying.{changed_at, offerer_of, with_dialog_at}
-use Rattle.promise.proofs.AskerRows.{class_by, failure_by}
+use Rattle.call_trace.specs.Messages.{offering}
+use Rattle.call_trace.specs.Moves.{Move}
+use Rattle.call_trace.specs.Stands.{AllApart}
 use Rattle.promise.proofs.Describing.{BodiesDescribe}
-use Rattle.promise.proofs.ReadParts.{response_status, same_method}
-use Rattle.promise.specs.CalleeDialogs.{FitsStage, HasCallee, KnowsCallees, is_unanswered}
-use Rattle.promise.specs.Waiting.{IsOffering, KnowsWaiting, from_tag}
 use Rattle.promise.proofs.ReadBack.{SentIsRead}
 use Rattle.promise.proofs.Reading.{Reading as ReadsNames}
-use Rattle.read_back.specs.Comings.{CanCome}
-use Rattle.read_back.proofs.Comings.{alone_comes, answer_comes, bye_comes, cancel_comes}
-use Rattle.signals.specs.Responding.{RespondsToOffer}
-use Rattle.signals.specs.Taking.{IsShownAt, KnowsLegs, TakesSignal, is_due_signal}
 use Rattle.traces.proofs.Taking.{ReplyLaw}
-use Rattle.promise.proofs.Rows.{answered_client}
-use Rattle.signals.proofs.FirstAnswers.{ReadingLaws, later_fits, success_signals}
-use Rattle.signals.proofs.Responses.{refusal_signals, ringing_signals}
-use Rattle.scenes.specs.Coming.{FitsComing, HasNumbersLeft, scene_at}
-use Rattle.traces.specs.Messages.{AreMessages, IsRequestOf, IsTakenOf}
-use Rattle.ties.specs.Inputs.{is_bye_signal}
-use Rattle.ties.specs.Listing.{Listed, hidden, is_listed, is_listed as is_listed_call, is_listed_stage, listing}
-use Rattle.ties.specs.Shows.{ShowsCall, ShowsCallee, ShowsLegs, is_caller}
-use Rattle.ties.specs.Afterwards.{HasSpot, IsLeft}
-use Rattle.ties.proofs.HeardActions.{split}
+use Rattle.signals.proofs.FirstAnswers.{ReadingLaws}
 use Rattle.ties.proofs.Reading.{Reading}
-use Rattle.quiet.specs.Ties.{AreTied}
-use Rattle.quiet.proofs.EventMoves.{sends_are_idle}
-use Rattle.quiet.proofs.ReadTexts.{taken_is}
-use Rattle.quiet.proofs.SeenResponses.{provisional_calm, sees_kind}
-use Rattle.showing.specs.Steps.{GoOn, GoesOnAt, IsAfter, IsSignalOf, StandsShown, calls_after, due_signal}
-use Rattle.showing.proofs.Again.{again_none}
-use Rattle.std.proofs.lemmas.Slice.Eq.{bytes_eq-Decides}
-use Rattle.sip_message.specs.declared.message.Request.{Request}
-use Rattle.call_media.specs.declared.end.End.{End}
-use Rattle.call_rules.specs.Requests.{dialog_rule}
-use Rattle.responses.specs.Words.{is_method}
-use Rattle.responses.specs.Responding.{stateless}
-use Rattle.promise.specs.Addresses.{IsSource}
-use Rattle.scenes.proofs.Fitting.{counts_fits, first_answer}
-use Rattle.signals.proofs.Comings.{ack_signals, bye_signals, cancel_signals, due_signals}
-use Rattle.call_rules.specs.Speaking.{is_bye}
-use Rattle.promise.specs.Sending.{KnowsSent}
-use Rattle.promise.specs.Sound.{HasSoundLegs, IsTargetIf}
-use Rattle.promise.proofs.Awaiting.{all_at}
-use Rattle.traces.specs.Knowing.{KnowsTrace}
-use Rattle.call_rules.specs.declared.requests.DialogRule.TheVariants.{Leaves}
-use Rattle.sip_message.specs.declared.message.Parts.{Parts}
-use Rattle.call_media.specs.declared.end.End.TheVariants.{Callee, Caller}
-use Rattle.call_media.specs.declared.session.OpenOffer.{OpenOffer}
-use Rattle.sdp.specs.declared.description.Description.{Description}
-use Rattle.call_trace.specs.Listed.{AllOf}
-use Rattle.trace_reading.specs.Message.{dialog_named, trace_message}
-use Rattle.promise.specs.Knowing.{HasLegTag, HasMadeTags, IsTagOf as IsTagOfStanding}
-use Rattle.promise.proofs.Tagged.{tagged as is_tagged}
-use Rattle.serving.specs.Serving.{IsStaged}
-use Rattle.signals.proofs.ReachedAnswers.{answered_fits, counted, reached, target}
-use Rattle.quiet.proofs.Taken.{none_has}
-use Rattle.showing.proofs.Timers.{due_input}
-use Rattle.promise.specs.OpenRequests.{HasAsked}
-use Rattle.promise.proofs.AskedCalls.{at_place}
-use Rattle.scenes.specs.Going.{put_as}
-use Rattle.ties.specs.Heard.{HearsActions}
-use Rattle.call_media.specs.declared.state.CallMedia.{CallMedia}
-use Rattle.events.specs.declared.event.What.{What}
-use Rattle.events.specs.declared.event.What.TheVariants as whats
-use Rattle.sip_uri.specs.declared.uri.Addr.{Addr}
-use Rattle.sip_message.specs.declared.message.Message.{Message as Read}
-use Rattle.registrar.specs.Registrar.{answer_of, rules_of}
-use Rattle.registrar.specs.declared.binding.Binding.{Binding}
-use Rattle.registrar.specs.declared.refusal.Refusal.{Refusal}
-use Rattle.responses.specs.Registering.{register_of}
-use Rattle.transactions.specs.declared.outcome.Outgoing.{Outgoing}
-use Rattle.plans.specs.Replies.{registers, registers_by, reply_row}
-use Rattle.plans.specs.declared.rule.Reply.{Reply}
-use Rattle.plans.specs.declared.rule.Reply.TheVariants as replies
-use Rattle.plans.specs.declared.taken.Taken.{Taken}
-use Rattle.plans.specs.declared.taken.Taken.TheVariants as takens
-use Rattle.promise.specs.Datagrams.{ComesFromSource}
-use Rattle.promise.proofs.MessageViews.{IsResponseTo, begun_by}
-use Rattle.promise.proofs.Views.{DueRow}
-use Rattle.promise.proofs.Views as views
-use Rattle.traces.specs.Traces.{IsTaken}
-use Rattle.quiet.specs.Late.{KnowsLate}
-use Rattle.quiet.specs.Lateness.{IsPassedOver}
-use Rattle.quiet.specs.Verdicts.{IsTransactions}
-use Rattle.quiet.proofs.EventCases.{DatagramCase, EventCase, IsNotDone, MessageCase, ResponseCase}
-use Rattle.quiet.proofs.EventCases as cases
-use Rattle.quiet.proofs.RequestCases.{RequestCase}
-use Rattle.quiet.proofs.RequestCases as requests
 use Rattle.promise.proofs.CalleeRows.{NamesContact}
 use Rattle.offers.proofs.FirstSteps.{NamesOne}
 

@@ -1,28 +1,18 @@
 -- What is kept after any events of an agent: of the trace of them, and of the calls of that trace.
-use Rattle.std.specs.Prelude.{◌++◌, ℕ, List, Option}
-use Rattle.agent.specs.Rows.{after, row}
-use Rattle.agent.specs.State.{Contents, office}
+use Rattle.std.specs.Prelude.{ℕ, List}
 use Rattle.call_trace.specs.declared.call.Call.{Call}
 use Rattle.call_trace.specs.declared.datagram.Datagram.{Datagram}
 use Rattle.call_trace.specs.declared.datagram.Dialog.{Dialog}
-use Rattle.call_trace.specs.declared.datagram.Message.{Message}
 use Rattle.call_trace.specs.Lives.{Stands}
 use Rattle.call_trace.specs.Messages.{offering}
 use Rattle.call_trace.specs.Promised.{Promised}
 use Rattle.calls.specs.declared.standing_call.StandingCall.{StandingCall}
-use Rattle.events.specs.declared.event.Event.{Event}
-use Rattle.events.specs.declared.sent.Sent.{Sent}
-use Rattle.moving.specs.Known.{IsMoved, IsTied}
 use Rattle.plans.specs.Office.{Office}
-use Rattle.promise.specs.Datagrams.{ComesFromSource}
-use Rattle.promise.specs.Numbers.{begun_of}
 use Rattle.serving.specs.Serving.{trace_table}
 use Rattle.serving.specs.Traced.{holder_by}
-use Rattle.showing.specs.Steps.{IsAfter}
 use Rattle.ties.specs.Listing.{Listed}
 use Rattle.ties.specs.Shows.{ShowsCall}
 use Rattle.trace_reading.specs.Message.{dialog_named}
-use Rattle.traces.specs.Traces.{IsPassed}
 use Rattle.transactions.specs.declared.transaction.Transaction.{Transaction}
 
 -- the dialog with the caller, as a trace names it

@@ -1,5 +1,5 @@
 -- A request that goes up, or that belongs to no transaction and begins none, is an ACK (RFC 3261 sections 17.1.1.3 and 17.2).
-use Rattle.std.proofs.Common.{◌≡◌, ◌∙◌, ◌&&◌, ℕ, Bool, true, false, List, codes, Option, Some, None, position, refl, sym, subst}
+use Rattle.std.proofs.Common.{◌≡◌, ◌∙◌, ◌&&◌, ℕ, Bool, true, false, codes, Option, Some, None, position, refl, sym}
 use Rattle.std.proofs.lemmas.List.Quantifiers.{position-Some}
 use Rattle.std.proofs.lemmas.Bool.{false≢true}
 use Rattle.sip_message.specs.declared.message.Message.TheVariants as Kinds

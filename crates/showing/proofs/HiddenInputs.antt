@@ -1,13 +1,12 @@
 -- What a call that the trace lists no more takes moves no call of the trace, and the trace's calls show the server's afterwards.
-use Rattle.std.proofs.Common.{Bool, is_some, List, None, Ok, Option, Some, [], ap, codes, false, inl, inr, not, refl, subst, sym, true, ℕ, ◌&&◌, ◌++◌, ◌∙◌, ◌≡◌, ◌⊎◌}
+use Rattle.std.proofs.Common.{Bool, is_some, List, None, Ok, Option, Some, [], ap, codes, false, inl, inr, refl, subst, sym, true, ℕ, ◌++◌, ◌∙◌, ◌≡◌}
 use Rattle.std.specs.Prelude.{IsTrue, nat_lt, slice_get}
 use Rattle.std.proofs.lemmas.Bool.{false≢true, ltb-false, ltb-true}
-use Rattle.std.proofs.lemmas.Option.{none-some, same_Some}
 use Rattle.events.specs.declared.sent.Sent.{Sent}
 use Rattle.sip_message.specs.Read.{message_of}
 use Rattle.sip_message.specs.declared.message.Message.TheVariants as Kinds
 use Rattle.sip_message.specs.declared.message.Response.{Response}
-use Rattle.sip_message.specs.Words.{class_of, is_method as is_ack}
+use Rattle.sip_message.specs.Words.{class_of}
 use Rattle.sip_message.specs.declared.words.Class.TheVariants as classes
 use Rattle.transactions.specs.Contents.{reception_of}
 use Rattle.transactions.specs.declared.change.Entry.{Entry}
@@ -16,15 +15,12 @@ use Rattle.agent.specs.Rows.{is_unreachable_message}
 use Rattle.call_core.specs.CallRows.{call_row, is_fit}
 use Rattle.call_rules.specs.Content.{described}
 use Rattle.call_core.specs.Calls.{holds_in}
-use Rattle.call_core.specs.Asked.{asked_row}
-use Rattle.call_core.specs.Table.{row_in, row_of}
 use Rattle.call_core.specs.declared.call.Call.{Call as ServerCall}
 use Rattle.call_steps.specs.Values.{AskerValue}
 use Rattle.call_core.specs.declared.input.Input.{Input}
 use Rattle.call_core.specs.declared.input.Input.TheVariants as inputs
 use Rattle.call_core.specs.declared.signal.Signal.{Signal}
 use Rattle.call_core.specs.declared.signal.Signal.TheVariants as signals
-use Rattle.call_core.specs.declared.stage.Stage.{Stage}
 use Rattle.call_core.specs.declared.stage.Stage.TheVariants.{Cancelling}
 use Rattle.call_core.specs.declared.stage.Standing.{Standing}
 use Rattle.call_steps.specs.Rows.{answers_leg, counts, takes_row}
@@ -39,7 +35,7 @@ use Rattle.plans.specs.declared.setting.Setting.{Setting}
 use Rattle.call_trace.specs.declared.call.Call.{Call}
 use Rattle.call_trace.specs.declared.datagram.Datagram.{Datagram}
 use Rattle.call_trace.specs.declared.datagram.Message.{Message}
-use Rattle.call_trace.specs.Events.{NoneAsked, passed}
+use Rattle.call_trace.specs.Events.{passed}
 use Rattle.call_trace.specs.Lives.{Stands}
 use Rattle.call_trace.specs.Messages.{is_final, offering}
 use Rattle.call_trace.specs.Moves.{Move}
@@ -47,52 +43,34 @@ use Rattle.call_trace.specs.Stands.{AllApart, leg as leg_of}
 use Rattle.calls.specs.Carrying.{offerer_of}
 use Rattle.promise.proofs.AskerRows.{class_by, failure_by}
 use Rattle.promise.proofs.Describing.{BodiesDescribe}
-use Rattle.promise.proofs.ReadParts.{response_status, same_method}
-use Rattle.promise.specs.CalleeDialogs.{is_unanswered}
-use Rattle.promise.specs.Waiting.{KnowsWaiting}
+use Rattle.promise.proofs.ReadParts.{response_status}
 use Rattle.promise.proofs.ReadBack.{SentIsRead}
 use Rattle.promise.proofs.Reading.{Reading as ReadsNames}
 use Rattle.read_back.specs.Comings.{CanCome}
 use Rattle.read_back.proofs.Comings.{alone_comes, answer_comes, bye_comes, cancel_comes}
 use Rattle.signals.specs.Responding.{RespondsToOffer}
-use Rattle.signals.specs.Taking.{IsShownAt, KnowsLegs, TakesSignal, is_due_signal}
-use Rattle.traces.proofs.Taking.{ReplyLaw}
+use Rattle.signals.specs.Taking.{KnowsLegs}
 use Rattle.promise.proofs.Rows.{answered_client}
-use Rattle.signals.proofs.FirstAnswers.{ReadingLaws, later_fits, success_signals}
-use Rattle.signals.proofs.Responses.{refusal_signals, ringing_signals}
-use Rattle.scenes.specs.Coming.{FitsComing, scene_at}
-use Rattle.ties.specs.Lines.{next_in}
+use Rattle.signals.proofs.FirstAnswers.{ReadingLaws}
+use Rattle.scenes.specs.Coming.{scene_at}
 use Rattle.traces.specs.Messages.{AreMessages, IsTakenOf}
-use Rattle.ties.specs.Inputs.{is_bye_signal}
 use Rattle.ties.specs.Listing.{is_listed as is_listed_call}
 use Rattle.ties.specs.Shows.{ShowsCall}
-use Rattle.ties.specs.Afterwards.{HasSpot}
 use Rattle.ties.proofs.HeardActions.{split}
-use Rattle.ties.proofs.Spots.{has_spot}
 use Rattle.ties.proofs.Reading.{Reading}
 use Rattle.quiet.specs.Ties.{AreTied}
 use Rattle.quiet.proofs.EventMoves.{sends_are_idle}
 use Rattle.quiet.proofs.ReadTexts.{taken_is}
-use Rattle.quiet.proofs.SeenResponses.{sees_kind}
 use Rattle.showing.specs.Steps.{GoOn, IsAfter, IsSignalOf, StandsShown, due_signal}
-use Rattle.showing.proofs.Again.{again_none}
-use Rattle.showing.proofs.Takes.{fits_or_gone, takes_go_on}
 use Rattle.std.proofs.lemmas.Slice.Eq.{bytes_eq-Decides}
 use Rattle.sip_message.specs.declared.message.Request.{Request}
 use Rattle.call_media.specs.declared.end.End.{End}
-use Rattle.call_rules.specs.Requests.{dialog_rule}
 use Rattle.responses.specs.Words.{is_method}
 use Rattle.responses.specs.Responding.{stateless}
 use Rattle.promise.specs.Addresses.{IsSource}
-use Rattle.scenes.proofs.Fitting.{counts_fits}
-use Rattle.signals.proofs.Comings.{ack_signals, bye_signals, cancel_signals, due_signals}
 use Rattle.call_rules.specs.Speaking.{is_bye}
-use Rattle.promise.specs.Sending.{KnowsSent}
 use Rattle.promise.specs.Sound.{HasSoundLegs}
 use Rattle.promise.proofs.Awaiting.{all_at}
-use Rattle.traces.specs.Knowing.{KnowsTrace}
-use Rattle.call_rules.specs.declared.requests.DialogRule.TheVariants.{Leaves}
-use Rattle.sip_message.specs.Words.{tag_text}
 use Rattle.sip_message.specs.declared.message.Parts.{Parts}
 use Rattle.dialogs.specs.declared.state.Dialog.{Dialog as ServerDialog}
 use Rattle.call_media.specs.Ends.{other}
@@ -101,9 +79,8 @@ use Rattle.call_media.specs.declared.session.OpenOffer.{OpenOffer}
 use Rattle.call_core.specs.Calls.{awaits_answer, dialog_of}
 use Rattle.sdp.specs.declared.description.Description.{Description}
 use Rattle.call_trace.specs.declared.datagram.Dialog.{Dialog}
-use Rattle.call_trace.specs.declared.call.Offer.{Offer}
 use Rattle.call_trace.specs.declared.call.Stage.TheVariants as traces
-use Rattle.call_trace.specs.Events.{IsIdle, IsIdleTaken, IsPartingTaken, calm, due, is_calm, unmoved}
+use Rattle.call_trace.specs.Events.{IsIdle, IsPartingTaken, calm, due, is_calm, unmoved}
 use Rattle.call_trace.specs.Listed.{AllOf}
 use Rattle.call_trace.specs.Moves.{tagged}
 use Rattle.trace_reading.specs.Message.{dialog_named, trace_message}
@@ -118,7 +95,7 @@ use Rattle.scenes.proofs.Fitting.{first_answer}
 use Rattle.scenes.proofs.Legs.{first_in, leg_in}
 use Rattle.serving.specs.Serving.{IsStaged}
 use Rattle.signals.proofs.ReachedAnswers.{answered_fits, counted, reached, target}
-use Rattle.ties.specs.Lines.{HiddenMove, IsTagOfNone}
+use Rattle.ties.specs.Lines.{IsTagOfNone}
 use Rattle.ties.specs.Scenes.{LegIn}
 use Rattle.ties.specs.Shows.{ShowsCallee, ShowsLegs, is_caller}
 use Rattle.call_trace.proofs.Members.{all_at as all_members}
@@ -293,4 +270,3 @@ module _ (reads : Reading) (names : ReadsNames) (describes : BodiesDescribe) (la
             by_response answered signals.UnfitAnswer (Some id) leg (none_fit c.call c.call.media.offer (described r.headers r.body) nothing_open, refl)
             (answer_comes describes names s bytes r id place x before.scenes read to.there (answered_client r.parts x to.answers))
             (λ first idle. hidden_answered t old taken first idle (scene answered leg None) s.tokens n given_up.0 given_up.1 y.0 took_untagged y.1 y.2)
-

@@ -1,16 +1,14 @@
 -- What comes to a call that the trace lists no more: its first INVITE was given up, and has no final response.
-use Rattle.std.proofs.Common.{◌≡◌, ◌∙◌, ℕ, Bool, true, false, List, [], ◌∷◌, ◌++◌, Option, Some, None, Ok, refl, sym, ap, subst, inl, inr, suc}
+use Rattle.std.proofs.Common.{◌≡◌, ◌∙◌, ℕ, Bool, true, false, List, [], ◌∷◌, ◌++◌, Option, Some, None, refl, sym, ap, subst, inl, inr, suc}
 use Rattle.std.specs.Prelude.{slice_get}
 use Rattle.std.specs.List.{All}
 use Rattle.std.proofs.lemmas.Bool.{false≢true}
 use Rattle.std.proofs.lemmas.List.Elements.{All-head, All-tail}
 use Rattle.std.proofs.lemmas.Option.{same_Some}
-use Rattle.transactions.specs.declared.transaction.Transaction.{Transaction}
 use Rattle.call_core.specs.Calls.{holds_in}
 use Rattle.call_core.specs.Cancelling.{cancelling_row}
-use Rattle.call_core.specs.Table.{row_in, row_of}
-use Rattle.call_core.specs.declared.action.Action.TheVariants.{Abandon, Ack, Bye}
-use Rattle.call_core.specs.declared.row.Row.{Row}
+use Rattle.call_core.specs.Table.{row_of}
+use Rattle.call_core.specs.declared.action.Action.TheVariants.{Abandon}
 use Rattle.call_core.specs.declared.signal.Signal.{Signal}
 use Rattle.call_core.specs.declared.signal.Signal.TheVariants as signals
 use Rattle.call_core.specs.declared.stage.Stage.{Stage}
@@ -24,16 +22,15 @@ use Rattle.call_trace.specs.declared.call.Call.{Call}
 use Rattle.call_trace.specs.declared.datagram.Datagram.{Datagram}
 use Rattle.call_trace.specs.declared.datagram.Dialog.{Dialog}
 use Rattle.call_trace.specs.declared.datagram.Message.{Message}
-use Rattle.call_trace.specs.Events.{IsIdle, IsIdleTaken, IsPartingTaken, due, unmoved}
+use Rattle.call_trace.specs.Events.{IsIdle, IsIdleTaken, IsPartingTaken}
 use Rattle.call_trace.specs.Listed.{AllOf}
 use Rattle.call_trace.specs.Messages.{offering}
-use Rattle.call_trace.specs.Stands.{IsTagOf}
 use Rattle.legs.specs.declared.scene.Scene.{Scene}
 use Rattle.promise.specs.Knowing.{AreApart, HasMadeTags, IsTagOf as IsTagOfStanding}
 use Rattle.promise.proofs.Tagged.{one_tagged, tagged}
 use Rattle.ties.specs.Heard.{HearsActions}
 use Rattle.ties.specs.Lines.{HiddenMove, IsTagOfNone, actions_in, next_in, standing}
-use Rattle.ties.specs.Listing.{Listed, hidden, is_listed, is_listed_stage, listing}
+use Rattle.ties.specs.Listing.{Listed, is_listed, is_listed_stage, listing}
 use Rattle.ties.specs.Scenes.{LegIn}
 use Rattle.ties.specs.Shows.{ShowsLegs}
 use Rattle.ties.proofs.HiddenLines.{hidden_accepted, hidden_gone, hidden_rings}

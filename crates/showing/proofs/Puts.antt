@@ -1,57 +1,32 @@
 -- A dialog alone is put in place of one of a call's, by an event that moves no call: the trace's calls show the server's afterwards.
-use Rattle.std.proofs.Common.{◌≡◌, ◌⊎◌, ◌∙◌, ℕ, Bool, true, false, cond, is_some, List, [], ◌++◌, Option, Some, None, ap, sym, subst, refl, inl, inr}
-use Rattle.std.proofs.lemmas.Option.{none-some}
-use Rattle.std.specs.Prelude.{remove, slice_get, slice_set}
+use Rattle.std.proofs.Common.{◌≡◌, ◌∙◌, ℕ, Bool, true, false, List, ◌++◌, Option, Some, None, ap, sym, subst, refl, inl}
+use Rattle.std.specs.Prelude.{slice_get, slice_set}
 use Rattle.transactions.specs.declared.transaction.Transaction.{Transaction}
-use Rattle.call_core.specs.CallRows.{call_row}
-use Rattle.call_core.specs.Plans.{Step}
-use Rattle.call_core.specs.Table.{row_of}
-use Rattle.call_core.specs.declared.input.Input.{Input}
-use Rattle.call_core.specs.declared.signal.Signal.{Signal}
 use Rattle.call_core.specs.declared.stage.Standing.{Standing}
-use Rattle.call_steps.specs.Rows.{messages_of, takes_by, takes_row}
-use Rattle.call_steps.specs.Values.{AskerValue, ComingValue, without_offer}
 use Rattle.calls.specs.declared.change.LegDialog.{LegDialog}
 use Rattle.calls.specs.declared.standing_call.StandingCall.{StandingCall}
-use Rattle.plans.specs.CallRows.{occasion}
 use Rattle.plans.specs.Office.{Office}
-use Rattle.plans.specs.declared.setting.Setting.{Setting}
 use Rattle.call_trace.specs.declared.call.Call.{Call}
 use Rattle.call_trace.specs.declared.datagram.Datagram.{Datagram}
 use Rattle.call_trace.specs.declared.datagram.Message.{Message}
-use Rattle.call_trace.specs.Events.{IsIdle, passed}
-use Rattle.call_trace.specs.Listed.{AllOf}
+use Rattle.call_trace.specs.Events.{passed}
 use Rattle.call_trace.specs.Lives.{Stands}
 use Rattle.call_trace.specs.Messages.{offering}
 use Rattle.call_trace.specs.Moves.{Move}
-use Rattle.call_trace.specs.Stands.{AllApart, HasTags}
-use Rattle.promise.proofs.Describing.{BodiesDescribe}
-use Rattle.promise.proofs.ReadBack.{SentIsRead}
+use Rattle.call_trace.specs.Stands.{AllApart}
 use Rattle.promise.specs.OpenRequests.{HasAsked}
 use Rattle.promise.proofs.AskedCalls.{at_place}
-use Rattle.read_back.specs.Comings.{CanCome}
-use Rattle.scenes.specs.Coming.{FitsComing, scene_at}
-use Rattle.scenes.specs.Going.{put_as}
-use Rattle.traces.specs.Messages.{AreMessages}
-use Rattle.ties.specs.Heard.{HearsActions}
+use Rattle.scenes.specs.Coming.{FitsComing}
 use Rattle.ties.specs.Shows.{ShowsCall}
-use Rattle.ties.proofs.Reading.{Reading}
 use Rattle.call_core.specs.Calls.{holds_in}
 use Rattle.ties.specs.Afterwards.{IsLeft}
-use Rattle.ties.specs.Lines.{HiddenMove, actions_in, next_in}
-use Rattle.ties.specs.Listing.{Listed, hidden, is_listed, is_listed_stage, listing}
+use Rattle.ties.specs.Listing.{Listed, is_listed, is_listed_stage}
 use Rattle.ties.proofs.Afterwards.{left_listed}
-use Rattle.ties.proofs.Spots.{hidden_goes, stays_hidden}
-use Rattle.scenes.proofs.GoingOn.{stands_by}
-use Rattle.showing.specs.Steps.{GoOn, IsAfter, IsSignalOf, StandsShown, calls_after}
-use Rattle.showing.proofs.Hearing.{step_heard}
-use Rattle.showing.proofs.OwnCall.{is_shown, stage_listed}
-use Rattle.showing.proofs.SignalSteps.{signal_row}
-use Rattle.showing.proofs.Takes.{list_after}
+use Rattle.ties.proofs.Spots.{stays_hidden}
+use Rattle.showing.specs.Steps.{GoOn, IsAfter, StandsShown}
 use Rattle.call_core.specs.Calls.{with_dialog}
 use Rattle.calls.specs.Carrying.{changed_at, with_dialog_at}
 use Rattle.plans.specs.CallRows.{puts_if}
-use Rattle.ties.specs.Afterwards.{HasSpot}
 use Rattle.ties.specs.Lines.{waits_on}
 use Rattle.ties.proofs.Spots.{all_left, has_spot}
 use Rattle.call_trace.proofs.Members.{all_at}

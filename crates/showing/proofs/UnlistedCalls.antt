@@ -1,6 +1,5 @@
 -- A call that the trace lists no more takes an input that is a signal: no call of the trace moves, and the trace's calls show the server's afterwards.
-use Rattle.std.proofs.Common.{◌≡◌, ◌⊎◌, ◌∙◌, ℕ, true, false, cond, is_some, List, [], ◌++◌, Option, Some, None, ap, sym, subst, refl, inl, inr}
-use Rattle.std.proofs.lemmas.Option.{none-some}
+use Rattle.std.proofs.Common.{◌≡◌, ◌∙◌, ℕ, false, cond, is_some, List, [], ◌++◌, Option, Some, None, ap, sym, subst, refl}
 use Rattle.std.specs.Prelude.{remove, slice_get, slice_set}
 use Rattle.transactions.specs.declared.transaction.Transaction.{Transaction}
 use Rattle.port_pool.specs.Pool.{Contents}
@@ -21,18 +20,15 @@ use Rattle.plans.specs.declared.setting.Setting.{Setting}
 use Rattle.call_trace.specs.declared.call.Call.{Call}
 use Rattle.call_trace.specs.declared.datagram.Datagram.{Datagram}
 use Rattle.call_trace.specs.declared.datagram.Message.{Message}
-use Rattle.call_trace.specs.Events.{IsIdle, passed}
-use Rattle.call_trace.specs.Listed.{AllOf}
+use Rattle.call_trace.specs.Events.{passed}
 use Rattle.call_trace.specs.Lives.{Stands}
 use Rattle.call_trace.specs.Messages.{offering}
 use Rattle.call_trace.specs.Moves.{Move}
-use Rattle.call_trace.specs.Stands.{AllApart, HasTags}
+use Rattle.call_trace.specs.Stands.{AllApart}
 use Rattle.promise.proofs.Describing.{BodiesDescribe}
 use Rattle.promise.proofs.ReadBack.{SentIsRead}
-use Rattle.promise.specs.OpenRequests.{HasAsked}
-use Rattle.promise.proofs.AskedCalls.{at_place}
 use Rattle.read_back.specs.Comings.{CanCome}
-use Rattle.scenes.specs.Coming.{FitsComing, scene_at}
+use Rattle.scenes.specs.Coming.{scene_at}
 use Rattle.scenes.specs.Going.{put_as}
 use Rattle.traces.specs.Messages.{AreMessages}
 use Rattle.ties.specs.Heard.{HearsActions}
@@ -41,7 +37,7 @@ use Rattle.ties.proofs.Reading.{Reading}
 use Rattle.call_core.specs.Calls.{holds_in}
 use Rattle.ties.specs.Afterwards.{IsLeft}
 use Rattle.ties.specs.Lines.{HiddenMove, actions_in, next_in}
-use Rattle.ties.specs.Listing.{Listed, hidden, is_listed, is_listed_stage, listing}
+use Rattle.ties.specs.Listing.{Listed, is_listed, is_listed_stage}
 use Rattle.ties.proofs.Afterwards.{left_listed}
 use Rattle.ties.proofs.Spots.{hidden_goes, stays_hidden}
 use Rattle.scenes.proofs.GoingOn.{stands_by}
@@ -124,7 +120,7 @@ module _ (reads : Reading) (describes : BodiesDescribe) (law : SentIsRead) (keep
   goes_silently are calls =
       let same = nowhere_step c.call input s.calls.pool e.now nowhere in
       let none : ms ≡ [] =
-          subst (λ (y : Step). HearsActions (scene_at s e coming c done.description) s.tokens y.actions ms) same (step_heard reads describes law s e place c input coming before.scenes there can ms are) in
+      subst (λ (y : Step). HearsActions (scene_at s e coming c done.description) s.tokens y.actions ms) same (step_heard reads describes law s e place c input coming before.scenes there can ms are) in
       let gone : done.call.standing ≡ None = ap (λ (y : Step). y.call.standing) same ∙ nowhere in
       let moves = subst (λ l. Move offering t old taken l old) (sym none) move in (
         old,
@@ -139,4 +135,3 @@ module _ (reads : Reading) (describes : BodiesDescribe) (law : SentIsRead) (keep
   nowhere_takes are calls =
       goes_silently (subst (λ o. AreMessages (takes_by s.calls s.table (occasion s e) place input leg request o).dressed.sends ms) there are)
       (calls ∙ ap (λ o. (takes_by s.calls s.table (occasion s e) place input leg request o).outcome.standing.calls) there)
-

@@ -1,30 +1,19 @@
 -- A 2xx, fit or not: the dialog that the first one makes, or that of the call whose other side it reaches (RFC 3261 sections 12.1.2 and 12.2.1.2).
-use Rattle.std.proofs.Common.{◌≡◌, ◌∙◌, ℕ, Bool, true, false, codes, List, [], ◌∷◌, Option, Some, None, Ok, is_some, nat_eq, not, refl, sym, ap, subst}
-use Rattle.std.specs.Cmp.Lexicographic.{pointwise}
-use Rattle.std.proofs.lemmas.Bool.{false≢true}
-use Rattle.std.proofs.lemmas.Option.{same_Some}
-use Rattle.sip_uri.specs.declared.uri.Uri.{Uri}
+use Rattle.std.proofs.Common.{◌≡◌, ◌∙◌, ℕ, Bool, true, false, List, Option, Some, None, Ok, not, refl, ap, subst}
 use Rattle.sdp.specs.declared.description.Description.{Description}
-use Rattle.sip_message.specs.Contact.{contacts_of, is_one_address}
 use Rattle.sip_message.specs.Read.{message_of}
 use Rattle.sip_message.specs.Words.{class_of}
-use Rattle.sip_message.specs.declared.contact.ContactValue.{ContactValue}
-use Rattle.sip_message.specs.declared.contact.ContactValue.TheVariants.{Address, Star, Unreadable}
 use Rattle.sip_message.specs.declared.message.Message.TheVariants as Kinds
 use Rattle.sip_message.specs.declared.message.Response.{Response}
 use Rattle.sip_message.specs.declared.words.Class.TheVariants.{Success}
-use Rattle.dialogs.specs.Making.{reached_at}
 use Rattle.transactions.specs.declared.transaction.Transaction.{Transaction}
-use Rattle.call_media.specs.Ends.{is_same, other}
-use Rattle.call_media.specs.declared.end.End.TheVariants.{Callee, Caller}
-use Rattle.call_core.specs.Calls.{dialog_of}
+use Rattle.call_media.specs.Ends.{other}
+use Rattle.call_media.specs.declared.end.End.TheVariants.{Caller}
 use Rattle.call_core.specs.declared.signal.Signal.TheVariants as signals
 use Rattle.call_core.specs.declared.stage.Stage.TheVariants as stages
 use Rattle.call_core.specs.declared.stage.Standing.{Standing}
 use Rattle.calls.specs.Carrying.{offerer_of}
 use Rattle.calls.specs.declared.standing_call.StandingCall.{StandingCall}
-use Rattle.call_rules.specs.Responses.{asked_end}
-use Rattle.call_rules.specs.Speaking.{is_invite}
 use Rattle.call_steps.specs.Rows.{answers_leg}
 use Rattle.call_steps.specs.Values.{ComingValue, without_offer}
 use Rattle.events.specs.declared.sent.Sent.{Sent}
@@ -40,30 +29,27 @@ use Rattle.call_trace.specs.Messages.{offering}
 use Rattle.call_trace.specs.Moves.{tagged}
 use Rattle.call_trace.specs.Stands.{CallStands, leg}
 use Rattle.trace_reading.specs.Message.{trace_message}
-use Rattle.promise.specs.CalleeDialogs.{AsksFirst, HasCallee, is_unanswered}
+use Rattle.promise.specs.CalleeDialogs.{HasCallee, is_unanswered}
 use Rattle.promise.specs.Knowing.{KnowsTokens}
 use Rattle.promise.specs.Sound.{HasSoundLegs, IsTargetIf}
-use Rattle.promise.specs.Waiting.{IsCounted, KnowsWaiting, from_tag}
-use Rattle.promise.proofs.Awaiting.{all_at, fits_at, opened}
+use Rattle.promise.specs.Waiting.{KnowsWaiting}
+use Rattle.promise.proofs.Awaiting.{all_at}
 use Rattle.promise.proofs.CalleeRows.{NamesContact}
-use Rattle.promise.proofs.Reaching.{response_may_offer, response_method, response_reached, success_is}
-use Rattle.promise.proofs.Reading.{Reading, reached_target}
-use Rattle.promise.proofs.Steps.{asked_leg}
-use Rattle.promise.proofs.WaitTakes.{same_is}
+use Rattle.promise.proofs.Reading.{Reading}
 use Rattle.traces.specs.Knowing.{KnowsTrace}
 use Rattle.traces.specs.Messages.{IsTakenOf}
 use Rattle.traces.proofs.Taking.{ReplyLaw}
 use Rattle.ties.specs.Lines.{FirstLeg, Legs}
 use Rattle.ties.specs.Shows.{ShowsStage}
 use Rattle.scenes.specs.Coming.{FitsComing, HasNumbersLeft, scene_at}
-use Rattle.scenes.proofs.Fitting.{answers_fits, first_answer}
+use Rattle.scenes.proofs.Fitting.{first_answer}
 use Rattle.scenes.proofs.Legs.{first_in}
 use Rattle.signals.specs.Responding.{RespondsToOffer}
 use Rattle.signals.specs.Taking.{IsShownAt, KnowsLegs, TakesSignal}
 use Rattle.signals.proofs.ListedStages.{dialog_there, is_at, legs_there, stage_shown, staged_legs}
 use Rattle.signals.proofs.OpenOffers.{offer_there}
 use Rattle.signals.proofs.ReachedAnswers.{answered_fits, counted, reached, target}
-use Rattle.signals.proofs.Responses.{awaited_there, offering_there, success_taken, went_is}
+use Rattle.signals.proofs.Responses.{awaited_there, success_taken, went_is}
 
 -- what the laws of reading say
 pub record ReadingLaws : Type 0 where

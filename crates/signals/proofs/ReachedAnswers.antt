@@ -1,10 +1,9 @@
 -- Where a 2xx to the open offer of a call reaches, whether or not a trace lists the call (RFC 3261 sections 12.1.2 and 12.2.1.2).
-use Rattle.std.proofs.Common.{◌≡◌, ◌∙◌, ℕ, Bool, true, false, codes, List, [], ◌∷◌, Option, Some, None, Ok, is_some, nat_eq, not, slice_get, refl, sym, ap, subst}
+use Rattle.std.proofs.Common.{◌≡◌, ◌∙◌, ℕ, true, false, codes, List, [], ◌∷◌, Option, Some, None, Ok, is_some, nat_eq, slice_get, refl, sym, ap, subst}
 use Rattle.std.specs.Cmp.Lexicographic.{pointwise}
 use Rattle.std.proofs.lemmas.Bool.{false≢true}
 use Rattle.std.proofs.lemmas.Option.{same_Some}
 use Rattle.sip_uri.specs.declared.uri.Uri.{Uri}
-use Rattle.sdp.specs.declared.description.Description.{Description}
 use Rattle.sip_message.specs.Contact.{contacts_of, is_one_address}
 use Rattle.sip_message.specs.Read.{message_of}
 use Rattle.sip_message.specs.Words.{class_of}
@@ -19,30 +18,15 @@ use Rattle.transactions.specs.declared.transaction.Transaction.{Transaction}
 use Rattle.call_media.specs.Ends.{is_same, other}
 use Rattle.call_media.specs.declared.end.End.TheVariants.{Callee, Caller}
 use Rattle.call_core.specs.Calls.{dialog_of}
-use Rattle.call_core.specs.declared.signal.Signal.TheVariants as signals
-use Rattle.call_core.specs.declared.stage.Stage.TheVariants as stages
 use Rattle.call_core.specs.declared.stage.Standing.{Standing}
 use Rattle.calls.specs.Carrying.{offerer_of}
 use Rattle.calls.specs.declared.standing_call.StandingCall.{StandingCall}
 use Rattle.call_rules.specs.Responses.{asked_end}
 use Rattle.call_rules.specs.Speaking.{is_invite}
 use Rattle.call_steps.specs.Rows.{answers_leg}
-use Rattle.call_steps.specs.Values.{ComingValue, without_offer}
-use Rattle.events.specs.declared.sent.Sent.{Sent}
 use Rattle.plans.specs.Office.{Office}
-use Rattle.plans.specs.declared.setting.Setting.{Setting}
 use Rattle.agent.specs.Rows.{is_unreachable_message}
-use Rattle.call_trace.specs.declared.call.Call.{Call}
-use Rattle.call_trace.specs.declared.call.Offer.{Offer}
-use Rattle.call_trace.specs.declared.datagram.Datagram.{Datagram}
-use Rattle.call_trace.specs.declared.datagram.Dialog.{Dialog}
-use Rattle.call_trace.specs.declared.datagram.Message.{Message as TraceMessage}
-use Rattle.call_trace.specs.Messages.{offering}
-use Rattle.call_trace.specs.Moves.{tagged}
-use Rattle.call_trace.specs.Stands.{CallStands, leg}
-use Rattle.trace_reading.specs.Message.{trace_message}
-use Rattle.promise.specs.CalleeDialogs.{AsksFirst, HasCallee, is_unanswered}
-use Rattle.promise.specs.Knowing.{KnowsTokens}
+use Rattle.promise.specs.CalleeDialogs.{AsksFirst}
 use Rattle.promise.specs.Sound.{HasSoundLegs, IsTargetIf}
 use Rattle.promise.specs.Waiting.{IsCounted, IsOffering, KnowsWaiting, from_tag}
 use Rattle.promise.proofs.Awaiting.{all_at, fits_at, opened}
@@ -52,19 +36,10 @@ use Rattle.promise.proofs.Reading.{Reading, reached_target}
 use Rattle.promise.proofs.Rows.{answered_client}
 use Rattle.promise.proofs.Steps.{asked_leg}
 use Rattle.promise.proofs.WaitTakes.{same_is}
-use Rattle.traces.specs.Knowing.{KnowsTrace}
-use Rattle.traces.specs.Messages.{IsTakenOf}
-use Rattle.traces.proofs.Taking.{ReplyLaw}
-use Rattle.ties.specs.Lines.{FirstLeg, Legs}
-use Rattle.ties.specs.Shows.{ShowsStage}
-use Rattle.scenes.specs.Coming.{FitsComing, HasNumbersLeft, scene_at}
-use Rattle.scenes.proofs.Fitting.{answers_fits, first_answer}
-use Rattle.scenes.proofs.Legs.{first_in}
+use Rattle.scenes.specs.Coming.{FitsComing}
+use Rattle.scenes.proofs.Fitting.{answers_fits}
 use Rattle.signals.specs.Responding.{RespondsToOffer}
-use Rattle.signals.specs.Taking.{IsShownAt, KnowsLegs, TakesSignal}
-use Rattle.signals.proofs.ListedStages.{dialog_there, is_at, legs_there, stage_shown, staged_legs}
-use Rattle.signals.proofs.OpenOffers.{offer_there}
-use Rattle.signals.proofs.Responses.{awaited_there, offering_there, success_taken, went_is}
+use Rattle.signals.specs.Taking.{KnowsLegs}
 
 -- ---- where the 2xx reaches
 
