@@ -14,7 +14,7 @@ use Rattle.call_trace.specs.Moves.{Move, quiet}
 use Rattle.configuration.specs.declared.config.Config.{Config}
 use Rattle.events.specs.declared.event.Event.{Event}
 use Rattle.events.specs.declared.sent.Sent.{Sent}
-use Rattle.moving.specs.Known.{IsMoved, IsTied}
+use Rattle.promised.specs.Known.{IsMoved, IsTied}
 use Rattle.showing.specs.Steps.{IsAfter}
 use Rattle.promise.specs.Askers.{KnowsAskers}
 use Rattle.numbers.specs.Answers.{KnowsAnswers}

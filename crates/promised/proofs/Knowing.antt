@@ -15,7 +15,7 @@ use Rattle.configuration.specs.declared.config.Config.{Config}
 use Rattle.configuration.specs.Rules.{KeepsRules}
 use Rattle.events.specs.declared.event.Event.{Event}
 use Rattle.events.specs.declared.sent.Sent.{Sent}
-use Rattle.moving.specs.Known.{KnowsAgent}
+use Rattle.promised.specs.Known.{KnowsAgent}
 use Rattle.numbers.specs.Byes.{KnowsByes}
 use Rattle.numbers.specs.Taken.{KnowsTaken}
 use Rattle.numbers.proofs.RaisedRows.{after_taken, new_taken}

@@ -7,3 +7,10 @@ pub mod Invariant
 pub mod Counted
 pub mod AllEntries
 pub mod Keeping
+pub mod Laws
+pub mod Takes
+pub mod Dues
+pub mod Requests
+pub mod Responses
+pub mod Datagrams
+pub mod Events

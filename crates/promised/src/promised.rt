@@ -12,9 +12,9 @@ ghost use Rattle.promise.specs.Numbers.{begun_in};
 ghost use Rattle.promised.specs.Keeping.{HasPromisedCalls};
 ghost use Rattle.traces.specs.Traces.{AreTrace};
 
+use crate::events_are_moves;
 use call_trace::{moves_keep, standing_is_promised};
 use dialogs::{contacts_are_read, dialogs_are_sound, invites_name_a_contact};
-use moving::events_are_moves;
 use numbers::byes_are_known;
 use serving::{calls_are_served, served_as_told, traced_calls_are_served};
 use sip_writing::written_is_read;

@@ -7,3 +7,9 @@ pub mod OfferRequests
 pub mod GoingOn
 pub mod Counting
 pub mod CountingRows
+pub mod ListedStages
+pub mod Comings
+pub mod OpenOffers
+pub mod Responses
+pub mod ReachedAnswers
+pub mod FirstAnswers

@@ -48,10 +48,10 @@ use Rattle.promise.proofs.ReadBack.{SentIsRead}
 use Rattle.promise.proofs.Reading.{Reading as ReadsNames}
 use Rattle.read_back.specs.Comings.{CanCome}
 use Rattle.read_back.proofs.Comings.{alone_comes, answer_comes, bye_comes, cancel_comes}
-use Rattle.signals.specs.Responding.{RespondsToOffer}
-use Rattle.signals.specs.Taking.{KnowsLegs}
+use Rattle.scenes.specs.Responding.{RespondsToOffer}
+use Rattle.scenes.specs.Taking.{KnowsLegs}
 use Rattle.promise.proofs.Rows.{answered_client}
-use Rattle.signals.proofs.FirstAnswers.{ReadingLaws}
+use Rattle.scenes.proofs.FirstAnswers.{ReadingLaws}
 use Rattle.scenes.specs.Coming.{scene_at}
 use Rattle.traces.specs.Messages.{AreMessages, IsTakenOf}
 use Rattle.ties.specs.Listing.{is_listed as is_listed_call}
@@ -94,7 +94,7 @@ use Rattle.scenes.specs.Coming.{HasNumbersLeft}
 use Rattle.scenes.proofs.Fitting.{first_answer}
 use Rattle.scenes.proofs.Legs.{first_in, leg_in}
 use Rattle.serving.specs.Serving.{IsStaged}
-use Rattle.signals.proofs.ReachedAnswers.{answered_fits, counted, reached, target}
+use Rattle.scenes.proofs.ReachedAnswers.{answered_fits, counted, reached, target}
 use Rattle.ties.specs.Lines.{IsTagOfNone}
 use Rattle.ties.specs.Scenes.{LegIn}
 use Rattle.ties.specs.Shows.{ShowsCallee, ShowsLegs, is_caller}

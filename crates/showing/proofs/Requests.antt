@@ -31,7 +31,7 @@ use Rattle.trace_reading.specs.Message.{trace_message}
 use Rattle.promise.proofs.Describing.{BodiesDescribe}
 use Rattle.promise.proofs.ReadBack.{SentIsRead}
 use Rattle.read_back.specs.Comings.{CanCome}
-use Rattle.signals.specs.Taking.{IsShownAt, KnowsLegs, TakesSignal}
+use Rattle.scenes.specs.Taking.{IsShownAt, KnowsLegs, TakesSignal}
 use Rattle.scenes.specs.Coming.{scene_at}
 use Rattle.traces.specs.Messages.{AreMessages, IsTakenOf}
 use Rattle.ties.specs.Listing.{is_listed as is_listed_call}
@@ -56,7 +56,7 @@ use Rattle.promise.specs.Addresses.{IsSource}
 use Rattle.read_back.proofs.Comings.{alone_comes, bye_comes, cancel_comes}
 use Rattle.scenes.specs.Coming.{FitsComing}
 use Rattle.scenes.proofs.Fitting.{counts_fits}
-use Rattle.signals.proofs.Comings.{ack_signals, bye_signals, cancel_signals}
+use Rattle.scenes.proofs.Comings.{ack_signals, bye_signals, cancel_signals}
 use Rattle.call_rules.specs.Speaking.{is_bye}
 use Rattle.promise.specs.Sending.{KnowsSent}
 use Rattle.promise.specs.Sound.{HasSoundLegs}

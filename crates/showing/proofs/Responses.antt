@@ -53,12 +53,12 @@ use Rattle.promise.proofs.ReadBack.{SentIsRead}
 use Rattle.promise.proofs.Reading.{Reading as ReadsNames}
 use Rattle.read_back.specs.Comings.{CanCome}
 use Rattle.read_back.proofs.Comings.{alone_comes, answer_comes}
-use Rattle.signals.specs.Responding.{RespondsToOffer}
-use Rattle.signals.specs.Taking.{IsShownAt, KnowsLegs, TakesSignal}
+use Rattle.scenes.specs.Responding.{RespondsToOffer}
+use Rattle.scenes.specs.Taking.{IsShownAt, KnowsLegs, TakesSignal}
 use Rattle.traces.proofs.Taking.{ReplyLaw}
 use Rattle.promise.proofs.Rows.{answered_client}
-use Rattle.signals.proofs.FirstAnswers.{ReadingLaws, later_fits, success_signals}
-use Rattle.signals.proofs.Responses.{refusal_signals, ringing_signals}
+use Rattle.scenes.proofs.FirstAnswers.{ReadingLaws, later_fits, success_signals}
+use Rattle.scenes.proofs.Responses.{refusal_signals, ringing_signals}
 use Rattle.scenes.specs.Coming.{FitsComing, scene_at}
 use Rattle.ties.specs.Lines.{next_in}
 use Rattle.traces.specs.Messages.{AreMessages, IsTakenOf}

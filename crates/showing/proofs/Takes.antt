@@ -35,7 +35,7 @@ use Rattle.read_back.specs.Comings.{CanCome}
 use Rattle.scenes.specs.Coming.{FitsComing, scene_at}
 use Rattle.scenes.specs.Going.{put_as}
 use Rattle.serving.specs.Serving.{IsStaged}
-use Rattle.signals.specs.Taking.{TakesSignal}
+use Rattle.scenes.specs.Taking.{TakesSignal}
 use Rattle.traces.specs.Messages.{AreMessages}
 use Rattle.ties.specs.Afterwards.{HasSpot}
 use Rattle.ties.specs.Heard.{HearsActions}

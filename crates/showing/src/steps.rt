@@ -33,7 +33,7 @@ ghost use Rattle.scenes.specs.Coming.{FitsComing, scene_at};
 ghost use Rattle.scenes.specs.Going.{put_as};
 ghost use Rattle.sdp.specs.declared.description.Description.{Description};
 ghost use Rattle.serving.specs.Serving.{IsStaged};
-ghost use Rattle.signals.specs.Taking.{TakesSignal};
+ghost use Rattle.scenes.specs.Taking.{TakesSignal};
 ghost use Rattle.showing.specs.Steps.{GoOn, GoesOnAt, IsSignalOf, IsSignalStep, calls_after};
 ghost use Rattle.ties.specs.Afterwards.{HasSpot};
 ghost use Rattle.ties.specs.Heard.{HearsActions};

@@ -25,7 +25,7 @@ ghost use Rattle.plans.specs.declared.setting.Setting.{Setting};
 ghost use Rattle.read_back.specs.Comings.{CanCome, KnowsScenes};
 ghost use Rattle.scenes.specs.Coming.{FitsComing, scene_at};
 ghost use Rattle.showing.specs.Steps.{GoOn, IsAfter, IsSignalOf, StandsShown, due_signal};
-ghost use Rattle.signals.specs.Taking.{KnowsLegs, TakesSignal};
+ghost use Rattle.scenes.specs.Taking.{KnowsLegs, TakesSignal};
 ghost use Rattle.ties.specs.Heard.{HearsActions};
 ghost use Rattle.ties.specs.Inputs.{is_bye_signal};
 ghost use Rattle.ties.specs.Lines.{SaysNone};

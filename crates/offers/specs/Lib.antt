@@ -1,3 +1,0 @@
-pub mod Offering
-pub mod NextTags
-pub mod Beginning
