@@ -21,7 +21,7 @@ use Rattle.ties.specs.Shows.{ShowsCall}
 use Rattle.showing.specs.Steps.{GoOn, IsAfter}
 use Rattle.sip_message.specs.declared.message.Request.{Request}
 use Rattle.promise.specs.Addresses.{IsSource}
-use Rattle.scenes.proofs.ReachedAnswers.{reached}
+use Rattle.ties.proofs.ReachedAnswers.{reached}
 use Rattle.sip_message.specs.declared.message.Message.{Message as Read}
 use Rattle.promise.proofs.MessageViews.{IsResponseTo, begun_by}
 use Rattle.quiet.proofs.EventCases.{DatagramCase, EventCase, IsNotDone, MessageCase, ResponseCase}
@@ -33,7 +33,7 @@ use Rattle.showing.proofs.Puts.{none_goes_on}
 use Rattle.agent.specs.State.{Contents, after_event, office}
 use Rattle.agent.specs.Rows.{after as after_step, moment_after, row}
 use Rattle.events.specs.declared.event.Event.{Event}
-use Rattle.numbers.proofs.ByesKnown.{next_tag}
+use Rattle.quiet.proofs.ByesKnown.{next_tag}
 use Rattle.showing.specs.Beginning.{BeginsAt}
 use Rattle.showing.specs.NextTags.{AreNextTagsNew}
 use Rattle.showing.proofs.Cases.{begins_at}

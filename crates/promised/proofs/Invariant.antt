@@ -17,9 +17,9 @@ use Rattle.events.specs.declared.sent.Sent.{Sent}
 use Rattle.promised.specs.Known.{IsMoved, IsTied}
 use Rattle.showing.specs.Steps.{IsAfter}
 use Rattle.promise.specs.Askers.{KnowsAskers}
-use Rattle.numbers.specs.Answers.{KnowsAnswers}
-use Rattle.numbers.specs.Byes.{KnowsByes}
-use Rattle.numbers.proofs.AnswersKnown.{answers_after, new_answers}
+use Rattle.quiet.specs.Answers.{KnowsAnswers}
+use Rattle.quiet.specs.Byes.{KnowsByes}
+use Rattle.quiet.proofs.AnswersKnown.{answers_after, new_answers}
 use Rattle.plans.specs.Office.{Office}
 use Rattle.promise.specs.Addresses.{IsConfigured}
 use Rattle.promise.specs.Datagrams.{ComesFromSource}

@@ -16,9 +16,9 @@ use Rattle.configuration.specs.Rules.{KeepsRules}
 use Rattle.events.specs.declared.event.Event.{Event}
 use Rattle.events.specs.declared.sent.Sent.{Sent}
 use Rattle.promised.specs.Known.{KnowsAgent}
-use Rattle.numbers.specs.Byes.{KnowsByes}
-use Rattle.numbers.specs.Taken.{KnowsTaken}
-use Rattle.numbers.proofs.RaisedRows.{after_taken, new_taken}
+use Rattle.quiet.specs.Byes.{KnowsByes}
+use Rattle.quiet.specs.Taken.{KnowsTaken}
+use Rattle.quiet.proofs.RaisedRows.{after_taken, new_taken}
 use Rattle.plans.specs.Office.{Office}
 use Rattle.promise.specs.Addresses.{IsConfigured}
 use Rattle.promise.specs.Askers.{KnowsAskers}
@@ -46,8 +46,8 @@ use Rattle.quiet.specs.Ties.{AreTied}
 use Rattle.quiet.proofs.MachineEvents.{after_machines, new_machines}
 use Rattle.read_back.specs.SoundClients.{KnowsClients}
 use Rattle.read_back.proofs.ClientRows.{after_clients, new_clients}
-use Rattle.scenes.specs.Coming.{KnowsNumbersLeft}
-use Rattle.scenes.proofs.CountingRows.{after_leaves, new_leaves}
+use Rattle.ties.specs.Coming.{KnowsNumbersLeft}
+use Rattle.ties.proofs.CountingRows.{after_leaves, new_leaves}
 use Rattle.serving.specs.Serving.{AreStaged, KnowsServing}
 use Rattle.showing.specs.Steps.{IsAfter}
 use Rattle.traces.specs.Asked.{KnowsAsked}

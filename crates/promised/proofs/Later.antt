@@ -18,7 +18,7 @@ use Rattle.call_trace.specs.Moves.{Move}
 use Rattle.call_trace.specs.Stands.{AsksAt, leg}
 use Rattle.call_trace.proofs.Members.{any_at, at_any}
 use Rattle.calls.specs.declared.standing_call.StandingCall.{StandingCall}
-use Rattle.numbers.proofs.OpenOffers.{listed_at}
+use Rattle.quiet.proofs.OpenOffers.{listed_at}
 use Rattle.plans.specs.Office.{Office}
 use Rattle.promise.specs.Numbers.{IsBelow, IsNumberedIf, KnowsNumbers, WasCounted}
 use Rattle.promise.specs.OpenRequests.{HasAsked, IsAmong}

@@ -11,7 +11,7 @@ use Rattle.promise.proofs.Describing.{BodiesDescribe}
 use Rattle.promise.proofs.ReadBack.{SentIsRead}
 use Rattle.promise.proofs.Reading.{Reading as ReadsNames}
 use Rattle.traces.proofs.Taking.{ReplyLaw}
-use Rattle.scenes.proofs.FirstAnswers.{ReadingLaws}
+use Rattle.ties.proofs.FirstAnswers.{ReadingLaws}
 use Rattle.ties.proofs.Reading.{Reading}
 use Rattle.promise.proofs.CalleeRows.{NamesContact}
 use Rattle.showing.proofs.FirstSteps.{NamesOne}

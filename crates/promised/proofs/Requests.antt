@@ -32,7 +32,7 @@ use Rattle.call_media.specs.declared.end.End.{End}
 use Rattle.call_rules.specs.Requests.{dialog_rule}
 use Rattle.responses.specs.Responding.{stateless}
 use Rattle.promise.specs.Addresses.{IsSource}
-use Rattle.scenes.proofs.Fitting.{counts_fits}
+use Rattle.ties.proofs.Fitting.{counts_fits}
 use Rattle.promise.specs.Sound.{HasSoundLegs, IsTargetIf}
 use Rattle.promise.proofs.Awaiting.{all_at}
 use Rattle.call_rules.specs.declared.requests.DialogRule.TheVariants.{Leaves}
@@ -57,7 +57,7 @@ use Rattle.plans.specs.declared.taken.Taken.TheVariants.{Done}
 use Rattle.promise.proofs.RequestViews.{IsCancel, IsFirstInvite, IsPassedOffer, IsRefresh}
 use Rattle.promise.proofs.Reaching.{plain_may_offer, plain_reached}
 use Rattle.promise.proofs.Reading.{reached_target}
-use Rattle.scenes.proofs.Leaving.{rule_fits}
+use Rattle.ties.proofs.Leaving.{rule_fits}
 use Rattle.showing.specs.Beginning.{BeginsAt, entries_of}
 use Rattle.showing.specs.NextTags.{AreNextTagsNew}
 use Rattle.showing.proofs.Cases.{first_case, later_case}
@@ -65,7 +65,7 @@ use Rattle.showing.proofs.First.{first_goes_on}
 use Rattle.showing.proofs.FirstSteps.{first_reached}
 use Rattle.showing.proofs.Later.{later_goes_on}
 use Rattle.quiet.proofs.CaseMoves.{NoneTakesRequest}
-use Rattle.scenes.proofs.Fitting.{counts_fits, refreshes_fits}
+use Rattle.ties.proofs.Fitting.{counts_fits, refreshes_fits}
 use Rattle.promised.proofs.Takes.{shown, takes_goes, ties}
 
 module _ (laws : Laws) (s after : Office) (begun more : List Transaction) (sent : List Sent) (t : List Datagram) (old : List Call) (k : ℕ) (tied : IsTied s begun sent t old k) (later : IsAfter s after (begun ++ more)) (taken : Option Message) (ms : List Message) (e : Setting) (from : IsSource e.source) (bytes : List ℕ) (r : Request) (read : message_of bytes ≡ Ok (Kinds.Request r)) (id : ℕ) (x : Effect) (took : x.plan.taken ≡ Done → IsTakenOf bytes taken) (are : AreMessages x.plan.sends ms) (calls : after.calls.calls ≡ x.calls.standing.calls) where

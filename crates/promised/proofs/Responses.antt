@@ -28,7 +28,7 @@ use Rattle.call_trace.specs.declared.datagram.Message.{Message}
 use Rattle.call_trace.specs.Events.{passed}
 use Rattle.call_trace.specs.Messages.{offering}
 use Rattle.call_trace.specs.Moves.{Move}
-use Rattle.scenes.specs.Taking.{KnowsLegs}
+use Rattle.ties.specs.Taking.{KnowsLegs}
 use Rattle.traces.specs.Messages.{AreMessages, IsTakenOf}
 use Rattle.ties.specs.Listing.{is_listed as is_listed_call}
 use Rattle.ties.specs.Shows.{ShowsCall}
@@ -47,7 +47,7 @@ use Rattle.showing.proofs.Responses.{refusal_goes_on, ringing_goes_on, unfit_goe
 use Rattle.quiet.proofs.CaseMoves.{NoneTakesResponse}
 use Rattle.promise.proofs.Awaiting.{opened}
 use Rattle.promise.proofs.ResponseViews.{IsAsked}
-use Rattle.scenes.proofs.Responses.{responds_to}
+use Rattle.ties.proofs.Responses.{responds_to}
 use Rattle.showing.proofs.Answering.{answer_goes_on}
 use Rattle.plans.specs.declared.taken.Taken.TheVariants.{Done}
 use Rattle.promised.proofs.Takes.{shown, ties}

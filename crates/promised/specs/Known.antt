@@ -11,9 +11,9 @@ use Rattle.call_trace.specs.declared.datagram.Datagram.{Datagram}
 use Rattle.call_trace.specs.declared.datagram.Message.{Message}
 use Rattle.events.specs.declared.event.Event.{Event}
 use Rattle.events.specs.declared.sent.Sent.{Sent}
-use Rattle.numbers.specs.Answers.{KnowsAnswers}
-use Rattle.numbers.specs.Byes.{KnowsByes}
-use Rattle.numbers.specs.Taken.{KnowsTaken}
+use Rattle.quiet.specs.Answers.{KnowsAnswers}
+use Rattle.quiet.specs.Byes.{KnowsByes}
+use Rattle.quiet.specs.Taken.{KnowsTaken}
 use Rattle.plans.specs.Office.{Office}
 use Rattle.promise.specs.Knowing.{KnowsTokens}
 use Rattle.promise.specs.Numbers.{KnowsNumbers, begun_of}
@@ -25,7 +25,7 @@ use Rattle.quiet.specs.Machines.{KnowsMachines}
 use Rattle.read_back.specs.Comings.{KnowsScenes}
 use Rattle.serving.specs.Serving.{AreStaged}
 use Rattle.showing.specs.Steps.{GoOn}
-use Rattle.scenes.specs.Taking.{KnowsLegs}
+use Rattle.ties.specs.Taking.{KnowsLegs}
 use Rattle.ties.specs.Listing.{Listed}
 use Rattle.ties.specs.Shows.{ShowsCall}
 use Rattle.traces.specs.Asked.{KnowsAsked}

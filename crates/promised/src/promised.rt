@@ -15,7 +15,7 @@ ghost use Rattle.traces.specs.Traces.{AreTrace};
 use crate::events_are_moves;
 use call_trace::{moves_keep, standing_is_promised};
 use dialogs::{contacts_are_read, dialogs_are_sound, invites_name_a_contact};
-use numbers::byes_are_known;
+use quiet::byes_are_known;
 use serving::{calls_are_served, served_as_told, traced_calls_are_served};
 use sip_writing::written_is_read;
 use trace_reading::bodies_describe;

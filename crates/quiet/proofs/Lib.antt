@@ -25,3 +25,17 @@ pub mod CaseMoves
 pub mod MachineRows
 pub mod MachineEvents
 pub mod LaterKnown
+pub mod OfferReplies
+pub mod Raising
+pub mod DialogRules
+pub mod RequestRules
+pub mod RowCases
+pub mod RaisedCalls
+pub mod RaisedRows
+pub mod OpenOffers
+pub mod AnswersKnown
+pub mod ByeTags
+pub mod SaidTags
+pub mod TagSteps
+pub mod TagRows
+pub mod ByesKnown

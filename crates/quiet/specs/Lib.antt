@@ -3,3 +3,8 @@ pub mod Machines
 pub mod Verdicts
 pub mod Ties
 pub mod Late
+pub mod Taken
+pub mod Answers
+pub mod Rising
+pub mod Answering
+pub mod Byes

@@ -19,8 +19,8 @@ use Rattle.dialogs.specs.declared.state.Dialog.{Dialog}
 use Rattle.plans.specs.Office.{Office}
 use Rattle.call_trace.specs.declared.datagram.Datagram.{Datagram}
 use Rattle.ties.specs.Shows.{IsUnanswered}
-use Rattle.numbers.specs.Answers.{KnowsAnswers}
-use Rattle.numbers.specs.Taken.{HasTakenBy, IsTakenIn}
+use Rattle.quiet.specs.Answers.{KnowsAnswers}
+use Rattle.quiet.specs.Taken.{HasTakenBy, IsTakenIn}
 use Rattle.call_steps.specs.Scenes.{tag_to}
 use Rattle.promise.proofs.Awaiting.{all_at}
 

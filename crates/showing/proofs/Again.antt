@@ -21,7 +21,7 @@ use Rattle.traces.specs.Knowing.{KnowsTrace}
 use Rattle.ties.specs.Heard.{HearsAgain}
 use Rattle.ties.specs.Lines.{SaysNone}
 use Rattle.ties.proofs.Reading.{Reading}
-use Rattle.scenes.specs.Coming.{scene_at}
+use Rattle.ties.specs.Coming.{scene_at}
 use Rattle.quiet.proofs.QuietSends.{before_idle, went_before}
 
 -- ---- the 200 that goes again

@@ -56,17 +56,17 @@ use Rattle.promise.proofs.Rows.{answered_client}
 use Rattle.read_back.proofs.Comings.{answer_comes}
 use Rattle.quiet.specs.Ties.{AreTied}
 use Rattle.quiet.proofs.ReadTexts.{taken_is}
-use Rattle.scenes.specs.Coming.{FitsComing, scene_at}
-use Rattle.scenes.specs.Going.{put_as}
-use Rattle.scenes.proofs.Fitting.{answers_fits}
-use Rattle.scenes.proofs.GoingOn.{stands_by}
+use Rattle.ties.specs.Coming.{FitsComing, scene_at}
+use Rattle.ties.specs.Going.{put_as}
+use Rattle.ties.proofs.Fitting.{answers_fits}
+use Rattle.ties.proofs.GoingOn.{stands_by}
 use Rattle.showing.specs.Steps.{GoOn, IsAfter, StandsShown}
 use Rattle.showing.proofs.Hearing.{step_heard}
 use Rattle.showing.proofs.OwnCall.{is_shown, stage_listed}
-use Rattle.scenes.specs.Responding.{RespondsToOffer}
-use Rattle.scenes.specs.Taking.{IsShownAt, KnowsLegs, TakesSignal}
-use Rattle.scenes.proofs.FirstAnswers.{ReadingLaws, success_signals}
-use Rattle.scenes.proofs.ListedStages.{dialog_there}
+use Rattle.ties.specs.Responding.{RespondsToOffer}
+use Rattle.ties.specs.Taking.{IsShownAt, KnowsLegs, TakesSignal}
+use Rattle.ties.proofs.FirstAnswers.{ReadingLaws, success_signals}
+use Rattle.ties.proofs.ListedStages.{dialog_there}
 use Rattle.ties.specs.Afterwards.{HasSpot, IsLeftOr}
 use Rattle.ties.specs.Heard.{HearsActions}
 use Rattle.ties.specs.Lines.{next_in}

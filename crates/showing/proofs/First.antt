@@ -51,9 +51,9 @@ use Rattle.promise.proofs.ReadParts.{method_is}
 use Rattle.promise.proofs.Reading.{Reading as ReadsNames}
 use Rattle.promise.proofs.SoundRows.{callee_target}
 use Rattle.traces.specs.Messages.{AreMessages, IsRequestOf, IsTakenOf}
-use Rattle.scenes.proofs.Leaving.{request_of}
-use Rattle.scenes.proofs.Legs.{first_asked}
-use Rattle.scenes.proofs.OfferRequests.{first_offers, first_untagged}
+use Rattle.ties.proofs.Leaving.{request_of}
+use Rattle.ties.proofs.Legs.{first_asked}
+use Rattle.ties.proofs.OfferRequests.{first_offers, first_untagged}
 use Rattle.ties.specs.Afterwards.{IsLeftOr}
 use Rattle.ties.specs.Listing.{Listed}
 use Rattle.ties.specs.Said.{Asks, OfferHeard, Offers}
@@ -67,7 +67,7 @@ use Rattle.ties.proofs.Unanswered.{leg_tag, stays_unanswered}
 use Rattle.quiet.specs.Ties.{AreTied}
 use Rattle.quiet.proofs.ReadTexts.{taken_is}
 use Rattle.showing.specs.Steps.{GoOn, IsAfter, StandsShown}
-use Rattle.numbers.specs.Answers.{KnowsAnswers}
+use Rattle.quiet.specs.Answers.{KnowsAnswers}
 use Rattle.showing.specs.NextTags.{AreNextTagsNew}
 use Rattle.showing.specs.Beginning.{BeginsAt, StandsFor, entries_of}
 use Rattle.showing.specs.Offering.{IsFirstOffer}

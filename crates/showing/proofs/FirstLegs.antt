@@ -29,8 +29,8 @@ use Rattle.promise.proofs.Tagged.{scene_dialog}
 use Rattle.traces.specs.Messages.{IsRequestOf}
 use Rattle.ties.specs.Lines.{FirstLeg}
 use Rattle.ties.specs.Scenes.{LegIn}
-use Rattle.scenes.specs.Coming.{first_dialog, scene_at}
-use Rattle.scenes.proofs.Fitting.{first_answer}
+use Rattle.ties.specs.Coming.{first_dialog, scene_at}
+use Rattle.ties.proofs.Fitting.{first_answer}
 
 -- a 2xx that says nowhere where its sender is reached makes no dialog
 unreached : (calls : List StandingCall) (place : ℕ) (asked : Parts) (r : Response) → reached_at (contacts_of r.headers) ≡ None → answers_leg calls place asked r ≡ None

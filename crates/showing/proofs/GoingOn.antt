@@ -9,9 +9,9 @@ use Rattle.call_core.specs.declared.stage.Standing.{Standing}
 use Rattle.call_steps.specs.Values.{ComingValue}
 use Rattle.call_steps.specs.declared.messages.StepMessages.{StepMessages}
 use Rattle.calls.specs.declared.standing_call.StandingCall.{StandingCall}
-use Rattle.scenes.specs.Coming.{FitsComing}
-use Rattle.scenes.specs.Going.{put_as}
-use Rattle.scenes.proofs.GoingOn.{asked_on, dialogs_go_on, put_tag, stands_by}
+use Rattle.ties.specs.Coming.{FitsComing}
+use Rattle.ties.specs.Going.{put_as}
+use Rattle.ties.proofs.GoingOn.{asked_on, dialogs_go_on, put_tag, stands_by}
 use Rattle.ties.specs.Lines.{next_in}
 use Rattle.showing.specs.Steps.{GoesOnAt, IsSignalOf}
 use Rattle.showing.proofs.Numbers.{opens_alike}

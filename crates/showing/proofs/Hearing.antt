@@ -24,7 +24,7 @@ use Rattle.read_back.specs.Said.{SaysAction}
 use Rattle.read_back.specs.SoundScenes.{HaveFitStatuses, IsSoundScene, answer_offer, answers_offer}
 use Rattle.read_back.proofs.SaidActions.{action_said}
 use Rattle.read_back.proofs.Scenes.{step_fits, step_scene}
-use Rattle.scenes.specs.Coming.{scene_at}
+use Rattle.ties.specs.Coming.{scene_at}
 use Rattle.traces.specs.Messages.{AreMessages}
 use Rattle.ties.specs.Heard.{HearsActions}
 use Rattle.ties.proofs.HeardActions.{hears_actions}

@@ -48,11 +48,11 @@ use Rattle.promise.proofs.ReadBack.{SentIsRead}
 use Rattle.promise.proofs.Reading.{Reading as ReadsNames}
 use Rattle.read_back.specs.Comings.{CanCome}
 use Rattle.read_back.proofs.Comings.{alone_comes, answer_comes, bye_comes, cancel_comes}
-use Rattle.scenes.specs.Responding.{RespondsToOffer}
-use Rattle.scenes.specs.Taking.{KnowsLegs}
+use Rattle.ties.specs.Responding.{RespondsToOffer}
+use Rattle.ties.specs.Taking.{KnowsLegs}
 use Rattle.promise.proofs.Rows.{answered_client}
-use Rattle.scenes.proofs.FirstAnswers.{ReadingLaws}
-use Rattle.scenes.specs.Coming.{scene_at}
+use Rattle.ties.proofs.FirstAnswers.{ReadingLaws}
+use Rattle.ties.specs.Coming.{scene_at}
 use Rattle.traces.specs.Messages.{AreMessages, IsTakenOf}
 use Rattle.ties.specs.Listing.{is_listed as is_listed_call}
 use Rattle.ties.specs.Shows.{ShowsCall}
@@ -90,11 +90,11 @@ use Rattle.promise.specs.Knowing.{HasLegTag, HasMadeTags, IsTagOf as IsTagOfStan
 use Rattle.promise.specs.Sound.{IsTargetIf}
 use Rattle.promise.specs.Waiting.{IsOffering, from_tag}
 use Rattle.promise.proofs.Tagged.{tagged as is_tagged}
-use Rattle.scenes.specs.Coming.{HasNumbersLeft}
-use Rattle.scenes.proofs.Fitting.{first_answer}
-use Rattle.scenes.proofs.Legs.{first_in, leg_in}
+use Rattle.ties.specs.Coming.{HasNumbersLeft}
+use Rattle.ties.proofs.Fitting.{first_answer}
+use Rattle.ties.proofs.Legs.{first_in, leg_in}
 use Rattle.serving.specs.Serving.{IsStaged}
-use Rattle.scenes.proofs.ReachedAnswers.{answered_fits, counted, reached, target}
+use Rattle.ties.proofs.ReachedAnswers.{answered_fits, counted, reached, target}
 use Rattle.ties.specs.Lines.{IsTagOfNone}
 use Rattle.ties.specs.Scenes.{LegIn}
 use Rattle.ties.specs.Shows.{ShowsCallee, ShowsLegs, is_caller}

@@ -34,7 +34,7 @@ use Rattle.ties.specs.Listing.{Listed, is_listed, is_listed_stage, listing}
 use Rattle.ties.specs.Scenes.{LegIn}
 use Rattle.ties.specs.Shows.{ShowsLegs}
 use Rattle.ties.proofs.HiddenLines.{hidden_accepted, hidden_gone, hidden_rings}
-use Rattle.scenes.specs.Taking.{is_due_signal}
+use Rattle.ties.specs.Taking.{is_due_signal}
 use Rattle.quiet.proofs.Tags.{shown_tag}
 
 -- ---- the stage

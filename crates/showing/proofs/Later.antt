@@ -61,13 +61,13 @@ use Rattle.promise.proofs.Awaiting.{all_at}
 use Rattle.promise.specs.Sound.{HasSoundLegs}
 use Rattle.read_back.proofs.Comings.{offer_comes}
 use Rattle.traces.specs.Messages.{AreMessages, IsRequestOf, IsTakenOf}
-use Rattle.scenes.specs.Coming.{scene_at}
-use Rattle.scenes.proofs.GoingOn.{asked_new, legs_go_on, stands_by}
-use Rattle.scenes.proofs.Leaving.{request_of}
-use Rattle.scenes.proofs.Legs.{asked_in, leg_shown}
-use Rattle.scenes.proofs.OfferRequests.{offers_in, offers_to}
-use Rattle.scenes.specs.Taking.{KnowsLegs}
-use Rattle.scenes.proofs.ListedStages.{is_at, stage_shown}
+use Rattle.ties.specs.Coming.{scene_at}
+use Rattle.ties.proofs.GoingOn.{asked_new, legs_go_on, stands_by}
+use Rattle.ties.proofs.Leaving.{request_of}
+use Rattle.ties.proofs.Legs.{asked_in, leg_shown}
+use Rattle.ties.proofs.OfferRequests.{offers_in, offers_to}
+use Rattle.ties.specs.Taking.{KnowsLegs}
+use Rattle.ties.proofs.ListedStages.{is_at, stage_shown}
 use Rattle.ties.specs.Afterwards.{HasSpot, IsLeftOr}
 use Rattle.ties.specs.Heard.{HearsActions}
 use Rattle.ties.specs.Lines.{Answered, IsAt, actions_in}
@@ -85,7 +85,7 @@ use Rattle.quiet.proofs.ReadTexts.{taken_is}
 use Rattle.showing.specs.Steps.{GoOn, IsAfter, StandsShown}
 use Rattle.showing.proofs.Hearing.{step_heard}
 use Rattle.showing.proofs.Lines.{got_set}
-use Rattle.numbers.specs.Answers.{KnowsAnswers}
+use Rattle.quiet.specs.Answers.{KnowsAnswers}
 use Rattle.showing.specs.Beginning.{BeginsAt, StandsFor, entries_of}
 use Rattle.showing.specs.Offering.{IsLaterOffer}
 use Rattle.showing.proofs.Above.{none_answers, offers_above}

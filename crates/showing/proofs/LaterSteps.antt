@@ -60,12 +60,12 @@ use Rattle.traces.proofs.OwnOpens.{step_own}
 use Rattle.traces.proofs.Receptions.{message_begins_none, message_keeps, opens_of}
 use Rattle.traces.proofs.SentKinds.{known}
 use Rattle.traces.proofs.StepSays.{hops_low, offers_says}
-use Rattle.scenes.specs.Coming.{FitsComing}
-use Rattle.scenes.specs.Going.{KeepsDialogs, id_of, put_as}
-use Rattle.scenes.proofs.Fitting.{counts_fits}
-use Rattle.scenes.proofs.GoingOn.{dialogs_go_on, stands_by}
-use Rattle.scenes.specs.Taking.{KnowsLegs}
-use Rattle.scenes.proofs.ListedStages.{dialog_there}
+use Rattle.ties.specs.Coming.{FitsComing}
+use Rattle.ties.specs.Going.{KeepsDialogs, id_of, put_as}
+use Rattle.ties.proofs.Fitting.{counts_fits}
+use Rattle.ties.proofs.GoingOn.{dialogs_go_on, stands_by}
+use Rattle.ties.specs.Taking.{KnowsLegs}
+use Rattle.ties.proofs.ListedStages.{dialog_there}
 use Rattle.quiet.specs.Ties.{AreTied}
 use Rattle.showing.specs.Beginning.{entries_of}
 use Rattle.showing.specs.Offering.{IsLaterOffer}

@@ -29,7 +29,7 @@ use Rattle.promise.specs.OpenRequests.{HasAsked, IsOpenRequest}
 use Rattle.promise.specs.Waiting.{from_tag}
 use Rattle.promise.proofs.AskedCalls.{at_place}
 use Rattle.serving.specs.Serving.{IsStaged}
-use Rattle.scenes.proofs.GoingOn.{same_legs}
+use Rattle.ties.proofs.GoingOn.{same_legs}
 use Rattle.ties.specs.Afterwards.{HasSpot, IsLeft, IsLeftOr}
 use Rattle.ties.specs.Lines.{LineMove, goes, parts, released, waits_on}
 use Rattle.ties.specs.Listing.{Listed, ending_by, hidden, is_listed, is_listed_stage, listing, talking}

@@ -21,8 +21,8 @@ use Rattle.events.specs.declared.sent.Sent.{Sent}
 use Rattle.call_rules.specs.Responses.{asked_end, is_cancelling, is_last_in, is_open_at, is_open_in}
 use Rattle.call_steps.specs.Values.{ComingValue}
 use Rattle.call_steps.specs.declared.messages.StepMessages.{StepMessages}
-use Rattle.scenes.specs.Coming.{FitsComing, IsOwnDialog}
-use Rattle.scenes.specs.Going.{put_as}
+use Rattle.ties.specs.Coming.{FitsComing, IsOwnDialog}
+use Rattle.ties.specs.Going.{put_as}
 use Rattle.showing.specs.Steps.{OpensAlike}
 
 -- ---- last numbers

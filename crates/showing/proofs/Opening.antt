@@ -32,7 +32,7 @@ use Rattle.promise.proofs.Coming.{OpensIn}
 use Rattle.promise.proofs.OpenSteps.{offers_open}
 use Rattle.promise.proofs.Tagged.{differs_at}
 use Rattle.promise.proofs.WaitPassed.{settled_stage}
-use Rattle.scenes.specs.Going.{put_as}
+use Rattle.ties.specs.Going.{put_as}
 
 -- ---- the call alone
 

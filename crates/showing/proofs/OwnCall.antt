@@ -19,7 +19,7 @@ use Rattle.serving.specs.Serving.{IsStaged}
 use Rattle.ties.specs.Listing.{Listing, asking, ending_by, first, hidden, is_listed_stage, listing, talking, updating}
 use Rattle.ties.specs.Shows.{ShowsListing, ShowsOpen, ShowsSettled}
 use Rattle.ties.proofs.Showing.{OfferOn, open_on}
-use Rattle.scenes.specs.Going.{KeepsDialogs, id_of}
+use Rattle.ties.specs.Going.{KeepsDialogs, id_of}
 use Rattle.showing.specs.Steps.{KeepsMedia}
 
 -- ---- which media are kept

@@ -16,7 +16,7 @@ use Rattle.call_trace.specs.Moves.{Move}
 use Rattle.call_trace.specs.Stands.{AllApart}
 use Rattle.promise.specs.OpenRequests.{HasAsked}
 use Rattle.promise.proofs.AskedCalls.{at_place}
-use Rattle.scenes.specs.Coming.{FitsComing}
+use Rattle.ties.specs.Coming.{FitsComing}
 use Rattle.ties.specs.Shows.{ShowsCall}
 use Rattle.call_core.specs.Calls.{holds_in}
 use Rattle.ties.specs.Afterwards.{IsLeft}
@@ -31,7 +31,7 @@ use Rattle.ties.specs.Lines.{waits_on}
 use Rattle.ties.proofs.Spots.{all_left, has_spot}
 use Rattle.call_trace.proofs.Members.{all_at}
 use Rattle.serving.specs.Serving.{IsStaged}
-use Rattle.scenes.proofs.GoingOn.{leg_ids}
+use Rattle.ties.proofs.GoingOn.{leg_ids}
 use Rattle.showing.specs.Steps.{GoesOnAt}
 use Rattle.showing.proofs.Lines.{got_set, line_goes_on}
 use Rattle.showing.proofs.Numbers.{leg_numbers, open_in}

@@ -31,8 +31,8 @@ use Rattle.trace_reading.specs.Message.{trace_message}
 use Rattle.promise.proofs.Describing.{BodiesDescribe}
 use Rattle.promise.proofs.ReadBack.{SentIsRead}
 use Rattle.read_back.specs.Comings.{CanCome}
-use Rattle.scenes.specs.Taking.{IsShownAt, KnowsLegs, TakesSignal}
-use Rattle.scenes.specs.Coming.{scene_at}
+use Rattle.ties.specs.Taking.{IsShownAt, KnowsLegs, TakesSignal}
+use Rattle.ties.specs.Coming.{scene_at}
 use Rattle.traces.specs.Messages.{AreMessages, IsTakenOf}
 use Rattle.ties.specs.Listing.{is_listed as is_listed_call}
 use Rattle.ties.specs.Shows.{ShowsCall}
@@ -54,9 +54,9 @@ use Rattle.plans.specs.CallRows.{asker, tag_at, takes_request, takes}
 use Rattle.responses.specs.Responding.{stateless}
 use Rattle.promise.specs.Addresses.{IsSource}
 use Rattle.read_back.proofs.Comings.{alone_comes, bye_comes, cancel_comes}
-use Rattle.scenes.specs.Coming.{FitsComing}
-use Rattle.scenes.proofs.Fitting.{counts_fits}
-use Rattle.scenes.proofs.Comings.{ack_signals, bye_signals, cancel_signals}
+use Rattle.ties.specs.Coming.{FitsComing}
+use Rattle.ties.proofs.Fitting.{counts_fits}
+use Rattle.ties.proofs.Comings.{ack_signals, bye_signals, cancel_signals}
 use Rattle.call_rules.specs.Speaking.{is_bye}
 use Rattle.promise.specs.Sending.{KnowsSent}
 use Rattle.promise.specs.Sound.{HasSoundLegs}

@@ -53,13 +53,13 @@ use Rattle.promise.proofs.ReadBack.{SentIsRead}
 use Rattle.promise.proofs.Reading.{Reading as ReadsNames}
 use Rattle.read_back.specs.Comings.{CanCome}
 use Rattle.read_back.proofs.Comings.{alone_comes, answer_comes}
-use Rattle.scenes.specs.Responding.{RespondsToOffer}
-use Rattle.scenes.specs.Taking.{IsShownAt, KnowsLegs, TakesSignal}
+use Rattle.ties.specs.Responding.{RespondsToOffer}
+use Rattle.ties.specs.Taking.{IsShownAt, KnowsLegs, TakesSignal}
 use Rattle.traces.proofs.Taking.{ReplyLaw}
 use Rattle.promise.proofs.Rows.{answered_client}
-use Rattle.scenes.proofs.FirstAnswers.{ReadingLaws, later_fits, success_signals}
-use Rattle.scenes.proofs.Responses.{refusal_signals, ringing_signals}
-use Rattle.scenes.specs.Coming.{FitsComing, scene_at}
+use Rattle.ties.proofs.FirstAnswers.{ReadingLaws, later_fits, success_signals}
+use Rattle.ties.proofs.Responses.{refusal_signals, ringing_signals}
+use Rattle.ties.specs.Coming.{FitsComing, scene_at}
 use Rattle.ties.specs.Lines.{next_in}
 use Rattle.traces.specs.Messages.{AreMessages, IsTakenOf}
 use Rattle.ties.specs.Inputs.{is_bye_signal}

@@ -52,14 +52,14 @@ use Rattle.promise.specs.CalleeDialogs.{is_unanswered}
 use Rattle.promise.proofs.ReadBodies.{description_seen}
 use Rattle.quiet.specs.Ties.{AreTied}
 use Rattle.quiet.proofs.ReadTexts.{taken_is}
-use Rattle.scenes.specs.Coming.{FitsComing, scene_at}
-use Rattle.scenes.specs.Going.{put_as}
-use Rattle.scenes.proofs.Askers.{asker_in_scene, offer_names}
-use Rattle.scenes.proofs.GoingOn.{first_legs, legs_go_on}
-use Rattle.scenes.specs.Responding.{RespondsToOffer}
-use Rattle.scenes.specs.Taking.{IsShownAt}
-use Rattle.scenes.proofs.ListedStages.{stage_shown}
-use Rattle.scenes.proofs.Responses.{went_is}
+use Rattle.ties.specs.Coming.{FitsComing, scene_at}
+use Rattle.ties.specs.Going.{put_as}
+use Rattle.ties.proofs.Askers.{asker_in_scene, offer_names}
+use Rattle.ties.proofs.GoingOn.{first_legs, legs_go_on}
+use Rattle.ties.specs.Responding.{RespondsToOffer}
+use Rattle.ties.specs.Taking.{IsShownAt}
+use Rattle.ties.proofs.ListedStages.{stage_shown}
+use Rattle.ties.proofs.Responses.{went_is}
 use Rattle.ties.specs.Heard.{HearsActions}
 use Rattle.ties.specs.Inputs.{TookSuccess}
 use Rattle.ties.specs.Lines.{FirstLeg, HasLegs, IsAt, Legs, actions_in}

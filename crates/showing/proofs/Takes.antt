@@ -32,10 +32,10 @@ use Rattle.promise.proofs.ReadBack.{SentIsRead}
 use Rattle.promise.specs.OpenRequests.{HasAsked}
 use Rattle.promise.proofs.AskedCalls.{at_place}
 use Rattle.read_back.specs.Comings.{CanCome}
-use Rattle.scenes.specs.Coming.{FitsComing, scene_at}
-use Rattle.scenes.specs.Going.{put_as}
+use Rattle.ties.specs.Coming.{FitsComing, scene_at}
+use Rattle.ties.specs.Going.{put_as}
 use Rattle.serving.specs.Serving.{IsStaged}
-use Rattle.scenes.specs.Taking.{TakesSignal}
+use Rattle.ties.specs.Taking.{TakesSignal}
 use Rattle.traces.specs.Messages.{AreMessages}
 use Rattle.ties.specs.Afterwards.{HasSpot}
 use Rattle.ties.specs.Heard.{HearsActions}

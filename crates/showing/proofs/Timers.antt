@@ -31,8 +31,8 @@ use Rattle.promise.proofs.ReadBack.{SentIsRead}
 use Rattle.read_back.specs.Comings.{CanCome}
 use Rattle.read_back.proofs.Comings.{alone_comes}
 use Rattle.call_steps.specs.Values.{without_offer}
-use Rattle.scenes.specs.Taking.{KnowsLegs, is_due_signal}
-use Rattle.scenes.proofs.Comings.{due_signals}
+use Rattle.ties.specs.Taking.{KnowsLegs, is_due_signal}
+use Rattle.ties.proofs.Comings.{due_signals}
 use Rattle.traces.specs.Knowing.{KnowsTrace}
 use Rattle.traces.specs.Messages.{AreMessages}
 use Rattle.ties.specs.Listing.{is_listed}

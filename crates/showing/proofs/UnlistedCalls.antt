@@ -28,8 +28,8 @@ use Rattle.call_trace.specs.Stands.{AllApart}
 use Rattle.promise.proofs.Describing.{BodiesDescribe}
 use Rattle.promise.proofs.ReadBack.{SentIsRead}
 use Rattle.read_back.specs.Comings.{CanCome}
-use Rattle.scenes.specs.Coming.{scene_at}
-use Rattle.scenes.specs.Going.{put_as}
+use Rattle.ties.specs.Coming.{scene_at}
+use Rattle.ties.specs.Going.{put_as}
 use Rattle.traces.specs.Messages.{AreMessages}
 use Rattle.ties.specs.Heard.{HearsActions}
 use Rattle.ties.specs.Shows.{ShowsCall}
@@ -40,7 +40,7 @@ use Rattle.ties.specs.Lines.{HiddenMove, actions_in, next_in}
 use Rattle.ties.specs.Listing.{Listed, is_listed, is_listed_stage}
 use Rattle.ties.proofs.Afterwards.{left_listed}
 use Rattle.ties.proofs.Spots.{hidden_goes, stays_hidden}
-use Rattle.scenes.proofs.GoingOn.{stands_by}
+use Rattle.ties.proofs.GoingOn.{stands_by}
 use Rattle.showing.specs.Steps.{GoOn, IsAfter, IsSignalOf, StandsShown, calls_after}
 use Rattle.showing.proofs.Hearing.{step_heard}
 use Rattle.showing.proofs.OwnCall.{is_shown, stage_listed}

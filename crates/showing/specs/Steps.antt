@@ -13,7 +13,7 @@ use Rattle.call_core.specs.declared.signal.Signal.TheVariants as signals
 use Rattle.call_core.specs.declared.stage.Standing.{Standing}
 use Rattle.call_rules.specs.Responses.{is_open}
 use Rattle.calls.specs.declared.standing_call.StandingCall.{StandingCall}
-use Rattle.scenes.specs.Going.{KeepsDialogs}
+use Rattle.ties.specs.Going.{KeepsDialogs}
 use Rattle.call_trace.specs.declared.call.Call.{Call}
 use Rattle.call_trace.specs.declared.datagram.Datagram.{Datagram}
 use Rattle.call_trace.specs.declared.datagram.Message.{Message}

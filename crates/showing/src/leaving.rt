@@ -14,7 +14,7 @@ ghost use Rattle.plans.specs.Effect.{Effect};
 ghost use Rattle.plans.specs.Office.{Office};
 ghost use Rattle.plans.specs.declared.setting.Setting.{Setting};
 ghost use Rattle.showing.specs.Steps.{GoOn, IsAfter, StandsShown};
-ghost use Rattle.scenes.specs.Taking.{KnowsLegs};
+ghost use Rattle.ties.specs.Taking.{KnowsLegs};
 ghost use Rattle.sip_message.specs.Read.{message_of};
 ghost use Rattle.sip_message.specs.declared.message.Message.TheVariants as Kinds;
 ghost use Rattle.ties.specs.Listing.{is_listed};

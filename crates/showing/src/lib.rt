@@ -1,4 +1,4 @@
-//! What the calls of a trace show after a step of a call that stands: laws of how the calls go on. Nothing here runs.
+//! What the calls of a trace show after a step of a call: of a signal, of an offer that it passes on, and of a fit answer. Nothing here runs.
 #![tactic(auto)]
 
 mod asking;

@@ -6,3 +6,8 @@ pub mod Scenes
 pub mod Inputs
 pub mod Lines
 pub mod Afterwards
+pub mod Coming
+pub mod Asking
+pub mod Going
+pub mod Taking
+pub mod Responding

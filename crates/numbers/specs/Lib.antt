@@ -1,5 +1,0 @@
-pub mod Taken
-pub mod Answers
-pub mod Rising
-pub mod Answering
-pub mod Byes

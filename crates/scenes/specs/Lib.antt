@@ -1,5 +1,0 @@
-pub mod Coming
-pub mod Asking
-pub mod Going
-pub mod Taking
-pub mod Responding
