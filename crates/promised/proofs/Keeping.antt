@@ -26,6 +26,8 @@ use Rattle.promised.specs.Keeping.{HasPromisedCalls, KeepsPromise, dialog_with_c
 use Rattle.promised.proofs.AllEntries.{all_upheld}
 use Rattle.promised.proofs.Invariant.{IsUpheld}
 use Rattle.promised.proofs.Knowing.{Laws}
+use Rattle.promised.proofs.LiveCalls.{live_listed}
+use Rattle.promised.specs.Living.{ListsLive}
 use Rattle.promised.proofs.Sessions.{are_traced}
 
 -- what stands and is served is promised
@@ -47,3 +49,11 @@ pub all_promised : Laws → PromiseLaws → EventsAreMoves → (c : Config) (s :
 all_promised laws promises law c s xs t is new are from trace =
     let kept = all_upheld laws law c s xs t is new are from trace in
     (kept.0, promise_kept laws promises (office (after_entries s xs)) (begun_in s xs) (sends_of xs) t kept.0 (length xs) kept.1)
+
+-- and the calls that were answered, and that no end has left, are the live ones
+pub all_live : Laws → PromiseLaws → EventsAreMoves → (c : Config) (s : Contents) (xs : List Entry) (t : List Datagram) → IsConfigured c → IsNew c s → AreEntries s xs → All EntersFromSource xs → AreTrace 0 xs t → ListsLive (office (after_entries s xs)) t
+all_live laws promises law c s xs t is new are from trace =
+    let kept = all_upheld laws law c s xs t is new are from trace in
+    let stands = office (after_entries s xs) in
+    live_listed stands (begun_in s xs) t kept.0 (laws.staged stands kept.1.known.serving) kept.1.known.callees kept.1.listed
+    (promise_kept laws promises stands (begun_in s xs) (sends_of xs) t kept.0 (length xs) kept.1).promised.lives

@@ -14,3 +14,4 @@ pub mod Requests
 pub mod Responses
 pub mod Datagrams
 pub mod Events
+pub mod LiveCalls

@@ -42,7 +42,7 @@ stage_bare (stages.Reanswered interval) h = absurd cc
 stage_bare stages.Updating h = absurd cc
 stage_bare (stages.Ending interval) h = absurd cc
 
-bare : (o : Option Standing) → holds_in is_listed_stage o ≡ false → (holds_in has_session o ≡ false) × (holds_in awaits_answer o ≡ false)
+pub bare : (o : Option Standing) → holds_in is_listed_stage o ≡ false → (holds_in has_session o ≡ false) × (holds_in awaits_answer o ≡ false)
 bare None h = (refl, refl)
 bare (Some n) h = stage_bare n.stage h
 
@@ -69,7 +69,7 @@ module _ (slots : List (Option Transaction)) (begun : List Transaction) (t : Lis
   stage_settled c n stages.Updating x z h answered = settled_by c c.call.media.session x z refl h.0 answered
   stage_settled c n (stages.Ending interval) x z h answered = absurd (not_ending _ z (sym h.0 ∙ answered))
 
-  standing_settled : (c : StandingCall) (o : Option Standing) (x : Call) (z : Settled) → ShowsStanding slots begun t c o x → x.stage ≡ Answered z → (y : Session) × IsSessionOf y c × (z.session ≡ trace_session y)
+  pub standing_settled : (c : StandingCall) (o : Option Standing) (x : Call) (z : Settled) → ShowsStanding slots begun t c o x → x.stage ≡ Answered z → (y : Session) × IsSessionOf y c × (z.session ≡ trace_session y)
   standing_settled c None x z h answered = absurd h
   standing_settled c (Some n) x z h answered = stage_settled c n n.stage x z h answered
 
@@ -87,7 +87,7 @@ module _ (slots : List (Option Transaction)) (begun : List Transaction) (t : Lis
   stage_session c n stages.Updating x y staged stands is h own = session_by c c.call.media.session x y refl h.0 own
   stage_session c n (stages.Ending interval) x y staged stands is h own = none_session c (WasSettled y x) y staged (ap (holds_in has_session) stands ∙ ap has_session is) own
 
-  standing_session : (c : StandingCall) (o : Option Standing) (x : Call) (y : Session) → IsStaged c.call → c.call.standing ≡ o → ShowsStanding slots begun t c o x → IsSessionOf y c → WasSettled y x
+  pub standing_session : (c : StandingCall) (o : Option Standing) (x : Call) (y : Session) → IsStaged c.call → c.call.standing ≡ o → ShowsStanding slots begun t c o x → IsSessionOf y c → WasSettled y x
   standing_session c None x y staged stands h own = absurd h
   standing_session c (Some n) x y staged stands h own = stage_session c n n.stage x y staged stands refl h own
 

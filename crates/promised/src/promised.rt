@@ -10,6 +10,7 @@ ghost use Rattle.promise.specs.Addresses.{IsConfigured};
 ghost use Rattle.promise.specs.Datagrams.{EntersFromSource};
 ghost use Rattle.promise.specs.Numbers.{begun_in};
 ghost use Rattle.promised.specs.Keeping.{HasPromisedCalls};
+ghost use Rattle.promised.specs.Living.{ListsLive};
 ghost use Rattle.traces.specs.Traces.{AreTrace};
 
 use crate::events_are_moves;
@@ -21,13 +22,16 @@ use sip_writing::written_is_read;
 use trace_reading::bodies_describe;
 use transactions::replies;
 
-/// After any entries of a new agent, whose configuration keeps the rules and
-/// whose datagrams came from addresses, some of which may have been lost, calls stand after the trace of them and show those of the agent; and
-/// the whole media promise holds of the trace, with the agent's address, its relay table, the holders of its ports, and these calls.
+/// After any entries of a new agent, whose configuration keeps the rules and whose datagrams came from addresses, some of which may have been
+/// lost, calls stand after the trace of them and show those of the agent; and the whole media promise holds of the trace, with the agent's
+/// address, its relay table, the holders of its ports, and these calls. And the agent's own calls that were answered, and that no end has left,
+/// are exactly the live ones of the trace.
 pub fn agents_keep_the_promise()
-    ensures { (config : Config) (s : Contents) (entries : List Entry) (t : List Datagram) → IsConfigured config → IsNew config s →
+    ensures promised { (config : Config) (s : Contents) (entries : List Entry) (t : List Datagram) → IsConfigured config → IsNew config s →
         AreEntries s entries → All EntersFromSource entries → AreTrace 0 entries t →
         HasPromisedCalls (office (after_entries s entries)) (begun_in s entries) t (length entries) }
+    ensures lives { (config : Config) (s : Contents) (entries : List Entry) (t : List Datagram) → IsConfigured config → IsNew config s →
+        AreEntries s entries → All EntersFromSource entries → AreTrace 0 entries t → ListsLive (office (after_entries s entries)) t }
 {
     contacts_are_read();
     dialogs_are_sound();
