@@ -3,3 +3,4 @@ mod StepLaws
 mod ConfigLaws
 mod TraceLaws
 mod EnterLaws
+mod StandingLaws

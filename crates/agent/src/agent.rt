@@ -1,22 +1,28 @@
 //! The agent, and its step.
 
-ghost use Rattle.std.specs.Prelude.{◌≡◌, ◌<◌, ◌≤◌, ◌^◌, ◌++◌, [], IfOk, OnOk, OnErr, None};
+ghost use Rattle.std.specs.Prelude.{◌≡◌, ◌<◌, ◌≤◌, ◌^◌, ◌++◌, [], ℕ, IfOk, List, OnOk, OnErr, None};
+ghost use Rattle.call_trace.specs.declared.datagram.Datagram.{Datagram};
 ghost use Rattle.port_pool.specs.Holdings.{holder_at};
 ghost use Rattle.port_pool.specs.RelayTable.{changed_by};
 ghost use Rattle.plans.specs.Effect.{Fits, effect};
-ghost use Rattle.agent.specs.Rows.{after, moment_after, next_due, only_counts, row, what_row};
-ghost use Rattle.agent.specs.State.{after_count, after_event, office};
+ghost use Rattle.promised.specs.Keeping.{HoldsFor, RelaysLive};
+ghost use Rattle.promised.specs.Living.{ListsLive};
+ghost use Rattle.promised.specs.Standing.{AgentStands, StandsOn};
+ghost use Rattle.checks.specs.Rows.{after, moment_after, next_due, only_counts, row, what_row};
+ghost use Rattle.checks.specs.State.{after_count, after_event, office};
 
 use crate::acks::keep;
 use crate::commit::{commit, enter, stop};
 use crate::rows::what_row;
-use crate::tally::Tally;
 use crate::timing::earlier;
 use calls::{Calls, StandingCall};
+use checks::Tally;
 use events::{Event, Sent};
 use offer_answer::OwnRange;
 use plans::{Doing, KeptAck, Office, Plan, Taken};
 use port_pool::{Change, RelayTable};
+use promise::event_comes_from_source;
+use promised::agents_stand;
 use registrar::Registrar;
 use sip_uri::Addr;
 use std::alloc::{AllocError, Global};
@@ -51,7 +57,7 @@ impl Model for Agent {
     ghost use Rattle.std.specs.Coded.{codes};
     ghost use Rattle.port_pool.specs.Pool.{coded_contents};
     ghost use Rattle.calls.specs.State.{standing};
-    ghost use Rattle.agent.specs.State.{Contents, IsCounted};
+    ghost use Rattle.checks.specs.State.{Contents, IsCounted};
 
     ghost Value = { Contents };
 
@@ -70,17 +76,23 @@ impl Agent {
         self.tally
     }
 
-    /// The calls that stand, in the order in which they began. Takes no memory.
+    /// The calls that stand, in the order in which they began. Where the agent stands after a trace, those that were answered, and that no
+    /// end has left, are exactly the live ones of the trace. Takes no memory.
     pub fn calls(&self) -> &[StandingCall]
-        ensures { result.now ≡ self.now.calls.calls }
+        ensures calls { result.now ≡ self.now.calls.calls }
+        ensures live { (t : List Datagram) (k : ℕ) → AgentStands self.now t k → ListsLive result.now t }
     {
+        agents_stand();
         self.calls.as_slice()
     }
 
-    /// The relay table. Takes no memory.
+    /// The relay table. Where the agent stands after a trace, it has the rows of the live calls and no other, and joined by it their legs mean what
+    /// RFC 3264 gives offer and answer passed directly. Takes no memory.
     pub fn relay(&self) -> &RelayTable
-        ensures { result.now ≡ self.now.calls.pool.rows }
+        ensures rows { result.now ≡ self.now.calls.pool.rows }
+        ensures live { (t : List Datagram) (k : ℕ) → AgentStands self.now t k → RelaysLive self.now.range.ip result.now t }
     {
+        agents_stand();
         self.calls.pool().table()
     }
 
@@ -91,10 +103,13 @@ impl Agent {
         &self.changes
     }
 
-    /// The number of the call that holds the pair of this port, used or reserved. Takes no memory.
+    /// The number of the call that holds the pair of this port, used or reserved. Where the agent stands after a trace, that call stands, and is the
+    /// live one that names the pair. Takes no memory.
     pub fn holder(&self, port: u16) -> Option<u64>
-        ensures { result ≡ holder_at self.now.calls.pool.holdings port }
+        ensures holder { result ≡ holder_at self.now.calls.pool.holdings port }
+        ensures live { (t : List Datagram) (k : ℕ) → AgentStands self.now t k → HoldsFor self.now.calls.calls t port result }
     {
+        agents_stand();
         self.calls.pool().holder(port)
     }
 
@@ -124,12 +139,29 @@ impl Agent {
 
     /// Takes an event: what it answers, sends and changes is its row. Where memory is refused, the agent and the list are as
     /// before, and the event counts as not come. An event that is only counted takes no memory.
-    #[tactic(auto, using(crate::proofs::StepLaws::sends_counted, crate::proofs::StepLaws::after_counted))]
+    /// An agent that stands after a trace stands after it with what the event took and sent, so that the media promise goes on to hold.
     pub fn step(&mut self, event: &Event, sent: &mut Vec<Sent>) -> Result<Taken, AllocError>
         ensures answer { IfOk result (λ taken. taken ≡ (row self.old event.entry.now).plan.taken) }
         ensures sends { OnOk result (sent.new.items ≡ sent.old.items ++ (row self.old event.entry.now).plan.sends) }
         ensures agent { OnOk result (self.new ≡ after self.old event.entry.now) }
         // The changes lead from the relay table before to the one after.
+        ensures leads { OnOk result (changed_by self.old.calls.pool.rows self.new.changes ≡ self.new.calls.pool.rows) }
+        ensures lost { OnErr result (self.new ≡ self.old) }
+        ensures unsent { OnErr result (sent.new.items ≡ sent.old.items) }
+        ensures counted { OnErr result (only_counts self.old event.entry.now ≡ None) }
+        ensures stands { IfOk result (λ taken. StandsOn self.old event.entry.now.what taken sent.old.items sent.new.items self.new) }
+    {
+        agents_stand();
+        event_comes_from_source(event);
+        self.take(event, sent)
+    }
+
+    #[tactic(auto, using(crate::proofs::StepLaws::sends_counted, crate::proofs::StepLaws::after_counted))]
+    #[inline(never)]
+    fn take(&mut self, event: &Event, sent: &mut Vec<Sent>) -> Result<Taken, AllocError>
+        ensures answer { IfOk result (λ taken. taken ≡ (row self.old event.entry.now).plan.taken) }
+        ensures sends { OnOk result (sent.new.items ≡ sent.old.items ++ (row self.old event.entry.now).plan.sends) }
+        ensures agent { OnOk result (self.new ≡ after self.old event.entry.now) }
         ensures leads { OnOk result (changed_by self.old.calls.pool.rows self.new.changes ≡ self.new.calls.pool.rows) }
         ensures lost { OnErr result (self.new ≡ self.old) }
         ensures unsent { OnErr result (sent.new.items ≡ sent.old.items) }
@@ -160,7 +192,7 @@ impl Agent {
         self.carry_out(doing, sent, now)
     }
 
-    #[tactic(auto, unfolding(crate::specs::State::after_event))]
+    #[tactic(auto, unfolding(checks::specs::State::after_event))]
     #[inline(never)]
     fn carry_out(
         &mut self,

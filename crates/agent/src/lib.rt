@@ -10,15 +10,12 @@ mod due;
 mod letting_go;
 mod making;
 mod rows;
-mod rule;
 mod rules;
 mod run;
-mod tally;
 mod timing;
 mod unread;
 
 pub use agent::Agent;
+pub use checks::{Rule, Tally};
 pub use plans::{CallRule, KeptAck, Reply, Taken, Why};
-pub use rule::Rule;
 pub use run::{Entry, Trace};
-pub use tally::Tally;

@@ -3,13 +3,16 @@
 ghost use Rattle.std.specs.Prelude.{◌≡◌, [], IfOk, IfErr, OnOk};
 ghost use Rattle.configuration.specs.Rules.{KeepsRules};
 ghost use Rattle.registrar.specs.Registrar.{StandsAfter};
-ghost use Rattle.agent.specs.State.{IsNew, RefusesConfig, range_of, rules_by, server_of};
+ghost use Rattle.checks.specs.State.{IsNew, RefusesConfig, range_of, rules_by, server_of};
+ghost use Rattle.promised.specs.Standing.{AgentStands};
 
 use crate::agent::Agent;
-use crate::tally::Tally;
 use calls::Calls;
+use checks::Tally;
 use configuration::{Config, ConfigError, check};
 use offer_answer::OwnRange;
+use promise::configuration_names_an_address;
+use promised::agents_stand;
 use registrar::Registrar;
 use sip_uri::Addr;
 use std::alloc::{AllocError, Global};
@@ -63,9 +66,22 @@ fn range_of(config: &Config) -> OwnRange
 }
 
 impl Agent {
-    /// An agent that nothing has happened to. The configuration keeps the rules, or the first that it breaks is told.
-    #[tactic(auto, using(crate::proofs::ConfigLaws::refuses))]
+    /// An agent that nothing has happened to, which stands after the empty trace. The configuration keeps the rules, or the first that it breaks
+    /// is told.
     pub fn new(alloc: Global, config: &Config) -> Result<Agent, ConfigError>
+        ensures new { IfOk result (IsNew config.now) }
+        ensures stands { IfOk result (λ agent. AgentStands agent [] 0) }
+        ensures kept { OnOk result (KeepsRules config.now) }
+        ensures refused { IfErr result (RefusesConfig config.now) }
+    {
+        agents_stand();
+        configuration_names_an_address(config);
+        Agent::made(alloc, config)
+    }
+
+    #[tactic(auto, using(crate::proofs::ConfigLaws::refuses))]
+    #[inline(never)]
+    fn made(alloc: Global, config: &Config) -> Result<Agent, ConfigError>
         ensures new { IfOk result (IsNew config.now) }
         ensures kept { OnOk result (KeepsRules config.now) }
         ensures refused { IfErr result (RefusesConfig config.now) }

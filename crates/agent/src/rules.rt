@@ -6,11 +6,11 @@ ghost use Rattle.sdp.specs.declared.description.Description.{Description};
 ghost use Rattle.sip_message.specs.Words.{tag_value};
 ghost use Rattle.responses.specs.Words.{is_method};
 ghost use Rattle.calls.specs.Finding.{place_by_offer};
-ghost use Rattle.agent.specs.Rules.{callee_rule, cancel_line, cancels, contact_line, declined_line, described_rule, dialog_line, extension_line, first_call_rule, hops_line, invite_rule, known_rule, merged_line, of_dialog, offer_rule, offered_rule, options_line, refused, register_line, request_rule, route_line, target_rule, unknown_line, user_rule};
+ghost use Rattle.checks.specs.Rules.{callee_rule, cancel_line, cancels, contact_line, declined_line, described_rule, dialog_line, extension_line, first_call_rule, hops_line, invite_rule, known_rule, merged_line, of_dialog, offer_rule, offered_rule, options_line, refused, register_line, request_rule, route_line, target_rule, unknown_line, user_rule};
 
 use crate::letting_go::let_go;
-use crate::rule::Rule;
 use call_rules::{ContentRule, DialogRule, contact_address, content_rule, described, dialog_rule};
+use checks::Rule;
 use plans::{CallRule, Office, Reply};
 use responses::{has_header, is_declined_method, is_method, is_offered_method};
 use sip_message::{Request, contact_values, tag_value};
@@ -245,7 +245,7 @@ fn first_call_rule(office: &Office<'_>, request: &Request<'_>, now: u64) -> Resu
     }
 }
 
-#[tactic(auto, unfolding(crate::specs::Rules::invite_rule))]
+#[tactic(auto, unfolding(checks::specs::Rules::invite_rule))]
 fn invite_rule(office: &Office<'_>, request: &Request<'_>, now: u64) -> Result<Rule, AllocError>
     ensures { IfOk result (λ rule. rule ≡ invite_rule office.now request.now now) }
 {
@@ -255,7 +255,7 @@ fn invite_rule(office: &Office<'_>, request: &Request<'_>, now: u64) -> Result<R
     first_call_rule(office, request, now)
 }
 
-#[tactic(auto, unfolding(crate::specs::Rules::offered_rule))]
+#[tactic(auto, unfolding(checks::specs::Rules::offered_rule))]
 fn offered_rule(office: &Office<'_>, request: &Request<'_>, now: u64) -> Result<Rule, AllocError>
     ensures { IfOk result (λ rule. rule ≡ offered_rule office.now request.now now) }
 {
@@ -275,7 +275,7 @@ fn offered_rule(office: &Office<'_>, request: &Request<'_>, now: u64) -> Result<
 }
 
 /// The first line of the order of checks that applies to a request that begins a transaction.
-#[tactic(auto, unfolding(crate::specs::Rules::request_rule))]
+#[tactic(auto, unfolding(checks::specs::Rules::request_rule))]
 pub(crate) fn request_rule(
     office: &Office<'_>,
     request: &Request<'_>,

@@ -2,12 +2,14 @@
 
 ghost use Rattle.std.specs.Prelude.{◌≡◌, ◌<◌, ◌∷◌, ◌++◌, [], IfOk, IsOk, OnErr, OnOk, vec_len};
 ghost use Rattle.std.specs.Vec.{vec_capacity};
-ghost use Rattle.agent.specs.Trace.{IsEntry, Ran, RanFirst, after_entry};
+ghost use Rattle.checks.specs.Trace.{IsEntry, Ran, RanFirst, after_entry};
+ghost use Rattle.promised.specs.Standing.{StandsThrough};
 
 use crate::agent::Agent;
 use crate::letting_go::let_go;
 use events::{Event, Sent, What};
 use plans::Taken;
+use promised::agents_stand;
 use std::alloc::{AllocError, Global};
 use std::marker::Model;
 
@@ -21,7 +23,7 @@ pub struct Entry {
 }
 
 impl Model for Entry {
-    ghost use Rattle.agent.specs.Trace as traces;
+    ghost use Rattle.checks.specs.Trace as traces;
 
     ghost Value = { traces.Entry };
 
@@ -36,7 +38,7 @@ pub struct Trace {
 
 impl Model for Trace {
     ghost use Rattle.std.specs.Prelude.{List};
-    ghost use Rattle.agent.specs.Trace as traces;
+    ghost use Rattle.checks.specs.Trace as traces;
 
     ghost Value = { List traces.Entry };
 
@@ -133,11 +135,15 @@ impl Agent {
     }
 
     /// Takes events in order, and enters each with its answer and its sends; one that is lost counts as not come, and is entered
-    /// too. Where the trace can't grow, agent and trace stand after the events that were entered.
+    /// too. Where the trace can't grow, agent and trace stand after the events that were entered. An agent that stands after a trace of before
+    /// stands after that with these entries.
     pub fn run(&mut self, events: &[Event], trace: &mut Trace) -> Result<(), AllocError>
         ensures ran { OnOk result (Ran self.old trace.old events.now self.new trace.new) }
         ensures front { OnErr result (RanFirst self.old trace.old events.now self.new trace.new) }
+        ensures stands { OnOk result (StandsThrough self.old trace.old trace.new self.new) }
+        ensures front_stands { OnErr result (StandsThrough self.old trace.old trace.new self.new) }
     {
+        agents_stand();
         self.run_in(events, &mut trace.entries)
     }
 }

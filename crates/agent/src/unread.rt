@@ -9,7 +9,7 @@ ghost use Rattle.sip_writing.specs.Reply.{answer_address};
 ghost use Rattle.plans.specs.CallRows.{of_plan};
 ghost use Rattle.plans.specs.Plan.{replies};
 ghost use Rattle.responses.specs.Responding.{responds, stateless};
-ghost use Rattle.agent.specs.Rows.{datagram_row, unfit_branch, unfit_request, unread_by};
+ghost use Rattle.checks.specs.Rows.{datagram_row, unfit_branch, unfit_request, unread_by};
 ghost use Rattle.plans.specs.Office.{Office};
 
 use crate::letting_go::let_go;
@@ -79,7 +79,7 @@ fn unread_with(
 }
 
 /// What a datagram comes to that can't be read.
-#[tactic(auto, unfolding(crate::specs::Rows::unread_row, crate::specs::Rows::datagram_row))]
+#[tactic(auto, unfolding(checks::specs::Rows::unread_row, checks::specs::Rows::datagram_row))]
 #[inline(never)]
 pub(crate) fn unread_row(
     alloc: Global,

@@ -5,8 +5,8 @@ use Rattle.events.specs.declared.event.Event.{Event}
 use Rattle.events.specs.declared.event.What.{What}
 use Rattle.events.specs.declared.event.What.TheVariants.{Datagram, Due}
 use Rattle.events.specs.declared.sent.Sent.{Sent}
-use Rattle.agent.specs.Rows.{next_due}
-use Rattle.agent.specs.State.{Contents}
+use Rattle.checks.specs.Rows.{next_due}
+use Rattle.checks.specs.State.{Contents}
 use Rattle.live.specs.Arrivals.{Arrival}
 use Rattle.live.specs.Turns.{HasTable, Turns}
 use Rattle.live.specs.declared.turn.Turned.{Turned}

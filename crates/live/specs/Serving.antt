@@ -2,7 +2,7 @@
 use Rattle.std.specs.Prelude.{◌≡◌, ◌+◌, ℕ, zero, suc, List, [], ◌∷◌, length, Option, Some, None}
 use Rattle.relay.specs.Lists.{Lists}
 use Rattle.events.specs.declared.sent.Sent.{Sent}
-use Rattle.agent.specs.State.{Contents}
+use Rattle.checks.specs.State.{Contents}
 use Rattle.live.specs.Arrivals.{Arrival}
 use Rattle.live.specs.Rounds.{Rounds, end_after, streaks_after}
 use Rattle.live.specs.Troubles.{trouble_between}

@@ -5,8 +5,8 @@ use Rattle.relay.specs.Lists.{Lists, table_after}
 use Rattle.events.specs.declared.event.Event.{Event}
 use Rattle.events.specs.declared.sent.Sent.{Sent}
 use Rattle.plans.specs.declared.taken.Taken.{Taken}
-use Rattle.agent.specs.Rows.{after, row}
-use Rattle.agent.specs.State.{Contents}
+use Rattle.checks.specs.Rows.{after, row}
+use Rattle.checks.specs.State.{Contents}
 use Rattle.live.specs.Sending.{Sends}
 use Rattle.live.specs.declared.turn.Turned.{Turned}
 use Rattle.live.specs.declared.turn.Turned.TheVariants.{Done, Lost, Behind}

@@ -8,8 +8,8 @@ use Rattle.events.specs.declared.event.Event.{Event}
 use Rattle.transactions.specs.Slots.{at}
 use Rattle.plans.specs.declared.taken.Taken.{Taken}
 use Rattle.plans.specs.Effect.{Effect}
-use Rattle.agent.specs.Rows.{after, moment_after, only_counts, row, row_by}
-use Rattle.agent.specs.State.{Contents, IsNew, after_event, moment_at, office}
+use Rattle.checks.specs.Rows.{after, moment_after, only_counts, row, row_by}
+use Rattle.checks.specs.State.{Contents, IsNew, after_event, moment_at, office}
 use Rattle.promise.specs.Acks.{HasAck, IsKept, KnowsAcks}
 use Rattle.promise.proofs.AckRows.{Acks, quiet, what_acks}
 

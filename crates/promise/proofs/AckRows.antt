@@ -50,7 +50,7 @@ use Rattle.plans.specs.declared.setting.Setting.{Setting}
 use Rattle.plans.specs.CallRows.{acks_with, occasion, with_step}
 use Rattle.plans.specs.Effect.{Effect, without_ack}
 use Rattle.plans.specs.Plan.{Plan}
-use Rattle.agent.specs.Rows.{ends, no_source, setting, what_row}
+use Rattle.checks.specs.Rows.{ends, no_source, setting, what_row}
 use Rattle.promise.specs.Acks.{HasAck, IsAnswered, IsKept, KnowsAcks, had_final}
 use Rattle.promise.proofs.Ending.{ended_answered, ended_gone, fired_answered, fires_other, is_end, response_line, success_answered}
 use Rattle.promise.proofs.Firing.{NoneFires, all_answered, fires_append, is_fires, said_tells}

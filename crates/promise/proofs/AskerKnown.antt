@@ -46,9 +46,9 @@ use Rattle.plans.specs.CallRows.{of_plan, takes, timer_input, without_call_timer
 use Rattle.plans.specs.Effect.{Effect}
 use Rattle.plans.specs.Plan.{nothing, replies as plain_replies}
 use Rattle.plans.specs.Replies.{unsupported}
-use Rattle.agent.specs.Rows.{after, by_reading, datagram_row, fit_row, is_full, is_unreachable_message, moment_after, no_source, only_counts, parts_of, read_row, received, received_by, request_by, row, row_by, setting, unfit_branch, unread_by, unread_row, what_row}
-use Rattle.agent.specs.State.{Contents, IsNew, after_event, moment_at, office}
-use Rattle.agent.specs.Trace.{AreEntries, Entry, IsEntryWith, after_answer, after_entries, after_entry}
+use Rattle.checks.specs.Rows.{after, by_reading, datagram_row, fit_row, is_full, is_unreachable_message, moment_after, no_source, only_counts, parts_of, read_row, received, received_by, request_by, row, row_by, setting, unfit_branch, unread_by, unread_row, what_row}
+use Rattle.checks.specs.State.{Contents, IsNew, after_event, moment_at, office}
+use Rattle.checks.specs.Trace.{AreEntries, Entry, IsEntryWith, after_answer, after_entries, after_entry}
 use Rattle.sdp.specs.declared.description.Description.{Description}
 use Rattle.call_rules.specs.Content.{described}
 use Rattle.promise.specs.Addresses.{IsConfigured, IsReached, IsSource}

@@ -34,10 +34,10 @@ use Rattle.plans.specs.declared.setting.Setting.{Setting}
 use Rattle.plans.specs.CallRows.{are_full, begins_by, call_row, first_by, has_pairs, has_pairs_for, is_unfit, occasion, of_plan, offer_method, offer_reply, offers, offers_by, passes, passes_at, passes_if, passes_in, refreshes_at, refreshes_by, refuses, tag_at, takes_request, target, unless_full, with_step}
 use Rattle.plans.specs.Effect.{Effect}
 use Rattle.plans.specs.Replies.{reply_row, responds_in}
-use Rattle.agent.specs.declared.rule.Rule.{Rule}
-use Rattle.agent.specs.declared.rule.Rule.TheVariants as rules
-use Rattle.agent.specs.Rules.{request_rule}
-use Rattle.agent.specs.Rows.{rule_row}
+use Rattle.checks.specs.declared.rule.Rule.{Rule}
+use Rattle.checks.specs.declared.rule.Rule.TheVariants as rules
+use Rattle.checks.specs.Rules.{request_rule}
+use Rattle.checks.specs.Rows.{rule_row}
 use Rattle.promise.specs.Bodies.{WasRead, WasReadIf}
 use Rattle.promise.specs.Datagrams.{IsOwnDatagram}
 use Rattle.promise.specs.Knowing.{HasMadeTags}

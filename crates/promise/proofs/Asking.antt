@@ -18,8 +18,8 @@ use Rattle.call_core.specs.declared.stage.Standing.{Standing}
 use Rattle.calls.specs.State.{AreServed}
 use Rattle.calls.specs.declared.standing_call.StandingCall.{StandingCall}
 use Rattle.call_rules.specs.Responses.{awaits_final, is_cancelling}
-use Rattle.agent.specs.State.{Contents, IsNew, office}
-use Rattle.agent.specs.Trace.{AreEntries, Entry, after_entries}
+use Rattle.checks.specs.State.{Contents, IsNew, office}
+use Rattle.checks.specs.Trace.{AreEntries, Entry, after_entries}
 use Rattle.promise.specs.Addresses.{HasOctets}
 use Rattle.promise.specs.CalleeDialogs.{FitsStage, HasCallee, KnowsCallees, is_unanswered}
 use Rattle.promise.specs.Carried.{CarriesIf, awaits_callee, has_leg}

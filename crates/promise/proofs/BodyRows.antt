@@ -30,10 +30,10 @@ use Rattle.plans.specs.declared.setting.Setting.{Setting}
 use Rattle.plans.specs.declared.taken.Taken.{Taken}
 use Rattle.plans.specs.CallRows.{occasion, puts_if, timer_input, without_call_timer}
 use Rattle.plans.specs.Effect.{Effect}
-use Rattle.agent.specs.Rows.{after, moment_after, no_source, only_counts, row, row_by, setting, what_row}
-use Rattle.agent.specs.State.{Contents, IsNew, after_event, moment_at, office}
-use Rattle.agent.specs.Trace as traces
-use Rattle.agent.specs.Trace.{AreEntries, after_answer, after_entries, after_entry}
+use Rattle.checks.specs.Rows.{after, moment_after, no_source, only_counts, row, row_by, setting, what_row}
+use Rattle.checks.specs.State.{Contents, IsNew, after_event, moment_at, office}
+use Rattle.checks.specs.Trace as traces
+use Rattle.checks.specs.Trace.{AreEntries, after_answer, after_entries, after_entry}
 use Rattle.promise.specs.Addresses.{HasFourOctets, IsServerAddress}
 use Rattle.promise.specs.Bodies.{HavePorts, KnowsCall, KnowsDescriptions, KnowsStanding, WasReadIn}
 use Rattle.promise.proofs.BodySteps.{changed_knows, first_knows, fork_knows, late_knows, offers_knows, takes_knows}

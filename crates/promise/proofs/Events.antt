@@ -8,8 +8,8 @@ use Rattle.configuration.specs.declared.config.Config.{Config}
 use Rattle.events.specs.declared.event.Event.{Event}
 use Rattle.plans.specs.declared.taken.Taken.{Taken}
 use Rattle.plans.specs.Effect.{Effect}
-use Rattle.agent.specs.Rows.{after, moment_after, only_counts, row, row_by}
-use Rattle.agent.specs.State.{Contents, IsNew, after_event, moment_at, moments_end, most_tokens, office}
+use Rattle.checks.specs.Rows.{after, moment_after, only_counts, row, row_by}
+use Rattle.checks.specs.State.{Contents, IsNew, after_event, moment_at, moments_end, most_tokens, office}
 use Rattle.promise.specs.Knowing.{HasMadeTags, KnowsCalls, KnowsTokens}
 use Rattle.promise.specs.Tokens.{IsOwnIf}
 use Rattle.promise.proofs.Growing.{calls_more, slots_more}

@@ -30,10 +30,10 @@ use Rattle.plans.specs.CallRows.{offer_reply}
 use Rattle.plans.specs.declared.rule.CallRule.TheVariants as callrules
 use Rattle.plans.specs.declared.rule.Reply.{Reply}
 use Rattle.plans.specs.declared.rule.Reply.TheVariants as replies
-use Rattle.agent.specs.declared.rule.Rule.{Rule}
-use Rattle.agent.specs.declared.rule.Rule.TheVariants as rules
-use Rattle.agent.specs.Rules as checks
-use Rattle.agent.specs.Rules.{request_rule}
+use Rattle.checks.specs.declared.rule.Rule.{Rule}
+use Rattle.checks.specs.declared.rule.Rule.TheVariants as rules
+use Rattle.checks.specs.Rules as checks
+use Rattle.checks.specs.Rules.{request_rule}
 use Rattle.responses.specs.Words.{has_header, is_declined_method, is_offered_method, is_method as request_method}
 use Rattle.promise.proofs.Repeats.{FitsReply}
 

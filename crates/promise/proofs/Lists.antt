@@ -4,8 +4,8 @@ use Rattle.std.proofs.lemmas.List.{append_assoc, append-nil}
 use Rattle.configuration.specs.declared.config.Config.{Config}
 use Rattle.events.specs.declared.sent.Sent.{Sent}
 use Rattle.plans.specs.declared.taken.Taken.{Taken}
-use Rattle.agent.specs.State.{Contents, IsNew, office}
-use Rattle.agent.specs.Trace.{AreEntries, Entry, IsEntryWith, after_answer, after_entries, after_entry}
+use Rattle.checks.specs.State.{Contents, IsNew, office}
+use Rattle.checks.specs.Trace.{AreEntries, Entry, IsEntryWith, after_answer, after_entries, after_entry}
 use Rattle.promise.specs.Knowledge.{KnowsMessages, sends_of}
 use Rattle.promise.specs.Sending.{KnowsSent}
 use Rattle.promise.proofs.AckEvents.{after_acks, new_acks}

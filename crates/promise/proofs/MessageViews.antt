@@ -32,7 +32,7 @@ use Rattle.plans.specs.declared.taken.Why.TheVariants.{Stray, Ack as AckDropped}
 use Rattle.plans.specs.CallRows.{ack_by, ack_row, of_plan, response_by_asked, response_row, takes}
 use Rattle.plans.specs.Effect.{Effect}
 use Rattle.plans.specs.Plan.{moves, nothing}
-use Rattle.agent.specs.Rows.{is_full, received, received_by, request_by, response_by}
+use Rattle.checks.specs.Rows.{is_full, received, received_by, request_by, response_by}
 use Rattle.promise.proofs.RequestViews.{RequestRow, by_if, request_view}
 use Rattle.promise.proofs.ResponseViews.{ResponseRow, response_rule_view}
 

@@ -33,10 +33,10 @@ use Rattle.plans.specs.Office.{Office}
 use Rattle.plans.specs.declared.rule.Reply.{Reply}
 use Rattle.plans.specs.declared.rule.Reply.TheVariants as replies
 use Rattle.plans.specs.CallRows.{offer_reply}
-use Rattle.agent.specs.declared.rule.Rule.{Rule}
-use Rattle.agent.specs.declared.rule.Rule.TheVariants as rules
-use Rattle.agent.specs.Rules as checks
-use Rattle.agent.specs.Rules.{request_rule}
+use Rattle.checks.specs.declared.rule.Rule.{Rule}
+use Rattle.checks.specs.declared.rule.Rule.TheVariants as rules
+use Rattle.checks.specs.Rules as checks
+use Rattle.checks.specs.Rules.{request_rule}
 use Rattle.promise.specs.Quiet.{IsQuietReply, MovesNone}
 use Rattle.promise.proofs.RequestViews.{by_if}
 

@@ -28,15 +28,15 @@ use Rattle.plans.specs.Office.{Office}
 use Rattle.plans.specs.declared.rule.CallRule.TheVariants as callrules
 use Rattle.plans.specs.declared.rule.Reply.{Reply}
 use Rattle.plans.specs.declared.rule.Reply.TheVariants as replies
-use Rattle.agent.specs.declared.rule.Rule.{Rule}
-use Rattle.agent.specs.declared.rule.Rule.TheVariants as rules
+use Rattle.checks.specs.declared.rule.Rule.{Rule}
+use Rattle.checks.specs.declared.rule.Rule.TheVariants as rules
 use Rattle.plans.specs.declared.setting.Setting.{Setting}
 use Rattle.plans.specs.CallRows.{are_full, begins_by, call_row, first_by, has_pairs, has_pairs_for, is_unfit, occasion, of_plan, offer_reply, offers, offers_by, okay_plan, passes, passes_at, passes_if, passes_in, puts_if, refreshes_at, refreshes_by, refuses, tag_at, takes_request, target, unless_full, with_step}
 use Rattle.plans.specs.Effect.{Effect}
 use Rattle.plans.specs.Replies.{reply_row, responds_in}
-use Rattle.agent.specs.Rows.{rule_row}
-use Rattle.agent.specs.Rules as checks
-use Rattle.agent.specs.Rules.{request_rule}
+use Rattle.checks.specs.Rows.{rule_row}
+use Rattle.checks.specs.Rules as checks
+use Rattle.checks.specs.Rules.{request_rule}
 use Rattle.call_rules.specs.declared.content.ContentRule.{ContentRule}
 use Rattle.call_rules.specs.declared.content.ContentRule.TheVariants as content
 use Rattle.call_rules.specs.declared.offers.OfferRule.{OfferRule}

@@ -18,9 +18,9 @@ use Rattle.calls.specs.declared.standing_call.StandingCall.{StandingCall}
 use Rattle.plans.specs.declared.taken.Taken.{Taken}
 use Rattle.plans.specs.Effect.{Effect}
 use Rattle.plans.specs.Office.{Office}
-use Rattle.agent.specs.Rows.{after, moment_after, row}
-use Rattle.agent.specs.State.{Contents, IsNew, after_event, office}
-use Rattle.agent.specs.Trace.{AreEntries, Entry, after_answer, after_entries, after_entry}
+use Rattle.checks.specs.Rows.{after, moment_after, row}
+use Rattle.checks.specs.State.{Contents, IsNew, after_event, office}
+use Rattle.checks.specs.Trace.{AreEntries, Entry, after_answer, after_entries, after_entry}
 use Rattle.promise.specs.Carried.{CarriesIfOffering, KnowsCarried}
 use Rattle.promise.specs.Entries.{EnterOwn}
 use Rattle.promise.specs.Knowing.{KnowsTokens}

@@ -41,7 +41,7 @@ use Rattle.plans.specs.CallRows.{acks_again, counted, occasion, of_plan, okay_pl
 use Rattle.plans.specs.Effect.{Effect}
 use Rattle.plans.specs.Plan.{Plan, moves, nothing}
 use Rattle.plans.specs.Replies.{reply_row}
-use Rattle.agent.specs.Rows.{no_source, setting, what_row}
+use Rattle.checks.specs.Rows.{no_source, setting, what_row}
 use Rattle.promise.specs.Entries.{EnterOwn, EntersOwn}
 use Rattle.promise.specs.Knowing.{KnowsCalls, KnowsTokens}
 use Rattle.promise.specs.Tokens.{IsMade, IsOwn}

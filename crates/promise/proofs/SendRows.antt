@@ -56,8 +56,8 @@ use Rattle.plans.specs.CallRows.{acks_again, acks_with, counted, occasion, of_pl
 use Rattle.plans.specs.Effect.{Effect, without_ack}
 use Rattle.plans.specs.Plan.{Plan, goes, moves, nothing, sent_response}
 use Rattle.plans.specs.Replies.{reply_row, responds_in}
-use Rattle.agent.specs.Rows.{after, moment_after, no_source, only_counts, row, row_by, setting, what_row}
-use Rattle.agent.specs.State.{Contents, IsNew, after_event, moment_at, office}
+use Rattle.checks.specs.Rows.{after, moment_after, no_source, only_counts, row, row_by, setting, what_row}
+use Rattle.checks.specs.State.{Contents, IsNew, after_event, moment_at, office}
 use Rattle.promise.specs.Sending.{AckWasSent, AnswerWasSent, CallWasSent, KnowsSent, LastWasSent, WasSentIf}
 use Rattle.promise.proofs.Sends.{EntriesWereSent, Within, acks_within, all_entered_last, calls_within, entries_joined, entries_within, EntryWasSent, message_sent, request_change_sent, sent_left, sent_right, slots_within}
 use Rattle.promise.proofs.SendSteps.{SentStep, changed_sent, first_sends, fork_sends, late_sends, offers_sent, takes_sent}

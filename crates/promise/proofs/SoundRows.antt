@@ -41,9 +41,9 @@ use Rattle.plans.specs.Plan.{Plan, moves, nothing}
 use Rattle.plans.specs.Replies.{reply_row, responds_in}
 use Rattle.plans.specs.declared.setting.Setting.{Setting}
 use Rattle.plans.specs.declared.taken.Taken.{Taken}
-use Rattle.agent.specs.Rows.{after, is_unreachable_message, moment_after, no_source, only_counts, row, row_by, setting, what_row}
-use Rattle.agent.specs.State.{Contents, IsNew, after_event, moment_at, office, registered_by}
-use Rattle.agent.specs.Trace.{Entry as TraceEntry, after_answer, after_entries, after_entry}
+use Rattle.checks.specs.Rows.{after, is_unreachable_message, moment_after, no_source, only_counts, row, row_by, setting, what_row}
+use Rattle.checks.specs.State.{Contents, IsNew, after_event, moment_at, office, registered_by}
+use Rattle.checks.specs.Trace.{Entry as TraceEntry, after_answer, after_entries, after_entry}
 use Rattle.promise.specs.Addresses.{HasOctets}
 use Rattle.promise.specs.Sound.{HasSoundLegs, IsBound, IsSoundLeg, IsTarget, IsTargetIf, KnowsDialogs, SaysDialog}
 use Rattle.promise.proofs.Bindings.{IsBoundPlan, bound_target, entries_bound, reply_bound}

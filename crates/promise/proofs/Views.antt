@@ -34,7 +34,7 @@ use Rattle.plans.specs.declared.taken.Why.TheVariants.{NoBranch, Stray, Unread}
 use Rattle.plans.specs.CallRows.{call_timer_at, call_timer_row, of_plan, takes, timed_out, timed_out_at, timeout_row, timer_input, times_responses, without_call_timer}
 use Rattle.plans.specs.Effect.{Effect}
 use Rattle.plans.specs.Plan.{moves, nothing, replies as plain_replies}
-use Rattle.agent.specs.Rows.{by_reading, datagram_row, due_row, ends, fires_by, fit_row, is_unreachable_message, no_source, parts_of, read_row, received, setting, timer_row, unfit_branch, unread_by, unread_row, what_row}
+use Rattle.checks.specs.Rows.{by_reading, datagram_row, due_row, ends, fires_by, fit_row, is_unreachable_message, no_source, parts_of, read_row, received, setting, timer_row, unfit_branch, unread_by, unread_row, what_row}
 use Rattle.responses.specs.Responding.{responds, stateless}
 use Rattle.responses.specs.Words.{has_fit_branch, is_method as request_method}
 use Rattle.sip_writing.specs.Reply.{answer_address}

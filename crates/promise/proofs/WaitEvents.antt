@@ -10,8 +10,8 @@ use Rattle.transactions.specs.Slots.{at}
 use Rattle.plans.specs.declared.taken.Taken.{Taken}
 use Rattle.plans.specs.Effect.{Effect}
 use Rattle.plans.specs.Plan.{nothing}
-use Rattle.agent.specs.Rows.{after, moment_after, only_counts, row, row_by}
-use Rattle.agent.specs.State.{Contents, IsNew, after_event, moment_at, office}
+use Rattle.checks.specs.Rows.{after, moment_after, only_counts, row, row_by}
+use Rattle.checks.specs.State.{Contents, IsNew, after_event, moment_at, office}
 use Rattle.promise.specs.Knowing.{KnowsTokens}
 use Rattle.promise.specs.Waiting.{FitsCall, IsOffering, KnowsWaiting}
 use Rattle.promise.proofs.Awaiting.{later_all}

@@ -43,7 +43,7 @@ use Rattle.plans.specs.CallRows.{acks_again, occasion, okay_plan, takes, takes_r
 use Rattle.plans.specs.Effect.{Effect}
 use Rattle.plans.specs.Plan.{moves, nothing}
 use Rattle.plans.specs.Replies.{reply_row, responds_in}
-use Rattle.agent.specs.Rows.{no_source, setting, what_row}
+use Rattle.checks.specs.Rows.{no_source, setting, what_row}
 use Rattle.promise.specs.Knowing.{KnowsTokens}
 use Rattle.promise.specs.Waiting.{KnowsWaiting}
 use Rattle.promise.proofs.Awaiting.{LegKeeps, fits_at, leg_kept}

@@ -3,7 +3,7 @@ use Rattle.std.specs.Prelude.{◌≡◌, ℕ, ◌≤◌, IsTrue, List, length, s
 use Rattle.configuration.specs.declared.config.Config.{Config}
 use Rattle.configuration.specs.Rules.{KeepsRules, is_server_address}
 use Rattle.sip_uri.specs.declared.uri.Addr.{Addr}
-use Rattle.agent.specs.State.{server_of}
+use Rattle.checks.specs.State.{server_of}
 
 -- each number of an address is a byte
 abbrev pub HasOctets : List ℕ → Type 0

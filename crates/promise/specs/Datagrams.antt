@@ -12,7 +12,7 @@ use Rattle.sip_message.specs.declared.message.Response.{Response}
 use Rattle.sip_uri.specs.declared.uri.Addr.{Addr}
 use Rattle.sip_writing.specs.Writing.{message_text}
 use Rattle.sip_writing.specs.WritingMessage.{IsWrittenMessage}
-use Rattle.agent.specs.Trace.{Entry}
+use Rattle.checks.specs.Trace.{Entry}
 use Rattle.promise.specs.Addresses.{IsSource}
 
 -- ---- addresses

@@ -2,7 +2,7 @@
 use Rattle.std.specs.Prelude.{List, [], ◌∷◌, ◌++◌}
 use Rattle.events.specs.declared.sent.Sent.{Sent}
 use Rattle.plans.specs.Office.{Office}
-use Rattle.agent.specs.Trace.{Entry}
+use Rattle.checks.specs.Trace.{Entry}
 use Rattle.promise.specs.Acks.{KnowsAcks}
 use Rattle.promise.specs.Knowing.{KnowsTokens}
 use Rattle.promise.specs.Sending.{KnowsSent}

@@ -16,9 +16,9 @@ use Rattle.call_rules.specs.Responses.{asked_end}
 use Rattle.call_rules.specs.Speaking.{is_bye}
 use Rattle.plans.specs.declared.taken.Taken.{Taken}
 use Rattle.plans.specs.Office.{Office}
-use Rattle.agent.specs.Rows.{row}
-use Rattle.agent.specs.State.{Contents}
-use Rattle.agent.specs.Trace.{Entry, after_entry}
+use Rattle.checks.specs.Rows.{row}
+use Rattle.checks.specs.State.{Contents}
+use Rattle.checks.specs.Trace.{Entry, after_entry}
 use Rattle.promise.specs.Tokens.{IsMade}
 use Rattle.promise.specs.Waiting.{IsCounted, IsOffering, from_tag}
 

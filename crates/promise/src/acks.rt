@@ -1,8 +1,8 @@
 //! The ACKs that are kept.
 
 ghost use Rattle.std.specs.Prelude.{◌≡◌, ◌⊎◌, ℕ, None};
-ghost use Rattle.agent.specs.Rows.{after};
-ghost use Rattle.agent.specs.State.{Contents, IsNew, office};
+ghost use Rattle.checks.specs.Rows.{after};
+ghost use Rattle.checks.specs.State.{Contents, IsNew, office};
 ghost use Rattle.configuration.specs.declared.config.Config.{Config};
 ghost use Rattle.events.specs.declared.event.Event.{Event};
 ghost use Rattle.promise.specs.Acks.{HasAck, KnowsAcks};

@@ -1,9 +1,9 @@
 //! The descriptions that the calls keep and send.
 
 ghost use Rattle.std.specs.Prelude.{◌≡◌, ◌≤◌, ℕ, List, length, slice_get, slice_index, Some, Ok};
-ghost use Rattle.agent.specs.Rows.{after};
-ghost use Rattle.agent.specs.State.{Contents, IsNew, office};
-ghost use Rattle.agent.specs.Trace.{AreEntries, Entry, after_entries};
+ghost use Rattle.checks.specs.Rows.{after};
+ghost use Rattle.checks.specs.State.{Contents, IsNew, office};
+ghost use Rattle.checks.specs.Trace.{AreEntries, Entry, after_entries};
 ghost use Rattle.call_core.specs.declared.call.Call.{Call};
 ghost use Rattle.call_core.specs.declared.input.Input.{Input};
 ghost use Rattle.call_core.specs.CallRows.{call_row, first_call_row};
@@ -33,7 +33,7 @@ fn four_octets(ip: &[u8; 4])
     ensures { length ip.now ≡ 4 }
 {}
 
-fn octets_fit(ip: &[u8])
+pub(crate) fn octets_fit(ip: &[u8])
     ensures { (i : ℕ) → slice_index ip.now i ≤ 255 }
 {}
 

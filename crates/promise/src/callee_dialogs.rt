@@ -1,9 +1,9 @@
 //! The dialogs with the callees.
 
 ghost use Rattle.std.specs.Prelude.{List};
-ghost use Rattle.agent.specs.Rows.{after};
-ghost use Rattle.agent.specs.State.{Contents, IsNew, office};
-ghost use Rattle.agent.specs.Trace.{Entry, after_entries};
+ghost use Rattle.checks.specs.Rows.{after};
+ghost use Rattle.checks.specs.State.{Contents, IsNew, office};
+ghost use Rattle.checks.specs.Trace.{Entry, after_entries};
 ghost use Rattle.configuration.specs.declared.config.Config.{Config};
 ghost use Rattle.events.specs.declared.event.Event.{Event};
 ghost use Rattle.promise.specs.CalleeDialogs.{KnowsCallees};

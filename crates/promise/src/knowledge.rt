@@ -1,8 +1,8 @@
 //! All that is known of the agent's own messages, after any events.
 
 ghost use Rattle.std.specs.Prelude.{List};
-ghost use Rattle.agent.specs.State.{Contents, IsNew, office};
-ghost use Rattle.agent.specs.Trace.{AreEntries, Entry, after_entries};
+ghost use Rattle.checks.specs.State.{Contents, IsNew, office};
+ghost use Rattle.checks.specs.Trace.{AreEntries, Entry, after_entries};
 ghost use Rattle.configuration.specs.declared.config.Config.{Config};
 ghost use Rattle.promise.specs.Knowledge.{KnowsMessages, sends_of};
 

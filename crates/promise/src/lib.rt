@@ -14,6 +14,7 @@ mod quiet;
 mod seeing;
 mod sending;
 mod sound;
+mod sources;
 mod tokens;
 mod waiting;
 mod written;
@@ -32,6 +33,7 @@ pub use quiet::{replies_are_plain, rules_reply_quietly, what_no_call_takes_is_qu
 pub use seeing::{actions_are_seen, requests_are_seen, responses_are_seen, steps_are_seen};
 pub use sending::what_goes_again_was_sent;
 pub use sound::dialogs_are_kept_sound;
+pub use sources::{configuration_names_an_address, event_comes_from_source};
 pub use tokens::{tokens_are_drawn_once, tokens_of_other_counts_differ};
 pub use waiting::offers_are_awaited;
 pub use written::{cancels_are_written, requests_are_written};

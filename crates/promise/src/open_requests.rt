@@ -2,9 +2,9 @@
 
 ghost use Rattle.std.specs.Prelude.{◌++◌, [], List};
 ghost use Rattle.std.specs.List.{All};
-ghost use Rattle.agent.specs.Rows.{after, row};
-ghost use Rattle.agent.specs.State.{Contents, IsNew, office};
-ghost use Rattle.agent.specs.Trace.{AreEntries, Entry, after_entries};
+ghost use Rattle.checks.specs.Rows.{after, row};
+ghost use Rattle.checks.specs.State.{Contents, IsNew, office};
+ghost use Rattle.checks.specs.Trace.{AreEntries, Entry, after_entries};
 ghost use Rattle.calls.specs.State.{AreServed};
 ghost use Rattle.configuration.specs.declared.config.Config.{Config};
 ghost use Rattle.events.specs.declared.event.Event.{Event};

@@ -1,8 +1,8 @@
 //! What goes again.
 
 ghost use Rattle.std.specs.Prelude.{◌++◌, [], List};
-ghost use Rattle.agent.specs.Rows.{after, row};
-ghost use Rattle.agent.specs.State.{Contents, IsNew, office};
+ghost use Rattle.checks.specs.Rows.{after, row};
+ghost use Rattle.checks.specs.State.{Contents, IsNew, office};
 ghost use Rattle.configuration.specs.declared.config.Config.{Config};
 ghost use Rattle.events.specs.declared.event.Event.{Event};
 ghost use Rattle.events.specs.declared.sent.Sent.{Sent};

@@ -3,9 +3,9 @@ use Rattle.std.proofs.Common.{◌≡◌, ◌∙◌, ℕ, suc, ◌+◌, List, [],
 use Rattle.std.specs.List.{All}
 use Rattle.std.proofs.lemmas.List.{append_assoc}
 use Rattle.std.proofs.lemmas.List.Elements.{All-head, All-tail}
-use Rattle.agent.specs.Rows.{after, moment_after, only_counts, row}
-use Rattle.agent.specs.State.{Contents, IsNew, after_event, office}
-use Rattle.agent.specs.Trace.{AreEntries, Entry, IsEntryWith, after_answer, after_entries, after_entry}
+use Rattle.checks.specs.Rows.{after, moment_after, only_counts, row}
+use Rattle.checks.specs.State.{Contents, IsNew, after_event, office}
+use Rattle.checks.specs.Trace.{AreEntries, Entry, IsEntryWith, after_answer, after_entries, after_entry}
 use Rattle.call_trace.specs.declared.call.Call.{Call}
 use Rattle.call_trace.specs.declared.datagram.Datagram.{Datagram}
 use Rattle.call_trace.specs.declared.datagram.Message.{Message}
@@ -29,9 +29,10 @@ use Rattle.promise.proofs.Events.{few_tokens}
 use Rattle.traces.specs.Messages.{AreMessages}
 use Rattle.traces.specs.Traces.{AreTrace, IsPassed, IsShownWith, IsTaken}
 use Rattle.transactions.specs.declared.transaction.Transaction.{Transaction}
+use Rattle.promised.specs.Standing.{IsUpheld, UpholdsCalls}
 use Rattle.promised.proofs.Invariant.{EventsAreMoves}
 use Rattle.promised.proofs.Counted.{counted_done, counted_row}
-use Rattle.promised.proofs.Invariant.{IsUpheld, UpholdsCalls, event_upheld, idle_upheld, new_upheld, same_upheld}
+use Rattle.promised.proofs.Invariant.{event_upheld, idle_upheld, new_upheld, same_upheld}
 use Rattle.promised.proofs.Knowing.{Laws}
 
 -- ---- what shows nothing
@@ -116,7 +117,7 @@ joined s b c d u v w t p r rest k n m whole count h =
     (subst (λ xs. UpholdsCalls s (b ++ (c ++ d)) (u ++ (v ++ w)) xs n) (append_assoc t p r ∙ ap (λ (xs : List Datagram). t ++ xs) (sym whole))
     (subst (λ xs. UpholdsCalls s (b ++ (c ++ d)) xs ((t ++ p) ++ r) n) (append_assoc u v w) (subst (λ xs. UpholdsCalls s xs ((u ++ v) ++ w) ((t ++ p) ++ r) n) (append_assoc b c d) h)))
 
-entries_upheld : Laws → EventsAreMoves → (s : Contents) (xs : List Entry) (begun : List Transaction) (sent : List Sent) (t rest : List Datagram) (calls : List Call) (k : ℕ) → AreEntries s xs → All EntersFromSource xs → AreTrace k xs rest
+pub entries_upheld : Laws → EventsAreMoves → (s : Contents) (xs : List Entry) (begun : List Transaction) (sent : List Sent) (t rest : List Datagram) (calls : List Call) (k : ℕ) → AreEntries s xs → All EntersFromSource xs → AreTrace k xs rest
     → IsUpheld (office s) begun sent t calls k → UpholdsCalls (office (after_entries s xs)) (begun ++ begun_in s xs) (sent ++ sends_of xs) (t ++ rest) (k + length xs)
 entries_upheld laws law s [] begun sent t rest calls k are from trace h =
     let same : k ≡ k + 0 = omega arith in
@@ -128,9 +129,3 @@ entries_upheld laws law s (x ∷ xs) begun sent t rest calls k are from trace h 
     joined (office (after_entries (after_entry s x) xs)) begun (begun_at s x.event x.answer) (begun_in (after_entry s x) xs) sent x.sends (sends_of xs) t (passed k trace.0 trace.1) trace.2 rest k
     (suc k + length xs) (k + suc (length xs)) shows.whole count
     (entries_upheld laws law (after_entry s x) xs (begun ++ begun_at s x.event x.answer) (sent ++ x.sends) (t ++ passed k trace.0 trace.1) trace.2 next.0 (suc k) are.1 (All-tail EntersFromSource x xs from) trace.4 next.1)
-
-pub all_upheld : Laws → EventsAreMoves → (c : Config) (s : Contents) (xs : List Entry) (t : List Datagram) → IsConfigured c → IsNew c s → AreEntries s xs → All EntersFromSource xs → AreTrace 0 xs t
-    → UpholdsCalls (office (after_entries s xs)) (begun_in s xs) (sends_of xs) t (length xs)
-all_upheld laws law c s xs t is new are from trace =
-    let count : 0 + length xs ≡ length xs = omega arith in
-    subst (UpholdsCalls (office (after_entries s xs)) (begun_in s xs) (sends_of xs) t) count (entries_upheld laws law s xs [] [] [] t [] 0 are from trace (new_upheld laws c s is new))

@@ -1,8 +1,8 @@
 -- An event that is only counted is not taken up, and comes to nothing.
 use Rattle.std.proofs.Common.{◌≡◌, ℕ, cond, ◌||◌, is_some, length, Option, Some, None, ap, subst}
 use Rattle.std.specs.Prelude.{nat_le, nat_lt}
-use Rattle.agent.specs.Rows.{only_counts, row, row_by, what_counts}
-use Rattle.agent.specs.State.{Contents, moment_at, moments_end, most_tokens, office}
+use Rattle.checks.specs.Rows.{only_counts, row, row_by, what_counts}
+use Rattle.checks.specs.State.{Contents, moment_at, moments_end, most_tokens, office}
 use Rattle.events.specs.declared.event.Event.{Event}
 use Rattle.events.specs.declared.event.What.{What}
 use Rattle.events.specs.declared.event.What.TheVariants as whats

@@ -6,7 +6,7 @@ use Rattle.sip_message.specs.declared.message.Message.TheVariants as Kinds
 use Rattle.sip_message.specs.declared.message.Response.{Response}
 use Rattle.transactions.specs.Contents.{reception_of}
 use Rattle.transactions.specs.declared.transaction.Transaction.{Transaction}
-use Rattle.agent.specs.Rows.{is_unreachable_message}
+use Rattle.checks.specs.Rows.{is_unreachable_message}
 use Rattle.plans.specs.Effect.{Effect}
 use Rattle.plans.specs.Office.{Office}
 use Rattle.plans.specs.declared.setting.Setting.{Setting}
@@ -17,35 +17,35 @@ use Rattle.call_trace.specs.Events.{passed}
 use Rattle.call_trace.specs.Messages.{offering}
 use Rattle.call_trace.specs.Moves.{Move}
 use Rattle.traces.specs.Messages.{AreMessages, IsTakenOf}
-use Rattle.ties.specs.Shows.{ShowsCall}
-use Rattle.showing.specs.Steps.{GoOn, IsAfter}
+use Rattle.promised.specs.Shows.{ShowsCall}
+use Rattle.promised.specs.Steps.{GoOn, IsAfter}
 use Rattle.sip_message.specs.declared.message.Request.{Request}
 use Rattle.promise.specs.Addresses.{IsSource}
-use Rattle.ties.proofs.ReachedAnswers.{reached}
+use Rattle.promised.proofs.ReachedAnswers.{reached}
 use Rattle.sip_message.specs.declared.message.Message.{Message as Read}
 use Rattle.promise.proofs.MessageViews.{IsResponseTo, begun_by}
-use Rattle.quiet.proofs.EventCases.{DatagramCase, EventCase, IsNotDone, MessageCase, ResponseCase}
-use Rattle.quiet.proofs.EventCases as cases
-use Rattle.quiet.proofs.RequestCases.{RequestCase}
+use Rattle.promised.proofs.EventCases.{DatagramCase, EventCase, IsNotDone, MessageCase, ResponseCase}
+use Rattle.promised.proofs.EventCases as cases
+use Rattle.promised.proofs.RequestCases.{RequestCase}
 use Rattle.promised.specs.Known.{IsTied}
 use Rattle.promised.proofs.Laws.{Laws}
-use Rattle.showing.proofs.Puts.{none_goes_on}
-use Rattle.agent.specs.State.{Contents, after_event, office}
-use Rattle.agent.specs.Rows.{after as after_step, moment_after, row}
+use Rattle.promised.proofs.Puts.{none_goes_on}
+use Rattle.checks.specs.State.{Contents, after_event, office}
+use Rattle.checks.specs.Rows.{after as after_step, moment_after, row}
 use Rattle.events.specs.declared.event.Event.{Event}
-use Rattle.quiet.proofs.ByesKnown.{next_tag}
-use Rattle.showing.specs.Beginning.{BeginsAt}
-use Rattle.showing.specs.NextTags.{AreNextTagsNew}
-use Rattle.showing.proofs.Cases.{begins_at}
+use Rattle.promised.proofs.ByesKnown.{next_tag}
+use Rattle.promised.specs.Beginning.{BeginsAt}
+use Rattle.promised.specs.NextTags.{AreNextTagsNew}
+use Rattle.promised.proofs.Cases.{begins_at}
 use Rattle.promise.specs.Askers.{KnowsAskers}
 use Rattle.promise.specs.Numbers.{begun_of}
 use Rattle.plans.specs.declared.taken.Taken.TheVariants.{Done}
-use Rattle.quiet.proofs.CaseMoves.{NoneTakesDatagram, NoneTakesMessage, NoneTakesRequest, NoneTakesResponse}
-use Rattle.quiet.proofs.EventCases.{IsNotDone, event_case}
+use Rattle.promised.proofs.CaseMoves.{NoneTakesDatagram, NoneTakesMessage, NoneTakesRequest, NoneTakesResponse}
+use Rattle.promised.proofs.EventCases.{IsNotDone, event_case}
 use Rattle.transactions.specs.declared.outcome.Verdict.TheVariants as verdicts
-use Rattle.promised.proofs.Requests.{acked_goes, request_goes}
-use Rattle.promised.proofs.Responses.{response_goes}
-use Rattle.promised.proofs.Takes.{shown}
+use Rattle.promised.proofs.RequestEvents.{acked_goes, request_goes}
+use Rattle.promised.proofs.ResponseEvents.{response_goes}
+use Rattle.promised.proofs.CallInputs.{shown}
 
 -- ---- a message
 

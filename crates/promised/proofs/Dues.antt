@@ -13,16 +13,16 @@ use Rattle.call_trace.specs.declared.datagram.Datagram.{Datagram}
 use Rattle.call_trace.specs.declared.datagram.Message.{Message}
 use Rattle.call_trace.specs.Events.{passed}
 use Rattle.traces.specs.Messages.{AreMessages}
-use Rattle.ties.specs.Shows.{ShowsCall}
-use Rattle.showing.specs.Steps.{GoOn, IsAfter, StandsShown, due_signal}
-use Rattle.showing.proofs.Timers.{due_input}
+use Rattle.promised.specs.Shows.{ShowsCall}
+use Rattle.promised.specs.Steps.{GoOn, IsAfter, StandsShown, due_signal}
+use Rattle.promised.proofs.Timers.{due_input}
 use Rattle.call_core.specs.declared.signal.Signal.{Signal}
 use Rattle.promised.specs.Known.{IsTied}
 use Rattle.promised.proofs.Laws.{Laws}
-use Rattle.showing.proofs.HiddenInputs.{hidden_times}
-use Rattle.showing.proofs.Timers.{due_input, timer_goes_on}
-use Rattle.quiet.proofs.TransactionMoves.{nothing_move}
-use Rattle.promised.proofs.Takes.{shown, takes_goes, ties}
+use Rattle.promised.proofs.HiddenInputs.{hidden_times}
+use Rattle.promised.proofs.Timers.{due_input, timer_goes_on}
+use Rattle.promised.proofs.TransactionMoves.{nothing_move}
+use Rattle.promised.proofs.CallInputs.{shown, takes_goes, ties}
 
 module _ (laws : Laws) (s after : Office) (begun more : List Transaction) (sent : List Sent) (t : List Datagram) (old : List Call) (k : ℕ) (tied : IsTied s begun sent t old k) (later : IsAfter s after (begun ++ more)) (ms : List Message) where
   abbrev pub Goes : Type 0

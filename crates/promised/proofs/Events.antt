@@ -5,7 +5,7 @@ use Rattle.std.proofs.lemmas.Option.{none-some, same_Some}
 use Rattle.events.specs.declared.sent.Sent.{Sent}
 use Rattle.transactions.specs.declared.change.Entry.{Entry}
 use Rattle.transactions.specs.declared.transaction.Transaction.{Transaction}
-use Rattle.agent.specs.Rows.{no_source, setting}
+use Rattle.checks.specs.Rows.{no_source, setting}
 use Rattle.call_core.specs.declared.input.Input.{Input}
 use Rattle.call_core.specs.declared.input.Input.TheVariants as inputs
 use Rattle.call_core.specs.declared.signal.Signal.TheVariants as signals
@@ -22,8 +22,8 @@ use Rattle.call_trace.specs.Events.{passed}
 use Rattle.call_trace.specs.Messages.{offering}
 use Rattle.call_trace.specs.Moves.{Move}
 use Rattle.traces.specs.Messages.{AreMessages}
-use Rattle.ties.specs.Shows.{ShowsCall}
-use Rattle.showing.specs.Steps.{GoOn, IsAfter, due_signal}
+use Rattle.promised.specs.Shows.{ShowsCall}
+use Rattle.promised.specs.Steps.{GoOn, IsAfter, due_signal}
 use Rattle.events.specs.declared.event.What.{What}
 use Rattle.events.specs.declared.event.What.TheVariants as whats
 use Rattle.plans.specs.declared.taken.Taken.{Taken}
@@ -31,16 +31,16 @@ use Rattle.promise.specs.Datagrams.{ComesFromSource}
 use Rattle.promise.proofs.Views.{DueRow}
 use Rattle.promise.proofs.Views as views
 use Rattle.traces.specs.Traces.{IsTaken}
-use Rattle.quiet.proofs.EventCases.{DatagramCase, EventCase, IsNotDone, MessageCase, ResponseCase}
-use Rattle.quiet.proofs.EventCases as cases
+use Rattle.promised.proofs.EventCases.{DatagramCase, EventCase, IsNotDone, MessageCase, ResponseCase}
+use Rattle.promised.proofs.EventCases as cases
 use Rattle.call_core.specs.declared.signal.Signal.{Signal}
 use Rattle.promised.specs.Known.{IsTied}
 use Rattle.promised.proofs.Laws.{Laws}
-use Rattle.showing.proofs.Puts.{none_goes_on}
-use Rattle.quiet.proofs.TransactionMoves.{nothing_move}
+use Rattle.promised.proofs.Puts.{none_goes_on}
+use Rattle.promised.proofs.TransactionMoves.{nothing_move}
 use Rattle.call_steps.specs.Rows.{takes_by}
-use Rattle.agent.specs.State.{Contents, after_event, moment_at, office}
-use Rattle.agent.specs.Rows.{after as after_step, only_counts, row, row_by, what_counts}
+use Rattle.checks.specs.State.{Contents, after_event, moment_at, office}
+use Rattle.checks.specs.Rows.{after as after_step, only_counts, row, row_by, what_counts}
 use Rattle.events.specs.declared.event.Event.{Event}
 use Rattle.events.specs.declared.event.What.{What}
 use Rattle.events.specs.declared.event.What.TheVariants as whats
@@ -51,16 +51,16 @@ use Rattle.promise.specs.Numbers.{begun_of}
 use Rattle.plans.specs.declared.taken.Taken.{Taken}
 use Rattle.plans.specs.declared.taken.Taken.TheVariants.{Done}
 use Rattle.plans.specs.CallRows.{timer_input, without_call_timer}
-use Rattle.quiet.proofs.CaseMoves.{NoneTakes, NoneTakesDue, event_move, nothing_taken}
-use Rattle.quiet.proofs.EventCases.{IsNotDone, event_case}
-use Rattle.quiet.proofs.TransactionMoves.{nothing_move}
+use Rattle.promised.proofs.CaseMoves.{NoneTakes, NoneTakesDue, event_move, nothing_taken}
+use Rattle.promised.proofs.EventCases.{IsNotDone, event_case}
+use Rattle.promised.proofs.TransactionMoves.{nothing_move}
 use Rattle.traces.specs.Traces.{IsPassed, IsTaken}
 use Rattle.promised.proofs.Dues.{due_goes}
-use Rattle.promised.proofs.Takes.{shown, ties}
+use Rattle.promised.proofs.CallInputs.{shown, ties}
 use Rattle.call_core.specs.declared.action.CallTimer.{CallTimer}
 use Rattle.call_core.specs.declared.action.CallTimer.TheVariants as timers
 use Rattle.call_core.specs.declared.signal.Signal.{Signal}
-use Rattle.agent.specs.State.{moments_end, most_tokens}
+use Rattle.checks.specs.State.{moments_end, most_tokens}
 use Rattle.plans.specs.declared.taken.Taken.TheVariants.{Dropped, Idle}
 use Rattle.plans.specs.declared.taken.Why.TheVariants.{Clock, Spent, Unread}
 use Rattle.sip_message.specs.declared.error.MessageError.TheVariants.{TooLong}

@@ -2,8 +2,8 @@
 use Rattle.std.proofs.Common.{◌≡◌, ◌∙◌, ℕ, suc, ◌<◌, ◌^◌, List, [], ◌++◌, Option, None, ap, refl, sym, subst, inl, inr}
 use Rattle.std.specs.List.{All}
 use Rattle.std.proofs.lemmas.List.{append-nil}
-use Rattle.agent.specs.Rows.{after, row}
-use Rattle.agent.specs.State.{Contents, IsNew, office}
+use Rattle.checks.specs.Rows.{after, row}
+use Rattle.checks.specs.State.{Contents, IsNew, office}
 use Rattle.call_trace.specs.declared.call.Call.{Call}
 use Rattle.call_trace.specs.declared.datagram.Datagram.{Datagram}
 use Rattle.call_trace.specs.declared.datagram.Message.{Message}
@@ -14,42 +14,29 @@ use Rattle.call_trace.specs.Moves.{Move, quiet}
 use Rattle.configuration.specs.declared.config.Config.{Config}
 use Rattle.events.specs.declared.event.Event.{Event}
 use Rattle.events.specs.declared.sent.Sent.{Sent}
+use Rattle.promised.specs.Standing.{AreOfBegun, IsUpheld, Knows, UpholdsCalls}
 use Rattle.promised.specs.Known.{IsMoved, IsTied}
-use Rattle.showing.specs.Steps.{IsAfter}
+use Rattle.promised.specs.Steps.{IsAfter}
 use Rattle.promise.specs.Askers.{KnowsAskers}
-use Rattle.quiet.specs.Answers.{KnowsAnswers}
-use Rattle.quiet.specs.Byes.{KnowsByes}
-use Rattle.quiet.proofs.AnswersKnown.{answers_after, new_answers}
+use Rattle.promised.specs.Answers.{KnowsAnswers}
+use Rattle.promised.specs.Byes.{KnowsByes}
+use Rattle.promised.proofs.AnswersKnown.{answers_after, new_answers}
 use Rattle.plans.specs.Office.{Office}
 use Rattle.promise.specs.Addresses.{IsConfigured}
 use Rattle.promise.specs.Datagrams.{ComesFromSource}
 use Rattle.promise.specs.Numbers.{begun_of}
 use Rattle.promise.specs.OpenRequests.{HasAsked, IsAmong}
 use Rattle.promise.proofs.Asking.{all_asked}
-use Rattle.quiet.specs.Late.{IsAnsweredOrEnded, IsLater, dialog_asked}
-use Rattle.quiet.specs.Ties.{AreTied}
-use Rattle.quiet.proofs.LaterKnown.{later_known}
-use Rattle.quiet.proofs.LegsKept.{dialog_moved}
-use Rattle.ties.specs.Listing.{Listed}
-use Rattle.ties.specs.Shows.{ShowsCall}
+use Rattle.promised.specs.Late.{IsAnsweredOrEnded, IsLater, dialog_asked}
+use Rattle.promised.specs.Ties.{AreTied}
+use Rattle.promised.proofs.LaterKnown.{later_known}
+use Rattle.promised.proofs.LegsKept.{dialog_moved}
+use Rattle.promised.specs.Listing.{Listed}
+use Rattle.promised.specs.Shows.{ShowsCall}
 use Rattle.traces.specs.Traces.{IsPassed}
 use Rattle.transactions.specs.declared.transaction.Transaction.{Transaction}
-use Rattle.promised.proofs.Knowing.{Knows, Laws, agent_known, is_after, known_after, new_known}
-use Rattle.promised.proofs.Later.{AreOfBegun, among_split, later_after, new_of_begun, of_begun_after}
-
--- whatever comes, after so many events
-pub record IsUpheld (s : Office) (begun : List Transaction) (sent : List Sent) (t : List Datagram) (calls : List Call) (k : ℕ) : Type 0 where
-  pub known : Knows s begun sent t
-  pub stands : Stands offering calls k t
-  pub listed : Listed (ShowsCall s.table.slots begun t) s.calls.calls calls
-  pub late : (u : Transaction) → IsAmong begun u → IsLater u → IsAnsweredOrEnded t calls (dialog_asked u.parts)
-  pub answers : KnowsAnswers s t
-  pub byes : KnowsByes s t
-  pub of_begun : AreOfBegun begun t
-
--- of some calls
-abbrev pub UpholdsCalls : Office → List Transaction → List Sent → List Datagram → ℕ → Type 0
-UpholdsCalls s begun sent t k = (calls : List Call) × IsUpheld s begun sent t calls k
+use Rattle.promised.proofs.Knowing.{Laws, agent_known, is_after, known_after, new_known}
+use Rattle.promised.proofs.LateInvites.{among_split, later_after, new_of_begun, of_begun_after}
 
 pub new_upheld : Laws → (c : Config) (s : Contents) → IsConfigured c → IsNew c s → IsUpheld (office s) [] [] [] [] 0
 new_upheld laws c s is new = record {

@@ -1,8 +1,9 @@
 -- The calls that are kept after any entries keep the whole media promise.
-use Rattle.std.proofs.Common.{ℕ, List, length, Option}
+use Rattle.std.proofs.Common.{◌≡◌, ◌∙◌, ℕ, suc, ◌+◌, List, [], ◌++◌, length, Option, ap, sym, subst, arith}
+use Rattle.std.proofs.lemmas.List.{append_cancel_left}
 use Rattle.std.specs.List.{All}
-use Rattle.agent.specs.State.{Contents, IsNew, office}
-use Rattle.agent.specs.Trace.{AreEntries, Entry, after_entries}
+use Rattle.checks.specs.State.{Contents, IsNew, office}
+use Rattle.checks.specs.Trace.{AreEntries, Entry, Ran, after_entries}
 use Rattle.call_trace.specs.declared.call.Call.{Call}
 use Rattle.call_trace.specs.declared.datagram.Datagram.{Datagram}
 use Rattle.call_trace.specs.declared.datagram.Dialog.{Dialog}
@@ -15,16 +16,26 @@ use Rattle.events.specs.declared.sent.Sent.{Sent}
 use Rattle.plans.specs.Office.{Office}
 use Rattle.promise.specs.Addresses.{IsConfigured}
 use Rattle.promise.specs.Datagrams.{EntersFromSource}
-use Rattle.promise.specs.Numbers.{begun_in}
 use Rattle.promise.specs.Knowledge.{sends_of}
-use Rattle.serving.specs.Serving.{KnowsServing, trace_table}
+use Rattle.serving.specs.Serving.{AreHeldByCalls, HoldNoOthers, KnowsServing, holder_in, trace_table}
 use Rattle.serving.specs.Traced.{AreTraced, holder_by}
 use Rattle.traces.specs.Traces.{AreTrace}
 use Rattle.transactions.specs.declared.transaction.Transaction.{Transaction}
+use Rattle.promised.specs.Standing.{IsUpheld}
 use Rattle.promised.proofs.Invariant.{EventsAreMoves}
-use Rattle.promised.specs.Keeping.{HasPromisedCalls, KeepsPromise, dialog_with_caller}
-use Rattle.promised.proofs.AllEntries.{all_upheld}
-use Rattle.promised.proofs.Invariant.{IsUpheld}
+use Rattle.promised.specs.Keeping.{HasPromisedCalls, HoldsFor, KeepsPromise, RelaysLive, dialog_with_caller}
+use Rattle.promised.proofs.AllEntries.{entries_upheld, one_event}
+use Rattle.promised.specs.Standing.{AgentStands, StandsOn, StandsThrough}
+use Rattle.plans.specs.declared.taken.Taken.{Taken}
+use Rattle.traces.specs.Messages.{AreMessages}
+use Rattle.promised.proofs.Invariant.{new_upheld}
+use Rattle.checks.specs.Rows.{after, row}
+use Rattle.events.specs.declared.event.Event.{Event}
+use Rattle.call_trace.specs.declared.datagram.Message.{Message}
+use Rattle.call_trace.specs.Events.{passed}
+use Rattle.promise.specs.Numbers.{begun_in, begun_of}
+use Rattle.promise.specs.Datagrams.{ComesFromSource}
+use Rattle.traces.specs.Traces.{IsPassed, IsTaken}
 use Rattle.promised.proofs.Knowing.{Laws}
 use Rattle.promised.proofs.LiveCalls.{live_listed}
 use Rattle.promised.specs.Living.{ListsLive}
@@ -44,16 +55,54 @@ promise_kept laws promises s begun sent t calls k h = record {
       (promises.served s calls h.known.serving (are_traced s begun t calls (laws.staged s h.known.serving) h.listed));
 }
 
-pub all_promised : Laws → PromiseLaws → EventsAreMoves → (c : Config) (s : Contents) (xs : List Entry) (t : List Datagram) → IsConfigured c → IsNew c s → AreEntries s xs → All EntersFromSource xs → AreTrace 0 xs t
-    → HasPromisedCalls (office (after_entries s xs)) (begun_in s xs) t (length xs)
-all_promised laws promises law c s xs t is new are from trace =
-    let kept = all_upheld laws law c s xs t is new are from trace in
-    (kept.0, promise_kept laws promises (office (after_entries s xs)) (begun_in s xs) (sends_of xs) t kept.0 (length xs) kept.1)
+-- ---- an agent that stands
 
--- and the calls that were answered, and that no end has left, are the live ones
-pub all_live : Laws → PromiseLaws → EventsAreMoves → (c : Config) (s : Contents) (xs : List Entry) (t : List Datagram) → IsConfigured c → IsNew c s → AreEntries s xs → All EntersFromSource xs → AreTrace 0 xs t → ListsLive (office (after_entries s xs)) t
-all_live laws promises law c s xs t is new are from trace =
-    let kept = all_upheld laws law c s xs t is new are from trace in
-    let stands = office (after_entries s xs) in
-    live_listed stands (begun_in s xs) t kept.0 (laws.staged stands kept.1.known.serving) kept.1.known.callees kept.1.listed
-    (promise_kept laws promises stands (begun_in s xs) (sends_of xs) t kept.0 (length xs) kept.1).promised.lives
+pub stands_new : Laws → (c : Config) (s : Contents) → IsConfigured c → IsNew c s → AgentStands s [] 0
+stands_new laws c s is new = ([], [], ([], new_upheld laws c s is new))
+
+pub stands_on : Laws → EventsAreMoves → (s : Contents) (event : Event) (t : List Datagram) (k : ℕ) → AgentStands s t k → ComesFromSource event.what → (taken : Option Message) (ms : List Message)
+    → IsPassed event.what (row s event).plan.taken (row s event).plan.sends taken ms → AgentStands (after s event) (t ++ passed k taken ms) (suc k)
+stands_on laws law s event t k h from taken ms shows =
+    (h.0 ++ begun_of (row s event).plan.changes, h.1 ++ (row s event).plan.sends, one_event laws law s event h.0 h.1 t h.2.0 k h.2.1 from taken ms shows)
+
+pub stands_through : Laws → EventsAreMoves → (s : Contents) (xs : List Entry) (t rest : List Datagram) (k : ℕ) → AgentStands s t k → AreEntries s xs → All EntersFromSource xs → AreTrace k xs rest → AgentStands (after_entries s xs) (t ++ rest) (k + length xs)
+stands_through laws law s xs t rest k h are from trace = (h.0 ++ begun_in s xs, h.1 ++ sends_of xs, entries_upheld laws law s xs h.0 h.1 t rest h.2.0 k are from trace h.2.1)
+
+pub standing_promised : Laws → PromiseLaws → (s : Contents) (t : List Datagram) (k : ℕ) → AgentStands s t k → HasPromisedCalls (office s) t k
+standing_promised laws promises s t k h = (h.0, h.2.0, promise_kept laws promises (office s) h.0 h.1 t h.2.0 k h.2.1)
+
+-- the calls that were answered, and that no end has left, are the live ones
+pub standing_live : Laws → PromiseLaws → (s : Contents) (t : List Datagram) (k : ℕ) → AgentStands s t k → ListsLive s.calls.calls t
+standing_live laws promises s t k h =
+    live_listed (office s) h.0 t h.2.0 (laws.staged (office s) h.2.1.known.serving) h.2.1.known.callees h.2.1.listed (promise_kept laws promises (office s) h.0 h.1 t h.2.0 k h.2.1).promised.lives
+
+-- the table, and who holds the pairs
+pub standing_relays : Laws → PromiseLaws → (s : Contents) (t : List Datagram) (k : ℕ) → AgentStands s t k → RelaysLive s.range.ip s.calls.pool.rows t
+standing_relays laws promises s t k h = let kept = (promise_kept laws promises (office s) h.0 h.1 t h.2.0 k h.2.1).promised in record { media = kept.media; each = kept.each; rows = kept.rows }
+
+pub standing_holds : Laws → PromiseLaws → ((s : Office) → KnowsServing s → AreHeldByCalls s) → (s : Contents) (t : List Datagram) (k port : ℕ) → AgentStands s t k → HoldsFor s.calls.calls t port (holder_in s.calls.pool port)
+standing_holds laws promises holders s t k port h = record {
+  listed = λ n is. holders (office s) h.2.1.known.serving port n is;
+  pairs = λ caller callee session live pair. (promise_kept laws promises (office s) h.0 h.1 t h.2.0 k h.2.1).promised.ports.held caller callee session port live pair;
+}
+
+pub standing_exact : ((s : Office) → KnowsServing s → HoldNoOthers s) → (s : Contents) (t : List Datagram) (k : ℕ) → AgentStands s t k → HoldNoOthers (office s)
+standing_exact exact s t k h = exact (office s) h.2.1.known.serving
+
+-- ---- what is answered, and what is put behind what was sent
+
+pub answers_on : Laws → EventsAreMoves → (s : Contents) (event : Event) (answer : Taken) (before now : List Sent) (later : Contents) → ComesFromSource event.what → answer ≡ (row s event).plan.taken → now ≡ before ++ (row s event).plan.sends → later ≡ after s event
+    → StandsOn s event.what answer before now later
+answers_on laws law s event answer before now later from answered sent left = λ t k h sends whole taken ms shows.
+    let same : sends ≡ (row s event).plan.sends = append_cancel_left before sends (row s event).plan.sends (sym whole ∙ sent) in
+    subst (λ (x : Contents). AgentStands x (t ++ passed k taken ms) (suc k)) (sym left)
+    (stands_on laws law s event t k h from taken ms (record { took = subst (λ a. IsTaken event.what a taken) answered shows.took; went = subst (λ l. AreMessages l ms) same shows.went }))
+
+pub runs_through : Laws → EventsAreMoves → (s : Contents) (before now : List Entry) (events : List Event) (later : Contents) → Ran s before events later now → StandsThrough s before now later
+runs_through laws law s before now events later ran = λ t k h more whole from rest trace.
+    let same : ran.more ≡ more = append_cancel_left before ran.more more (sym ran.grown ∙ whole) in
+    subst (λ (x : Contents). AgentStands x (t ++ rest) (k + length more)) (sym (ran.agent ∙ ap (λ (l : List Entry). after_entries s l) same))
+    (stands_through laws law s more t rest k h (subst (AreEntries s) same ran.entries) from trace)
+
+pub counted_from : (s : Contents) (t : List Datagram) (n : ℕ) → AgentStands s t (0 + n) → AgentStands s t n
+counted_from s t n h = let count : 0 + n ≡ n = omega arith in subst (AgentStands s t) count h

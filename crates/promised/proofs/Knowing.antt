@@ -2,8 +2,8 @@
 use Rattle.std.proofs.Common.{ℕ, suc, ◌<◌, ◌^◌, List, [], ◌++◌, Option}
 use Rattle.std.specs.List.{All}
 use Rattle.std.proofs.lemmas.List.Elements.{All-nil}
-use Rattle.agent.specs.Rows.{after, row}
-use Rattle.agent.specs.State.{Contents, IsNew, office}
+use Rattle.checks.specs.Rows.{after, row}
+use Rattle.checks.specs.State.{Contents, IsNew, office}
 use Rattle.call_trace.specs.declared.call.Call.{Call}
 use Rattle.call_trace.specs.declared.datagram.Datagram.{Datagram}
 use Rattle.call_trace.specs.declared.datagram.Message.{Message}
@@ -15,10 +15,11 @@ use Rattle.configuration.specs.declared.config.Config.{Config}
 use Rattle.configuration.specs.Rules.{KeepsRules}
 use Rattle.events.specs.declared.event.Event.{Event}
 use Rattle.events.specs.declared.sent.Sent.{Sent}
+use Rattle.promised.specs.Standing.{Knows}
 use Rattle.promised.specs.Known.{KnowsAgent}
-use Rattle.quiet.specs.Byes.{KnowsByes}
-use Rattle.quiet.specs.Taken.{KnowsTaken}
-use Rattle.quiet.proofs.RaisedRows.{after_taken, new_taken}
+use Rattle.promised.specs.Byes.{KnowsByes}
+use Rattle.promised.specs.Taken.{KnowsTaken}
+use Rattle.promised.proofs.RaisedRows.{after_taken, new_taken}
 use Rattle.plans.specs.Office.{Office}
 use Rattle.promise.specs.Addresses.{IsConfigured}
 use Rattle.promise.specs.Askers.{KnowsAskers}
@@ -41,15 +42,15 @@ use Rattle.promise.proofs.Rising.{after_numbers, new_numbers}
 use Rattle.promise.proofs.SendRows.{after_sent, new_sent}
 use Rattle.promise.proofs.SoundRows.{after_dialogs, new_dialogs}
 use Rattle.promise.proofs.WaitEvents.{after_waits, new_waits}
-use Rattle.quiet.specs.Machines.{KnowsMachines}
-use Rattle.quiet.specs.Ties.{AreTied}
-use Rattle.quiet.proofs.MachineEvents.{after_machines, new_machines}
+use Rattle.promised.specs.Machines.{KnowsMachines}
+use Rattle.promised.specs.Ties.{AreTied}
+use Rattle.promised.proofs.MachineEvents.{after_machines, new_machines}
 use Rattle.read_back.specs.SoundClients.{KnowsClients}
 use Rattle.read_back.proofs.ClientRows.{after_clients, new_clients}
-use Rattle.ties.specs.Coming.{KnowsNumbersLeft}
-use Rattle.ties.proofs.CountingRows.{after_leaves, new_leaves}
+use Rattle.promised.specs.Coming.{KnowsNumbersLeft}
+use Rattle.promised.proofs.CountingRows.{after_leaves, new_leaves}
 use Rattle.serving.specs.Serving.{AreStaged, KnowsServing}
-use Rattle.showing.specs.Steps.{IsAfter}
+use Rattle.promised.specs.Steps.{IsAfter}
 use Rattle.traces.specs.Asked.{KnowsAsked}
 use Rattle.traces.specs.Knowing.{KnowsTrace}
 use Rattle.traces.specs.Messages.{AreMessages}
@@ -70,26 +71,6 @@ pub record Laws : Type 0 where
       → ComesFromSource e.what → AreMessages (row s e).plan.sends ms → KnowsByes (office s) t → KnowsByes (office (after s e)) (t ++ passed k taken ms)
   pub none_stand : Stands offering [] 0 []
   pub moved : (n : ℕ) (t : List Datagram) (old new : List Call) (taken : Option Message) (sent : List Message) → Move offering t old taken sent new → Stands offering old n t → Stands offering new (suc n) (t ++ passed n taken sent)
-
--- the agent, which began these transactions and sent these datagrams, and the trace of it
-pub record Knows (s : Office) (begun : List Transaction) (sent : List Sent) (t : List Datagram) : Type 0 where
-  pub trace : KnowsTrace s begun sent t
-  pub tokens : KnowsTokens s
-  pub waiting : KnowsWaiting s
-  pub again : KnowsSent s sent
-  pub machines : KnowsMachines s
-  pub dialogs : KnowsDialogs s
-  pub clients : KnowsClients s
-  pub media : KnowsDescriptions s
-  pub askers : KnowsAskers s
-  pub own : All IsOwnDatagram sent
-  pub callees : KnowsCallees s
-  pub left : KnowsNumbersLeft s
-  pub numbers : KnowsNumbers s begun
-  pub requests : KnowsRequests s begun
-  pub offers : KnowsAsked s
-  pub counted : KnowsTaken s
-  pub serving : KnowsServing s
 
 pub new_known : Laws → (c : Config) (s : Contents) → IsConfigured c → IsNew c s → Knows (office s) [] [] []
 new_known laws c s is new = record {

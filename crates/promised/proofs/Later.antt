@@ -1,155 +1,298 @@
--- After a move each INVITE and UPDATE that was sent is of a transaction that began; and of the later INVITEs that begin at its event, the dialog
--- is a leg of a call that was answered.
-use Rattle.std.proofs.Common.{true≢false, ◌≡◌, ◌∙◌, ℕ, Bool, true, false, ◌==◌, ◌&&◌, List, [], ◌∷◌, ◌++◌, Option, Some, ap, refl, sym, subst, inl, inr, length, ◌⊎◌, arith}
-use Rattle.std.specs.Prelude.{slice_get}
-use Rattle.std.specs.List.{All, AllPairs}
-use Rattle.std.proofs.lemmas.Bool.{or_left}
-use Rattle.std.proofs.lemmas.List.Elements.{All-head, All-tail}
-use Rattle.call_rules.specs.Speaking.{is_invite, is_update}
+-- An offer inside a call that is passed on: it is a move, and the trace's calls show the server's afterwards.
+use Rattle.std.proofs.Common.{◌≡◌, ◌∙◌, ℕ, ◌+◌, ◌≤◌, ◌<◌, ◌^◌, Bool, true, false, cond, not, is_some, List, ◌++◌, Option, Some, None, Ok, refl, sym, ap, subst, arith, codes}
+use Rattle.std.specs.Prelude.{remove, slice_get, slice_set}
+use Rattle.std.specs.Option.{option_copied}
+use Rattle.events.specs.declared.sent.Sent.{Sent}
+use Rattle.sip_message.specs.Read.{message_of}
+use Rattle.sip_message.specs.declared.message.Message.TheVariants as Kinds
+use Rattle.sip_message.specs.declared.message.Request.{Request}
+use Rattle.sdp.specs.declared.description.Description.{Description}
+use Rattle.transactions.specs.Changes.{entered_all}
+use Rattle.transactions.specs.declared.transaction.Transaction.{Transaction}
+use Rattle.call_media.specs.Ends.{other}
+use Rattle.call_media.specs.Offers.{opened}
+use Rattle.call_media.specs.declared.end.End.{End}
+use Rattle.call_media.specs.declared.end.End.TheVariants.{Callee, Caller}
+use Rattle.call_media.specs.declared.session.OpenOffer.{OpenOffer}
+use Rattle.call_core.specs.Calls.{awaits_answer, holds_in}
+use Rattle.call_core.specs.Settled.{settled_row}
+use Rattle.call_core.specs.declared.signal.OfferMethod.{OfferMethod}
+use Rattle.call_core.specs.declared.signal.OfferMethod.TheVariants.{Invite, Update}
+use Rattle.call_core.specs.declared.signal.Signal.TheVariants as signals
+use Rattle.call_core.specs.declared.stage.Stage.TheVariants as stages
+use Rattle.call_core.specs.declared.stage.Standing.{Standing}
+use Rattle.calls.specs.declared.standing_call.OfferRequest.{OfferRequest}
+use Rattle.calls.specs.declared.standing_call.StandingCall.{StandingCall}
+use Rattle.call_steps.specs.Rows.{does, taken_offer}
+use Rattle.legs.specs.declared.scene.Scene.{Scene}
+use Rattle.plans.specs.CallRows.{occasion, offer_method, passes, with_step}
+use Rattle.plans.specs.Effect.{Effect}
+use Rattle.plans.specs.Office.{Office}
+use Rattle.plans.specs.declared.setting.Setting.{Setting}
+use Rattle.responses.specs.Words.{is_method}
 use Rattle.call_trace.specs.declared.call.Call.{Call}
+use Rattle.call_trace.specs.declared.call.Offer.{Offer}
+use Rattle.call_trace.specs.declared.call.Settled.{Settled}
+use Rattle.call_trace.specs.declared.call.Stage.TheVariants as traces
+use Rattle.call_trace.specs.declared.datagram.Dialog.{Dialog}
+use Rattle.dialogs.specs.Counting.{IsAbove}
+use Rattle.call_core.specs.Plans.{Step}
+use Rattle.call_steps.specs.Values.{ComingValue}
+use Rattle.call_steps.specs.declared.messages.StepMessages.{StepMessages}
 use Rattle.call_trace.specs.declared.datagram.Datagram.{Datagram}
 use Rattle.call_trace.specs.declared.datagram.Message.{Message}
 use Rattle.call_trace.specs.Events.{passed}
-use Rattle.call_trace.specs.Exchanges.{At}
-use Rattle.call_trace.specs.Listed.{AnyOf}
-use Rattle.call_trace.specs.Lives.{IsLegOf}
+use Rattle.call_trace.specs.Lives.{Stands}
 use Rattle.call_trace.specs.Messages.{offering}
-use Rattle.call_trace.specs.Moves.{Move}
-use Rattle.call_trace.specs.Stands.{AsksAt, leg}
-use Rattle.call_trace.proofs.Members.{any_at, at_any}
-use Rattle.calls.specs.declared.standing_call.StandingCall.{StandingCall}
-use Rattle.quiet.proofs.OpenOffers.{listed_at}
-use Rattle.plans.specs.Office.{Office}
-use Rattle.promise.specs.Numbers.{IsBelow, IsNumberedIf, KnowsNumbers, WasCounted}
-use Rattle.promise.specs.OpenRequests.{HasAsked, IsAmong}
-use Rattle.promise.specs.Waiting.{IsOffering}
+use Rattle.call_trace.specs.Moves.{Move, reoffered}
+use Rattle.call_trace.specs.Stands.{AllApart, leg}
+use Rattle.trace_reading.specs.Message.{trace_message}
+use Rattle.promise.specs.Addresses.{IsSource}
+use Rattle.promise.specs.Askers.{IsServed, IsUnanswered as WaitsAt}
+use Rattle.promise.specs.Numbers.{begun_of}
+use Rattle.promise.specs.OpenRequests.{IsAmong}
+use Rattle.promise.proofs.AskedCalls.{at_place}
+use Rattle.promise.proofs.Carrying.{lent_text}
+use Rattle.promise.proofs.Describing.{BodiesDescribe}
+use Rattle.promise.proofs.ReadBack.{SentIsRead}
+use Rattle.promise.proofs.Reaching.{offers_may_offer}
+use Rattle.promise.proofs.Reading.{Reading as ReadsNames}
 use Rattle.promise.proofs.Awaiting.{all_at}
-use Rattle.promise.proofs.OpenRequests.{among_left, among_right}
-use Rattle.promise.proofs.Rising.{pairs_head, pairs_tail}
-use Rattle.quiet.specs.Late.{IsAnsweredOrEnded, IsLater, dialog_asked}
-use Rattle.sip_message.specs.declared.message.Parts.{Parts}
-use Rattle.sip_message.specs.Words.{tag_text}
-use Rattle.ties.specs.Listing.{Listed}
-use Rattle.ties.specs.Shows.{ShowsCall}
-use Rattle.traces.specs.Knowing.{IsRequested}
-use Rattle.traces.specs.Messages.{IsRequestOf}
-use Rattle.transactions.specs.declared.transaction.Transaction.{Transaction}
-use Rattle.promised.proofs.Begun.{AsksOne, WentFor, IsAskedIn, asks_one, went_for, dialog_asked_in, first, later, same_dialog, was_asked}
-use Rattle.promised.proofs.Openings.{HasOpenRequest, has_open_request}
+use Rattle.promise.specs.Sound.{HasSoundLegs}
+use Rattle.read_back.proofs.Comings.{offer_comes}
+use Rattle.traces.specs.Messages.{AreMessages, IsRequestOf, IsTakenOf}
+use Rattle.promised.specs.Coming.{scene_at}
+use Rattle.promised.proofs.GoingOn.{asked_new, legs_go_on, stands_by}
+use Rattle.promised.proofs.Leaving.{request_of}
+use Rattle.promised.proofs.Legs.{asked_in, leg_shown}
+use Rattle.promised.proofs.OfferRequests.{offers_in, offers_to}
+use Rattle.promised.specs.Taking.{KnowsLegs}
+use Rattle.promised.proofs.ListedStages.{is_at, stage_shown}
+use Rattle.promised.specs.Afterwards.{HasSpot, IsLeftOr}
+use Rattle.promised.specs.Heard.{HearsActions}
+use Rattle.promised.specs.Lines.{Answered, IsAt, actions_in}
+use Rattle.promised.specs.Listing.{Listed, is_listed_stage, listing}
+use Rattle.promised.specs.Said.{OfferHeard, Offers}
+use Rattle.promised.specs.Scenes.{AreOwn, AskedLeg}
+use Rattle.promised.specs.Shows.{Came, IsUnanswered, Went, ShowsCall, ShowsListing, ShowsOpen, ShowsSettled, ShowsStage, ShowsStanding, is_caller}
+use Rattle.promised.proofs.Afterwards.{one_listed}
+use Rattle.promised.proofs.FitLines.{invite_passed, update_passed}
+use Rattle.promised.proofs.Reading.{Reading}
+use Rattle.promised.proofs.Spots.{has_spot}
+use Rattle.promised.proofs.Unanswered.{leg_tag, stays_unanswered}
+use Rattle.promised.specs.Ties.{AreTied}
+use Rattle.promised.proofs.ReadTexts.{taken_is}
+use Rattle.promised.specs.Steps.{GoOn, IsAfter, StandsShown}
+use Rattle.promised.proofs.HeardSteps.{step_heard}
+use Rattle.promised.proofs.LineSteps.{got_set}
+use Rattle.promised.specs.Answers.{KnowsAnswers}
+use Rattle.promised.specs.Beginning.{BeginsAt, StandsFor, entries_of}
+use Rattle.promised.specs.Offering.{IsLaterOffer}
+use Rattle.promised.proofs.Above.{none_answers, offers_above}
+use Rattle.promised.proofs.Begun.{went_alone, went_of}
+use Rattle.promised.proofs.LaterSteps.{coming, later_begun, later_call, later_dialog, later_fits, later_line, later_own, later_request, later_row, later_said, later_settled, later_stands, later_step, named_by, offer_name, offered, stands_settled}
+use Rattle.promised.proofs.NewRequests.{request_stands}
+use Rattle.promised.proofs.OfferSteps.{IsOfferStep, offer_stage}
+use Rattle.promise.specs.Knowing.{HasMadeTags}
+use Rattle.promise.proofs.Tagged.{leg_tag as own_leg_tag}
 
--- it has the request of one that began
-abbrev pub IsOfBegun : List Transaction → Message → Type 0
-IsOfBegun begun m = (u : Transaction) × IsAmong begun u × IsOffering u × IsRequestOf u.parts m
+across : (end : End) → is_caller (other end) ≡ not (is_caller end)
+across Caller = refl
+across Callee = refl
 
--- so it is of each INVITE and UPDATE that was sent
-abbrev pub AreOfBegun : List Transaction → List Datagram → Type 0
-AreOfBegun begun t = (i : ℕ) (q : Datagram) → AsksAt offering t i q → IsOfBegun begun q.message
+same_leg : (d : Call) (b x : Bool) (came went : Message) → leg (reoffered d b came went) x ≡ leg d x
+same_leg d b true came went = refl
+same_leg d b false came went = refl
 
-pub new_of_begun : AreOfBegun [] []
-unfolding At
-new_of_begun i q h = absurd cc
+stage_waits : (method : OfferMethod) → awaits_answer (offer_stage method) ≡ true
+stage_waits Invite = refl
+stage_waits Update = refl
 
--- ---- of what began before and what begins
+stage_listed : (method : OfferMethod) → is_listed_stage (offer_stage method) ≡ true
+stage_listed Invite = refl
+stage_listed Update = refl
 
-all_among : (P : Transaction → Type 0) (xs : List Transaction) (t : Transaction) → All P xs → IsAmong xs t → P t
-all_among P [] t all among = absurd among
-all_among P (x ∷ xs) t all (inl same) = subst P same (All-head P x xs all)
-all_among P (x ∷ xs) t all (inr among) = all_among P xs t (All-tail P x xs all) among
+put_some : (o : Option Standing) (n : Standing) (put gone : List StandingCall) → o ≡ Some n → cond (is_some o) put gone ≡ put
+put_some None n put gone is = absurd cc
+put_some (Some x) n put gone is = refl
 
-pub among_split : (xs ys : List Transaction) (t : Transaction) → IsAmong (xs ++ ys) t → IsAmong xs t ⊎ IsAmong ys t
-among_split [] ys t among = inr among
-among_split (x ∷ xs) ys t (inl same) = inl (inl same)
-among_split (x ∷ xs) ys t (inr among) = elim (among_split xs ys t among) [ inl one ↦ inl (inr one) | inr two ↦ inr two ]
+-- the open offer as a trace lists it
+listed_as : (slots : List (Option Transaction)) (begun : List Transaction) (t : List Datagram) (c : StandingCall) (end : End) (method : OfferMethod) (d : Call) → ShowsSettled c.call.media.session d.stage
+    → ShowsOpen slots begun t (offer_name method) c end c.call.media.offer d → ShowsListing slots begun t c end (listing (offer_stage method)) d
+listed_as slots begun t c end Invite d settled opens = (settled, opens)
+listed_as slots begun t c end Update d settled opens = (settled, opens)
 
-below_across : (xs ys : List Transaction) (t u : Transaction) → AllPairs IsBelow (xs ++ ys) → IsAmong xs t → IsAmong ys u → IsBelow t u
-below_across [] ys t u rise among begins = absurd among
-below_across (x ∷ xs) ys t u rise (inl same) begins = subst (λ v. IsBelow v u) same (all_among (IsBelow x) (xs ++ ys) u (pairs_head x (xs ++ ys) rise) (among_right xs ys u begins))
-below_across (x ∷ xs) ys t u rise (inr among) begins = below_across xs ys t u (pairs_tail x (xs ++ ys) rise) among begins
+-- what is heard of the line is a move
+offer_moves : (method : OfferMethod) (made : ℕ) (t : List Datagram) → AreOwn made t → (ds : List Call) (k : ℕ) (d : Call) → slice_get ds k ≡ Some d → (s : Scene) (tokens : ℕ) → made ≤ tokens → tokens + 2 < 2 ^ 64 → (y : Settled)
+    → d.stage ≡ traces.Answered y → d.offer ≡ None → (b : Bool) (taken sent : Description) (came : Message) → Offers (leg d b) taken came → came.to_tag ≡ (leg d b).ours → option_copied s.description ≡ Some sent → (x : End)
+    → came.method ≡ offer_name method → AskedLeg s (other x) method (leg d (not b)) → (ms : List Message) → HearsActions s tokens (actions_in (settled_row (signals.Offer x method))) ms
+    → (h : OfferHeard t (leg d (not b)) (offer_name method) sent ms) × Move offering t ds (Some came) ms (slice_set ds k (reoffered d b came h.went))
+offer_moves Invite = invite_passed
+offer_moves Update = update_passed
 
-of_more : (begun more : List Transaction) (m : Message) → IsOfBegun begun m → IsOfBegun (begun ++ more) m
-of_more begun more m h = (h.0, among_left begun more h.0 h.1, h.2, h.3)
+module _ (reads : Reading) (names : ReadsNames) (describes : BodiesDescribe) (law : SentIsRead) (keep : (k : ℕ) (t : List Datagram) (old new : List Call) (taken : Option Message) (sent : List Message) → Move offering t old taken sent new → Stands offering old k t → AllApart new) (s after : Office) (begun more : List Transaction) (sent : List Sent) (t : List Datagram) (old : List Call) (k : ℕ) (before : StandsShown s begun t old k) (later : IsAfter s after (begun ++ more)) (tied : AreTied s begun sent t old) (knows : KnowsLegs s) (answers : KnowsAnswers s t) (e : Setting) (from : IsSource e.source) (bytes : List ℕ) (r : Request) (id : ℕ) (taken : Option Message) (read : message_of bytes ≡ Ok (Kinds.Request r)) (took : IsTakenOf bytes taken) (place : ℕ) (end : End) (c : StandingCall) (offer : Description) (p : IsLaterOffer s r place end c offer) where
+  abbrev w : ComingValue
+  w = coming names describes s begun sent t old tied knows e bytes r id read place end c offer p
 
--- no request that begins now went before
-not_before : (begun more : List Transaction) (m : Message) (u : Transaction) → AllPairs IsBelow (begun ++ more) → IsOfBegun begun m → IsAmong more u → IsOffering u → IsRequestOf u.parts m → ⊥
-not_before begun more m u rise old among offers request =
-    let lt = below_across begun more old.0 u rise old.1 among old.2 offers (sym old.3.from_tag ∙ request.from_tag) in
-    let same : old.0.parts.cseq.number ≡ u.parts.cseq.number = sym old.3.number ∙ request.number in
-    omega (arith, lt, same)
+  abbrev step : Step
+  step = later_step names describes s begun sent t old tied knows e bytes r id read place end c offer p
 
--- ---- what is shown afterwards
+  abbrev said : StepMessages
+  said = later_said names describes s begun sent t old tied knows e bytes r id read place end c offer p
 
--- the call that a request opens, with the transaction of its open offer
-pub record HasOpening (s : Office) (begun : List Transaction) (new : List Call) (m : Message) : Type 0 where
-  pub place : ℕ
-  pub call : Call
-  pub standing : StandingCall
-  pub there : slice_get new place ≡ Some call
-  pub went_for : WentFor m call
-  pub request : HasOpenRequest begun standing call went_for.offer
-  pub counted : (u : Transaction) → IsAmong begun u → IsOffering u → WasCounted u standing
+  abbrev new : StandingCall
+  new = later_call names describes s begun sent t old tied knows e bytes r id read place end c offer p
 
-module _ (s : Office) (begun : List Transaction) (t : List Datagram) (new : List Call) (asked : All (HasAsked begun) s.calls.calls) (numbers : KnowsNumbers s begun) (listed : Listed (ShowsCall s.table.slots begun t) s.calls.calls new) (m : Message) where
-  pub opening : AnyOf (WentFor m) new → HasOpening s begun new m
-  opening any =
-      let found = any_at (WentFor m) new any in
-      let shown = listed_at _ s.calls.calls new listed found.0 found.1 found.2 in
-      record {
-        place = found.0;
-        call = found.1;
-        standing = shown.1;
-        there = found.2;
-        went_for = found.3;
-        request = has_open_request s.table.slots begun t shown.1 found.1 found.3.offer found.3.open_is (all_at (HasAsked begun) s.calls.calls shown.0 shown.1 asked shown.2) shown.3;
-        counted = λ u among offers. all_at (WasCounted u) s.calls.calls shown.0 shown.1 (all_among (IsNumberedIf s) begun u numbers.numbered among offers).counted shown.2;
-      }
+  abbrev came : Message
+  came = trace_message bytes (Kinds.Request r)
 
-opening_began : (s : Office) (begun : List Transaction) (new : List Call) (m : Message) → HasOpening s begun new m → IsOfBegun begun m
-opening_began s begun new m h =
-    (h.request.transaction, h.request.began, h.request.opens.offers, subst (IsRequestOf h.request.transaction.parts) h.went_for.went h.request.request)
+  abbrev scene : Scene
+  scene = scene_at s e w c step.description
 
--- ---- a later INVITE
+  abbrev o : OpenOffer
+  o = opened c.call.media s.calls.pool end offer e.now
 
-first_by : (tag : List ℕ) (number : ℕ) → tag ≡ [] → number ≡ 1 → (length tag == 0 && number == 1) ≡ true
-first_by tag number none one = rw none (rw one refl)
+  abbrev line : IsOfferStep c.call end (offer_method r) offer s.calls.pool e.now step
+  line = later_line names describes s begun sent t old tied knows e bytes r id read place end c offer p
 
-dialog_is : (parts : Parts) (m : Message) → IsRequestOf parts m → dialog_asked_in m ≡ dialog_asked parts
-dialog_is parts m r = same_dialog m.call_id m.from_tag m.to_tag parts.call_id (tag_text parts.from.params) (tag_text parts.to.params) r.call_id r.from_tag r.to_tag
+  -- where the call stood, in the server and in the trace
+  stood : (n : Standing) × (c.call.standing ≡ Some n) × (n.stage ≡ stages.Settled)
+  stood = stands_settled c.call.standing (later_settled names describes s begun sent t old tied knows e bytes r id read place end c offer p)
 
-leg_is : (c : Call) (b : Bool) → (c.caller ≡ leg c b) ⊎ (c.callee ≡ leg c b)
-leg_is c true = inl refl
-leg_is c false = inr refl
+  spot : HasSpot s.table.slots begun t s.calls.calls old place c
+  spot = has_spot s.table.slots begun t s.calls.calls old place c before.listed before.asked p.there (ap (holds_in is_listed_stage) stood.1 ∙ ap is_listed_stage stood.2)
 
-is_answered : (s : Office) (begun : List Transaction) (t : List Datagram) (new : List Call) (m : Message) (u : Transaction) → (h : HasOpening s begun new m) → IsAskedIn h.call m → IsLater u → IsRequestOf u.parts m → IsAnsweredOrEnded t new (dialog_asked u.parts)
-is_answered s begun t new m u h (first asked none) is request =
-    let v = h.request.transaction in
-    let one = h.request.first asked (h.counted v h.request.began h.request.opens.offers) in
-    let same : u.parts.cseq.number ≡ 1 = sym request.number ∙ ap (λ (x : Message). x.number) (sym h.went_for.went) ∙ h.request.request.number ∙ one in
-    absurd (true≢false (sym (first_by (tag_text u.parts.to.params) u.parts.cseq.number (sym request.to_tag ∙ none) same) ∙ is.later))
-is_answered s begun t new m u h (later b answered same) is request =
-    inl (at_any (IsLegOf (dialog_asked u.parts)) new h.place h.call h.there
-    (subst (λ x. IsLegOf x h.call) (sym same ∙ dialog_is u.parts m request) (record { answered = answered; leg = leg_is h.call b })))
+  abbrev d : Call
+  d = spot.call
 
--- ---- both, after a move
+  talks : ShowsSettled c.call.media.session d.stage × (d.offer ≡ None)
+  talks = subst (λ st. ShowsStage s.table.slots begun t c stood.0 st d) stood.2 (stage_shown s.table.slots begun t c stood.0 d stood.1 spot.shows)
 
-module _ (s : Office) (begun more : List Transaction) (t : List Datagram) (old new : List Call) (n : ℕ) (taken : Option Message) (ms : List Message) (move : Move offering t old taken ms new) (were : AreOfBegun begun t) where
-  abbrev longer : List Datagram
-  longer = t ++ passed n taken ms
+  answered : Answered d
+  answered = subst (λ st. IsAt stood.0.offerer st d) stood.2 (is_at s.table.slots begun t c stood.0 d stood.1 spot.shows)
 
-  module _ (asked : All (HasAsked (begun ++ more)) s.calls.calls) (numbers : KnowsNumbers s (begun ++ more)) (listed : Listed (ShowsCall s.table.slots (begun ++ more) longer) s.calls.calls new) where
-    of_begun_by : (m : Message) → AsksOne t new m → IsOfBegun (begun ++ more) m
-    of_begun_by m (was_asked i q h same) = subst (IsOfBegun (begun ++ more)) same (of_more begun more q.message (were i q h))
-    of_begun_by m (went_for any) = opening_began s (begun ++ more) new m (opening s (begun ++ more) longer new asked numbers listed m any)
+  -- ---- the move
 
-    pub of_begun_after : AreOfBegun (begun ++ more) longer
-    of_begun_after i q h = of_begun_by q.message (asks_one n t old taken ms new move i q h)
+  asked_leg : AskedLeg scene (other end) (offer_method r) (leg d (not (is_caller end)))
+  asked_leg =
+      let there = later_dialog names describes s begun sent t old tied knows e bytes r id read place end c offer p (other end) in
+      subst (λ x. AskedLeg scene (other end) (offer_method r) (leg d x)) (across end)
+      (asked_in s e w c step.description d (other end) (offer_method r) there.0 (all_at HasSoundLegs s.calls.calls place c knows.dialogs.calls p.there) spot.shows.legs (later_fits names describes s begun sent t old tied knows e bytes r id read place end c offer p) there.1 p.numbered)
 
-    later_by : (u : Transaction) → IsAmong more u → IsLater u → IsOffering u → (m : Message) → IsRequestOf u.parts m → AsksOne t new m → IsAnsweredOrEnded longer new (dialog_asked u.parts)
-    later_by u among is offers m request (was_asked i q h same) = absurd (not_before begun more m u numbers.rise (subst (IsOfBegun begun) same (were i q h)) among offers request)
-    later_by u among is offers m request (went_for any) = (
-        let h = opening s (begun ++ more) longer new asked numbers listed m any in is_answered s (begun ++ more) longer new m u h h.went_for.place is request)
+  moved : (ms : List Message) → AreMessages said.dressed.sends ms
+      → (h : OfferHeard t (leg d (not (is_caller end))) (offer_name (offer_method r)) o.offer_sent ms) × Move offering t old (Some came) ms (slice_set old spot.place_there (reoffered d (is_caller end) came h.went))
+  moved ms are =
+      let can = offer_comes describes names s e bytes r id place end c (offer_method r) offer before.scenes from read p.there p.described in
+      let hears = subst (λ actions. HearsActions scene s.tokens actions ms) line.actions (step_heard reads describes law s e place c (offered names describes s begun sent t old tied knows e bytes r id read place end c offer p) w before.scenes p.there can ms are) in
+      offer_moves (offer_method r) s.tokens t tied.trace.tokens old spot.place_there d spot.there scene s.tokens (omega arith) (omega (arith, tied.scenes.few)) answered.settled answered.stage talks.1 (is_caller end) offer o.offer_sent came
+      (offers_in s.calls.calls r place end c d offer bytes p.rule p.there spot.shows.legs p.described) (offers_to s.calls.calls r place end c d bytes p.rule p.there spot.shows.legs) (lent_text step.description ∙ line.says) end
+      ((request_of bytes r).method ∙ named_by bytes r read (offers_may_offer s.calls.calls r place end p.rule) (is_method (codes "INVITE") r) refl) asked_leg ms hears
 
-    pub later_after : ((u : Transaction) → IsAmong (begun ++ more) u → IsOffering u → IsRequested longer u) → (u : Transaction) → IsAmong more u → IsLater u → IsAnsweredOrEnded longer new (dialog_asked u.parts)
-    later_after stand u among is =
-        let offers : IsOffering u = record { client = is.client; offers = or_left (is_invite u.parts) (is_update u.parts) is.invite } in
-        let q = stand u (among_right begun more u among) offers in
-        later_by u among is offers q.1.message q.3 (asks_one n t old taken ms new move q.0 q.1 q.2)
+  module _ (moment : ℕ) (x : Effect) (is : x ≡ passes s e r (entries_of s e r) id place end offer) (begins : BeginsAt s after more moment r id x) (ms : List Message) (are : AreMessages x.plan.sends ms) (calls : after.calls.calls ≡ x.calls.standing.calls) where
+    whole : x ≡ with_step s.acks (entries_of s e r) None None (does s.calls s.table (occasion s e) place w c step)
+    whole = is ∙ ap (with_step s.acks (entries_of s e r) None None) (later_row names describes s begun sent t old tied knows e bytes r id read place end c offer p)
+
+    changes_are : x.plan.changes ≡ entries_of s e r ++ said.dressed.changes
+    changes_are = ap (λ (y : Effect). y.plan.changes) whole
+
+    said_are : AreMessages said.dressed.sends ms
+    said_are = subst (λ (y : Effect). AreMessages y.plan.sends ms) whole are
+
+    calls_are : after.calls.calls ≡ slice_set s.calls.calls place new
+    calls_are = calls ∙ (ap (λ (y : Effect). y.calls.standing.calls) whole ∙ put_some step.call.standing _ (slice_set s.calls.calls place new) (remove s.calls.calls place) line.next)
+
+    new_there : slice_get after.calls.calls place ≡ Some new
+    new_there = subst (λ l. slice_get l place ≡ Some new) (sym calls_are) (got_set s.calls.calls place c new p.there)
+
+    heard : OfferHeard t (leg d (not (is_caller end))) (offer_name (offer_method r)) o.offer_sent ms
+    heard = (moved ms said_are).0
+
+    abbrev opens : Offer
+    opens = record { by_caller = is_caller end; came = came; went = heard.went }
+
+    abbrev now : Call
+    now = reoffered d (is_caller end) came heard.went
+
+    move : Move offering t old taken ms (slice_set old spot.place_there now)
+    unfolding heard
+    move = subst (λ y. Move offering t old y ms (slice_set old spot.place_there now)) (sym (taken_is bytes (Kinds.Request r) taken read took)) (moved ms said_are).1
+
+    -- ---- the transactions of the offer
+
+    asked_is : new.asked.id ≡ id
+    asked_is = ap (λ (q : OfferRequest). q.id) (asked_new w said step.call c (taken_offer r id e.source) refl)
+
+    stands_for : StandsFor after.table.slots id r.parts
+    stands_for =
+        let slots = begins.table ∙ ap (λ l. (entered_all moment s.table l).slots) changes_are in
+        let served : WaitsAt after.table.slots id =
+        subst (WaitsAt after.table.slots) asked_is (at_place (IsServed after.table.slots) after.calls.calls place new begins.askers.offers.served new_there (ap (holds_in awaits_answer) (later_stands names describes s begun sent t old tied knows e bytes r id read place end c offer p) ∙ stage_waits (offer_method r))) in
+        subst (λ l. StandsFor l id r.parts) (sym slots) (request_stands s e r id said.dressed.changes moment begins.verdict (later_own names describes s begun sent t old tied knows e bytes r id read place end c offer p) (subst (λ l. WaitsAt l id) slots served))
+
+    came_there : Came after.table.slots new.asked.id opens
+    came_there =
+        subst (λ n. Came after.table.slots n opens) (sym asked_is)
+        (record { transaction = stands_for.transaction; stands = stands_for.stands; request = subst (λ q. IsRequestOf q came) (sym stands_for.same) (request_of bytes r) })
+
+    went_there : Went (begun ++ more) new opens
+    went_there =
+        let more_is = begins.begun ∙ ap begun_of changes_are in
+        let u = later_request names describes s begun sent t old tied knows e bytes r id read place end c offer p more more_is in
+        went_of after begun more later.numbers place new new_there u.0 opens u.1 u.2
+        (λ v among offers. went_alone reads.back said.dressed.sends (entries_of s e r ++ said.dressed.changes) ms heard.before heard.went said_are (later_begun names describes s begun sent t old tied knows e bytes r id read place end c offer p) heard.whole heard.plain v
+        (subst (λ l. IsAmong l v) more_is among) offers)
+
+    -- ---- nothing answers it
+
+    new_number : IsUnanswered t (leg now (is_caller end)).ours came.number
+    new_number =
+        let mine = later_dialog names describes s begun sent t old tied knows e bytes r id read place end c offer p end in
+        let tag = sym (own_leg_tag s.tokens end c mine.0 (all_at (HasMadeTags s.tokens) s.calls.calls place c tied.tokens.calls.tags p.there) mine.1)
+        ∙ (ap (λ (y : Dialog). y.ours) (sym (leg_shown c d end mine.0 spot.shows.legs mine.1)) ∙ ap (λ (y : Dialog). y.ours) (sym (same_leg d (is_caller end) (is_caller end) came heard.went))) in
+        none_answers s t answers place c p.there end mine.0 mine.1 (leg now (is_caller end)).ours came.number tag
+        (subst (IsAbove mine.0.remote_number) (sym (request_of bytes r).number) (offers_above s.calls.calls r place end p.rule c p.there mine.0 mine.1))
+
+    unanswered : IsUnanswered (t ++ passed k taken ms) (leg now (is_caller end)).ours came.number
+    unanswered =
+        stays_unanswered k t old taken ms (slice_set old spot.place_there now) move (keep k t old (slice_set old spot.place_there now) taken ms move before.stands) spot.place_there now opens (got_set old spot.place_there d now spot.there) refl
+        (leg now (is_caller end)).ours came.number (leg_tag now (is_caller end) (leg now (is_caller end)).ours refl) new_number
+
+    -- ---- what the trace shows
+
+    abbrev longer : List Datagram
+    longer = t ++ passed k taken ms
+
+    opened_shows : ShowsOpen after.table.slots (begun ++ more) longer (offer_name (offer_method r)) new end new.call.media.offer now
+    opened_shows =
+        subst (λ y. ShowsOpen after.table.slots (begun ++ more) longer (offer_name (offer_method r)) new end y now) (sym ((stands_by w said step.call c).offer ∙ line.kept)) (
+          opens,
+          record {
+            open_is = refl;
+            by = refl;
+            same = refl;
+            came = came_there;
+            went = went_there;
+            method = heard.asks.seen.method;
+            taken = (offers_in s.calls.calls r place end c d offer bytes p.rule p.there spot.shows.legs p.described).said;
+            sent = heard.asks.seen.description;
+            unanswered = unanswered;
+          },
+        )
+
+    own : ShowsCall after.table.slots (begun ++ more) longer new now
+    own =
+        let legs = legs_go_on w said c (offered names describes s begun sent t old tied knows e bytes r id read place end c offer p) s.calls.pool e.now d (later_fits names describes s begun sent t old tied knows e bytes r id read place end c offer p) spot.shows.legs in
+        record {
+          legs = record { caller = legs.caller; callee = legs.callee };
+          standing = subst (λ y. ShowsStanding after.table.slots (begun ++ more) longer new y now) (sym (later_stands names describes s begun sent t old tied knows e bytes r id read place end c offer p))
+              (listed_as after.table.slots (begun ++ more) longer new end (offer_method r) now (subst (λ y. ShowsSettled y d.stage) (sym ((stands_by w said step.call c).session ∙ line.session)) talks.0) opened_shows);
+        }
+
+    pub later_goes_on : GoOn (ShowsCall after.table.slots (begun ++ more) longer) after.calls.calls t old taken ms
+    later_goes_on = (
+      slice_set old spot.place_there now,
+      move,
+      one_listed s.table.slots after begun more k t old taken ms (slice_set old spot.place_there now) move (keep k t old (slice_set old spot.place_there now) taken ms move before.stands) later.numbers later.keeps new now own
+          (subst (λ l. Listed (IsLeftOr s.table.slots begun t new now) l (slice_set old spot.place_there now)) (sym calls_are)
+          (spot.goes_on new now (ap (holds_in is_listed_stage) (later_stands names describes s begun sent t old tied knows e bytes r id read place end c offer p) ∙ stage_listed (offer_method r)))),
+    )

@@ -11,10 +11,10 @@ use Rattle.promise.proofs.Describing.{BodiesDescribe}
 use Rattle.promise.proofs.ReadBack.{SentIsRead}
 use Rattle.promise.proofs.Reading.{Reading as ReadsNames}
 use Rattle.traces.proofs.Taking.{ReplyLaw}
-use Rattle.ties.proofs.FirstAnswers.{ReadingLaws}
-use Rattle.ties.proofs.Reading.{Reading}
+use Rattle.promised.proofs.FirstAnswers.{ReadingLaws}
+use Rattle.promised.proofs.Reading.{Reading}
 use Rattle.promise.proofs.CalleeRows.{NamesContact}
-use Rattle.showing.proofs.FirstSteps.{NamesOne}
+use Rattle.promised.proofs.FirstSteps.{NamesOne}
 
 pub record Laws : Type 0 where
   pub reads : Reading

@@ -22,8 +22,8 @@ use Rattle.dialogs.specs.declared.state.Dialog.{Dialog as LegDialog}
 use Rattle.plans.specs.Office.{Office}
 use Rattle.promise.specs.CalleeDialogs.{FitsStage, HasCallee, IsUnanswered, KnowsCallees, is_unanswered}
 use Rattle.serving.specs.Serving.{AreStaged, IsStaged}
-use Rattle.ties.specs.Listing.{Listed}
-use Rattle.ties.specs.Shows.{ShowsCall, ShowsCallee}
+use Rattle.promised.specs.Listing.{Listed}
+use Rattle.promised.specs.Shows.{ShowsCall, ShowsCallee}
 use Rattle.trace_reading.specs.Message.{dialog_named}
 use Rattle.transactions.specs.declared.transaction.Transaction.{Transaction}
 use Rattle.promised.specs.Keeping.{dialog_with_caller}
@@ -108,7 +108,7 @@ module _ (slots : List (Option Transaction)) (begun : List Transaction) (t : Lis
     | inr more ↦ inr (one_of_them caller callee cs h.2 h.5 staged.1 (All-tail HasCallee c cs own) more)
   ]
 
-pub live_listed : (s : Office) (begun : List Transaction) (t : List Datagram) (calls : List Call) → AreStaged s → KnowsCallees s → Listed (ShowsCall s.table.slots begun t) s.calls.calls calls → LivesExactly offering calls t → ListsLive s t
+pub live_listed : (s : Office) (begun : List Transaction) (t : List Datagram) (calls : List Call) → AreStaged s → KnowsCallees s → Listed (ShowsCall s.table.slots begun t) s.calls.calls calls → LivesExactly offering calls t → ListsLive s.calls.calls t
 live_listed s begun t calls staged callees shown lives = record {
   live = each_lives s.table.slots begun t s.calls.calls calls shown staged callees.calls lives.answered;
   listed = λ caller callee call a b. one_of_them s.table.slots begun t caller callee s.calls.calls calls shown staged callees.calls (lives.listed caller callee call a b);

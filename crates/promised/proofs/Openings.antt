@@ -21,7 +21,7 @@ use Rattle.promise.specs.Numbers.{WasCounted}
 use Rattle.promise.specs.OpenRequests.{HasAsked, IsAmong, IsOpenRequest}
 use Rattle.promise.specs.Waiting.{IsCounted}
 use Rattle.promise.proofs.Awaiting.{open_in}
-use Rattle.ties.specs.Shows.{ShowsCall, ShowsOpen, ShowsSettled, ShowsStage, ShowsStanding, Went}
+use Rattle.promised.specs.Shows.{ShowsCall, ShowsOpen, ShowsSettled, ShowsStage, ShowsStanding, Went}
 use Rattle.traces.specs.Messages.{IsRequestOf}
 use Rattle.transactions.specs.declared.transaction.Transaction.{Transaction}
 

@@ -1,137 +1,147 @@
--- A response: the call that waits for it takes it, or none does.
-use Rattle.std.proofs.Common.{Bool, List, None, Ok, Option, Some, ap, false, refl, true, ℕ, ◌++◌, ◌∙◌, ◌≡◌}
-use Rattle.std.specs.Prelude.{slice_get}
-use Rattle.events.specs.declared.sent.Sent.{Sent}
+-- Responses to the request that carried the open offer of a call: provisional ones, refusals, and 2xx.
+use Rattle.std.proofs.Common.{◌≡◌, ◌∙◌, ℕ, ◌≤◌, ◌<◌, Bool, true, false, cond, nat_le, nat_lt, List, [], Option, Some, None, Ok, refl, sym, ap, subst, arith}
+use Rattle.std.specs.Prelude.{IsTrue, unwrap_or}
+use Rattle.std.proofs.lemmas.Bool.{and_from, le-leb, ltb-false, ltb-true}
+use Rattle.std.proofs.lemmas.Option.{same_Some}
+use Rattle.sdp.specs.declared.description.Description.{Description}
 use Rattle.sip_message.specs.Read.{message_of}
+use Rattle.sip_message.specs.Words.{class_of, tag_text}
 use Rattle.sip_message.specs.declared.message.Message.TheVariants as Kinds
+use Rattle.sip_message.specs.declared.message.Parts.{Parts}
 use Rattle.sip_message.specs.declared.message.Response.{Response}
-use Rattle.sip_message.specs.Words.{class_of}
-use Rattle.sip_message.specs.declared.words.Class.TheVariants as classes
-use Rattle.transactions.specs.Contents.{reception_of}
-use Rattle.transactions.specs.declared.change.Entry.{Entry}
+use Rattle.sip_message.specs.declared.words.Class.TheVariants.{Failure, Provisional, Success}
+use Rattle.transactions.specs.Matching.{RepliesTo}
 use Rattle.transactions.specs.declared.transaction.Transaction.{Transaction}
-use Rattle.agent.specs.Rows.{is_unreachable_message}
-use Rattle.call_core.specs.CallRows.{is_fit}
-use Rattle.call_rules.specs.Content.{described}
-use Rattle.call_core.specs.declared.input.Input.TheVariants as inputs
+use Rattle.call_core.specs.Calls.{awaits_answer}
+use Rattle.call_core.specs.declared.signal.Signal.TheVariants as signals
 use Rattle.call_core.specs.declared.stage.Standing.{Standing}
-use Rattle.call_steps.specs.Rows.{answers_leg, fork_row, late_row}
+use Rattle.calls.specs.Finding.{has_tag}
 use Rattle.calls.specs.declared.standing_call.StandingCall.{StandingCall}
-use Rattle.plans.specs.CallRows.{occasion, takes}
-use Rattle.plans.specs.Effect.{Effect}
+use Rattle.call_rules.specs.Responses.{awaits_final, is_open}
+use Rattle.call_steps.specs.Values.{without_offer}
+use Rattle.events.specs.declared.sent.Sent.{Sent}
 use Rattle.plans.specs.Office.{Office}
-use Rattle.plans.specs.Plan.{goes}
 use Rattle.plans.specs.declared.setting.Setting.{Setting}
 use Rattle.call_trace.specs.declared.call.Call.{Call}
+use Rattle.call_trace.specs.declared.call.Offer.{Offer}
 use Rattle.call_trace.specs.declared.datagram.Datagram.{Datagram}
-use Rattle.call_trace.specs.declared.datagram.Message.{Message}
-use Rattle.call_trace.specs.Events.{passed}
-use Rattle.call_trace.specs.Messages.{offering}
-use Rattle.call_trace.specs.Moves.{Move}
-use Rattle.ties.specs.Taking.{KnowsLegs}
-use Rattle.traces.specs.Messages.{AreMessages, IsTakenOf}
-use Rattle.ties.specs.Listing.{is_listed as is_listed_call}
-use Rattle.ties.specs.Shows.{ShowsCall}
-use Rattle.quiet.specs.Ties.{AreTied}
-use Rattle.showing.specs.Steps.{GoOn, IsAfter, StandsShown}
-use Rattle.sip_message.specs.declared.message.Parts.{Parts}
-use Rattle.transactions.specs.declared.outcome.Outgoing.{Outgoing}
+use Rattle.call_trace.specs.declared.datagram.Kind.TheVariants as kinds
+use Rattle.call_trace.specs.declared.datagram.Message.{Message as TraceMessage}
+use Rattle.call_trace.specs.Messages.{is_success}
+use Rattle.call_trace.specs.Stands.{IsTagOf}
+use Rattle.trace_reading.specs.Message.{trace_message}
+use Rattle.promise.specs.Knowing.{HasMadeTags, KnowsTokens}
+use Rattle.promise.specs.Waiting.{IsOffering, from_tag}
+use Rattle.promise.proofs.Awaiting.{all_at, opened}
 use Rattle.promise.proofs.MessageViews.{IsResponseTo}
-use Rattle.quiet.proofs.EventCases.{DatagramCase, EventCase, IsNotDone, MessageCase, ResponseCase}
-use Rattle.quiet.proofs.EventCases as cases
-use Rattle.promised.specs.Known.{IsTied}
-use Rattle.promised.proofs.Laws.{Laws, reading_laws}
-use Rattle.showing.proofs.HiddenInputs.{hidden_refusal, hidden_ringing, hidden_success}
-use Rattle.showing.proofs.Puts.{none_goes_on}
-use Rattle.showing.proofs.Responses.{refusal_goes_on, ringing_goes_on, unfit_goes_on}
-use Rattle.quiet.proofs.CaseMoves.{NoneTakesResponse}
-use Rattle.promise.proofs.Awaiting.{opened}
 use Rattle.promise.proofs.ResponseViews.{IsAsked}
-use Rattle.ties.proofs.Responses.{responds_to}
-use Rattle.showing.proofs.Answering.{answer_goes_on}
-use Rattle.plans.specs.declared.taken.Taken.TheVariants.{Done}
-use Rattle.promised.proofs.Takes.{shown, ties}
-use Rattle.sip_uri.specs.declared.uri.Uri.{Uri}
-use Rattle.sip_message.specs.declared.message.Parts.{Parts}
-use Rattle.sip_message.specs.Contact.{contacts_of}
-use Rattle.dialogs.specs.Making.{reached_at}
-use Rattle.calls.specs.State.{Standing as Calls}
-use Rattle.call_steps.specs.Rows.{fork_by, late_by}
-use Rattle.call_steps.specs.declared.occasion.Occasion.{Occasion}
+use Rattle.promise.proofs.Rows.{answered_client}
+use Rattle.traces.specs.Knowing.{KnowsTrace}
+use Rattle.traces.specs.Messages.{IsRequestOf, IsTakenOf}
+use Rattle.traces.proofs.Taking.{ReplyLaw, answers_to}
+use Rattle.traces.proofs.TraceRequests.{response_replies, same_request}
+use Rattle.promised.specs.Inputs.{TookFinal, TookRefusal, TookRinging, TookSuccess}
+use Rattle.promised.specs.Coming.{scene_at}
+use Rattle.promised.specs.Responding.{RespondsToOffer}
+use Rattle.promised.specs.Taking.{IsShownAt, KnowsLegs, TakesSignal}
+use Rattle.promised.proofs.Comings.{taken_as, takes_signal}
+use Rattle.promised.proofs.ListedStages.{stage_shown}
+use Rattle.promised.proofs.OpenOffers.{stage_awaits, staged_went, tag_shown}
 
--- a 2xx that no call takes changes none
-fork_at : (calls : Calls) (o : Occasion) (asked : Parts) (r : Response) (target : Option Uri) → (fork_by calls o asked r target).outcome.standing.calls ≡ calls.calls
-fork_at calls o asked r None = refl
-fork_at calls o asked r (Some uri) = refl
+-- ---- status codes
 
-fork_same : (calls : Calls) (o : Occasion) (asked : Parts) (r : Response) → (fork_row calls o asked r).outcome.standing.calls ≡ calls.calls
-unfolding fork_row
-fork_same calls o asked r = fork_at calls o asked r (reached_at (contacts_of r.headers))
+early_by : (status : ℕ) (low high : Bool) → nat_lt status 200 ≡ low → cond low Provisional (cond high Success Failure) ≡ Provisional → status < 200
+early_by status true high l is = ltb-true status 200 l
+early_by status false true l is = absurd cc
+early_by status false false l is = absurd cc
 
-late_at : (calls : Calls) (o : Occasion) (asked : Parts) (r : Response) (target : Option Uri) → (late_by calls o asked r target).outcome.standing.calls ≡ calls.calls
-late_at calls o asked r None = refl
-late_at calls o asked r (Some uri) = refl
+failure_by : (status : ℕ) (low high : Bool) → nat_lt status 300 ≡ high → cond low Provisional (cond high Success Failure) ≡ Failure → 300 ≤ status
+failure_by status true high h is = absurd cc
+failure_by status false true h is = absurd cc
+failure_by status false false h is = ltb-false status 300 h
 
-late_same : (calls : Calls) (o : Occasion) (asked : Parts) (r : Response) → (late_row calls o asked r).outcome.standing.calls ≡ calls.calls
-unfolding late_row
-late_same calls o asked r = late_at calls o asked r (reached_at (contacts_of r.headers))
+success_by : (status : ℕ) (low high : Bool) → nat_lt status 200 ≡ low → nat_lt status 300 ≡ high → cond low Provisional (cond high Success Failure) ≡ Success → (200 ≤ status) × IsTrue (is_success (kinds.Response status))
+success_by status true high l h is = absurd cc
+success_by status false true l h is = let least = ltb-false status 200 l in (least, and_from (nat_le 200 status) (nat_lt status 300) (le-leb 200 status least) h)
+success_by status false false l h is = absurd cc
 
-module _ (laws : Laws) (s after : Office) (begun more : List Transaction) (sent : List Sent) (t : List Datagram) (old : List Call) (k : ℕ) (tied : IsTied s begun sent t old k) (later : IsAfter s after (begun ++ more)) (taken : Option Message) (ms : List Message) (e : Setting) (bytes : List ℕ) (r : Response) (read : message_of bytes ≡ Ok (Kinds.Response r)) (reaches : is_unreachable_message (Kinds.Response r) ≡ false) (entries : List Entry) (id : ℕ) (y : Transaction) (to : IsResponseTo s r id y) (x : Effect) (took : x.plan.taken ≡ Done → IsTakenOf bytes taken) (are : AreMessages x.plan.sends ms) (calls : after.calls.calls ≡ x.calls.standing.calls) where
-  abbrev Goes : Type 0
-  Goes = GoOn (ShowsCall after.table.slots (begun ++ more) (t ++ passed k taken ms)) after.calls.calls t old taken ms
+pub early_is : (status : ℕ) → class_of status ≡ Provisional → status < 200
+early_is status is = early_by status (nat_lt status 200) (nat_lt status 300) refl is
 
-  abbrev shows : StandsShown s begun t old k
-  shows = shown laws s after begun more sent t old k tied later taken ms
+pub failure_is : (status : ℕ) → class_of status ≡ Failure → 300 ≤ status
+failure_is status is = failure_by status (nat_lt status 200) (nat_lt status 300) refl is
 
-  abbrev tie : AreTied s begun sent t old
-  tie = ties laws s after begun more sent t old k tied later taken ms
+pub success_late : (status : ℕ) → class_of status ≡ Success → (200 ≤ status) × IsTrue (is_success (kinds.Response status))
+success_late status is = success_by status (nat_lt status 200) (nat_lt status 300) refl refl is
 
-  abbrev knows : KnowsLegs s
-  knows = tied.known.legs
+-- ---- what a trace sees of a response
 
-  stays : Move offering t old taken ms old → after.calls.calls ≡ s.calls.calls → Goes
-  stays move same = none_goes_on laws.keep s after begun more t old k shows later taken ms move same
+pub kind_is : (bytes : List ℕ) (r : Response) → (trace_message bytes (Kinds.Response r)).kind ≡ kinds.Response r.status
+unfolding trace_message
+kind_is bytes r = refl
 
-  -- ---- the call that waits for it stands
+from_is : (bytes : List ℕ) (r : Response) (parts : Parts) → RepliesTo r.parts parts → (trace_message bytes (Kinds.Response r)).from_tag ≡ tag_text parts.from.params
+unfolding trace_message
+from_is bytes r parts h = ap (λ (o : Option (List ℕ)). unwrap_or o []) h.from_tag
 
-  module _ (place : ℕ) (c : StandingCall) (there : slice_get s.calls.calls place ≡ Some c) (asked : IsAsked y.parts c) where
-    stands : (n : Standing) × (c.call.standing ≡ Some n)
-    stands = let o = opened y.parts c asked.waits in (o.0, o.1.stands)
+pub ringing_taken : (bytes : List ℕ) (r : Response) (taken : Option TraceMessage) → message_of bytes ≡ Ok (Kinds.Response r) → IsTakenOf bytes taken → class_of r.status ≡ Provisional → TookRinging taken r.status
+ringing_taken bytes r taken read took class = record { message = trace_message bytes (Kinds.Response r); is = taken_as bytes (Kinds.Response r) taken read took; kind = kind_is bytes r; early = early_is r.status class }
 
-    ringing_goes : class_of r.status ≡ classes.Provisional → x ≡ takes s e entries (reception_of s.table (Kinds.Response r)).send None place (inputs.Provisional r.status) None → (listed : Bool) → is_listed_call c ≡ listed → Goes
-    ringing_goes class is true listed =
-        ringing_goes_on laws.reads laws.names laws.describes laws.sent laws.keep s after begun more sent t old k shows later tie knows e place c stands.0 entries there stands.1 listed bytes r taken read (took (ap (λ (z : Effect). z.plan.taken) is)) class x is ms are calls
-    ringing_goes class is false unlisted =
-        hidden_ringing laws.reads laws.names laws.describes laws.sent laws.keep s after begun more sent t old k shows later tie knows e place c stands.0 entries there stands.1 unlisted bytes r taken read (took (ap (λ (z : Effect). z.plan.taken) is)) class x is ms are calls
+-- ---- one that the call waits for
 
-    refusal_goes : class_of r.status ≡ classes.Failure → x ≡ takes s e entries (reception_of s.table (Kinds.Response r)).send None place (inputs.Refusal r.status) None → (listed : Bool) → is_listed_call c ≡ listed → Goes
-    refusal_goes class is true listed =
-        refusal_goes_on laws.reads laws.names laws.describes laws.sent laws.keep s after begun more sent t old k shows later tie knows e place c stands.0 entries there stands.1 listed bytes r taken read (took (ap (λ (z : Effect). z.plan.taken) is)) laws.replies id y (responds_to s r id y c to asked) class x is ms are calls
-    refusal_goes class is false unlisted =
-        hidden_refusal laws.reads laws.names laws.describes laws.sent laws.keep s after begun more sent t old k shows later tie knows e place c stands.0 entries there stands.1 unlisted bytes r taken read (took (ap (λ (z : Effect). z.plan.taken) is)) id y (responds_to s r id y c to asked) class x is ms are calls
+-- as the rows of responses say it
+pub responds_to : (s : Office) (r : Response) (id : ℕ) (x : Transaction) (c : StandingCall) → IsResponseTo s r id x → IsAsked x.parts c → RespondsToOffer s r id x c
+responds_to s r id x c to asked = record { there = to.there; answers = to.answers; offers = asked.offers; tag = asked.tag; opens = asked.waits }
 
-    module _ (class : class_of r.status ≡ classes.Success) (is : x ≡ takes s e entries (reception_of s.table (Kinds.Response r)).send (Some id) place (inputs.Answer (described r.headers r.body)) (answers_leg s.calls.calls place y.parts r)) where
-      listed_goes : is_listed_call c ≡ true → (fit : Bool) → is_fit c.call c.call.media.offer (described r.headers r.body) ≡ fit → Goes
-      listed_goes listed true fit =
-          answer_goes_on laws.reads (reading_laws laws) laws.describes laws.sent laws.keep s after begun more sent t old k shows later tie knows e place c stands.0 entries there stands.1 listed bytes r taken read (took (ap (λ (z : Effect). z.plan.taken) is)) id y (responds_to s r id y c to asked) reaches class fit x is ms are calls
-      listed_goes listed false unfit =
-          unfit_goes_on laws.reads laws.names laws.describes laws.sent laws.keep s after begun more sent t old k shows later tie knows e place c stands.0 entries there stands.1 listed bytes r taken read (took (ap (λ (z : Effect). z.plan.taken) is)) (reading_laws laws) tied.known.waiting id y (responds_to s r id y c to asked) reaches class unfit x is ms are calls
+module _ (law : ReplyLaw) (s : Office) (place : ℕ) (c : StandingCall) (begun : List Transaction) (sent : List Sent) (t : List Datagram) (n : Standing) (d : Call) (r : Response) (id : ℕ) (x : Transaction) (bytes : List ℕ) (taken : Option TraceMessage)
+    (tokens : KnowsTokens s) (trace : KnowsTrace s begun sent t) (h : IsShownAt s begun t place c n d) (to : RespondsToOffer s r id x c) (read : message_of bytes ≡ Ok (Kinds.Response r)) (took : IsTakenOf bytes taken) where
+  pub offering_there : IsOffering x
+  offering_there = record { client = answered_client r.parts x to.answers; offers = to.offers }
 
-      success_goes : (listed : Bool) → is_listed_call c ≡ listed → Goes
-      success_goes true listed = listed_goes listed (is_fit c.call c.call.media.offer (described r.headers r.body)) refl
-      success_goes false unlisted =
-          hidden_success laws.reads laws.names laws.describes laws.sent laws.keep s after begun more sent t old k shows later tie knows e place c stands.0 entries there stands.1 unlisted bytes r taken read (took (ap (λ (z : Effect). z.plan.taken) is)) id y (responds_to s r id y c to asked) (reading_laws laws) reaches class x is ms are calls
+  -- its request is that of the offer in the trace
+  pub went_is : (p : Offer) → d.offer ≡ Some p → IsRequestOf x.parts p.went
+  went_is p opened_is =
+      let b = trace.stands id x to.there offering_there in
+      same_request b.0.parts x.parts p.went b.3 (
+      staged_went s.table.slots begun t c d p opened_is b.0 b.1 b.2 (subst (λ (parts : Parts). has_tag (tag_text parts.from.params) c ≡ true) (sym b.3) to.tag) (subst (λ (parts : Parts). is_open parts c ≡ true) (sym b.3) to.opens) n n.stage
+      (stage_shown s.table.slots begun t c n d h.stands h.shows)
+      )
 
-  -- ---- all
+  pub awaited_there : awaits_answer n.stage ≡ true
+  awaited_there =
+      let o = opened x.parts c to.opens in
+      stage_awaits s.table.slots begun t c d n n.stage (subst (λ (m : Standing). awaits_final m.stage ≡ true) (same_Some o.0 n (sym o.1.stands ∙ h.stands)) o.1.awaits) (stage_shown s.table.slots begun t c n d h.stands h.shows)
 
-  pub response_goes : (send : Option Outgoing) → send ≡ (reception_of s.table (Kinds.Response r)).send → (row : ResponseCase s e r entries send id y x) → (NoneTakesResponse s e r entries send id y x row → Move offering t old taken ms old) → Goes
-  response_goes send goes (cases.silent rule is) alone = stays (alone tt) (calls ∙ ap (λ (z : Effect). z.calls.standing.calls) is)
-  response_goes send goes (cases.provisional place status c there asked class same is) alone =
-      ringing_goes place c there asked class (is ∙ (ap (λ o. takes s e entries o None place (inputs.Provisional status) None) goes ∙ ap (λ (n : ℕ). takes s e entries (reception_of s.table (Kinds.Response r)).send None place (inputs.Provisional n) None) same)) (is_listed_call c) refl
-  response_goes send goes (cases.answered place c there asked class is) alone =
-      success_goes place c there asked class (is ∙ ap (λ o. takes s e entries o (Some id) place (inputs.Answer (described r.headers r.body)) (answers_leg s.calls.calls place y.parts r)) goes) (is_listed_call c) refl
-  response_goes send goes (cases.again place rule is) alone = stays (alone tt) (calls ∙ ap (λ (z : Effect). z.calls.standing.calls) is)
-  response_goes send goes (cases.fork rule is) alone = stays (alone tt) (calls ∙ (ap (λ (z : Effect). z.calls.standing.calls) is ∙ fork_same s.calls (occasion s e) y.parts r))
-  response_goes send goes (cases.ack_alone rule is) alone = stays (alone tt) (calls ∙ (ap (λ (z : Effect). z.calls.standing.calls) is ∙ late_same s.calls (occasion s e) y.parts r))
-  response_goes send goes (cases.refused place status c there asked class same is) alone =
-      refusal_goes place c there asked class (is ∙ (ap (λ o. takes s e entries o None place (inputs.Refusal status) None) goes ∙ ap (λ (n : ℕ). takes s e entries (reception_of s.table (Kinds.Response r)).send None place (inputs.Refusal n) None) same)) (is_listed_call c) refl
+  pub final_taken : 200 ≤ r.status → TookFinal taken d r.status
+  final_taken late =
+      let m = trace_message bytes (Kinds.Response r) in
+      let replies = answers_to law r.parts x to.answers in
+      record {
+        message = m;
+        is = taken_as bytes (Kinds.Response r) taken read took;
+        kind = kind_is bytes r;
+        late = late;
+        tag = subst (IsTagOf d) (sym (from_is bytes r x.parts replies)) (tag_shown s.tokens c d (from_tag x) (all_at (HasMadeTags s.tokens) s.calls.calls place c tokens.calls.tags h.there) h.shows.legs to.tag);
+        replies = λ p opened_is. response_replies bytes r x.parts p.went replies (went_is p opened_is);
+      }
+
+  pub refusal_taken : class_of r.status ≡ Failure → TookRefusal taken d r.status
+  refusal_taken class = let refuses = failure_is r.status class in record { final = final_taken (omega (arith, refuses)); refuses = refuses }
+
+  pub success_taken : class_of r.status ≡ Success → TookSuccess taken d
+  success_taken class = let late = success_late r.status class in record { status = r.status; final = final_taken late.0; success = late.1 }
+
+-- ---- signals
+
+pub ringing_signals : (s : Office) (e : Setting) (place : ℕ) (c : StandingCall) (description : Option Description) (begun : List Transaction) (t : List Datagram) (n : Standing) (d : Call) (r : Response) (bytes : List ℕ) (taken : Option TraceMessage)
+    → KnowsLegs s → IsShownAt s begun t place c n d → message_of bytes ≡ Ok (Kinds.Response r) → IsTakenOf bytes taken → class_of r.status ≡ Provisional
+    → TakesSignal n (scene_at s e (without_offer None None) c description) d taken (signals.Provisional r.status)
+ringing_signals s e place c description begun t n d r bytes taken knows h read took class =
+    takes_signal s e (without_offer None None) place c description begun t n d taken (signals.Provisional r.status) knows h tt (λ is. cc) (ringing_taken bytes r taken read took class) tt
+
+pub refusal_signals : ReplyLaw → (s : Office) (e : Setting) (place : ℕ) (c : StandingCall) (description : Option Description) (begun : List Transaction) (sent : List Sent) (t : List Datagram) (n : Standing) (d : Call) (r : Response) (id : ℕ) (x : Transaction)
+    (bytes : List ℕ) (taken : Option TraceMessage) → KnowsLegs s → KnowsTokens s → KnowsTrace s begun sent t → IsShownAt s begun t place c n d → RespondsToOffer s r id x c → message_of bytes ≡ Ok (Kinds.Response r) → IsTakenOf bytes taken
+    → class_of r.status ≡ Failure → TakesSignal n (scene_at s e (without_offer None None) c description) d taken (signals.Refusal r.status)
+refusal_signals law s e place c description begun sent t n d r id x bytes taken knows tokens trace h to read took class =
+    takes_signal s e (without_offer None None) place c description begun t n d taken (signals.Refusal r.status) knows h tt (λ is. cc)
+    (refusal_taken law s place c begun sent t n d r id x bytes taken tokens trace h to read took class) (awaited_there law s place c begun sent t n d r id x bytes taken tokens trace h to read took)

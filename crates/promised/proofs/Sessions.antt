@@ -17,8 +17,8 @@ use Rattle.call_trace.proofs.Members.{all_weaker}
 use Rattle.plans.specs.Office.{Office}
 use Rattle.serving.specs.Serving.{AreStaged, IsSessionOf, IsStaged, trace_session}
 use Rattle.serving.specs.Traced.{AreTraced, WasSettled}
-use Rattle.ties.specs.Listing.{Listed, is_listed_stage}
-use Rattle.ties.specs.Shows.{ShowsCall, ShowsSettled, ShowsStage, ShowsStanding, settled_of}
+use Rattle.promised.specs.Listing.{Listed, is_listed_stage}
+use Rattle.promised.specs.Shows.{ShowsCall, ShowsSettled, ShowsStage, ShowsStanding, settled_of}
 use Rattle.transactions.specs.declared.transaction.Transaction.{Transaction}
 use Rattle.promised.specs.Keeping.{dialog_with_caller}
 

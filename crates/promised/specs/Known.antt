@@ -1,8 +1,8 @@
 -- What is known before an event: of the agent, of the trace of the events before it, and of the calls of that trace.
 use Rattle.std.specs.Prelude.{◌++◌, ℕ, List, Option}
 use Rattle.std.specs.List.{All}
-use Rattle.agent.specs.Rows.{after, row}
-use Rattle.agent.specs.State.{Contents, office}
+use Rattle.checks.specs.Rows.{after, row}
+use Rattle.checks.specs.State.{Contents, office}
 use Rattle.call_trace.specs.Events.{passed}
 use Rattle.call_trace.specs.Lives.{Stands}
 use Rattle.call_trace.specs.Messages.{offering}
@@ -11,23 +11,23 @@ use Rattle.call_trace.specs.declared.datagram.Datagram.{Datagram}
 use Rattle.call_trace.specs.declared.datagram.Message.{Message}
 use Rattle.events.specs.declared.event.Event.{Event}
 use Rattle.events.specs.declared.sent.Sent.{Sent}
-use Rattle.quiet.specs.Answers.{KnowsAnswers}
-use Rattle.quiet.specs.Byes.{KnowsByes}
-use Rattle.quiet.specs.Taken.{KnowsTaken}
+use Rattle.promised.specs.Answers.{KnowsAnswers}
+use Rattle.promised.specs.Byes.{KnowsByes}
+use Rattle.promised.specs.Taken.{KnowsTaken}
 use Rattle.plans.specs.Office.{Office}
 use Rattle.promise.specs.Knowing.{KnowsTokens}
 use Rattle.promise.specs.Numbers.{KnowsNumbers, begun_of}
 use Rattle.promise.specs.OpenRequests.{HasAsked}
 use Rattle.promise.specs.Sending.{KnowsSent}
 use Rattle.promise.specs.Waiting.{KnowsWaiting}
-use Rattle.quiet.specs.Late.{KnowsLate}
-use Rattle.quiet.specs.Machines.{KnowsMachines}
+use Rattle.promised.specs.Late.{KnowsLate}
+use Rattle.promised.specs.Machines.{KnowsMachines}
 use Rattle.read_back.specs.Comings.{KnowsScenes}
 use Rattle.serving.specs.Serving.{AreStaged}
-use Rattle.showing.specs.Steps.{GoOn}
-use Rattle.ties.specs.Taking.{KnowsLegs}
-use Rattle.ties.specs.Listing.{Listed}
-use Rattle.ties.specs.Shows.{ShowsCall}
+use Rattle.promised.specs.Steps.{GoOn}
+use Rattle.promised.specs.Taking.{KnowsLegs}
+use Rattle.promised.specs.Listing.{Listed}
+use Rattle.promised.specs.Shows.{ShowsCall}
 use Rattle.traces.specs.Asked.{KnowsAsked}
 use Rattle.traces.specs.Knowing.{KnowsTrace}
 use Rattle.transactions.specs.declared.transaction.Transaction.{Transaction}

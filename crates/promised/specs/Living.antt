@@ -8,7 +8,6 @@ use Rattle.call_trace.specs.Listed.{AllOf, AnyOf}
 use Rattle.call_trace.specs.Lives.{IsOneCall}
 use Rattle.call_trace.specs.Messages.{offering}
 use Rattle.calls.specs.declared.standing_call.StandingCall.{StandingCall}
-use Rattle.plans.specs.Office.{Office}
 use Rattle.promised.specs.Keeping.{dialog_with_caller}
 use Rattle.trace_reading.specs.Message.{dialog_named}
 
@@ -31,7 +30,7 @@ pub record IsLiveCall (t : List Datagram) (c : StandingCall) : Type 0 where
 
 -- Each call that was answered, and that no end has left, is a live one of the trace, and each live call of the trace is one of these; and each
 -- live dialog is a call with exactly one other.
-pub record ListsLive (s : Office) (t : List Datagram) : Type 0 where
-  pub live : AllOf (λ c. holds_in has_session c.call.standing ≡ true → IsLiveCall t c) s.calls.calls
-  pub listed : (caller callee : Dialog) → CallFrom offering t caller callee → Live t caller → Live t callee → AnyOf (IsTalking caller callee) s.calls.calls
+pub record ListsLive (calls : List StandingCall) (t : List Datagram) : Type 0 where
+  pub live : AllOf (λ c. holds_in has_session c.call.standing ≡ true → IsLiveCall t c) calls
+  pub listed : (caller callee : Dialog) → CallFrom offering t caller callee → Live t caller → Live t callee → AnyOf (IsTalking caller callee) calls
   pub one_call : (d : Dialog) → Live t d → IsOneCall offering t d

@@ -1,8 +1,8 @@
 //! Events of the agent.
 
 ghost use Rattle.std.specs.Prelude.{◌++◌, ℕ, List, Option};
-ghost use Rattle.agent.specs.Rows.{after, row};
-ghost use Rattle.agent.specs.State.{Contents, office};
+ghost use Rattle.checks.specs.Rows.{after, row};
+ghost use Rattle.checks.specs.State.{Contents, office};
 ghost use Rattle.call_trace.specs.declared.call.Call.{Call};
 ghost use Rattle.call_trace.specs.declared.datagram.Datagram.{Datagram};
 ghost use Rattle.call_trace.specs.declared.datagram.Message.{Message};
@@ -12,7 +12,7 @@ ghost use Rattle.promised.specs.Known.{IsMoved, IsTied};
 ghost use Rattle.promise.specs.Askers.{KnowsAskers};
 ghost use Rattle.promise.specs.Datagrams.{ComesFromSource};
 ghost use Rattle.promise.specs.Numbers.{begun_of};
-ghost use Rattle.showing.specs.Steps.{IsAfter};
+ghost use Rattle.promised.specs.Steps.{IsAfter};
 ghost use Rattle.traces.specs.Traces.{IsPassed};
 ghost use Rattle.transactions.specs.declared.transaction.Transaction.{Transaction};
 

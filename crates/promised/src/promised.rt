@@ -2,25 +2,17 @@
 
 ghost use Rattle.std.specs.Prelude.{ℕ, length, List};
 ghost use Rattle.std.specs.List.{All};
-ghost use Rattle.agent.specs.State.{Contents, IsNew, office};
-ghost use Rattle.agent.specs.Trace.{AreEntries, Entry, after_entries};
+ghost use Rattle.checks.specs.State.{Contents, IsNew, office};
+ghost use Rattle.checks.specs.Trace.{AreEntries, Entry, after_entries};
 ghost use Rattle.call_trace.specs.declared.datagram.Datagram.{Datagram};
 ghost use Rattle.configuration.specs.declared.config.Config.{Config};
 ghost use Rattle.promise.specs.Addresses.{IsConfigured};
 ghost use Rattle.promise.specs.Datagrams.{EntersFromSource};
-ghost use Rattle.promise.specs.Numbers.{begun_in};
 ghost use Rattle.promised.specs.Keeping.{HasPromisedCalls};
 ghost use Rattle.promised.specs.Living.{ListsLive};
 ghost use Rattle.traces.specs.Traces.{AreTrace};
 
-use crate::events_are_moves;
-use call_trace::{moves_keep, standing_is_promised};
-use dialogs::{contacts_are_read, dialogs_are_sound, invites_name_a_contact};
-use quiet::byes_are_known;
-use serving::{calls_are_served, served_as_told, traced_calls_are_served};
-use sip_writing::written_is_read;
-use trace_reading::bodies_describe;
-use transactions::replies;
+use crate::agents_stand;
 
 /// After any entries of a new agent, whose configuration keeps the rules and whose datagrams came from addresses, some of which may have been
 /// lost, calls stand after the trace of them and show those of the agent; and the whole media promise holds of the trace, with the agent's
@@ -29,21 +21,9 @@ use transactions::replies;
 pub fn agents_keep_the_promise()
     ensures promised { (config : Config) (s : Contents) (entries : List Entry) (t : List Datagram) → IsConfigured config → IsNew config s →
         AreEntries s entries → All EntersFromSource entries → AreTrace 0 entries t →
-        HasPromisedCalls (office (after_entries s entries)) (begun_in s entries) t (length entries) }
+        HasPromisedCalls (office (after_entries s entries)) t (length entries) }
     ensures lives { (config : Config) (s : Contents) (entries : List Entry) (t : List Datagram) → IsConfigured config → IsNew config s →
-        AreEntries s entries → All EntersFromSource entries → AreTrace 0 entries t → ListsLive (office (after_entries s entries)) t }
+        AreEntries s entries → All EntersFromSource entries → AreTrace 0 entries t → ListsLive (after_entries s entries).calls.calls t }
 {
-    contacts_are_read();
-    dialogs_are_sound();
-    invites_name_a_contact();
-    bodies_describe();
-    written_is_read();
-    replies();
-    calls_are_served();
-    served_as_told();
-    byes_are_known();
-    moves_keep();
-    traced_calls_are_served();
-    standing_is_promised();
-    events_are_moves();
+    agents_stand();
 }

@@ -38,9 +38,9 @@ use Rattle.plans.specs.Plan.{Plan, moves, nothing}
 use Rattle.plans.specs.Replies.{reply_row, responds_in}
 use Rattle.plans.specs.declared.setting.Setting.{Setting}
 use Rattle.plans.specs.declared.taken.Taken.{Taken}
-use Rattle.agent.specs.Rows.{after, is_unreachable_message, moment_after, no_source, only_counts, row, row_by, setting, what_row}
-use Rattle.agent.specs.State.{Contents, IsNew, after_event, moment_at, office}
-use Rattle.agent.specs.Trace.{Entry as TraceEntry, after_answer, after_entries, after_entry}
+use Rattle.checks.specs.Rows.{after, is_unreachable_message, moment_after, no_source, only_counts, row, row_by, setting, what_row}
+use Rattle.checks.specs.State.{Contents, IsNew, after_event, moment_at, office}
+use Rattle.checks.specs.Trace.{Entry as TraceEntry, after_answer, after_entries, after_entry}
 use Rattle.promise.specs.Addresses.{IsConfigured, IsReached}
 use Rattle.promise.specs.Sound.{IsTargetIf, KnowsDialogs, SaysDialog}
 use Rattle.promise.proofs.Coming.{OpensIn}

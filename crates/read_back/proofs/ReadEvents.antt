@@ -33,8 +33,8 @@ use Rattle.plans.specs.CallRows.{of_plan, takes, timer_input, without_call_timer
 use Rattle.plans.specs.Effect.{Effect}
 use Rattle.plans.specs.Plan.{nothing, replies as plain_replies}
 use Rattle.plans.specs.Replies.{unsupported}
-use Rattle.agent.specs.Rows.{by_reading, datagram_row, fit_row, is_unreachable_message, no_source, only_counts, parts_of, read_row, received, row, row_by, setting, unfit_branch, unread_by, unread_row, what_row}
-use Rattle.agent.specs.State.{Contents, moment_at, office}
+use Rattle.checks.specs.Rows.{by_reading, datagram_row, fit_row, is_unreachable_message, no_source, only_counts, parts_of, read_row, received, row, row_by, setting, unfit_branch, unread_by, unread_row, what_row}
+use Rattle.checks.specs.State.{Contents, moment_at, office}
 use Rattle.promise.specs.Addresses.{IsSource}
 use Rattle.promise.specs.Askers.{KnowsAskers}
 use Rattle.promise.specs.Bodies.{KnowsDescriptions}

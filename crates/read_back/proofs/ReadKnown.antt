@@ -8,9 +8,9 @@ use Rattle.events.specs.declared.event.Event.{Event}
 use Rattle.events.specs.declared.sent.Sent.{Sent}
 use Rattle.plans.specs.Office.{Office}
 use Rattle.plans.specs.declared.taken.Taken.{Taken}
-use Rattle.agent.specs.Rows.{after, row}
-use Rattle.agent.specs.State.{Contents, IsNew, office}
-use Rattle.agent.specs.Trace.{AreEntries, Entry, IsEntryWith, after_answer, after_entries, after_entry}
+use Rattle.checks.specs.Rows.{after, row}
+use Rattle.checks.specs.State.{Contents, IsNew, office}
+use Rattle.checks.specs.Trace.{AreEntries, Entry, IsEntryWith, after_answer, after_entries, after_entry}
 use Rattle.promise.specs.Addresses.{IsConfigured}
 use Rattle.promise.specs.Datagrams.{ComesFromSource, EntersFromSource, IsOwnDatagram}
 use Rattle.promise.specs.Knowledge.{sends_of}

@@ -45,10 +45,10 @@ use Rattle.plans.specs.CallRows.{are_full, asker, begins_by, call_row, first_by,
 use Rattle.plans.specs.Effect.{Effect}
 use Rattle.plans.specs.Plan.{goes, nothing}
 use Rattle.plans.specs.Replies.{reply_row, responds_in}
-use Rattle.agent.specs.declared.rule.Rule.{Rule}
-use Rattle.agent.specs.declared.rule.Rule.TheVariants as rules
-use Rattle.agent.specs.Rules.{request_rule}
-use Rattle.agent.specs.Rows.{is_full, received, received_by, request_by, rule_row}
+use Rattle.checks.specs.declared.rule.Rule.{Rule}
+use Rattle.checks.specs.declared.rule.Rule.TheVariants as rules
+use Rattle.checks.specs.Rules.{request_rule}
+use Rattle.checks.specs.Rows.{is_full, received, received_by, request_by, rule_row}
 use Rattle.promise.specs.Addresses.{IsSource}
 use Rattle.promise.proofs.FitReplies.{FitsAlone, FitsReplyIf, offer_reply_fits, request_fits}
 use Rattle.promise.proofs.MessageViews.{ReceivedRow, acknowledged, begun_by, dropped, moved, received_view, requested, responded}

@@ -1,9 +1,9 @@
 //! The requests of the server's own whose transactions stand, and the numbers of the dialogs.
 
 ghost use Rattle.std.specs.Prelude.{◌≡◌, ℕ, false, List, Some};
-ghost use Rattle.agent.specs.Rows.{after};
-ghost use Rattle.agent.specs.State.{Contents, IsNew, office};
-ghost use Rattle.agent.specs.Trace.{Entry, after_entries};
+ghost use Rattle.checks.specs.Rows.{after};
+ghost use Rattle.checks.specs.State.{Contents, IsNew, office};
+ghost use Rattle.checks.specs.Trace.{Entry, after_entries};
 ghost use Rattle.configuration.specs.declared.config.Config.{Config};
 ghost use Rattle.events.specs.declared.event.Event.{Event};
 ghost use Rattle.plans.specs.Office.{Office};

@@ -49,10 +49,10 @@ use Rattle.plans.specs.declared.setting.Setting.{Setting}
 use Rattle.plans.specs.declared.taken.Taken.{Taken}
 use Rattle.plans.specs.CallRows.{has_pairs_for, occasion, offer_method, puts_if, timer_input, without_call_timer}
 use Rattle.plans.specs.Effect.{Effect}
-use Rattle.agent.specs.Rows.{after, moment_after, no_source, only_counts, row, row_by, setting, what_row}
-use Rattle.agent.specs.State.{Contents, IsNew, after_event, moment_at, office}
-use Rattle.agent.specs.Trace as traces
-use Rattle.agent.specs.Trace.{AreEntries, after_answer, after_entries, after_entry}
+use Rattle.checks.specs.Rows.{after, moment_after, no_source, only_counts, row, row_by, setting, what_row}
+use Rattle.checks.specs.State.{Contents, IsNew, after_event, moment_at, office}
+use Rattle.checks.specs.Trace as traces
+use Rattle.checks.specs.Trace.{AreEntries, after_answer, after_entries, after_entry}
 use Rattle.promise.proofs.ResponseViews.{ResponseRow, ack_alone, again, answered, fork, provisional, refused, silent}
 use Rattle.call_trace.specs.Listed.{AllOf}
 use Rattle.serving.specs.Serving.{IsServedAsAsked, IsServing, KnowsServing}

@@ -1,9 +1,9 @@
 //! The sessions of the calls that stand, with the pool and the relay table.
 
 ghost use Rattle.std.specs.Prelude.{List};
-ghost use Rattle.agent.specs.Rows.{after};
-ghost use Rattle.agent.specs.State.{Contents, IsNew, office};
-ghost use Rattle.agent.specs.Trace.{AreEntries, Entry, after_entries};
+ghost use Rattle.checks.specs.Rows.{after};
+ghost use Rattle.checks.specs.State.{Contents, IsNew, office};
+ghost use Rattle.checks.specs.Trace.{AreEntries, Entry, after_entries};
 ghost use Rattle.configuration.specs.declared.config.Config.{Config};
 ghost use Rattle.configuration.specs.Rules.{KeepsRules};
 ghost use Rattle.events.specs.declared.event.Event.{Event};

@@ -44,8 +44,8 @@ use Rattle.plans.specs.Office.{Office}
 use Rattle.plans.specs.Plan.{Plan, moves, nothing}
 use Rattle.plans.specs.declared.setting.Setting.{Setting}
 use Rattle.plans.specs.declared.taken.Taken.{Taken}
-use Rattle.agent.specs.Rows.{after, moment_after, no_source, only_counts, row, row_by, setting, what_row}
-use Rattle.agent.specs.State.{Contents, IsNew, after_event, moment_at, office}
+use Rattle.checks.specs.Rows.{after, moment_after, no_source, only_counts, row, row_by, setting, what_row}
+use Rattle.checks.specs.State.{Contents, IsNew, after_event, moment_at, office}
 use Rattle.promise.specs.Askers.{IsServed, KnowsAskers}
 use Rattle.promise.proofs.AskerEvents.{new_begun}
 use Rattle.promise.proofs.Coming.{OpensIn}

@@ -9,9 +9,9 @@ use Rattle.transactions.specs.declared.transaction.Transaction.{Transaction}
 use Rattle.plans.specs.Effect.{Effect}
 use Rattle.plans.specs.Office.{Office}
 use Rattle.plans.specs.declared.taken.Taken.{Taken}
-use Rattle.agent.specs.Rows.{after, moment_after, row}
-use Rattle.agent.specs.State.{Contents, IsNew, after_event, office}
-use Rattle.agent.specs.Trace.{Entry, IsEntryWith, after_answer}
+use Rattle.checks.specs.Rows.{after, moment_after, row}
+use Rattle.checks.specs.State.{Contents, IsNew, after_event, office}
+use Rattle.checks.specs.Trace.{Entry, IsEntryWith, after_answer}
 use Rattle.call_trace.specs.declared.datagram.Datagram.{Datagram}
 use Rattle.call_trace.specs.declared.datagram.Message.{Message as TraceMessage}
 use Rattle.call_trace.specs.Events.{passed}

@@ -8,8 +8,8 @@ use Rattle.events.specs.declared.sent.Sent.{Sent}
 use Rattle.transactions.specs.declared.transaction.Transaction.{Transaction}
 use Rattle.plans.specs.Office.{Office}
 use Rattle.plans.specs.declared.taken.Taken.{Taken}
-use Rattle.agent.specs.State.{Contents, IsNew, office}
-use Rattle.agent.specs.Trace.{AreEntries, Entry, IsEntryWith, after_answer, after_entries, after_entry}
+use Rattle.checks.specs.State.{Contents, IsNew, office}
+use Rattle.checks.specs.Trace.{AreEntries, Entry, IsEntryWith, after_answer, after_entries, after_entry}
 use Rattle.call_trace.specs.declared.datagram.Datagram.{Datagram}
 use Rattle.call_trace.specs.Events.{passed}
 use Rattle.promise.specs.Addresses.{IsConfigured}

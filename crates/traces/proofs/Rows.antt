@@ -33,8 +33,8 @@ use Rattle.plans.specs.Plan.{Plan, goes, moves, nothing}
 use Rattle.plans.specs.Replies.{reply_row, responds_in}
 use Rattle.plans.specs.declared.setting.Setting.{Setting}
 use Rattle.plans.specs.declared.taken.Taken.{Taken}
-use Rattle.agent.specs.Rows.{is_unreachable_message, no_source, only_counts, row, row_by, setting, what_row}
-use Rattle.agent.specs.State.{Contents, moment_at, office}
+use Rattle.checks.specs.Rows.{is_unreachable_message, no_source, only_counts, row, row_by, setting, what_row}
+use Rattle.checks.specs.State.{Contents, moment_at, office}
 use Rattle.call_trace.specs.Listed.{AllOf}
 use Rattle.call_trace.proofs.Members.{all_append}
 use Rattle.promise.specs.Bodies.{WasReadIn}

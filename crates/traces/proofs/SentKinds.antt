@@ -3,8 +3,8 @@ use Rattle.std.proofs.Common.{◌+◌, List}
 use Rattle.events.specs.declared.event.Event.{Event}
 use Rattle.events.specs.declared.sent.Sent.{Sent}
 use Rattle.plans.specs.Office.{Office}
-use Rattle.agent.specs.Rows.{row}
-use Rattle.agent.specs.State.{Contents, office}
+use Rattle.checks.specs.Rows.{row}
+use Rattle.checks.specs.State.{Contents, office}
 use Rattle.call_trace.specs.Listed.{AllOf}
 use Rattle.promise.specs.Askers.{KnowsAskers}
 use Rattle.promise.specs.Bodies.{KnowsDescriptions}

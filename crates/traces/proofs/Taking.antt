@@ -40,8 +40,8 @@ use Rattle.plans.specs.declared.setting.Setting.{Setting}
 use Rattle.plans.specs.declared.taken.Taken.{Taken}
 use Rattle.plans.specs.declared.taken.Taken.TheVariants.{Done, Dropped, Idle, Shed}
 use Rattle.plans.specs.declared.taken.Why.TheVariants.{Clock, NoBranch, Spent, Stray, Unread}
-use Rattle.agent.specs.Rows.{by_reading, datagram_row, fit_row, is_full, is_unreachable_message, only_counts, read_row, received, response_by, row, row_by, setting, unread_by, unread_row, what_counts, what_row}
-use Rattle.agent.specs.State.{Contents, moment_at, moments_end, most_tokens, office}
+use Rattle.checks.specs.Rows.{by_reading, datagram_row, fit_row, is_full, is_unreachable_message, only_counts, read_row, received, response_by, row, row_by, setting, unread_by, unread_row, what_counts, what_row}
+use Rattle.checks.specs.State.{Contents, moment_at, moments_end, most_tokens, office}
 use Rattle.promise.specs.Knowing.{KnowsTokens}
 use Rattle.promise.specs.Tokens.{IsMadeBranch, IsOwn, IsOwnIf}
 use Rattle.promise.proofs.MessageViews.{begun_by}

@@ -1,6 +1,6 @@
 -- The trace of an agent's events: of each one what it took, and behind it what it sent.
 use Rattle.std.specs.Prelude.{◌≡◌, ℕ, suc, List, [], ◌∷◌, ◌++◌, Option, Some, None}
-use Rattle.agent.specs.Trace.{Entry}
+use Rattle.checks.specs.Trace.{Entry}
 use Rattle.call_trace.specs.declared.datagram.Datagram.{Datagram}
 use Rattle.call_trace.specs.declared.datagram.Message.{Message as TraceMessage}
 use Rattle.call_trace.specs.Events.{passed}

@@ -1,8 +1,8 @@
 //! What the server sends at an event.
 
 ghost use Rattle.std.specs.Prelude.{◌+◌, List};
-ghost use Rattle.agent.specs.Rows.{row};
-ghost use Rattle.agent.specs.State.{Contents, office};
+ghost use Rattle.checks.specs.Rows.{row};
+ghost use Rattle.checks.specs.State.{Contents, office};
 ghost use Rattle.call_trace.specs.Listed.{AllOf};
 ghost use Rattle.events.specs.declared.event.Event.{Event};
 ghost use Rattle.events.specs.declared.sent.Sent.{Sent};

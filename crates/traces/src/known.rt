@@ -2,9 +2,9 @@
 
 ghost use Rattle.std.specs.Prelude.{◌++◌, ℕ, List, [], Option};
 ghost use Rattle.std.specs.List.{All};
-ghost use Rattle.agent.specs.Rows.{after, row};
-ghost use Rattle.agent.specs.State.{Contents, IsNew, office};
-ghost use Rattle.agent.specs.Trace.{AreEntries, Entry, IsEntry, after_entries, after_entry};
+ghost use Rattle.checks.specs.Rows.{after, row};
+ghost use Rattle.checks.specs.State.{Contents, IsNew, office};
+ghost use Rattle.checks.specs.Trace.{AreEntries, Entry, IsEntry, after_entries, after_entry};
 ghost use Rattle.call_trace.specs.declared.datagram.Datagram.{Datagram};
 ghost use Rattle.call_trace.specs.declared.datagram.Message.{Message};
 ghost use Rattle.call_trace.specs.Events.{passed};

@@ -1,5 +1,5 @@
 use Rattle.std.proofs.Common.{◌∙◌, ◌++◌, ◌∷◌, [], List, ap}
-use Rattle.agent.specs.Trace.{Entry}
+use Rattle.checks.specs.Trace.{Entry}
 use Rattle.agent.proofs.TraceLaws.{ran_one}
 use Rattle.agent.proofs.agent.Agent.enter.Goals as goal
 

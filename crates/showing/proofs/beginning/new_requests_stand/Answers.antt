@@ -1,5 +1,0 @@
-use Rattle.showing.proofs.NewRequests.{request_stands}
-use Rattle.showing.proofs.beginning.new_requests_stand.Goals as goal
-
-pub returns : goal.returns
-returns c = request_stands

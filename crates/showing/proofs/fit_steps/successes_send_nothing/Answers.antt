@@ -1,5 +1,0 @@
-use Rattle.showing.proofs.Silence.{success_silent}
-use Rattle.showing.proofs.fit_steps.successes_send_nothing.Goals as goal
-
-pub returns : goal.returns
-returns c = success_silent
