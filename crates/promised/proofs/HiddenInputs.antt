@@ -93,7 +93,7 @@ use Rattle.promise.proofs.Tagged.{tagged as is_tagged}
 use Rattle.promised.specs.Coming.{HasNumbersLeft}
 use Rattle.promised.proofs.Fitting.{first_answer}
 use Rattle.promised.proofs.Legs.{first_in, leg_in}
-use Rattle.serving.specs.Serving.{IsStaged}
+use Rattle.service.specs.Serving.{IsStaged}
 use Rattle.promised.proofs.ReachedAnswers.{answered_fits, counted, reached, target}
 use Rattle.promised.specs.Lines.{IsTagOfNone}
 use Rattle.promised.specs.Scenes.{LegIn}

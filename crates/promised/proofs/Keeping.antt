@@ -17,8 +17,8 @@ use Rattle.plans.specs.Office.{Office}
 use Rattle.promise.specs.Addresses.{IsConfigured}
 use Rattle.promise.specs.Datagrams.{EntersFromSource}
 use Rattle.promise.specs.Knowledge.{sends_of}
-use Rattle.serving.specs.Serving.{AreHeldByCalls, HoldNoOthers, KnowsServing, holder_in, trace_table}
-use Rattle.serving.specs.Traced.{AreTraced, holder_by}
+use Rattle.service.specs.Serving.{AreHeldByCalls, HoldNoOthers, KnowsServing, holder_in, trace_table}
+use Rattle.service.specs.Traced.{AreTraced, holder_by}
 use Rattle.traces.specs.Traces.{AreTrace}
 use Rattle.transactions.specs.declared.transaction.Transaction.{Transaction}
 use Rattle.promised.specs.Standing.{IsUpheld}

@@ -49,7 +49,7 @@ use Rattle.read_back.specs.SoundClients.{KnowsClients}
 use Rattle.read_back.proofs.ClientRows.{after_clients, new_clients}
 use Rattle.promised.specs.Coming.{KnowsNumbersLeft}
 use Rattle.promised.proofs.CountingRows.{after_leaves, new_leaves}
-use Rattle.serving.specs.Serving.{AreStaged, KnowsServing}
+use Rattle.service.specs.Serving.{AreStaged, KnowsServing}
 use Rattle.promised.specs.Steps.{IsAfter}
 use Rattle.traces.specs.Asked.{KnowsAsked}
 use Rattle.traces.specs.Knowing.{KnowsTrace}

@@ -34,7 +34,7 @@ use Rattle.promise.proofs.AskedCalls.{at_place}
 use Rattle.read_back.specs.Comings.{CanCome}
 use Rattle.promised.specs.Coming.{FitsComing, scene_at}
 use Rattle.promised.specs.Going.{put_as}
-use Rattle.serving.specs.Serving.{IsStaged}
+use Rattle.service.specs.Serving.{IsStaged}
 use Rattle.promised.specs.Taking.{TakesSignal}
 use Rattle.traces.specs.Messages.{AreMessages}
 use Rattle.promised.specs.Afterwards.{HasSpot}

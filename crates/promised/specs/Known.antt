@@ -23,7 +23,7 @@ use Rattle.promise.specs.Waiting.{KnowsWaiting}
 use Rattle.promised.specs.Late.{KnowsLate}
 use Rattle.promised.specs.Machines.{KnowsMachines}
 use Rattle.read_back.specs.Comings.{KnowsScenes}
-use Rattle.serving.specs.Serving.{AreStaged}
+use Rattle.service.specs.Serving.{AreStaged}
 use Rattle.promised.specs.Steps.{GoOn}
 use Rattle.promised.specs.Taking.{KnowsLegs}
 use Rattle.promised.specs.Listing.{Listed}

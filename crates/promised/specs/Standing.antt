@@ -34,7 +34,7 @@ use Rattle.promised.specs.Machines.{KnowsMachines}
 use Rattle.promised.specs.Shows.{ShowsCall}
 use Rattle.promised.specs.Taken.{KnowsTaken}
 use Rattle.read_back.specs.SoundClients.{KnowsClients}
-use Rattle.serving.specs.Serving.{KnowsServing}
+use Rattle.service.specs.Serving.{KnowsServing}
 use Rattle.traces.specs.Asked.{KnowsAsked}
 use Rattle.traces.specs.Knowing.{KnowsTrace}
 use Rattle.traces.specs.Messages.{IsRequestOf}

@@ -32,7 +32,7 @@ ghost use Rattle.promise.specs.Sending.{KnowsSent};
 ghost use Rattle.promised.specs.Coming.{FitsComing, scene_at};
 ghost use Rattle.promised.specs.Going.{put_as};
 ghost use Rattle.sdp.specs.declared.description.Description.{Description};
-ghost use Rattle.serving.specs.Serving.{IsStaged};
+ghost use Rattle.service.specs.Serving.{IsStaged};
 ghost use Rattle.promised.specs.Taking.{TakesSignal};
 ghost use Rattle.promised.specs.Steps.{GoOn, GoesOnAt, IsSignalOf, IsSignalStep, calls_after};
 ghost use Rattle.promised.specs.Afterwards.{HasSpot};

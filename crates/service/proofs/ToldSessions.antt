@@ -19,11 +19,11 @@ use Rattle.plans.specs.Office.{Office}
 use Rattle.call_trace.specs.Listed.{AllOf, AnyOf}
 use Rattle.call_trace.specs.Promise.{IsReaddressed}
 use Rattle.call_trace.specs.Serving.{Hop, IsPairOf, IsRowOf, LeadsSession}
-use Rattle.serving.specs.Serving.{AreHeldByCalls, AreLed, AreStaged, AreTold, HasNoOtherRow, HoldNoOthers, HoldTheirPairs, IsServedAsAsked, IsStaged, IsSessionOf, KnowsServing, trace_session, trace_table}
+use Rattle.service.specs.Serving.{AreHeldByCalls, AreLed, AreStaged, AreTold, HasNoOtherRow, HoldNoOthers, HoldTheirPairs, IsServedAsAsked, IsStaged, IsSessionOf, KnowsServing, trace_session, trace_table}
 use Rattle.call_media.proofs.HeldLaws.{among, holder_of_own, own_holder}
-use Rattle.serving.proofs.CallLists.{all_weaker, all_with_served}
-use Rattle.serving.proofs.CallSteps.{none_there}
-use Rattle.serving.proofs.NamedRows.{named_row, names_port}
+use Rattle.service.proofs.CallLists.{all_weaker, all_with_served}
+use Rattle.service.proofs.CallSteps.{none_there}
+use Rattle.service.proofs.NamedRows.{named_row, names_port}
 
 -- ---- some member, and each
 

@@ -31,7 +31,7 @@ use Rattle.call_media.specs.Sessions.{pairs_listed, pairs_of_session, seats_kept
 use Rattle.call_media.specs.Serving.{IsOpen, SameFor, Serves, SparesOthers, StandsIfAny, are_held, is_held}
 use Rattle.call_media.specs.Versions.{origin}
 use Rattle.call_trace.specs.Serving.{LeadsSession, hop_of}
-use Rattle.serving.specs.Serving.{IsServedAsAsked, trace_session, trace_table}
+use Rattle.service.specs.Serving.{IsServedAsAsked, trace_session, trace_table}
 use Rattle.port_pool.proofs.HoldingLaws.{free_given, given_unheld, held_leads, holder_of-dropped, holder_of-held, holder_of-others, leads_given, rising_given}
 use Rattle.port_pool.proofs.PoolLaws.{IsPool-committed, IsPool-others, IsPool-with_pairs, IsPool-without_call, lines-committed, row-committed}
 use Rattle.offer_answer.proofs.ReaddressLaws.{readdressed_alike, readdressed_at_server, readdressed_ports}

@@ -8,7 +8,7 @@ ghost use Rattle.configuration.specs.declared.config.Config.{Config};
 ghost use Rattle.configuration.specs.Rules.{KeepsRules};
 ghost use Rattle.events.specs.declared.event.Event.{Event};
 ghost use Rattle.plans.specs.Office.{Office};
-ghost use Rattle.serving.specs.Serving.{AreHeldByCalls, AreLed, AreStaged, AreTold, HasNoOtherRow, HeldByTheirCalls, HoldNoOthers, HoldTheirPairs, HoldersStand, KnowsServing};
+ghost use Rattle.service.specs.Serving.{AreHeldByCalls, AreLed, AreStaged, AreTold, HasNoOtherRow, HeldByTheirCalls, HoldNoOthers, HoldTheirPairs, HoldersStand, KnowsServing};
 
 /// Of a new agent, whose configuration keeps the rules, and after any event: the pool serves each call that stands, in the server's
 /// range; the relay table leads each port that its session names as the session asks; a port is held by a call that stands alone, which

@@ -25,13 +25,13 @@ use Rattle.calls.specs.declared.change.LegDialog.{LegDialog}
 use Rattle.calls.specs.declared.standing_call.StandingCall.{StandingCall}
 use Rattle.call_trace.specs.Listed.{AllOf}
 use Rattle.promise.proofs.Besides.{beside_same}
-use Rattle.serving.specs.Serving.{IsServedAsAsked, IsServing, IsStaged}
+use Rattle.service.specs.Serving.{IsServedAsAsked, IsServing, IsStaged}
 use Rattle.calls.proofs.KeptLaws.{Spared, kept_pushed, kept_put, kept_remove, kept_set, number_beside, standing_beside}
 use Rattle.call_media.proofs.HeldLaws.{holder_of_own, own_holder}
 use Rattle.call_media.proofs.ServeLaws.{Owns}
-use Rattle.serving.proofs.CallLists.{HasNumber, all_at, all_left, all_pushed, all_put, all_set, all_spared, all_weaker, all_with_served, new_differs, number_last, number_left, number_pushed, number_set, number_there}
-use Rattle.serving.proofs.CallSteps.{GoesOn, IsAsked, none_there, served_after}
-use Rattle.serving.proofs.MediaSteps.{asked_spared}
+use Rattle.service.proofs.CallLists.{HasNumber, all_at, all_left, all_pushed, all_put, all_set, all_spared, all_weaker, all_with_served, new_differs, number_last, number_left, number_pushed, number_set, number_there}
+use Rattle.service.proofs.CallSteps.{GoesOn, IsAsked, none_there, served_after}
+use Rattle.service.proofs.MediaSteps.{asked_spared}
 
 -- ---- what is put beside a call leaves its media
 

@@ -19,12 +19,12 @@ use Rattle.call_trace.specs.Listed.{AllOf, AnyOf}
 use Rattle.call_trace.specs.Promise.{IsReaddressed}
 use Rattle.call_trace.specs.Promised.{AreServed}
 use Rattle.call_trace.specs.Serving.{Hop, IsPairOf, IsRowOf, LeadsSession}
-use Rattle.serving.specs.Serving.{IsServedAsAsked, IsSessionOf, KnowsServing, call_holding, call_numbered, holder_in, trace_session, trace_table}
-use Rattle.serving.specs.Traced.{AreTraced, WasSettled, holder_by}
-use Rattle.serving.proofs.CallLists.{all_weaker}
-use Rattle.serving.proofs.CallSteps.{none_there}
-use Rattle.serving.proofs.Holders.{held_by_their_calls, holders_stand}
-use Rattle.serving.proofs.ToldSessions.{all_known, any_with, are_led, are_told, has_no_other_row}
+use Rattle.service.specs.Serving.{IsServedAsAsked, IsSessionOf, KnowsServing, call_holding, call_numbered, holder_in, trace_session, trace_table}
+use Rattle.service.specs.Traced.{AreTraced, WasSettled, holder_by}
+use Rattle.service.proofs.CallLists.{all_weaker}
+use Rattle.service.proofs.CallSteps.{none_there}
+use Rattle.service.proofs.Holders.{held_by_their_calls, holders_stand}
+use Rattle.service.proofs.ToldSessions.{all_known, any_with, are_led, are_told, has_no_other_row}
 use Rattle.call_media.proofs.HeldLaws.{own_holder}
 
 -- ---- some member, whatever it is

@@ -9,9 +9,9 @@ use Rattle.calls.specs.declared.standing_call.StandingCall.{StandingCall}
 use Rattle.plans.specs.Office.{Office}
 use Rattle.call_trace.specs.Listed.{AllOf, AnyOf}
 use Rattle.call_trace.specs.Serving.{IsPairOf}
-use Rattle.serving.specs.Serving.{HeldByTheirCalls, HoldersStand, IsSessionOf, KnowsServing, call_numbered, holder_in, trace_session}
-use Rattle.serving.proofs.CallLists.{all_weaker}
-use Rattle.serving.proofs.ToldSessions.{hold_their_pairs}
+use Rattle.service.specs.Serving.{HeldByTheirCalls, HoldersStand, IsSessionOf, KnowsServing, call_numbered, holder_in, trace_session}
+use Rattle.service.proofs.CallLists.{all_weaker}
+use Rattle.service.proofs.ToldSessions.{hold_their_pairs}
 
 -- ---- each is found by its number
 

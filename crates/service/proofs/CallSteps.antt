@@ -24,9 +24,9 @@ use Rattle.call_core.specs.Calls.{IsServed, awaits_answer, has_session, holds_in
 use Rattle.call_core.specs.Plans.{AnswersOn, IfLine, IsLine, LeadsOn, OffersOn, Step, ends_media, is_plain, releases}
 use Rattle.call_core.specs.Table.{row_of}
 use Rattle.promise.proofs.RequestViews.{by_if}
-use Rattle.serving.specs.Serving.{IsServedAsAsked, IsStaged}
+use Rattle.service.specs.Serving.{IsServedAsAsked, IsStaged}
 use Rattle.call_core.proofs.TableLaws.{answer_leads, offer_leads, plain_leads}
-use Rattle.serving.proofs.MediaSteps.{Goes, HaveRows, Once, answered, kept, offered, over, released}
+use Rattle.service.proofs.MediaSteps.{Goes, HaveRows, Once, answered, kept, offered, over, released}
 use Rattle.call_media.proofs.ServeLaws.{Owns}
 
 -- ---- what is known of a call before a step, and after it

@@ -1,5 +1,5 @@
-use Rattle.serving.proofs.ServingRows.{after_serves, list_serves, new_serves}
-use Rattle.serving.proofs.serving.calls_are_served.Goals as goal
+use Rattle.service.proofs.ServingRows.{after_serves, list_serves, new_serves}
+use Rattle.service.proofs.serving.calls_are_served.Goals as goal
 
 pub returns-clause-begins : goal.returns-clause-begins
 returns-clause-begins c = new_serves

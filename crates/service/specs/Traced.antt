@@ -10,7 +10,7 @@ use Rattle.call_trace.specs.declared.call.Settled.{Settled}
 use Rattle.call_trace.specs.declared.call.Stage.TheVariants.{Answered}
 use Rattle.call_trace.specs.declared.datagram.Dialog.{Dialog}
 use Rattle.call_trace.specs.Listed.{AllOf, AnyOf}
-use Rattle.serving.specs.Serving.{IsSessionOf, call_holding, trace_session}
+use Rattle.service.specs.Serving.{IsSessionOf, call_holding, trace_session}
 
 -- the caller's dialog of the call that holds the pair of a port
 abbrev pub holder_by : (StandingCall → Dialog) → Office → ℕ → Option Dialog

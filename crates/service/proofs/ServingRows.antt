@@ -55,16 +55,16 @@ use Rattle.checks.specs.Trace as traces
 use Rattle.checks.specs.Trace.{AreEntries, after_answer, after_entries, after_entry}
 use Rattle.promise.proofs.ResponseViews.{ResponseRow, ack_alone, again, answered, fork, provisional, refused, silent}
 use Rattle.call_trace.specs.Listed.{AllOf}
-use Rattle.serving.specs.Serving.{IsServedAsAsked, IsServing, KnowsServing}
+use Rattle.service.specs.Serving.{IsServedAsAsked, IsServing, KnowsServing}
 use Rattle.promise.proofs.RequestViews.{RequestRow, asks_callee, cancelled, counted_alone, left, passed_on, refreshed, replied, unfit}
 use Rattle.promise.proofs.MessageViews.{ReceivedRow, acknowledged, begun_by, dropped, moved, requested, responded}
 use Rattle.promise.proofs.Views.{DatagramRow, DueRow, WhatRow, call_fired, came, due, ended, fired_alone, idle, ignored, sent_again, stopped, timed, unfit_branched, unreadable, was_received, what_view}
 use Rattle.call_media.proofs.ServeLaws.{Owns}
 use Rattle.calls.proofs.KeptLaws.{Spared, kept_none, same_read}
 use Rattle.port_pool.proofs.PoolLaws.{IsPool-new_pool}
-use Rattle.serving.proofs.CallSteps.{GoesOn, HasPairsFor, IsAsked, call_goes, first_goes}
-use Rattle.serving.proofs.MediaSteps.{HaveRows, Once}
-use Rattle.serving.proofs.StandingSteps.{first_serves, known_at, leg_serves, step_serves}
+use Rattle.service.proofs.CallSteps.{GoesOn, HasPairsFor, IsAsked, call_goes, first_goes}
+use Rattle.service.proofs.MediaSteps.{HaveRows, Once}
+use Rattle.service.proofs.StandingSteps.{first_serves, known_at, leg_serves, step_serves}
 
 module _ (own : Owns) (once : Once) (have : HaveRows) (law : Spared) where
   -- ---- steps

@@ -1,6 +1,6 @@
-use Rattle.serving.proofs.ToldSessions.{are_held_by_calls, are_led, are_staged, are_told, has_no_other_row, hold_no_others, hold_their_pairs}
-use Rattle.serving.proofs.Holders.{held_by_their_calls, holders_stand}
-use Rattle.serving.proofs.serving.served_as_told.Goals as goal
+use Rattle.service.proofs.ToldSessions.{are_held_by_calls, are_led, are_staged, are_told, has_no_other_row, hold_no_others, hold_their_pairs}
+use Rattle.service.proofs.Holders.{held_by_their_calls, holders_stand}
+use Rattle.service.proofs.serving.served_as_told.Goals as goal
 
 pub returns-clause-staged : goal.returns-clause-staged
 returns-clause-staged c = are_staged

@@ -6,8 +6,8 @@ ghost use Rattle.call_trace.specs.declared.datagram.Dialog.{Dialog};
 ghost use Rattle.call_trace.specs.Promised.{AreServed};
 ghost use Rattle.calls.specs.declared.standing_call.StandingCall.{StandingCall};
 ghost use Rattle.plans.specs.Office.{Office};
-ghost use Rattle.serving.specs.Serving.{KnowsServing, trace_table};
-ghost use Rattle.serving.specs.Traced.{AreTraced, holder_by};
+ghost use Rattle.service.specs.Serving.{KnowsServing, trace_table};
+ghost use Rattle.service.specs.Traced.{AreTraced, holder_by};
 
 /// Where the agent's calls are served, and a trace lists calls of the same sessions, those are served as the media promise asks of a server
 /// beside its moves: each end was told what is alike, the table is of their sessions, and their pairs are held by their callers' dialogs.
