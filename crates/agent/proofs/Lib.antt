@@ -1,4 +1,3 @@
-mod RoomLaws
 mod StepLaws
 mod ConfigLaws
 mod TraceLaws

@@ -13,10 +13,10 @@ ghost use Rattle.checks.specs.State.{after_count, after_event, office};
 
 use crate::acks::keep;
 use crate::commit::{commit, enter, stop};
-use crate::rows::what_row;
 use crate::timing::earlier;
 use calls::{Calls, StandingCall};
 use checks::Tally;
+use event_plans::plan_event;
 use events::{Event, Sent};
 use offer_answer::OwnRange;
 use plans::{Doing, KeptAck, Office, Plan, Taken};
@@ -188,7 +188,7 @@ impl Agent {
         ensures unsent { OnErr result (sent.new.items ≡ sent.old.items) }
     {
         let now = self.moment.max(event.now);
-        let doing = what_row(&self.office(), now, event.salt, &event.what)?;
+        let doing = plan_event(&self.office(), now, event.salt, &event.what)?;
         self.carry_out(doing, sent, now)
     }
 

@@ -1,4 +1,4 @@
-use Rattle.agent.proofs.rows.response_by.Goals as goal
+use Rattle.event_plans.proofs.rows.response_by.Goals as goal
 
 pub returns-in-New-clause-fits : goal.returns-in-New-clause-fits
 returns-in-New-clause-fits c = c.drops_row.ensures.fits c.args.e.now

@@ -235,7 +235,7 @@ fn datagram_row(office: &Office<'_>, e: Setting, bytes: &[u8]) -> Result<Doing, 
 /// What an event of the moment `now`, in milliseconds, comes to.
 #[tactic(auto, unfolding(checks::specs::Rows::what_row))]
 #[inline(never)]
-pub(crate) fn what_row(
+pub fn plan_event(
     office: &Office<'_>,
     now: u64,
     salt: u64,

@@ -1,0 +1,11 @@
+//! The plan of an event: which rule a datagram or a due timer meets, by the order of checks, and what that comes to. It looks at an office that is lent,
+//! and changes nothing.
+#![tactic(auto)]
+
+mod due;
+mod letting_go;
+mod rows;
+mod rules;
+mod unread;
+
+pub use rows::plan_event;
