@@ -3,3 +3,9 @@ pub mod Known
 pub mod AlikeOffers
 pub mod FirstSends
 pub mod FirstInvites
+pub mod FitAnswerEvents
+pub mod FitAnswerRows
+pub mod FitAnswers
+pub mod GoingUp
+pub mod RefusalEvents
+pub mod Refusals
