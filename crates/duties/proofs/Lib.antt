@@ -9,3 +9,6 @@ pub mod FitAnswers
 pub mod GoingUp
 pub mod RefusalEvents
 pub mod Refusals
+pub mod FinalReplies
+pub mod LaterSends
+pub mod LaterRequests

@@ -5,4 +5,4 @@ mod answers;
 mod offers;
 
 pub use answers::{fit_answers_are_passed_on, refusals_are_passed_on};
-pub use offers::first_invites_are_passed_on;
+pub use offers::{first_invites_are_passed_on, later_requests_are_served};

@@ -12,7 +12,7 @@ ghost use Rattle.events.specs.declared.event.Event.{Event};
 ghost use Rattle.promise.specs.Addresses.{IsSource};
 ghost use Rattle.promised.specs.Standing.{AgentStands};
 ghost use Rattle.duties.specs.Coming.{BeginsTransaction};
-ghost use Rattle.duties.specs.Offers.{BeginsCall, IsFirstCall};
+ghost use Rattle.duties.specs.Offers.{BeginsCall, IsFirstCall, IsLaterRequest, IsServed};
 
 use dialogs::{contacts_are_read, dialogs_are_sound, invites_name_a_contact};
 use offer_answer::sent_is_read;
@@ -31,6 +31,22 @@ pub fn first_invites_are_passed_on()
     contacts_are_read();
     dialogs_are_sound();
     invites_name_a_contact();
+    bytes_say_all();
+    written_is_read();
+    bodies_describe();
+    sent_is_read();
+    calls_are_served();
+}
+
+/// An INVITE or UPDATE inside a dialog that is no repeat: in that step the other end is asked, by a request of the same method, what is alike to
+/// its offer; or it gets its final response from the server. One without an offer that can be read gets its final response. The agent stands after
+/// any events, and the request came from an address.
+pub fn later_requests_are_served()
+    ensures { (s : Contents) (event : Event) (t : List Datagram) (k : ℕ) → AgentStands s t k → (source : Addr) (bytes : List ℕ) (r : Request) (id : ℕ) →
+        IsSource source → BeginsTransaction s event source bytes r id → IsLaterRequest r → IsServed bytes r (row s event) }
+{
+    contacts_are_read();
+    dialogs_are_sound();
     bytes_say_all();
     written_is_read();
     bodies_describe();
