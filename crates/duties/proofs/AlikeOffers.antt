@@ -1,5 +1,5 @@
 -- What an end is told is alike to what the other said: of the offer that is open in a call, and of the answer of its session.
-use Rattle.std.proofs.Common.{◌≡◌, ℕ, zero, suc, List, [], ◌∷◌, Option, Some, subst}
+use Rattle.std.proofs.Common.{◌≡◌, ℕ, zero, suc, List, [], ◌∷◌, Some, subst}
 use Rattle.std.specs.Prelude.{slice_get}
 use Rattle.std.proofs.lemmas.Option.{none-some, same_Some}
 use Rattle.offer_answer.specs.Alike.{Alike}
@@ -10,8 +10,15 @@ use Rattle.call_media.specs.declared.session.Session.{Session}
 use Rattle.call_core.specs.Calls.{IsServed}
 use Rattle.calls.specs.State.{AreServed}
 use Rattle.calls.specs.declared.standing_call.StandingCall.{StandingCall}
+use Rattle.checks.specs.Rows.{after}
+use Rattle.checks.specs.State.{Contents, office}
+use Rattle.events.specs.declared.event.Event.{Event}
 use Rattle.plans.specs.Office.{Office}
 use Rattle.service.specs.Serving.{KnowsServing}
+
+-- what is served before an event is served after it
+abbrev pub Serves : Type 0
+Serves = (s : Contents) (e : Event) → KnowsServing (office s) → KnowsServing (office (after s e))
 
 served_at : (pool : pools.Contents) (cs : List StandingCall) (place : ℕ) (c : StandingCall) → AreServed pool cs → slice_get cs place ≡ Some c → IsServed c.call pool
 served_at pool [] place c h there = absurd (none-some c there)

@@ -1,5 +1,5 @@
 -- The row of an event with a message that counts: what the agent does for it.
-use Rattle.std.proofs.Common.{◌≡◌, ◌∙◌, ◌<◌, ℕ, Bool, true, false, cond, nat_le, ◌&&◌, List, [], ◌∷◌, Option, Some, None, Ok, refl, ap, sym}
+use Rattle.std.proofs.Common.{◌≡◌, ◌∙◌, ℕ, false, cond, nat_le, ◌&&◌, List, [], ◌∷◌, refl, ap}
 use Rattle.std.proofs.lemmas.Bool.{and_right, lt-leb}
 use Rattle.sip_uri.specs.declared.uri.Addr.{Addr}
 use Rattle.sip_message.specs.declared.message.Message.{Message}
@@ -10,15 +10,10 @@ use Rattle.transactions.specs.Contents.{reception_of}
 use Rattle.transactions.specs.Limits.{most_served}
 use Rattle.transactions.specs.Slots.{serving}
 use Rattle.transactions.specs.Changes.{change_of}
-use Rattle.transactions.specs.declared.outcome.Outgoing.{Outgoing}
-use Rattle.transactions.specs.declared.outcome.Reception.{Reception}
-use Rattle.transactions.specs.declared.change.Entry.{Entry}
 use Rattle.transactions.specs.declared.transaction.Transaction.{Transaction}
 use Rattle.events.specs.declared.event.Event.{Event}
 use Rattle.call_rules.specs.Responses.{response_rule}
 use Rattle.plans.specs.CallRows.{of_plan, responds_by, response_by_asked, response_row}
-use Rattle.plans.specs.Effect.{Effect}
-use Rattle.plans.specs.Office.{Office}
 use Rattle.plans.specs.Plan.{nothing}
 use Rattle.plans.specs.declared.setting.Setting.{Setting}
 use Rattle.plans.specs.declared.taken.Taken.TheVariants.{Dropped, Shed}

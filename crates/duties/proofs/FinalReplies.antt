@@ -1,5 +1,5 @@
 -- What the server answers by itself to an INVITE or UPDATE: one final response.
-use Rattle.std.proofs.Common.{◌≡◌, ◌∙◌, ℕ, ◌≤◌, ◌<◌, ◌^◌, true, false, nat_le, List, [], ◌∷◌, codes, Option, Some, None, Ok, inl, refl, ap, sym, subst, arith}
+use Rattle.std.proofs.Common.{◌≡◌, ◌∙◌, ℕ, ◌≤◌, ◌<◌, ◌^◌, true, false, nat_le, List, [], ◌∷◌, codes, None, Ok, inl, refl, sym, subst, arith}
 use Rattle.std.specs.Prelude.{IsTrue}
 use Rattle.std.proofs.lemmas.Bool.{false≢true, le-leb}
 use Rattle.events.specs.declared.sent.Sent.{Sent}

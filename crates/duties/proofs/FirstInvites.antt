@@ -1,5 +1,5 @@
 -- A first INVITE that no rule refuses, with room for its call: its row, and what that sends.
-use Rattle.std.proofs.Common.{◌≡◌, ◌∙◌, ◌<◌, ℕ, Bool, true, false, cond, is_some, length, nat_le, List, [], ◌∷◌, ◌++◌, map, Option, Some, None, refl, ap, sym, subst}
+use Rattle.std.proofs.Common.{◌≡◌, ◌∙◌, ℕ, true, cond, is_some, length, List, [], ◌∷◌, ◌++◌, map, Option, Some, None, refl, ap, sym, subst}
 use Rattle.std.specs.Prelude.{slice_get}
 use Rattle.std.proofs.lemmas.Bool.{lt-leb}
 use Rattle.events.specs.declared.event.Event.{Event}
@@ -8,33 +8,26 @@ use Rattle.sip_uri.specs.Address.{address_of}
 use Rattle.sip_uri.specs.declared.uri.Addr.{Addr}
 use Rattle.sip_uri.specs.declared.uri.Uri.{Uri}
 use Rattle.sip_message.specs.Contact.{contacts_of}
-use Rattle.sip_message.specs.declared.message.Message.TheVariants as Kinds
 use Rattle.sip_message.specs.declared.message.Request.{Request}
 use Rattle.sdp.specs.declared.description.Description.{Description}
 use Rattle.offer_answer.specs.Alike.{Alike}
-use Rattle.offer_answer.specs.Checks.{offer_fault}
 use Rattle.offer_answer.specs.declared.fault.OfferFault.{OfferFault}
 use Rattle.dialogs.specs.Making.{reached_at}
 use Rattle.call_core.specs.CallRows.{first_call_row}
 use Rattle.call_rules.specs.Content.{described}
 use Rattle.call_steps.specs.Rows.{begins_as, first_row}
 use Rattle.calls.specs.declared.standing_call.StandingCall.{StandingCall}
-use Rattle.plans.specs.CallRows.{are_full, begins, begins_by, call_row, first_by, has_pairs, most_calls, occasion, of_plan, target, unless_full, with_step}
+use Rattle.plans.specs.CallRows.{begins_by, call_row, first_by, has_pairs, most_calls, occasion, of_plan, unless_full, with_step}
 use Rattle.plans.specs.Effect.{Effect}
-use Rattle.plans.specs.Office.{Office}
 use Rattle.plans.specs.Replies.{responds_in}
-use Rattle.plans.specs.declared.rule.CallRule.TheVariants as callrules
 use Rattle.plans.specs.declared.setting.Setting.{Setting}
 use Rattle.checks.specs.Rows.{after, row, rule_row}
 use Rattle.checks.specs.Rules.{request_rule}
 use Rattle.checks.specs.State.{Contents, after_event, moment_at, office}
-use Rattle.checks.specs.declared.rule.Rule.TheVariants as rules
 use Rattle.transactions.specs.declared.change.Entry.{Entry}
 use Rattle.transactions.specs.declared.transaction.Transaction.{Transaction}
 use Rattle.call_trace.specs.declared.call.Call.{Call}
 use Rattle.call_trace.specs.declared.datagram.Datagram.{Datagram}
-use Rattle.call_trace.specs.declared.datagram.Message.{Message}
-use Rattle.trace_reading.specs.Message.{trace_message}
 use Rattle.promise.specs.Addresses.{IsSource}
 use Rattle.promise.proofs.Describing.{BodiesDescribe}
 use Rattle.promise.proofs.Events.{few_tokens}
@@ -45,16 +38,16 @@ use Rattle.service.specs.Serving.{KnowsServing}
 use Rattle.traces.specs.Messages.{AreMessages}
 use Rattle.promised.specs.Beginning.{entries_of}
 use Rattle.promised.specs.Offering.{IsFirstOffer}
-use Rattle.promised.specs.Standing.{AgentStands, IsUpheld}
+use Rattle.promised.specs.Standing.{AgentStands}
 use Rattle.promised.specs.Ties.{AreTied}
 use Rattle.promised.proofs.FirstSteps.{NamesOne, first_before, first_call, first_is, first_listed, first_reached}
 use Rattle.promised.proofs.Reading.{Reading}
 use Rattle.promised.proofs.RequestRules.{Fits, request_fits}
 use Rattle.duties.specs.Coming.{BeginsTransaction}
 use Rattle.duties.specs.Offers.{BeginsCall, IsFirstCall}
-use Rattle.duties.proofs.AlikeOffers.{offer_alike}
+use Rattle.duties.proofs.AlikeOffers.{Serves, offer_alike}
 use Rattle.duties.proofs.ComingRows.{begun_row, setting_of}
-use Rattle.duties.proofs.FirstSends.{calls_out, first_goes, opens, said}
+use Rattle.duties.proofs.FirstSends.{calls_out, first_goes, opens}
 use Rattle.duties.proofs.Known.{tied_of}
 
 -- ---- the row
@@ -90,9 +83,6 @@ got_last (y ∷ xs) x = got_last xs x
 leads_there : (o : Option Addr) → is_some o ≡ true → (callee : Addr) × (o ≡ Some callee)
 leads_there None h = absurd cc
 leads_there (Some callee) h = (callee, refl)
-
-abbrev pub Serves : Type 0
-Serves = (s : Contents) (e : Event) → KnowsServing (office s) → KnowsServing (office (after s e))
 
 module _ (reads : Reading) (names : ReadsNames) (describes : BodiesDescribe) (law : SentIsRead) (serves : Serves) (s : Contents) (event : Event) (begun : List Transaction) (sent : List Sent) (t : List Datagram) (calls : List Call) (serving : KnowsServing (office s)) (tied : AreTied (office s) begun sent t calls) (source : Addr) (bytes : List ℕ) (r : Request) (id : ℕ) (from : IsSource source) (came : BeginsTransaction s event source bytes r id) (to contact : Uri) (offer : Description) (h : IsFirstCall s (moment_at s event.now) r to offer) (reached : reached_at (contacts_of r.headers) ≡ Some contact) where
   abbrev e : Setting

@@ -6,7 +6,6 @@ use Rattle.sip_uri.specs.declared.uri.Addr.{Addr}
 use Rattle.sip_uri.specs.declared.uri.Uri.{Uri}
 use Rattle.sip_message.specs.Contact.{contacts_of}
 use Rattle.sip_message.specs.Read.{message_of}
-use Rattle.sip_message.specs.Words.{tag_text}
 use Rattle.sip_message.specs.declared.message.Message.TheVariants as Kinds
 use Rattle.sip_message.specs.declared.message.Request.{Request}
 use Rattle.sip_writing.specs.Reply.{answer_address}
@@ -14,7 +13,7 @@ use Rattle.sip_writing.specs.Requests.{server_via}
 use Rattle.sdp.specs.Writing.{description_text}
 use Rattle.sdp.specs.declared.description.Description.{Description}
 use Rattle.offer_answer.specs.Alike.{Alike}
-use Rattle.dialogs.specs.Counting.{following, method_text}
+use Rattle.dialogs.specs.Counting.{method_text}
 use Rattle.dialogs.specs.Making.{reached_at}
 use Rattle.dialogs.specs.Requests.{request_in}
 use Rattle.dialogs.specs.declared.method.Method.TheVariants as methods
@@ -44,7 +43,7 @@ use Rattle.call_trace.specs.declared.datagram.Datagram.{Datagram}
 use Rattle.call_trace.specs.declared.datagram.Message.{Message}
 use Rattle.trace_reading.specs.Message.{dialog_named, trace_message}
 use Rattle.promise.specs.Addresses.{IsSource}
-use Rattle.promise.specs.Seeing.{SeesRequest, SeesResponse, response_tag}
+use Rattle.promise.specs.Seeing.{SeesRequest, SeesResponse}
 use Rattle.promise.proofs.Describing.{BodiesDescribe}
 use Rattle.promise.proofs.ReadBack.{SentIsRead}
 use Rattle.promise.proofs.ReadParts.{method_is}
@@ -63,6 +62,9 @@ use Rattle.promised.proofs.Reading.{Reading}
 use Rattle.promised.proofs.SeenWords.{response_replies}
 use Rattle.promised.proofs.Taking.{offer_one, take_one, trying_one}
 use Rattle.duties.specs.Offers.{AsksAlike, CallsOut}
+
+two_whole : (ms rest more : List Message) (one other : Message) → ms ≡ one ∷ rest → rest ≡ other ∷ more → more ≡ [] → ms ≡ one ∷ other ∷ []
+two_whole ms rest more one other first second last = first ∙ ap (λ l. one ∷ l) (second ∙ ap (λ l. other ∷ l) last)
 
 module _ (names : ReadsNames) (describes : BodiesDescribe) (law : SentIsRead) (s : Office) (begun : List Transaction) (sent : List Sent) (t : List Datagram) (calls : List Call) (tied : AreTied s begun sent t calls) (e : Setting) (from : IsSource e.source) (bytes : List ℕ) (r : Request) (id : ℕ) (read : message_of bytes ≡ Ok (Kinds.Request r)) (to contact : Uri) (offer : Description) (p : IsFirstOffer s e.now r to offer) (reached : reached_at (contacts_of r.headers) ≡ Some contact) where
   abbrev o : Occasion
@@ -126,7 +128,7 @@ module _ (names : ReadsNames) (describes : BodiesDescribe) (law : SentIsRead) (s
       record {
         trying = tried.message;
         went = went.message;
-        whole = tried.whole ∙ ap (λ l. tried.message ∷ l) (went.whole ∙ ap (λ l. went.message ∷ l) went.more);
+        whole = two_whole ms tried.rest went.rest tried.message went.message tried.whole went.whole went.more;
         tries = seen.kind;
         replies = response_replies r.parts 100 asker.tag.now None tried.message came (request_of bytes r) seen (inl (sym (request_of bytes r).to_tag ∙ first_untagged r bytes p.no_tag));
         asks = asks.0;

@@ -1,5 +1,5 @@
 -- The event of a 2xx with an answer that fits the open offer of a call that an agent waits for.
-use Rattle.std.proofs.Common.{◌≡◌, ◌∙◌, ℕ, ◌<◌, ◌^◌, Bool, true, false, cond, is_some, List, [], ◌∷◌, ◌++◌, Option, Some, None, Ok, refl, ap, sym, subst}
+use Rattle.std.proofs.Common.{◌≡◌, ◌∙◌, ℕ, true, cond, is_some, List, [], ◌∷◌, ◌++◌, Option, Some, None, ap, sym, subst}
 use Rattle.std.specs.List.{All}
 use Rattle.std.specs.Prelude.{remove, slice_get, slice_set}
 use Rattle.std.proofs.lemmas.Option.{same_Some}
@@ -18,7 +18,7 @@ use Rattle.transactions.specs.declared.transaction.Transaction.{Transaction}
 use Rattle.events.specs.declared.event.Event.{Event}
 use Rattle.events.specs.declared.sent.Sent.{Sent}
 use Rattle.call_media.specs.Answers.{answer_sent}
-use Rattle.call_core.specs.CallRows.{is_fit}
+use Rattle.call_core.specs.CallRows.{call_row, is_fit}
 use Rattle.call_core.specs.Plans.{Step}
 use Rattle.call_core.specs.declared.input.Input.{Input}
 use Rattle.call_core.specs.declared.input.Input.TheVariants as inputs
@@ -27,6 +27,7 @@ use Rattle.call_rules.specs.Content.{described}
 use Rattle.call_rules.specs.declared.responses.ResponseRule.TheVariants as rule
 use Rattle.call_steps.specs.Effects as steps
 use Rattle.call_steps.specs.Rows.{answers_leg, does, messages_of, takes_by, takes_row}
+use Rattle.call_steps.specs.Values.{ComingValue, without_offer}
 use Rattle.call_steps.specs.declared.messages.StepMessages.{StepMessages}
 use Rattle.calls.specs.declared.standing_call.StandingCall.{StandingCall}
 use Rattle.plans.specs.CallRows.{occasion, responds_by, takes}
@@ -47,14 +48,14 @@ use Rattle.promise.proofs.Events.{few_tokens}
 use Rattle.promise.proofs.ReadBack.{SentIsRead}
 use Rattle.service.specs.Serving.{KnowsServing}
 use Rattle.traces.specs.Messages.{AreMessages}
-use Rattle.promised.specs.FitSteps.{IsFitStep, Talks}
+use Rattle.promised.specs.FitSteps.{IsFitStep}
 use Rattle.promised.specs.Going.{put_as}
 use Rattle.promised.specs.Responding.{RespondsToOffer}
 use Rattle.promised.specs.Standing.{AgentStands}
 use Rattle.promised.specs.Taking.{KnowsLegs}
 use Rattle.promised.specs.Ties.{AreTied}
 use Rattle.promised.proofs.FirstAnswers.{ReadingLaws}
-use Rattle.promised.proofs.FitSteps.{fit_talks}
+use Rattle.promised.proofs.FitSteps.{fit_row, fit_talks}
 use Rattle.promised.proofs.GoingOn.{stands_by}
 use Rattle.promised.proofs.LineSteps.{got_set}
 use Rattle.promised.proofs.Reading.{Reading}
@@ -62,10 +63,9 @@ use Rattle.promised.proofs.RuleReasons.{Reason, rule_reason}
 use Rattle.promised.proofs.Silence.{success_silent}
 use Rattle.duties.specs.Answers.{IsAnsweredTo, IsAwaited, IsFitAnswer, PassesAnswer}
 use Rattle.duties.specs.Coming.{GoesUp}
-use Rattle.duties.proofs.AlikeOffers.{answer_alike}
+use Rattle.duties.proofs.AlikeOffers.{Serves, answer_alike}
 use Rattle.duties.proofs.ComingRows.{setting_of, up_row}
-use Rattle.duties.proofs.FirstInvites.{Serves}
-use Rattle.duties.proofs.FitAnswerRows.{answer_passes, fits, step, w}
+use Rattle.duties.proofs.FitAnswerRows.{answer_passes}
 use Rattle.duties.proofs.GoingUp.{answered_up}
 use Rattle.duties.proofs.Known.{tied_of}
 
@@ -79,54 +79,54 @@ module _ (reads : Reading) (laws : ReadingLaws) (describes : BodiesDescribe) (la
   fit : is_fit c.call c.call.media.offer (described r.headers r.body) ≡ true
   fit = ap (is_fit c.call c.call.media.offer) f.described ∙ f.fit
 
-  abbrev does_step : Step
-  does_step = step reads laws describes law (office s) begun sent t old k tied requests trace_stands knows e place c h.standing h.there h.stands h.waits bytes r up.comes.read id asked to up.reached class offered h.came fit
+  abbrev input : Input
+  input = inputs.Answer (described r.headers r.body)
 
-  abbrev fit_step : IsFitStep c.call h.standing (described r.headers r.body) does_step
-  fit_step = fits reads laws describes law (office s) begun sent t old k tied requests trace_stands knows e place c h.standing h.there h.stands h.waits bytes r up.comes.read id asked to up.reached class offered h.came fit
+  abbrev step : Step
+  step = call_row c.call input s.calls.pool e.now
+
+  abbrev fits : IsFitStep c.call h.standing (described r.headers r.body) step
+  fits = fit_row c.call h.standing s.calls.pool e.now (described r.headers r.body) h.stands h.waits fit
+
+  abbrev w : ComingValue
+  w = without_offer (answers_leg s.calls.calls place asked.parts r) None
 
   abbrev said : StepMessages
-  said =
-      messages_of s.table (occasion (office s) e)
-      (w reads laws describes law (office s) begun sent t old k tied requests trace_stands knows e place c h.standing h.there h.stands h.waits bytes r up.comes.read id asked to up.reached class offered h.came fit) c does_step
+  said = messages_of s.table (occasion (office s) e) w c step
 
   abbrev new : StandingCall
-  new = put_as (w reads laws describes law (office s) begun sent t old k tied requests trace_stands knows e place c h.standing h.there h.stands h.waits bytes r up.comes.read id asked to up.reached class offered h.came fit) said does_step.call c
+  new = put_as w said step.call c
 
   abbrev Does : steps.Effect
-  Does =
-      does s.calls s.table (occasion (office s) e) place
-      (w reads laws describes law (office s) begun sent t old k tied requests trace_stands knows e place c h.standing h.there h.stands h.waits bytes r up.comes.read id asked to up.reached class offered h.came fit) c does_step
+  Does = does s.calls s.table (occasion (office s) e) place w c step
 
   -- ---- the row
 
   abbrev Takes : Effect
-  Takes = takes (office s) e begins (reception_of s.table (Kinds.Response r)).send (Some id) place (inputs.Answer (described r.headers r.body)) (answers_leg s.calls.calls place asked.parts r)
+  Takes = takes (office s) e begins (reception_of s.table (Kinds.Response r)).send (Some id) place input w.leg
 
   is_row : row s event ≡ Takes
   is_row = up_row s event source bytes r id asked up ∙ ap (responds_by (office s) e r begins (reception_of s.table (Kinds.Response r)).send id asked) h.rule_is
 
-  takes_is : takes_row s.calls s.table (occasion (office s) e) place (inputs.Answer (described r.headers r.body)) (answers_leg s.calls.calls place asked.parts r) None ≡ Does
+  takes_is : takes_row s.calls s.table (occasion (office s) e) place input w.leg None ≡ Does
   unfolding takes_row
-  takes_is = ap (takes_by s.calls s.table (occasion (office s) e) place (inputs.Answer (described r.headers r.body)) (answers_leg s.calls.calls place asked.parts r) None) h.there
+  takes_is = ap (takes_by s.calls s.table (occasion (office s) e) place input w.leg None) h.there
 
   -- ---- the call afterwards
 
-  talks : (m : Standing) × (new.call.standing ≡ Some m) × (does_step.call.standing ≡ Some m)
-  talks =
-      let y = fit_talks h.standing h.waits in
-      (y.standing, (stands_by (w reads laws describes law (office s) begun sent t old k tied requests trace_stands knows e place c h.standing h.there h.stands h.waits bytes r up.comes.read id asked to up.reached class offered h.came fit) said does_step.call c).standing ∙ (fit_step.next ∙ y.is), fit_step.next ∙ y.is)
+  goes_on : (m : Standing) × (step.call.standing ≡ Some m)
+  goes_on = let talks = fit_talks h.standing h.waits in (talks.standing, fits.next ∙ talks.is)
 
   calls_are : (after s event).calls.calls ≡ slice_set s.calls.calls place new
   unfolding after_event
   calls_are =
       ap (λ (y : Effect). y.calls.standing.calls) is_row ∙ (ap (λ (y : steps.Effect). y.outcome.standing.calls) takes_is
-      ∙ ap (λ (o : Option Standing). cond (is_some o) (slice_set s.calls.calls place new) (remove s.calls.calls place)) talks.2)
+      ∙ ap (λ (o : Option Standing). cond (is_some o) (slice_set s.calls.calls place new) (remove s.calls.calls place)) goes_on.1)
 
-  alike : Alike fit_step.answer (answer_sent c.call.media fit_step.offer fit_step.answer)
+  alike : Alike fits.answer (answer_sent c.call.media fits.offer fits.answer)
   alike =
       answer_alike (office (after s event)) (serves s event serving) place new (subst (λ l. slice_get l place ≡ Some new) (sym calls_are) (got_set s.calls.calls place c new h.there)) _
-      ((stands_by (w reads laws describes law (office s) begun sent t old k tied requests trace_stands knows e place c h.standing h.there h.stands h.waits bytes r up.comes.read id asked to up.reached class offered h.came fit) said does_step.call c).session ∙ fit_step.session)
+      ((stands_by w said step.call c).session ∙ fits.session)
 
   -- ---- what goes
 
@@ -134,13 +134,13 @@ module _ (reads : Reading) (laws : ReadingLaws) (describes : BodiesDescribe) (la
   sent_are ms are =
       let silent = success_silent s.table r class in
       let whole = subst (λ (y : Effect). AreMessages y.plan.sends ms) is_row are in
-      let step_sends = (takes_row s.calls s.table (occasion (office s) e) place (inputs.Answer (described r.headers r.body)) (answers_leg s.calls.calls place asked.parts r) None).dressed.sends in
+      let step_sends = (takes_row s.calls s.table (occasion (office s) e) place input w.leg None).dressed.sends in
       let own = subst (λ (o : Option Outgoing). AreMessages (goes o ++ step_sends) ms) silent whole in
       subst (λ (y : steps.Effect). AreMessages y.dressed.sends ms) takes_is own
 
   pub answered_to : IsAnsweredTo asked offered answer (row s event)
   answered_to =
-      let same : fit_step.answer ≡ answer = same_Some fit_step.answer answer (sym fit_step.said ∙ f.described) in
+      let same : fits.answer ≡ answer = same_Some fits.answer answer (sym fits.said ∙ f.described) in
       record {
         taken = ap (λ (y : Effect). y.plan.taken) is_row;
         sends = λ ms are.

@@ -1,10 +1,9 @@
 -- The row of a 2xx with an answer that fits the open offer of a call: what it sends.
-use Rattle.std.proofs.Common.{◌≡◌, ◌∙◌, ℕ, ◌<◌, ◌^◌, Bool, true, false, not, List, [], ◌∷◌, ◌++◌, Option, Some, None, Ok, option_map, refl, ap, sym, subst}
+use Rattle.std.proofs.Common.{◌≡◌, ◌∙◌, ℕ, true, false, not, List, [], ◌∷◌, Option, Some, None, Ok, option_map, refl, ap, sym, subst}
 use Rattle.std.specs.List.{All}
 use Rattle.std.specs.Option.{option_copied}
 use Rattle.std.specs.Prelude.{IsTrue, slice_get}
 use Rattle.std.proofs.lemmas.Bool.{false≢true}
-use Rattle.std.proofs.lemmas.Option.{same_Some}
 use Rattle.sip_message.specs.Read.{message_of}
 use Rattle.sip_message.specs.Words.{class_of}
 use Rattle.sip_message.specs.declared.message.Message.TheVariants as Kinds
@@ -16,7 +15,6 @@ use Rattle.transactions.specs.Slots.{at}
 use Rattle.transactions.specs.declared.transaction.Transaction.{Transaction}
 use Rattle.call_media.specs.Answers.{answer_sent}
 use Rattle.call_media.specs.Ends.{other}
-use Rattle.call_media.specs.declared.end.End.TheVariants.{Callee, Caller}
 use Rattle.call_media.specs.declared.session.OpenOffer.{OpenOffer}
 use Rattle.call_core.specs.Asked.{asked_row}
 use Rattle.call_core.specs.CallRows.{call_row, is_fit}
@@ -26,7 +24,6 @@ use Rattle.call_core.specs.Reasked.{reasked_row}
 use Rattle.call_core.specs.Rows.{first_interval, wait_time}
 use Rattle.call_core.specs.Table.{row_in, row_of}
 use Rattle.call_core.specs.Updating.{updating_row}
-use Rattle.call_core.specs.declared.action.Action.{Action}
 use Rattle.call_core.specs.declared.action.Action.TheVariants.{Set, Stop}
 use Rattle.call_core.specs.declared.action.CallTimer.TheVariants as timers
 use Rattle.call_core.specs.declared.input.Input.{Input}
@@ -59,13 +56,13 @@ use Rattle.promise.proofs.Describing.{BodiesDescribe}
 use Rattle.promise.proofs.ReadBack.{SentIsRead}
 use Rattle.promise.proofs.Rows.{answered_client}
 use Rattle.read_back.proofs.Comings.{answer_comes}
-use Rattle.traces.specs.Messages.{AreMessages, IsRequestOf, IsTakenOf}
+use Rattle.traces.specs.Messages.{AreMessages, IsTakenOf}
 use Rattle.promised.specs.Afterwards.{HasSpot}
 use Rattle.promised.specs.Coming.{scene_at}
 use Rattle.promised.specs.FitSteps.{IsFitStep}
 use Rattle.promised.specs.Heard.{HearsActions}
 use Rattle.promised.specs.Lines.{HasLegs, IsAt, actions_in}
-use Rattle.promised.specs.Listing.{is_listed as is_listed_call, is_listed_stage}
+use Rattle.promised.specs.Listing.{is_listed_stage}
 use Rattle.promised.specs.Responding.{RespondsToOffer}
 use Rattle.promised.specs.Scenes.{LegIn}
 use Rattle.promised.specs.Shows.{ShowsOffer, ShowsOpen, ShowsStage}
@@ -97,10 +94,10 @@ module _ (reads : Reading) (laws : ReadingLaws) (describes : BodiesDescribe) (la
   abbrev input : Input
   input = inputs.Answer (described r.headers r.body)
 
-  abbrev pub step : Step
+  abbrev step : Step
   step = call_row c.call input s.calls.pool e.now
 
-  abbrev pub w : ComingValue
+  abbrev w : ComingValue
   w = without_offer (answers_leg s.calls.calls place x.parts r) None
 
   abbrev scene : Scene
@@ -124,7 +121,7 @@ module _ (reads : Reading) (laws : ReadingLaws) (describes : BodiesDescribe) (la
   signal : TakesSignal n scene spot.call taken signals.UnfitAnswer
   signal = success_signals laws s e place c step.description begun sent t n spot.call r id x bytes taken knows tied.tokens tied.waiting tied.trace shown call_stands to read reaches took class
 
-  pub fits : IsFitStep c.call n (described r.headers r.body) step
+  abbrev fits : IsFitStep c.call n (described r.headers r.body) step
   fits = fit_row c.call n s.calls.pool e.now (described r.headers r.body) stands waits fit
 
   -- ---- the method of its request

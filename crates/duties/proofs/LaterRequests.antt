@@ -1,5 +1,5 @@
 -- An INVITE or UPDATE inside a dialog that is no repeat: it is passed on, or gets its final response.
-use Rattle.std.proofs.Common.{◌≡◌, ◌∙◌, ◌⊎◌, ℕ, ◌<◌, ◌^◌, true, codes, List, [], Option, Some, None, inl, inr, refl, ap, sym, subst}
+use Rattle.std.proofs.Common.{◌≡◌, ◌∙◌, ℕ, codes, List, Option, Some, None, inl, inr, refl, ap, sym, subst}
 use Rattle.std.specs.List.{All}
 use Rattle.std.proofs.lemmas.Option.{none-some}
 use Rattle.std.proofs.lemmas.Slice.Eq.{bytes_eq-Decides}
@@ -14,16 +14,11 @@ use Rattle.call_rules.specs.Content.{described}
 use Rattle.call_rules.specs.Requests.{dialog_rule}
 use Rattle.call_rules.specs.declared.requests.DialogRule.TheVariants as dialogrules
 use Rattle.calls.specs.declared.standing_call.StandingCall.{StandingCall}
-use Rattle.plans.specs.CallRows.{of_plan, okay_plan, passes, refuses}
+use Rattle.plans.specs.CallRows.{passes}
 use Rattle.plans.specs.Effect.{Effect}
-use Rattle.plans.specs.Plan.{Plan}
-use Rattle.plans.specs.Replies.{reply_row, responds_in}
-use Rattle.plans.specs.declared.rule.Reply.{Reply}
 use Rattle.plans.specs.declared.rule.Reply.TheVariants as replies
 use Rattle.plans.specs.declared.setting.Setting.{Setting}
-use Rattle.plans.specs.declared.taken.Taken.TheVariants.{Done}
-use Rattle.checks.specs.Rows.{after, row, rule_row}
-use Rattle.checks.specs.Rules.{request_rule}
+use Rattle.checks.specs.Rows.{after, row}
 use Rattle.checks.specs.State.{Contents, after_event, office}
 use Rattle.transactions.specs.declared.change.Entry.{Entry}
 use Rattle.transactions.specs.declared.transaction.Transaction.{Transaction}
@@ -54,10 +49,10 @@ use Rattle.promised.proofs.Reading.{Reading}
 use Rattle.promised.proofs.RequestCases.{RequestCase, request_view}
 use Rattle.promised.proofs.RequestCases as cases
 use Rattle.duties.specs.Coming.{BeginsTransaction}
-use Rattle.duties.specs.Offers.{IsFinalTo, IsLaterRequest, IsServed, PassedOrAnswered, PassesOn}
+use Rattle.duties.specs.Offers.{IsFinalTo, IsLaterRequest, IsServed, PassedOrAnswered}
 use Rattle.duties.proofs.ComingRows.{begun_row, setting_of}
 use Rattle.duties.proofs.FinalReplies.{IsFinalReply, can_answer, final_goes, no_other, okay_once, refuses_once, reply_once}
-use Rattle.duties.proofs.FirstInvites.{Serves}
+use Rattle.duties.proofs.AlikeOffers.{Serves}
 use Rattle.duties.proofs.Known.{tied_of}
 use Rattle.duties.proofs.LaterSends.{passed_alike, passes_on, passes_row}
 

@@ -1,5 +1,5 @@
 -- An offer inside a call that is passed on: what the call sends, and that this is alike.
-use Rattle.std.proofs.Common.{◌≡◌, ◌∙◌, ℕ, ◌+◌, ◌<◌, ◌^◌, ◌≤◌, true, cond, is_some, not, List, [], ◌∷◌, ◌++◌, codes, Option, Some, None, Ok, refl, ap, sym, subst, arith}
+use Rattle.std.proofs.Common.{◌≡◌, ◌∙◌, ℕ, ◌+◌, ◌<◌, ◌^◌, ◌≤◌, true, cond, is_some, List, codes, Option, Some, None, Ok, refl, ap, sym, subst, arith}
 use Rattle.std.specs.List.{All}
 use Rattle.std.specs.Option.{option_copied}
 use Rattle.std.specs.Prelude.{remove, slice_get, slice_set}

@@ -1,5 +1,5 @@
 -- The event of a refusal for which a call of an agent waits.
-use Rattle.std.proofs.Common.{◌≡◌, ◌∙◌, ℕ, ◌≤◌, List, [], ◌∷◌, ◌++◌, Option, Some, None, nat_lt, refl, ap, sym, subst}
+use Rattle.std.proofs.Common.{◌≡◌, ◌∙◌, ℕ, List, [], ◌∷◌, None, nat_lt, refl, ap, sym, subst}
 use Rattle.std.proofs.lemmas.Bool.{ltb-false}
 use Rattle.sip_uri.specs.declared.uri.Addr.{Addr}
 use Rattle.sip_message.specs.Words.{class_of}
@@ -11,14 +11,12 @@ use Rattle.transactions.specs.Contents.{reception_of}
 use Rattle.transactions.specs.declared.change.Entry.{Entry}
 use Rattle.transactions.specs.declared.transaction.Transaction.{Transaction}
 use Rattle.events.specs.declared.event.Event.{Event}
-use Rattle.events.specs.declared.sent.Sent.{Sent}
 use Rattle.call_core.specs.CallRows.{call_row}
 use Rattle.call_core.specs.Plans.{Step}
 use Rattle.call_core.specs.Table.{row_of}
 use Rattle.call_core.specs.declared.input.Input.TheVariants as inputs
 use Rattle.call_core.specs.declared.signal.Signal.TheVariants as signals
 use Rattle.call_rules.specs.declared.responses.ResponseRule.TheVariants as rule
-use Rattle.call_steps.specs.Effects as steps
 use Rattle.call_steps.specs.Rows.{messages_of, takes_by, takes_row}
 use Rattle.call_steps.specs.Values.{ComingValue, without_offer}
 use Rattle.calls.specs.declared.standing_call.StandingCall.{StandingCall}

@@ -1,5 +1,5 @@
 -- A refusal of the request of an open offer: the offerer gets its number, or the one that stands for it.
-use Rattle.std.proofs.Common.{◌≡◌, ◌∙◌, ℕ, ◌+◌, ◌≤◌, ◌==◌, ◌||◌, Bool, true, false, cond, List, [], ◌∷◌, ◌++◌, Option, Some, None, inl, inr, refl, ap, sym, subst}
+use Rattle.std.proofs.Common.{◌≡◌, ◌∙◌, ℕ, ◌==◌, ◌||◌, Bool, true, false, cond, List, [], ◌∷◌, ◌++◌, Option, Some, None, inl, inr, refl, ap, sym, subst}
 use Rattle.std.specs.Prelude.{unwrap_or}
 use Rattle.std.proofs.lemmas.Bool.{eqb-true, false≢true}
 use Rattle.std.proofs.lemmas.List.{append_assoc}
@@ -28,7 +28,6 @@ use Rattle.call_steps.specs.Scenes.{offerer_tag}
 use Rattle.calls.specs.declared.standing_call.StandingCall.{StandingCall}
 use Rattle.legs.specs.declared.scene.Asker.{Asker}
 use Rattle.legs.specs.declared.scene.Scene.{Scene}
-use Rattle.call_trace.specs.declared.datagram.Kind.{Kind}
 use Rattle.call_trace.specs.declared.datagram.Kind.TheVariants as kinds
 use Rattle.call_trace.specs.declared.datagram.Message.{Message}
 use Rattle.promise.specs.Saying.{SeesTo}

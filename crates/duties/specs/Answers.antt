@@ -1,5 +1,5 @@
 -- What a step does for the final response to an open offer: the offerer gets the answer, or the refusal.
-use Rattle.std.specs.Prelude.{◌≡◌, ℕ, true, List, ◌∷◌, [], ◌++◌, Option, Some, slice_get, IsTrue}
+use Rattle.std.specs.Prelude.{◌≡◌, ℕ, true, List, ◌∷◌, [], ◌++◌, Some, slice_get, IsTrue}
 use Rattle.sip_message.specs.declared.message.Response.{Response as SipResponse}
 use Rattle.sdp.specs.declared.description.Description.{Description}
 use Rattle.offer_answer.specs.Alike.{Alike}

@@ -1,5 +1,5 @@
 -- What a step does for an offer: it asks the other end what was offered, or answers the request for good.
-use Rattle.std.specs.Prelude.{◌≡◌, ◌<◌, ◌⊎◌, ℕ, true, codes, length, map, List, [], ◌∷◌, ◌++◌, Option, Some, None, IsTrue}
+use Rattle.std.specs.Prelude.{◌≡◌, ◌<◌, ◌⊎◌, ℕ, true, length, map, List, [], ◌∷◌, ◌++◌, Option, Some, None, IsTrue}
 use Rattle.sip_uri.specs.declared.uri.Addr.{Addr}
 use Rattle.sip_uri.specs.declared.uri.Uri.{Uri}
 use Rattle.sip_uri.specs.Address.{address_of}
