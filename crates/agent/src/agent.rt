@@ -7,7 +7,7 @@ ghost use Rattle.port_pool.specs.RelayTable.{changed_by};
 ghost use Rattle.plans.specs.Effect.{Fits, effect};
 ghost use Rattle.promised.specs.Keeping.{HoldsFor, RelaysLive};
 ghost use Rattle.promised.specs.Living.{ListsLive};
-ghost use Rattle.promised.specs.Standing.{AgentStands, StandsOn};
+ghost use Rattle.promised.specs.Standing.{AgentStands, SaysMessages, StandsOn};
 ghost use Rattle.checks.specs.Rows.{after, moment_after, next_due, only_counts, row, what_row};
 ghost use Rattle.checks.specs.State.{after_count, after_event, office};
 
@@ -150,6 +150,8 @@ impl Agent {
         ensures unsent { OnErr result (sent.new.items ≡ sent.old.items) }
         ensures counted { OnErr result (only_counts self.old event.entry.now ≡ None) }
         ensures stands { IfOk result (λ taken. StandsOn self.old event.entry.now.what taken sent.old.items sent.new.items self.new) }
+        // The trace has each datagram that is sent.
+        ensures said { OnOk result (SaysMessages self.old sent.old.items sent.new.items) }
     {
         agents_stand();
         event_comes_from_source(event);

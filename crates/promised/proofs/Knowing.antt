@@ -45,12 +45,14 @@ use Rattle.promise.proofs.WaitEvents.{after_waits, new_waits}
 use Rattle.promised.specs.Machines.{KnowsMachines}
 use Rattle.promised.specs.Ties.{AreTied}
 use Rattle.promised.proofs.MachineEvents.{after_machines, new_machines}
+use Rattle.read_back.specs.ReadDatagrams.{IsReadDatagram, IsReadText}
 use Rattle.read_back.specs.SoundClients.{KnowsClients}
 use Rattle.read_back.proofs.ClientRows.{after_clients, new_clients}
 use Rattle.promised.specs.Coming.{KnowsNumbersLeft}
 use Rattle.promised.proofs.CountingRows.{after_leaves, new_leaves}
 use Rattle.service.specs.Serving.{AreStaged, KnowsServing}
 use Rattle.promised.specs.Steps.{IsAfter}
+use Rattle.sip_message.specs.Grammar.{ReadsMessage}
 use Rattle.traces.specs.Asked.{KnowsAsked}
 use Rattle.traces.specs.Knowing.{KnowsTrace}
 use Rattle.traces.specs.Messages.{AreMessages}
@@ -69,6 +71,9 @@ pub record Laws : Type 0 where
   pub byes_new : (c : Config) (s : Contents) → IsNew c s → KnowsByes (office s) []
   pub byes : (s : Contents) (e : Event) (begun : List Transaction) (sent : List Sent) (t : List Datagram) (ds : List Call) (k : ℕ) (taken : Option Message) (ms : List Message) → AreTied (office s) begun sent t ds → KnowsAsked (office s)
       → ComesFromSource e.what → AreMessages (row s e).plan.sends ms → KnowsByes (office s) t → KnowsByes (office (after s e)) (t ++ passed k taken ms)
+  pub reads : (s : Contents) (e : Event) (sent : List Sent) → ComesFromSource e.what → KnowsDialogs (office s) → KnowsClients (office s) → KnowsDescriptions (office s) → KnowsAskers (office s) → KnowsTokens (office s)
+      → KnowsSent (office s) sent → All IsReadDatagram sent → All IsReadDatagram (sent ++ (row s e).plan.sends)
+  pub back : (bytes : List ℕ) (h : IsReadText bytes) → ReadsMessage bytes h.0
   pub none_stand : Stands offering [] 0 []
   pub moved : (n : ℕ) (t : List Datagram) (old new : List Call) (taken : Option Message) (sent : List Message) → Move offering t old taken sent new → Stands offering old n t → Stands offering new (suc n) (t ++ passed n taken sent)
 
@@ -84,6 +89,7 @@ new_known laws c s is new = record {
   media = new_bodies c s is.rules (record { four = is.four; octets = is.source.octets }) new;
   askers = new_askers c s is new;
   own = All-nil IsOwnDatagram;
+  reads = All-nil IsReadDatagram;
   callees = new_callees c s new;
   left = new_leaves c s new;
   numbers = new_numbers c s new;
@@ -110,6 +116,7 @@ module _ (laws : Laws) (s : Contents) (e : Event) (n : ℕ) (begun : List Transa
     media = after_bodies laws.texts.describes s e k.media;
     askers = askers_after;
     own = after_own laws.texts.describes s e sent from k.tokens k.again k.media k.askers k.own;
+    reads = laws.reads s e sent from k.dialogs k.clients k.media k.askers k.tokens k.again k.reads;
     callees = after_callees laws.names s e k.tokens k.waiting k.callees;
     left = after_leaves s e k.waiting k.left;
     numbers = after_numbers s e begun k.tokens k.waiting k.numbers;

@@ -126,3 +126,4 @@ pub mod OpenOffers
 pub mod Responses
 pub mod ReachedAnswers
 pub mod FirstAnswers
+pub mod SaidMessages

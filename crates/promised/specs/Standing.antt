@@ -33,11 +33,12 @@ use Rattle.promised.specs.Listing.{Listed}
 use Rattle.promised.specs.Machines.{KnowsMachines}
 use Rattle.promised.specs.Shows.{ShowsCall}
 use Rattle.promised.specs.Taken.{KnowsTaken}
+use Rattle.read_back.specs.ReadDatagrams.{IsReadDatagram}
 use Rattle.read_back.specs.SoundClients.{KnowsClients}
 use Rattle.service.specs.Serving.{KnowsServing}
 use Rattle.traces.specs.Asked.{KnowsAsked}
 use Rattle.traces.specs.Knowing.{KnowsTrace}
-use Rattle.traces.specs.Messages.{IsRequestOf}
+use Rattle.traces.specs.Messages.{AreMessages, IsRequestOf}
 use Rattle.transactions.specs.declared.transaction.Transaction.{Transaction}
 
 -- ---- the agent, which began these transactions and sent these datagrams, and the trace of it
@@ -53,6 +54,7 @@ pub record Knows (s : Office) (begun : List Transaction) (sent : List Sent) (t :
   pub media : KnowsDescriptions s
   pub askers : KnowsAskers s
   pub own : All IsOwnDatagram sent
+  pub reads : All IsReadDatagram sent
   pub callees : KnowsCallees s
   pub left : KnowsNumbersLeft s
   pub numbers : KnowsNumbers s begun
@@ -102,3 +104,8 @@ StandsOn s what answer before now later =
 abbrev pub StandsThrough : Contents → List Entry → List Entry → Contents → Type 0
 StandsThrough s before now later =
     (t : List Datagram) (k : ℕ) → AgentStands s t k → (more : List Entry) → now ≡ before ++ more → All EntersFromSource more → (rest : List Datagram) → AreTrace k more rest → AgentStands later (t ++ rest) (k + length more)
+
+-- what an event puts behind what was sent are messages by the grammar, so that the trace has each of them (RFC 3261 section 7)
+abbrev pub SaysMessages : Contents → List Sent → List Sent → Type 0
+SaysMessages s before now =
+    (t : List Datagram) (k : ℕ) → AgentStands s t k → (sends : List Sent) → now ≡ before ++ sends → (ms : List Message) × AreMessages sends ms

@@ -16,21 +16,22 @@ ghost use Rattle.promise.specs.Addresses.{IsConfigured};
 ghost use Rattle.promise.specs.Datagrams.{ComesFromSource, EntersFromSource};
 ghost use Rattle.promised.specs.Keeping.{HasPromisedCalls, HoldsFor, RelaysLive};
 ghost use Rattle.promised.specs.Living.{ListsLive};
-ghost use Rattle.promised.specs.Standing.{AgentStands, StandsOn, StandsThrough};
+ghost use Rattle.promised.specs.Standing.{AgentStands, SaysMessages, StandsOn, StandsThrough};
 ghost use Rattle.service.specs.Serving.{HoldNoOthers, holder_in};
 ghost use Rattle.traces.specs.Traces.{AreTrace, IsPassed};
 
 use crate::{byes_are_known, events_are_moves};
 use call_trace::{moves_keep, standing_is_promised};
 use dialogs::{contacts_are_read, dialogs_are_sound, invites_name_a_contact};
+use read_back::sends_are_read;
 use service::{calls_are_served, served_as_told, traced_calls_are_served};
 use sip_writing::written_is_read;
 use trace_reading::bodies_describe;
 use transactions::replies;
 
 /// A new agent, whose configuration keeps the rules, stands after the empty trace. An agent that stands after a trace stands after it with what an
-/// event took and sent, where its datagram came from an address; so it is of what it answers and puts behind what was sent, and of entries one behind
-/// the other. Of an agent that stands after a trace the whole media promise holds, with its address, its relay table and the holders of its ports;
+/// event took and sent, where its datagram came from an address; so it is of what it answers and puts behind what was sent, each of which is a message by
+/// the grammar, and of entries one behind the other. Of an agent that stands after a trace the whole media promise holds, with its address, its relay table and the holders of its ports;
 /// a pair that is held is held by a call that stands, and by the live one that names it; while no offer is open in a call, it holds the pairs of its
 /// session alone; and its calls that were answered, and that no end has left, are exactly the live ones of the trace.
 pub fn agents_stand()
@@ -41,6 +42,8 @@ pub fn agents_stand()
     ensures answers { (s : Contents) (event : Event) (answer : Taken) (before now : List Sent) (later : Contents) → ComesFromSource event.what →
         answer ≡ (row s event).plan.taken → now ≡ before ++ (row s event).plan.sends → later ≡ after s event →
         StandsOn s event.what answer before now later }
+    ensures said { (s : Contents) (event : Event) (before now : List Sent) → ComesFromSource event.what → now ≡ before ++ (row s event).plan.sends →
+        SaysMessages s before now }
     ensures entries { (s : Contents) (entries : List Entry) (t rest : List Datagram) (k : ℕ) → AgentStands s t k → AreEntries s entries →
         All EntersFromSource entries → AreTrace k entries rest → AgentStands (after_entries s entries) (t ++ rest) (k + length entries) }
     ensures runs { (s : Contents) (before now : List Entry) (events : List Event) (later : Contents) → Ran s before events later now →
@@ -63,5 +66,6 @@ pub fn agents_stand()
     moves_keep();
     traced_calls_are_served();
     standing_is_promised();
+    sends_are_read();
     events_are_moves();
 }

@@ -3,6 +3,7 @@ use Rattle.sip_message.specs.declared.message.Message.TheVariants as Kinds
 use Rattle.promise.proofs.ReadMessages.{message_reads, name_reads}
 use Rattle.promised.specs.Keeping.{dialog_with_caller}
 use Rattle.promised.proofs.Keeping.{PromiseLaws, answers_on, runs_through, standing_exact, standing_holds, standing_live, standing_promised, standing_relays, stands_new, stands_on, stands_through}
+use Rattle.promised.proofs.SaidMessages.{says_messages}
 use Rattle.promised.proofs.standing.agents_stand.Goals as goal
 
 pub returns-clause-begins : goal.returns-clause-begins
@@ -21,6 +22,8 @@ returns-clause-begins c =
       staged = c.served_as_told.ensures.staged;
       byes_new = c.byes_are_known.ensures.begins;
       byes = c.byes_are_known.ensures.step;
+      reads = c.sends_are_read.ensures.step;
+      back = c.sends_are_read.ensures.back;
       none_stand = c.moves_keep.ensures.none offering c.moves_keep.ensures.offering;
       moved = c.moves_keep.ensures.one offering;
     }
@@ -42,6 +45,8 @@ returns-clause-event c =
       staged = c.served_as_told.ensures.staged;
       byes_new = c.byes_are_known.ensures.begins;
       byes = c.byes_are_known.ensures.step;
+      reads = c.sends_are_read.ensures.step;
+      back = c.sends_are_read.ensures.back;
       none_stand = c.moves_keep.ensures.none offering c.moves_keep.ensures.offering;
       moved = c.moves_keep.ensures.one offering;
     }
@@ -63,10 +68,35 @@ returns-clause-answers c =
       staged = c.served_as_told.ensures.staged;
       byes_new = c.byes_are_known.ensures.begins;
       byes = c.byes_are_known.ensures.step;
+      reads = c.sends_are_read.ensures.step;
+      back = c.sends_are_read.ensures.back;
       none_stand = c.moves_keep.ensures.none offering c.moves_keep.ensures.offering;
       moved = c.moves_keep.ensures.one offering;
     }
     ) c.events_are_moves.ensures
+
+pub returns-clause-said : goal.returns-clause-said
+returns-clause-said c =
+    says_messages (
+    record {
+      texts = record {
+        reading = record { message = message_reads; name = name_reads; callee = c.dialogs_are_sound.ensures.callee; contact = c.contacts_are_read.ensures };
+        describes = c.bodies_describe.ensures;
+        written = c.written_is_read.ensures;
+        replies = c.replies.ensures.reply;
+      };
+      names = λ text r read. c.invites_name_a_contact.ensures.answer text r (message_reads text (Kinds.Response r) read);
+      serves_new = c.calls_are_served.ensures.begins;
+      serves = c.calls_are_served.ensures.step;
+      staged = c.served_as_told.ensures.staged;
+      byes_new = c.byes_are_known.ensures.begins;
+      byes = c.byes_are_known.ensures.step;
+      reads = c.sends_are_read.ensures.step;
+      back = c.sends_are_read.ensures.back;
+      none_stand = c.moves_keep.ensures.none offering c.moves_keep.ensures.offering;
+      moved = c.moves_keep.ensures.one offering;
+    }
+    )
 
 pub returns-clause-entries : goal.returns-clause-entries
 returns-clause-entries c =
@@ -84,6 +114,8 @@ returns-clause-entries c =
       staged = c.served_as_told.ensures.staged;
       byes_new = c.byes_are_known.ensures.begins;
       byes = c.byes_are_known.ensures.step;
+      reads = c.sends_are_read.ensures.step;
+      back = c.sends_are_read.ensures.back;
       none_stand = c.moves_keep.ensures.none offering c.moves_keep.ensures.offering;
       moved = c.moves_keep.ensures.one offering;
     }
@@ -105,6 +137,8 @@ returns-clause-runs c =
       staged = c.served_as_told.ensures.staged;
       byes_new = c.byes_are_known.ensures.begins;
       byes = c.byes_are_known.ensures.step;
+      reads = c.sends_are_read.ensures.step;
+      back = c.sends_are_read.ensures.back;
       none_stand = c.moves_keep.ensures.none offering c.moves_keep.ensures.offering;
       moved = c.moves_keep.ensures.one offering;
     }
@@ -126,6 +160,8 @@ returns-clause-promised c =
       staged = c.served_as_told.ensures.staged;
       byes_new = c.byes_are_known.ensures.begins;
       byes = c.byes_are_known.ensures.step;
+      reads = c.sends_are_read.ensures.step;
+      back = c.sends_are_read.ensures.back;
       none_stand = c.moves_keep.ensures.none offering c.moves_keep.ensures.offering;
       moved = c.moves_keep.ensures.one offering;
     }
@@ -147,6 +183,8 @@ returns-clause-lives c =
       staged = c.served_as_told.ensures.staged;
       byes_new = c.byes_are_known.ensures.begins;
       byes = c.byes_are_known.ensures.step;
+      reads = c.sends_are_read.ensures.step;
+      back = c.sends_are_read.ensures.back;
       none_stand = c.moves_keep.ensures.none offering c.moves_keep.ensures.offering;
       moved = c.moves_keep.ensures.one offering;
     }
@@ -168,6 +206,8 @@ returns-clause-relays c =
       staged = c.served_as_told.ensures.staged;
       byes_new = c.byes_are_known.ensures.begins;
       byes = c.byes_are_known.ensures.step;
+      reads = c.sends_are_read.ensures.step;
+      back = c.sends_are_read.ensures.back;
       none_stand = c.moves_keep.ensures.none offering c.moves_keep.ensures.offering;
       moved = c.moves_keep.ensures.one offering;
     }
@@ -189,6 +229,8 @@ returns-clause-holds c =
       staged = c.served_as_told.ensures.staged;
       byes_new = c.byes_are_known.ensures.begins;
       byes = c.byes_are_known.ensures.step;
+      reads = c.sends_are_read.ensures.step;
+      back = c.sends_are_read.ensures.back;
       none_stand = c.moves_keep.ensures.none offering c.moves_keep.ensures.offering;
       moved = c.moves_keep.ensures.one offering;
     }
