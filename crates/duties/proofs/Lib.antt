@@ -1,4 +1,3 @@
-pub mod ComingRows
 pub mod Known
 pub mod AlikeOffers
 pub mod FirstSends

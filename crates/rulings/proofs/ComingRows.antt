@@ -21,8 +21,7 @@ use Rattle.plans.specs.declared.taken.Why.TheVariants.{Stray}
 use Rattle.checks.specs.Rows.{begins, by_reading, datagram_row, fit_row, is_full, is_unreachable_message, read_row, received, received_by, request_by, response_by, row, row_by, rule_row, setting, unfit_branch, what_row}
 use Rattle.checks.specs.Rules.{request_rule}
 use Rattle.checks.specs.State.{Contents, moment_at, office}
-use Rattle.promised.specs.Beginning.{entries_of}
-use Rattle.duties.specs.Coming.{BeginsTransaction, Comes, GoesUp}
+use Rattle.rulings.specs.Coming.{BeginsTransaction, Comes, GoesUp}
 
 -- the setting of an event with a datagram from this source
 abbrev pub setting_of : Contents → Event → Addr → Setting
@@ -50,13 +49,13 @@ module _ (s : Contents) (event : Event) (source : Addr) (bytes : List ℕ) where
       ap (λ b. cond b (of_plan (office s) (nothing Shed)) (received_by (office s) e m (change_of s.table m source ∷ []) (reception_of s.table m).verdict (reception_of s.table m).send)) full
 
   -- a request that begins a transaction
-  pub begun_row : (r : Request) (id : ℕ) → BeginsTransaction s event source bytes r id → row s event ≡ rule_row (office s) e r (entries_of (office s) e r) id (request_rule (office s) r e.now)
+  pub begun_row : (r : Request) (id : ℕ) → BeginsTransaction s event source bytes r id → row s event ≡ rule_row (office s) e r (change_of s.table (Kinds.Request r) source ∷ []) id (request_rule (office s) r e.now)
   unfolding request_by
   begun_row r id h =
       let x = reception_of s.table (Kinds.Request r) in
       received_row (Kinds.Request r) h.comes refl
       ∙ (not_full (Kinds.Request r) (and_right (begins x.verdict) (nat_le most_served (serving s.table.slots)) (lt-leb most_served (serving s.table.slots) h.room))
-      ∙ ap (λ v. request_by (office s) e r (entries_of (office s) e r) v x.send) h.new)
+      ∙ ap (λ v. request_by (office s) e r (change_of s.table (Kinds.Request r) source ∷ []) v x.send) h.new)
 
   -- a response that goes up, by the rule of the request that it responds to
   pub up_row : (r : Response) (id : ℕ) (asked : Transaction) → GoesUp s event source bytes r id asked

@@ -1,0 +1,13 @@
+pub mod Receptions
+pub mod Ready
+pub mod ReadySteps
+pub mod CallRows
+pub mod EventCases
+pub mod Unasked
+pub mod Fireable
+pub mod Lasting
+pub mod Bound
+pub mod Registers
+pub mod Counting
+pub mod Deciding
+pub mod ComingRows
