@@ -104,7 +104,7 @@ impl Agent {
     }
 
     /// The number of the call that holds the pair of this port, used or reserved. Where the agent stands after a trace, that call stands, and is the
-    /// live one that names the pair. Takes no memory.
+    /// live one that names the pair; and while no offer is open in it, its session has the pair. Takes no memory.
     pub fn holder(&self, port: u16) -> Option<u64>
         ensures holder { result ≡ holder_at self.now.calls.pool.holdings port }
         ensures live { (t : List Datagram) (k : ℕ) → AgentStands self.now t k → HoldsFor self.now.calls.calls t port result }

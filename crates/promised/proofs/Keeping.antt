@@ -1,5 +1,5 @@
 -- The calls that are kept after any entries keep the whole media promise.
-use Rattle.std.proofs.Common.{◌≡◌, ◌∙◌, ℕ, suc, ◌+◌, List, [], ◌++◌, length, Option, ap, sym, subst, arith}
+use Rattle.std.proofs.Common.{◌≡◌, ◌∙◌, ℕ, suc, ◌+◌, true, false, List, [], ◌++◌, length, Option, Some, ap, sym, subst, arith}
 use Rattle.std.proofs.lemmas.List.{append_cancel_left}
 use Rattle.std.specs.List.{All}
 use Rattle.checks.specs.State.{Contents, IsNew, office}
@@ -13,10 +13,14 @@ use Rattle.call_trace.specs.Promised.{AreServed, Promised}
 use Rattle.call_trace.specs.Serving.{Hop}
 use Rattle.configuration.specs.declared.config.Config.{Config}
 use Rattle.events.specs.declared.sent.Sent.{Sent}
+use Rattle.call_core.specs.Calls.{awaits_answer, holds_in}
+use Rattle.call_media.specs.Sessions.{pairs_listed}
+use Rattle.port_pool.specs.Holdings.{even_of, is_among}
 use Rattle.plans.specs.Office.{Office}
 use Rattle.promise.specs.Addresses.{IsConfigured}
 use Rattle.promise.specs.Datagrams.{EntersFromSource}
 use Rattle.promise.specs.Knowledge.{sends_of}
+use Rattle.service.proofs.CallLists.{all_weaker}
 use Rattle.service.specs.Serving.{AreHeldByCalls, HoldNoOthers, KnowsServing, holder_in, trace_table}
 use Rattle.service.specs.Traced.{AreTraced, holder_by}
 use Rattle.traces.specs.Traces.{AreTrace}
@@ -80,10 +84,14 @@ standing_live laws promises s t k h =
 pub standing_relays : Laws → PromiseLaws → (s : Contents) (t : List Datagram) (k : ℕ) → AgentStands s t k → RelaysLive s.range.ip s.calls.pool.rows t
 standing_relays laws promises s t k h = let kept = (promise_kept laws promises (office s) h.0 h.1 t h.2.0 k h.2.1).promised in record { media = kept.media; each = kept.each; rows = kept.rows }
 
-pub standing_holds : Laws → PromiseLaws → ((s : Office) → KnowsServing s → AreHeldByCalls s) → (s : Contents) (t : List Datagram) (k port : ℕ) → AgentStands s t k → HoldsFor s.calls.calls t port (holder_in s.calls.pool port)
-standing_holds laws promises holders s t k port h = record {
+pub standing_holds : Laws → PromiseLaws → ((s : Office) → KnowsServing s → AreHeldByCalls s) → ((s : Office) → KnowsServing s → HoldNoOthers s) → (s : Contents) (t : List Datagram) (k port : ℕ) → AgentStands s t k → HoldsFor s.calls.calls t port (holder_in s.calls.pool port)
+standing_holds laws promises holders exact s t k port h = record {
   listed = λ n is. holders (office s) h.2.1.known.serving port n is;
   pairs = λ caller callee session live pair. (promise_kept laws promises (office s) h.0 h.1 t h.2.0 k h.2.1).promised.ports.held caller callee session port live pair;
+  alone =
+      all_weaker (λ c. holds_in awaits_answer c.call.standing ≡ false → (n : ℕ) → holder_in s.calls.pool n ≡ Some c.call.number → is_among (pairs_listed c.call.media.session) (even_of n) ≡ true)
+      (λ c. holds_in awaits_answer c.call.standing ≡ false → holder_in s.calls.pool port ≡ Some c.call.number → is_among (pairs_listed c.call.media.session) (even_of port) ≡ true)
+      (λ c each settled. each settled port) s.calls.calls (exact (office s) h.2.1.known.serving);
 }
 
 pub standing_exact : ((s : Office) → KnowsServing s → HoldNoOthers s) → (s : Contents) (t : List Datagram) (k : ℕ) → AgentStands s t k → HoldNoOthers (office s)

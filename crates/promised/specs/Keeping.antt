@@ -1,16 +1,19 @@
 -- What is kept after any events of an agent: of the trace of them, and of the calls of that trace.
 use Rattle.std.specs.FinMap.{get}
-use Rattle.std.specs.Prelude.{◌≡◌, ℕ, List, Option, Some, option_map}
+use Rattle.std.specs.Prelude.{◌≡◌, true, false, ℕ, List, Option, Some, option_map}
 use Rattle.call_trace.specs.declared.call.Call.{Call}
 use Rattle.call_trace.specs.declared.datagram.Datagram.{Datagram}
 use Rattle.call_trace.specs.declared.datagram.Dialog.{Dialog}
 use Rattle.call_trace.specs.Lives.{Stands}
 use Rattle.call_trace.specs.Messages.{offering}
-use Rattle.call_trace.specs.Listed.{AnyOf}
+use Rattle.call_trace.specs.Listed.{AllOf, AnyOf}
 use Rattle.call_trace.specs.Promise.{EachMeets, MediaPromise}
 use Rattle.call_trace.specs.Promised.{Promised}
 use Rattle.call_trace.specs.Serving.{Hop, IsLiveSession, IsPairOf, TablePromise, places_of}
 use Rattle.call_trace.specs.declared.call.Session.{Session}
+use Rattle.call_core.specs.Calls.{awaits_answer, holds_in}
+use Rattle.call_media.specs.Sessions.{pairs_listed}
+use Rattle.port_pool.specs.Holdings.{even_of, is_among}
 use Rattle.port_pool.specs.RelayTable.{Rows}
 use Rattle.calls.specs.declared.standing_call.StandingCall.{StandingCall}
 use Rattle.plans.specs.Office.{Office}
@@ -49,7 +52,9 @@ pub record RelaysLive (server : List ℕ) (table : Rows) (t : List Datagram) : T
   pub each : EachMeets offering server (places_of (table_of table)) t
   pub rows : TablePromise offering (table_of table) t
 
--- The pair of a port is held by the call of this number, which stands; and where a live call names the pair, it is that one.
+-- The pair of a port is held by the call of this number, which stands; where a live call names the pair, it is that one; and while no offer is open
+-- in the call that holds it, its session has the pair.
 pub record HoldsFor (calls : List StandingCall) (t : List Datagram) (port : ℕ) (number : Option ℕ) : Type 0 where
   pub listed : (n : ℕ) → number ≡ Some n → AnyOf (λ c. c.call.number ≡ n) calls
   pub pairs : (caller callee : Dialog) (s : Session) → IsLiveSession offering t caller callee s → IsPairOf port s → option_map dialog_with_caller (call_numbered calls number) ≡ Some caller
+  pub alone : AllOf (λ c. holds_in awaits_answer c.call.standing ≡ false → number ≡ Some c.call.number → is_among (pairs_listed c.call.media.session) (even_of port) ≡ true) calls

@@ -19,7 +19,7 @@ use Rattle.plans.specs.Office.{Office}
 use Rattle.call_trace.specs.Listed.{AllOf, AnyOf}
 use Rattle.call_trace.specs.Promise.{IsReaddressed}
 use Rattle.call_trace.specs.Serving.{Hop, IsPairOf, IsRowOf, LeadsSession}
-use Rattle.service.specs.Serving.{AreHeldByCalls, AreLed, AreStaged, AreTold, HasNoOtherRow, HoldNoOthers, HoldTheirPairs, IsServedAsAsked, IsStaged, IsSessionOf, KnowsServing, trace_session, trace_table}
+use Rattle.service.specs.Serving.{AreHeldByCalls, AreLed, AreStaged, AreTold, HasNoOtherRow, HoldNoOthers, HoldTheirPairs, IsServedAsAsked, IsSessionOf, IsStaged, KnowsServing, holder_in, trace_session, trace_table}
 use Rattle.call_media.proofs.HeldLaws.{among, holder_of_own, own_holder}
 use Rattle.service.proofs.CallLists.{all_weaker, all_with_served}
 use Rattle.service.proofs.CallSteps.{none_there}
@@ -88,7 +88,10 @@ module _ (s : Office) (k : KnowsServing s) where
 
   pub hold_no_others : HoldNoOthers s
   hold_no_others =
-      all_weaker Known (λ c. holds_in awaits_answer c.call.standing ≡ false → _) (λ c known settled. known.1.exact (none_there c.call.media.offer (known.0.offer ∙ settled))) s.calls.calls all_known
+      all_weaker Known (λ c. holds_in awaits_answer c.call.standing ≡ false → (port : ℕ) → holder_in s.calls.pool port ≡ Some c.call.number → is_among (pairs_listed c.call.media.session) (even_of port) ≡ true)
+      (λ c known settled port held. let own : is_port_of s.calls.pool c.call.media.number port ≡ true = rw (held, known.0.number) (own_holder c.call.number) in
+      known.1.exact (none_there c.call.media.offer (known.0.offer ∙ settled)) port own)
+      s.calls.calls all_known
 
   -- ---- each row is one of a session
 

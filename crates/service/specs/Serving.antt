@@ -118,4 +118,6 @@ HoldersStand s = (port : ℕ) (c : StandingCall) → call_holding s port ≡ Som
 
 -- while no offer is open in a call, it holds the pairs of its session alone
 abbrev pub HoldNoOthers : Office → Type 0
-HoldNoOthers s = AllOf (λ c. holds_in awaits_answer c.call.standing ≡ false → HoldsNoOther s.calls.pool c.call.media) s.calls.calls
+HoldNoOthers s =
+    AllOf (λ c. holds_in awaits_answer c.call.standing ≡ false → (port : ℕ) → holder_in s.calls.pool port ≡ Some c.call.number → is_among (pairs_listed c.call.media.session) (even_of port) ≡ true)
+    s.calls.calls

@@ -234,7 +234,7 @@ returns-clause-holds c =
       none_stand = c.moves_keep.ensures.none offering c.moves_keep.ensures.offering;
       moved = c.moves_keep.ensures.one offering;
     }
-    ) (record { served = c.traced_calls_are_served.ensures dialog_with_caller; promised = c.standing_is_promised.ensures.promised offering }) c.served_as_told.ensures.holders
+    ) (record { served = c.traced_calls_are_served.ensures dialog_with_caller; promised = c.standing_is_promised.ensures.promised offering }) c.served_as_told.ensures.holders c.served_as_told.ensures.exact
 
 pub returns-clause-exact : goal.returns-clause-exact
 returns-clause-exact c = standing_exact c.served_as_told.ensures.exact
