@@ -14,7 +14,7 @@ use Rattle.checks.specs.Rows.{after}
 use Rattle.checks.specs.State.{Contents, office}
 use Rattle.events.specs.declared.event.Event.{Event}
 use Rattle.plans.specs.Office.{Office}
-use Rattle.service.specs.Serving.{KnowsServing}
+use Rattle.promise.specs.Serving.{KnowsServing}
 
 -- what is served before an event is served after it
 abbrev pub Serves : Type 0

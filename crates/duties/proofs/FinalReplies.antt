@@ -35,8 +35,8 @@ use Rattle.promise.proofs.ReadParts.{IsStatus, same_method}
 use Rattle.promise.proofs.Repeats.{CanAnswer, FitsReply, fresh_token, responds_written}
 use Rattle.promise.proofs.SeenMessages.{response_sees}
 use Rattle.promise.proofs.UnsupportedField.{unsupported_written}
-use Rattle.read_back.specs.Said.{IsSaid}
-use Rattle.traces.specs.Messages.{AreMessages}
+use Rattle.promise.specs.Said.{IsSaid}
+use Rattle.promise.specs.Messages.{AreMessages}
 use Rattle.promised.proofs.Leaving.{request_of}
 use Rattle.promised.proofs.Reading.{Reading, message_is}
 use Rattle.promised.proofs.SeenWords.{response_replies}

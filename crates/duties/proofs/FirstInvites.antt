@@ -34,8 +34,8 @@ use Rattle.promise.proofs.Events.{few_tokens}
 use Rattle.promise.proofs.ReadBack.{SentIsRead}
 use Rattle.promise.proofs.Reading.{Reading as ReadsNames}
 use Rattle.promise.proofs.SoundRows.{callee_target}
-use Rattle.service.specs.Serving.{KnowsServing}
-use Rattle.traces.specs.Messages.{AreMessages}
+use Rattle.promise.specs.Serving.{KnowsServing}
+use Rattle.promise.specs.Messages.{AreMessages}
 use Rattle.promised.specs.Beginning.{entries_of}
 use Rattle.promised.specs.Offering.{IsFirstOffer}
 use Rattle.promised.specs.Standing.{AgentStands}

@@ -49,7 +49,7 @@ use Rattle.promise.proofs.ReadBack.{SentIsRead}
 use Rattle.promise.proofs.ReadParts.{method_is}
 use Rattle.promise.proofs.Reading.{Reading as ReadsNames}
 use Rattle.promise.proofs.SoundRows.{callee_target}
-use Rattle.traces.specs.Messages.{AreMessages}
+use Rattle.promise.specs.Messages.{AreMessages}
 use Rattle.promised.specs.Heard.{HearsAction}
 use Rattle.promised.specs.Offering.{IsFirstOffer}
 use Rattle.promised.specs.Scenes.{AskedLeg}

@@ -46,8 +46,8 @@ use Rattle.promise.proofs.Asking.{all_asked}
 use Rattle.promise.proofs.Describing.{BodiesDescribe}
 use Rattle.promise.proofs.Events.{few_tokens}
 use Rattle.promise.proofs.ReadBack.{SentIsRead}
-use Rattle.service.specs.Serving.{KnowsServing}
-use Rattle.traces.specs.Messages.{AreMessages}
+use Rattle.promise.specs.Serving.{KnowsServing}
+use Rattle.promise.specs.Messages.{AreMessages}
 use Rattle.promised.specs.FitSteps.{IsFitStep}
 use Rattle.promised.specs.Going.{put_as}
 use Rattle.promised.specs.Responding.{RespondsToOffer}

@@ -55,8 +55,8 @@ use Rattle.promise.specs.OpenRequests.{HasAsked}
 use Rattle.promise.proofs.Describing.{BodiesDescribe}
 use Rattle.promise.proofs.ReadBack.{SentIsRead}
 use Rattle.promise.proofs.Rows.{answered_client}
-use Rattle.read_back.proofs.Comings.{answer_comes}
-use Rattle.traces.specs.Messages.{AreMessages, IsTakenOf}
+use Rattle.promise.proofs.Comings.{answer_comes}
+use Rattle.promise.specs.Messages.{AreMessages, IsTakenOf}
 use Rattle.promised.specs.Afterwards.{HasSpot}
 use Rattle.promised.specs.Coming.{scene_at}
 use Rattle.promised.specs.FitSteps.{IsFitStep}

@@ -7,7 +7,7 @@ use Rattle.events.specs.declared.sent.Sent.{Sent}
 use Rattle.plans.specs.Office.{Office}
 use Rattle.promised.specs.Standing.{IsUpheld, Knows}
 use Rattle.promised.specs.Ties.{AreTied}
-use Rattle.read_back.specs.Comings.{KnowsScenes}
+use Rattle.promise.specs.Comings.{KnowsScenes}
 use Rattle.transactions.specs.declared.transaction.Transaction.{Transaction}
 
 pub scenes_known : (s : Office) (begun : List Transaction) (sent : List Sent) (t : List Datagram) → Knows s begun sent t → s.tokens < 2 ^ 63 → KnowsScenes s

@@ -37,8 +37,8 @@ use Rattle.promise.proofs.ReadBack.{SentIsRead}
 use Rattle.promise.proofs.Reading.{Reading as ReadsNames}
 use Rattle.promise.proofs.Repeats.{CanAnswer}
 use Rattle.promise.proofs.RequestViews.{IsPassedOffer}
-use Rattle.service.specs.Serving.{KnowsServing}
-use Rattle.traces.specs.Messages.{AreMessages}
+use Rattle.promise.specs.Serving.{KnowsServing}
+use Rattle.promise.specs.Messages.{AreMessages}
 use Rattle.promised.specs.Beginning.{entries_of}
 use Rattle.promised.specs.Standing.{AgentStands}
 use Rattle.promised.specs.Taking.{KnowsLegs}

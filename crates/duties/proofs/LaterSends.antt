@@ -47,9 +47,9 @@ use Rattle.promise.proofs.Carrying.{lent_text}
 use Rattle.promise.proofs.Describing.{BodiesDescribe}
 use Rattle.promise.proofs.ReadBack.{SentIsRead}
 use Rattle.promise.proofs.Reading.{Reading as ReadsNames}
-use Rattle.read_back.proofs.Comings.{offer_comes}
-use Rattle.service.specs.Serving.{KnowsServing}
-use Rattle.traces.specs.Messages.{AreMessages}
+use Rattle.promise.proofs.Comings.{offer_comes}
+use Rattle.promise.specs.Serving.{KnowsServing}
+use Rattle.promise.specs.Messages.{AreMessages}
 use Rattle.promised.specs.Afterwards.{HasSpot}
 use Rattle.promised.specs.Beginning.{entries_of}
 use Rattle.promised.specs.Coming.{scene_at}

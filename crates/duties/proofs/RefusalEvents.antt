@@ -34,9 +34,9 @@ use Rattle.promise.proofs.Describing.{BodiesDescribe}
 use Rattle.promise.proofs.Events.{few_tokens}
 use Rattle.promise.proofs.ReadBack.{SentIsRead}
 use Rattle.promise.proofs.ReadParts.{response_status}
-use Rattle.read_back.specs.Comings.{CanCome, KnowsScenes}
-use Rattle.read_back.proofs.Comings.{alone_comes}
-use Rattle.traces.specs.Messages.{AreMessages}
+use Rattle.promise.specs.Comings.{CanCome, KnowsScenes}
+use Rattle.promise.proofs.Comings.{alone_comes}
+use Rattle.promise.specs.Messages.{AreMessages}
 use Rattle.promised.specs.Coming.{scene_at}
 use Rattle.promised.specs.Heard.{HearsActions}
 use Rattle.promised.specs.Standing.{AgentStands}

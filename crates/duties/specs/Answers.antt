@@ -19,7 +19,7 @@ use Rattle.calls.specs.declared.standing_call.StandingCall.{StandingCall}
 use Rattle.checks.specs.State.{Contents}
 use Rattle.plans.specs.Effect.{Effect}
 use Rattle.plans.specs.declared.taken.Taken.TheVariants.{Done}
-use Rattle.traces.specs.Messages.{AreMessages, IsRequestOf}
+use Rattle.promise.specs.Messages.{AreMessages, IsRequestOf}
 use Rattle.transactions.specs.Slots.{at}
 use Rattle.transactions.specs.declared.transaction.Transaction.{Transaction}
 

@@ -25,7 +25,7 @@ use Rattle.checks.specs.Rules.{request_rule}
 use Rattle.checks.specs.State.{Contents, office}
 use Rattle.checks.specs.declared.rule.Rule.TheVariants.{Call}
 use Rattle.trace_reading.specs.Message.{trace_message}
-use Rattle.traces.specs.Messages.{AreMessages}
+use Rattle.promise.specs.Messages.{AreMessages}
 
 -- the other end is asked what was offered, by a request of the same method (RFC 3264 section 5)
 pub record AsksAlike (came : Message) (offer : Description) (went : Message) : Type 0 where

@@ -17,7 +17,7 @@ ghost use Rattle.rulings.specs.Coming.{GoesUp};
 
 use dialogs::{contacts_are_read, dialogs_are_sound, invites_name_a_contact};
 use offer_answer::sent_is_read;
-use service::calls_are_served;
+use promise::calls_are_served;
 use sip_writing::written_is_read;
 use trace_reading::{bodies_describe, bytes_say_all};
 use transactions::replies;

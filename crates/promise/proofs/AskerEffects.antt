@@ -31,7 +31,7 @@ use Rattle.promise.specs.Sending.{AckWasSent, AnswerWasSent, CallWasSent, KnowsS
 use Rattle.promise.proofs.AskedCalls.{at_place, dialog_same, same_on}
 use Rattle.promise.proofs.Repeats.{one_own}
 use Rattle.promise.proofs.Replying.{IsReply}
-use Rattle.promise.proofs.Serving.{SpareAll, all_waits, spare_joined}
+use Rattle.promise.proofs.ServedRequests.{SpareAll, all_waits, spare_joined}
 use Rattle.promise.proofs.Speaking.{AgainIsOwn, CanOkay, EnterAsked, asked_joined}
 use Rattle.promise.proofs.SpokenLines.{FitsInput, is_offer_input}
 use Rattle.promise.proofs.SpokenOffers.{same_offers, takes_speak}

@@ -49,7 +49,7 @@ use Rattle.promise.proofs.Firing.{free_differs}
 use Rattle.promise.proofs.Grounds.{read_repeats}
 use Rattle.promise.proofs.MessageViews.{begun_by}
 use Rattle.promise.proofs.Repeats.{one_own}
-use Rattle.promise.proofs.Serving.{OnlyEarly, Spares}
+use Rattle.promise.proofs.ServedRequests.{OnlyEarly, Spares}
 use Rattle.promise.proofs.Speaking.{EntersAsked}
 use Rattle.promise.proofs.SpokenSteps.{IsBegun, IsBegunAs}
 

@@ -72,7 +72,7 @@ use Rattle.promise.proofs.MessageViews.{ReceivedRow, acknowledged, begun_by, dro
 use Rattle.promise.proofs.ReadParts.{response_status, same_method}
 use Rattle.promise.proofs.Repeats.{CanAnswer, one_own, responds_read, stateless_token}
 use Rattle.promise.proofs.RequestViews.{by_if}
-use Rattle.promise.proofs.Serving.{all_entered_asked}
+use Rattle.promise.proofs.ServedRequests.{all_entered_asked}
 use Rattle.promise.proofs.SpokenSteps.{IsBegun, IsBegunAs, same_kept}
 use Rattle.promise.proofs.UnsupportedField.{unsupported_written}
 use Rattle.promise.proofs.Views.{DueRow, WhatRow, call_fired, came, due, ended, fired_alone, idle, sent_again, stopped, timed, what_view}

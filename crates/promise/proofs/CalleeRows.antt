@@ -72,7 +72,7 @@ use Rattle.promise.proofs.RequestViews.{RequestRow, asks_callee, cancelled, coun
 use Rattle.promise.proofs.ResponseViews.{IsAsked, ResponseRow, ack_alone, again, answered, fork, provisional, refused, silent}
 use Rattle.promise.proofs.Rows.{answered_client}
 use Rattle.promise.proofs.Slots.{own_at}
-use Rattle.promise.proofs.Steps.{answers_fits, asked_leg, counts_fits}
+use Rattle.promise.proofs.TaggedSteps.{answers_fits, asked_leg, counts_fits}
 use Rattle.promise.proofs.Tables.{IsNoOfferInput, consumes_input}
 use Rattle.promise.proofs.Views.{DatagramRow, DueRow, WhatRow, call_fired, came, due, ended, fired_alone, idle, ignored, sent_again, stopped, timed, unfit_branched, unreadable, was_received, what_view}
 use Rattle.promise.proofs.WaitEffects.{answers_grows, fork_waits, late_waits, reply_none}

@@ -68,7 +68,7 @@ use Rattle.promise.proofs.CalleeTables.{StaysUnanswered, call_nowhere, call_stay
 use Rattle.promise.proofs.Coming.{OpensIn}
 use Rattle.promise.proofs.Offering.{IsOfferIn, IsOfferTo, asked_parts, given_up_none, none_offered, opens_split, said_offered, trying_none}
 use Rattle.promise.proofs.OpenSteps.{offer_tag}
-use Rattle.promise.proofs.Steps.{counts_fits, new_tags}
+use Rattle.promise.proofs.TaggedSteps.{counts_fits, new_tags}
 use Rattle.promise.proofs.Tables.{IsNoOfferInput, consumes_input, takes_fits}
 use Rattle.promise.proofs.Tagged.{alone_tagged, has_tag_of, scene_dialog, tag_of_end}
 use Rattle.promise.proofs.WaitFirst.{first_stands, offered_first, pushed_all}

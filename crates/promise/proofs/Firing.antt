@@ -32,7 +32,7 @@ use Rattle.call_steps.specs.Messages.{given_up, is_abandon, messages}
 use Rattle.call_steps.specs.Values.{SceneValue, lent_scene}
 use Rattle.promise.specs.Acks.{IsAnswered, had_final}
 use Rattle.promise.proofs.Coming.{inside}
-use Rattle.promise.proofs.Sends.{EntriesWereSaid}
+use Rattle.promise.proofs.KeptSends.{EntriesWereSaid}
 use Rattle.promise.proofs.SendSteps.{one_said}
 
 abbrev pub is_fires : Input → Bool

@@ -14,7 +14,7 @@ use Rattle.call_steps.specs.Values.{SceneValue, lent_scene}
 use Rattle.promise.specs.Numbers.{GoInOrder, is_own, own_of}
 use Rattle.promise.specs.Sending.{WasSent}
 use Rattle.promise.proofs.Once.{NoneOwn}
-use Rattle.promise.proofs.Sends.{BytesWereSaid, EntriesWereSaid}
+use Rattle.promise.proofs.KeptSends.{BytesWereSaid, EntriesWereSaid}
 use Rattle.promise.proofs.SendSteps.{one_said}
 
 -- changes, and what is sent with them

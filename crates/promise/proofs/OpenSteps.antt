@@ -65,7 +65,7 @@ use Rattle.promise.proofs.Keeping.{beside_media, step_open}
 use Rattle.promise.proofs.Offering.{IsOfferIn, IsOfferTo, said_offered}
 use Rattle.promise.proofs.OpenRequests.{BeginsOne, CanOffer, Within, behind_begins, offer_begins, request_within, requests_within, said_begins, still_request}
 use Rattle.promise.proofs.SoundCalls.{dialog_sound}
-use Rattle.promise.proofs.Steps.{counts_fits}
+use Rattle.promise.proofs.TaggedSteps.{counts_fits}
 use Rattle.promise.proofs.Tables.{IsNoOfferInput, TakesFits, consumes_input, takes_fits}
 use Rattle.promise.proofs.Tagged.{has_tag_of, leg_tag, scene_dialog, tag_of_end}
 use Rattle.promise.proofs.WaitFirst.{first_carries, first_fits, first_stands, offered_first, pushed_all}

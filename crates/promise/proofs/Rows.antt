@@ -48,7 +48,7 @@ use Rattle.promise.specs.Tokens.{IsMade, IsOwn}
 use Rattle.promise.proofs.Calls.{FitsLeg, changed_by}
 use Rattle.promise.proofs.Growing.{calls_more, entries_append}
 use Rattle.promise.proofs.Slots.{own_at}
-use Rattle.promise.proofs.Steps.{OwnStep, answers_fits, counts_fits, first_own, fork_own, late_own, offers_own, refreshes_fits, takes_own}
+use Rattle.promise.proofs.TaggedSteps.{OwnStep, answers_fits, counts_fits, first_own, fork_own, late_own, offers_own, refreshes_fits, takes_own}
 use Rattle.promise.proofs.Replying.{IsReply, okay_reply, responds_reply, row_reply}
 use Rattle.promise.proofs.RequestViews.{RequestRow, asks_callee, cancelled, counted_alone, left, passed_on, refreshed, replied, unfit}
 use Rattle.promise.proofs.ResponseViews.{ResponseRow, ack_alone, again, answered, fork, provisional, refused, silent}

@@ -59,7 +59,7 @@ use Rattle.plans.specs.Replies.{reply_row, responds_in}
 use Rattle.checks.specs.Rows.{after, moment_after, no_source, only_counts, row, row_by, setting, what_row}
 use Rattle.checks.specs.State.{Contents, IsNew, after_event, moment_at, office}
 use Rattle.promise.specs.Sending.{AckWasSent, AnswerWasSent, CallWasSent, KnowsSent, LastWasSent, WasSentIf}
-use Rattle.promise.proofs.Sends.{EntriesWereSent, Within, acks_within, all_entered_last, calls_within, entries_joined, entries_within, EntryWasSent, message_sent, request_change_sent, sent_left, sent_right, slots_within}
+use Rattle.promise.proofs.KeptSends.{EntriesWereSent, Within, acks_within, all_entered_last, calls_within, entries_joined, entries_within, EntryWasSent, message_sent, request_change_sent, sent_left, sent_right, slots_within}
 use Rattle.promise.proofs.SendSteps.{SentStep, changed_sent, first_sends, fork_sends, late_sends, offers_sent, takes_sent}
 use Rattle.promise.proofs.Replying.{IsReply, okay_reply, responds_reply, row_reply}
 use Rattle.promise.proofs.RequestViews.{RequestRow, asks_callee, cancelled, counted_alone, left, passed_on, refreshed, replied, unfit}

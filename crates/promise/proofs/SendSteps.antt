@@ -56,7 +56,7 @@ use Rattle.call_steps.specs.Scenes.{first_scene, fork_scene, passed_id, scene}
 use Rattle.call_steps.specs.Values.{AskerValue, ComingValue, SceneValue, dressed_in, lent_scene, without_offer}
 use Rattle.calls.specs.Changes.{unchanged}
 use Rattle.promise.specs.Sending.{AnswerWasSent, CallWasSent}
-use Rattle.promise.proofs.Sends.{EntriesWereSaid, EntriesWereSent, EntryWasSaid, calls_within, entries_joined, entries_said, entries_within, sent_left, sent_right}
+use Rattle.promise.proofs.KeptSends.{EntriesWereSaid, EntriesWereSent, EntryWasSaid, calls_within, entries_joined, entries_said, entries_within, sent_left, sent_right}
 
 -- ---- dressed messages
 

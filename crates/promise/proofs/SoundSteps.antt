@@ -49,7 +49,7 @@ use Rattle.promise.proofs.Awaiting.{all_at, put_or_gone}
 use Rattle.promise.proofs.Reading.{Reading, callees_leg, callers_sound}
 use Rattle.promise.proofs.SoundCalls.{IsSoundPut, IsSoundTaken, KeepsSound, beside_sound, call_sound, coming_sound, counts_sound, dialog_sound, first_call_sound, leg_at_sound, pushed_sound, refreshed_sound, step_legs}
 use Rattle.promise.proofs.SoundDressings.{AllSay, SaysEnds, SaysEndsIf, SaysIfInvite, said_says, sound_ends}
-use Rattle.promise.proofs.Steps.{awaits_client}
+use Rattle.promise.proofs.TaggedSteps.{awaits_client}
 use Rattle.promise.proofs.Texts.{leg_call_id_is, leg_call_id_value}
 use Rattle.promise.proofs.TokenRuns.{token_run}
 

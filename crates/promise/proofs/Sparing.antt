@@ -26,7 +26,7 @@ use Rattle.legs.specs.Dressed.{asks, asks_at}
 use Rattle.legs.specs.Dressing.{asks_if, branch, dialog_with, dress_one, dressed, method_of, says_ack, says_again, says_answer, says_bye, says_cancel, says_offer, says_okay, says_provisional, says_refusal, says_trying}
 use Rattle.legs.specs.Messages.{ack, bye, offer}
 use Rattle.call_steps.specs.Messages.{given_up}
-use Rattle.promise.proofs.Serving.{SpareAll, spare_joined}
+use Rattle.promise.proofs.ServedRequests.{SpareAll, spare_joined}
 use Rattle.promise.proofs.Speaking.{FitActions, FitsAction, IsEarly}
 use Rattle.promise.proofs.SpokenLines.{is_final, says_final}
 

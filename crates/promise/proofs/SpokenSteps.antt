@@ -40,7 +40,7 @@ use Rattle.promise.specs.Knowing.{HasLegTag, HasMadeTags}
 use Rattle.promise.specs.Datagrams.{IsOwnDatagram}
 use Rattle.promise.proofs.AskedCalls.{ApartFromAll, GoesOn, SameOffer, all_removed, all_removed_besides, all_set_besides, apart_removed, at_place, besides_apart, beside_same, set_new, set_on}
 use Rattle.promise.proofs.ReadParts.{IsTokenRun}
-use Rattle.promise.proofs.Serving.{SpareAll, all_stand, all_waits, served_asked, spare_joined, stands_as, unanswered_server}
+use Rattle.promise.proofs.ServedRequests.{SpareAll, all_stand, all_waits, served_asked, spare_joined, stands_as, unanswered_server}
 use Rattle.promise.proofs.Sparing.{SparedBy, dressed_spares, given_up_spares}
 use Rattle.promise.proofs.Speaking.{AgainIsOwn, CanOkay, CanSayIf, EnterAsked, FitActions, IsOwnScene, IsShortIf, all_speak, answer_offer, answers_offer, asked_joined}
 use Rattle.promise.proofs.SpokenLines.{CallSpeaks, is_final, says_final, waits_in}

@@ -50,7 +50,7 @@ use Rattle.promise.proofs.InOrder.{AreSent, messages_sent}
 use Rattle.promise.proofs.Offering.{IsOfferIn, IsOfferTo, said_offered}
 use Rattle.promise.proofs.OneOffer.{HasOne, said_one}
 use Rattle.promise.proofs.Once.{OneOffers}
-use Rattle.promise.proofs.Steps.{new_tags}
+use Rattle.promise.proofs.TaggedSteps.{new_tags}
 use Rattle.promise.proofs.Tagged.{asked_callee, tagged}
 
 -- ---- a step that may begin an offer, where so many tokens were made before it

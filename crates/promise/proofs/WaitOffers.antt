@@ -45,7 +45,7 @@ use Rattle.promise.proofs.InOrder.{messages_sent}
 use Rattle.promise.proofs.Keeping.{beside_media}
 use Rattle.promise.proofs.Offering.{IsOfferIn, IsOfferTo, said_offered}
 use Rattle.promise.proofs.OneOffer.{said_one}
-use Rattle.promise.proofs.Steps.{counts_fits}
+use Rattle.promise.proofs.TaggedSteps.{counts_fits}
 use Rattle.promise.proofs.Tagged.{alone_tagged, asked_at, differs_at, has_tag_of, leg_tag, scene_dialog, tag_of_end}
 use Rattle.promise.proofs.WaitFirst.{BeginsOffer}
 use Rattle.promise.proofs.WaitPassed.{PassesOn, counted, last_counted, none_open, not_last, passes_grows, passes_on}

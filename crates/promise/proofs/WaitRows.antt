@@ -60,7 +60,7 @@ use Rattle.promise.proofs.MessageViews.{IsResponseTo, MessageRow, acknowledged, 
 use Rattle.promise.proofs.Views.{DatagramRow, DueRow, WhatRow, call_fired, came, due, ended, fired_alone, idle, ignored, sent_again, stopped, timed, unfit_branched, unreadable, was_received, what_view}
 use Rattle.promise.proofs.Rows.{answered_client, served_by}
 use Rattle.promise.proofs.Slots.{own_at}
-use Rattle.promise.proofs.Steps.{answers_fits, counts_fits, refreshes_fits}
+use Rattle.promise.proofs.TaggedSteps.{answers_fits, counts_fits, refreshes_fits}
 use Rattle.promise.proofs.Tables.{IsNoOfferInput, consumes_input}
 use Rattle.promise.proofs.WaitEffects.{Waits, answers_grows, fork_waits, late_waits, plan_waits, puts_waits, reply_none, step_waits}
 use Rattle.promise.proofs.WaitFirst.{BeginsOffer, first_begins}

@@ -17,3 +17,15 @@ pub mod Sound
 pub mod OpenRequests
 pub mod CalleeDialogs
 pub mod Quiet
+pub mod Serving
+pub mod Traced
+pub mod Said
+pub mod SoundScenes
+pub mod SoundClients
+pub mod Comings
+pub mod ReadDatagrams
+pub mod Messages
+pub mod Traces
+pub mod KnownTrace
+pub mod Kinds
+pub mod Asked

@@ -37,8 +37,8 @@ use Rattle.plans.specs.declared.setting.Setting.{Setting}
 use Rattle.promise.proofs.Describing.{BodiesDescribe}
 use Rattle.promise.proofs.Reading.{Reading as ReadsNames}
 use Rattle.promise.proofs.Rows.{answered_client}
-use Rattle.read_back.proofs.Comings.{later_can}
-use Rattle.traces.specs.Messages.{AreMessages, IsTakenOf}
+use Rattle.promise.proofs.Comings.{later_can}
+use Rattle.promise.specs.Messages.{AreMessages, IsTakenOf}
 use Rattle.promised.specs.Said.{AcksIn}
 use Rattle.promised.specs.Shows.{ShowsCall}
 use Rattle.promised.proofs.Reading.{Reading}

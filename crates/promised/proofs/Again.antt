@@ -17,7 +17,7 @@ use Rattle.call_trace.specs.Events.{IsIdle, NoneAsked}
 use Rattle.call_trace.specs.Messages.{offering}
 use Rattle.promise.specs.Sending.{AnswerWasSent, KnowsSent}
 use Rattle.promise.proofs.AskedCalls.{at_place}
-use Rattle.traces.specs.Knowing.{KnowsTrace}
+use Rattle.promise.specs.KnownTrace.{KnowsTrace}
 use Rattle.promised.specs.Heard.{HearsAgain}
 use Rattle.promised.specs.Lines.{SaysNone}
 use Rattle.promised.proofs.Reading.{Reading}

@@ -26,8 +26,8 @@ use Rattle.promise.specs.Datagrams.{ComesFromSource, EntersFromSource}
 use Rattle.promise.specs.Knowledge.{sends_of}
 use Rattle.promise.specs.Numbers.{begun_at, begun_in, begun_of}
 use Rattle.promise.proofs.Events.{few_tokens}
-use Rattle.traces.specs.Messages.{AreMessages}
-use Rattle.traces.specs.Traces.{AreTrace, IsPassed, IsShownWith, IsTaken}
+use Rattle.promise.specs.Messages.{AreMessages}
+use Rattle.promise.specs.Traces.{AreTrace, IsPassed, IsShownWith, IsTaken}
 use Rattle.transactions.specs.declared.transaction.Transaction.{Transaction}
 use Rattle.promised.specs.Standing.{IsUpheld, UpholdsCalls}
 use Rattle.promised.proofs.Invariant.{EventsAreMoves}

@@ -39,10 +39,10 @@ use Rattle.plans.specs.Office.{Office}
 use Rattle.plans.specs.declared.setting.Setting.{Setting}
 use Rattle.promise.proofs.Describing.{BodiesDescribe}
 use Rattle.promise.proofs.Rows.{answered_client}
-use Rattle.read_back.specs.Comings.{KnowsScenes}
-use Rattle.read_back.specs.SoundScenes.{CanAskIn, IsSoundScene}
-use Rattle.read_back.proofs.SaidActions.{action_said}
-use Rattle.traces.specs.Messages.{AreMessages}
+use Rattle.promise.specs.Comings.{KnowsScenes}
+use Rattle.promise.specs.SoundScenes.{CanAskIn, IsSoundScene}
+use Rattle.promise.proofs.SaidActions.{action_said}
+use Rattle.promise.specs.Messages.{AreMessages}
 use Rattle.promised.specs.Heard.{HearsActions}
 use Rattle.promised.specs.Said.{AcksIn, Leaves}
 use Rattle.promised.specs.Scenes.{LegIn}

@@ -53,7 +53,7 @@ use Rattle.promise.proofs.Reaching.{response_may_offer, response_reached}
 use Rattle.promise.proofs.ReadBack.{SentIsRead}
 use Rattle.promise.proofs.Reading.{reached_target}
 use Rattle.promise.proofs.Rows.{answered_client}
-use Rattle.read_back.proofs.Comings.{answer_comes}
+use Rattle.promise.proofs.Comings.{answer_comes}
 use Rattle.promised.specs.Ties.{AreTied}
 use Rattle.promised.proofs.ReadTexts.{taken_is}
 use Rattle.promised.specs.Coming.{FitsComing, scene_at}
@@ -75,7 +75,7 @@ use Rattle.promised.specs.Shows.{ShowsCall, ShowsListing, ShowsSettled, ShowsSta
 use Rattle.promised.proofs.Afterwards.{one_listed}
 use Rattle.promised.proofs.Reading.{Reading}
 use Rattle.promised.proofs.Spots.{has_spot}
-use Rattle.traces.specs.Messages.{AreMessages, IsTakenOf}
+use Rattle.promise.specs.Messages.{AreMessages, IsTakenOf}
 use Rattle.promised.specs.FitSteps.{IsFitStep, Talks, session_with}
 use Rattle.promised.proofs.FitSteps.{fit_row, fit_talks}
 use Rattle.promised.proofs.SettledOffers.{Settles, settles}

@@ -35,7 +35,7 @@ use Rattle.promise.proofs.Calls.{call_at}
 use Rattle.promise.proofs.Growing.{made_more}
 use Rattle.promise.proofs.Tagged.{differs_at, tag_of_end}
 use Rattle.promised.specs.Ties.{AreTied}
-use Rattle.traces.specs.Asked.{HasAskerIf, KnowsAsked}
+use Rattle.promise.specs.Asked.{HasAskerIf, KnowsAsked}
 use Rattle.promised.specs.Answering.{AnswersOffer, answers, was_sent}
 use Rattle.promised.specs.Answers.{IsAnswerSent, KnowsAnswers}
 use Rattle.promised.specs.Rising.{RisesFrom, began, stood}

@@ -30,9 +30,9 @@ use Rattle.call_trace.specs.Stands.{CallStands, HasTags, leg}
 use Rattle.promise.specs.Askers.{IsServed, KnowsAskers, waits_for}
 use Rattle.promise.specs.Seeing.{response_tag}
 use Rattle.promise.proofs.Awaiting.{all_at}
-use Rattle.promise.proofs.Serving.{served_asked, unanswered_server}
+use Rattle.promise.proofs.ServedRequests.{served_asked, unanswered_server}
 use Rattle.std.specs.Prelude.{slice_get}
-use Rattle.traces.specs.Messages.{IsRequestOf}
+use Rattle.promise.specs.Messages.{IsRequestOf}
 use Rattle.promised.specs.Scenes.{AskerIn}
 use Rattle.promised.specs.Shows.{ShowsLegs, ShowsOffer, ShowsSettled, ShowsStage, is_caller, settled_of}
 use Rattle.promised.specs.Asking.{NamesDialog}

@@ -26,10 +26,10 @@ use Rattle.promise.proofs.AskedCalls.{at_place}
 use Rattle.promise.proofs.OpenRequests.{among_right}
 use Rattle.promise.proofs.Rising.{pairs_head, pairs_tail}
 use Rattle.promise.proofs.WaitTakes.{same_number}
-use Rattle.traces.specs.Kinds.{AreBegun}
-use Rattle.traces.specs.Messages.{AreMessages, IsRequestOf}
-use Rattle.traces.proofs.ReadTexts.{WrittenReads}
-use Rattle.traces.proofs.TraceRequests.{asked_more}
+use Rattle.promise.specs.Kinds.{AreBegun}
+use Rattle.promise.specs.Messages.{AreMessages, IsRequestOf}
+use Rattle.promise.proofs.ReadTexts.{WrittenReads}
+use Rattle.promise.proofs.TraceRequests.{asked_more}
 use Rattle.promised.specs.Shows.{Went}
 
 -- ---- what asks among what is sent

@@ -53,12 +53,12 @@ use Rattle.promise.proofs.Grounds.{answerable_repeats, read_repeats}
 use Rattle.promise.proofs.Growing.{made_more}
 use Rattle.promise.proofs.RequestViews.{by_if}
 use Rattle.promise.proofs.Views.{DueRow, WhatRow, call_fired, came, due, ended, fired_alone, idle, sent_again, stopped, timed, what_view}
-use Rattle.read_back.proofs.Comings.{alone_comes}
-use Rattle.read_back.proofs.Scenes.{stopped_scenes}
-use Rattle.traces.specs.Asked.{KnowsAsked}
-use Rattle.traces.specs.Knowing.{KnowsTrace}
-use Rattle.traces.specs.Messages.{AreMessages}
-use Rattle.traces.proofs.UnusedTokens.{unused_tag}
+use Rattle.promise.proofs.Comings.{alone_comes}
+use Rattle.promise.proofs.Scenes.{stopped_scenes}
+use Rattle.promise.specs.Asked.{KnowsAsked}
+use Rattle.promise.specs.KnownTrace.{KnowsTrace}
+use Rattle.promise.specs.Messages.{AreMessages}
+use Rattle.promise.proofs.UnusedTokens.{unused_tag}
 use Rattle.promised.specs.Ties.{AreTied}
 use Rattle.promised.proofs.Receptions.{LastGoes, fired_goes}
 use Rattle.promised.proofs.Replies.{stateless_says}

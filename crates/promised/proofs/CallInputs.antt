@@ -18,8 +18,8 @@ use Rattle.call_trace.specs.declared.datagram.Message.{Message}
 use Rattle.call_trace.specs.Events.{passed}
 use Rattle.call_trace.specs.Messages.{offering}
 use Rattle.call_trace.specs.Moves.{Move}
-use Rattle.read_back.specs.Comings.{CanCome}
-use Rattle.traces.specs.Messages.{AreMessages}
+use Rattle.promise.specs.Comings.{CanCome}
+use Rattle.promise.specs.Messages.{AreMessages}
 use Rattle.promised.specs.Listing.{is_listed as is_listed_call}
 use Rattle.promised.specs.Shows.{ShowsCall}
 use Rattle.promised.specs.Ties.{AreTied}

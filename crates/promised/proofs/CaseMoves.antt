@@ -42,8 +42,8 @@ use Rattle.promise.proofs.MessageViews.{IsResponseTo, begun_by}
 use Rattle.promise.proofs.Reading.{Reading as ReadsNames}
 use Rattle.promise.proofs.Views.{DueRow}
 use Rattle.promise.proofs.Views as views
-use Rattle.traces.specs.Messages.{AreMessages, IsTakenOf}
-use Rattle.traces.specs.Traces.{IsTaken}
+use Rattle.promise.specs.Messages.{AreMessages, IsTakenOf}
+use Rattle.promise.specs.Traces.{IsTaken}
 use Rattle.promised.proofs.Reading.{Reading}
 use Rattle.promised.specs.Late.{KnowsLate}
 use Rattle.promised.specs.Lateness.{IsPassedOver}

@@ -29,8 +29,8 @@ use Rattle.trace_reading.specs.Message.{trace_message}
 use Rattle.promise.specs.Sound.{HasSoundLegs}
 use Rattle.promise.proofs.Awaiting.{all_at}
 use Rattle.promise.proofs.ReadMessages.{message_reads}
-use Rattle.traces.specs.Messages.{IsMessage, IsTakenOf}
-use Rattle.traces.proofs.ReadTexts.{read_as}
+use Rattle.promise.specs.Messages.{IsMessage, IsTakenOf}
+use Rattle.promise.proofs.ReadTexts.{read_as}
 use Rattle.promised.specs.Inputs.{IsAwaitedBy, Took, TookRequest}
 use Rattle.promised.specs.Coming.{FitsComing, scene_at}
 use Rattle.promised.proofs.Fitting.{counts_fits}

@@ -16,7 +16,7 @@ use Rattle.call_trace.specs.declared.datagram.Message.{Message}
 use Rattle.call_trace.specs.Events.{passed}
 use Rattle.call_trace.specs.Messages.{offering}
 use Rattle.call_trace.specs.Moves.{Move}
-use Rattle.traces.specs.Messages.{AreMessages, IsTakenOf}
+use Rattle.promise.specs.Messages.{AreMessages, IsTakenOf}
 use Rattle.promised.specs.Shows.{ShowsCall}
 use Rattle.promised.specs.Steps.{GoOn, IsAfter}
 use Rattle.sip_message.specs.declared.message.Request.{Request}

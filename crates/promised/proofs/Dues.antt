@@ -12,7 +12,7 @@ use Rattle.call_trace.specs.declared.call.Call.{Call}
 use Rattle.call_trace.specs.declared.datagram.Datagram.{Datagram}
 use Rattle.call_trace.specs.declared.datagram.Message.{Message}
 use Rattle.call_trace.specs.Events.{passed}
-use Rattle.traces.specs.Messages.{AreMessages}
+use Rattle.promise.specs.Messages.{AreMessages}
 use Rattle.promised.specs.Shows.{ShowsCall}
 use Rattle.promised.specs.Steps.{GoOn, IsAfter, StandsShown, due_signal}
 use Rattle.promised.proofs.Timers.{due_input}

@@ -25,7 +25,7 @@ use Rattle.plans.specs.CallRows.{acks_again}
 use Rattle.plans.specs.Office.{Office}
 use Rattle.plans.specs.Plan.{goes, moves}
 use Rattle.promise.proofs.Reading.{Reading as ReadsNames}
-use Rattle.traces.specs.Messages.{AreMessages, IsTakenOf}
+use Rattle.promise.specs.Messages.{AreMessages, IsTakenOf}
 use Rattle.promised.proofs.Reading.{Reading}
 use Rattle.promised.specs.Lateness.{IsPassedOver}
 use Rattle.promised.specs.Ties.{AreTied}

@@ -21,7 +21,7 @@ use Rattle.call_trace.specs.declared.datagram.Message.{Message}
 use Rattle.call_trace.specs.Events.{passed}
 use Rattle.call_trace.specs.Messages.{offering}
 use Rattle.call_trace.specs.Moves.{Move}
-use Rattle.traces.specs.Messages.{AreMessages}
+use Rattle.promise.specs.Messages.{AreMessages}
 use Rattle.promised.specs.Shows.{ShowsCall}
 use Rattle.promised.specs.Steps.{GoOn, IsAfter, due_signal}
 use Rattle.events.specs.declared.event.What.{What}
@@ -30,7 +30,7 @@ use Rattle.plans.specs.declared.taken.Taken.{Taken}
 use Rattle.promise.specs.Datagrams.{ComesFromSource}
 use Rattle.promise.proofs.Views.{DueRow}
 use Rattle.promise.proofs.Views as views
-use Rattle.traces.specs.Traces.{IsTaken}
+use Rattle.promise.specs.Traces.{IsTaken}
 use Rattle.promised.proofs.EventCases.{DatagramCase, EventCase, IsNotDone, MessageCase, ResponseCase}
 use Rattle.promised.proofs.EventCases as cases
 use Rattle.call_core.specs.declared.signal.Signal.{Signal}
@@ -54,7 +54,7 @@ use Rattle.plans.specs.CallRows.{timer_input, without_call_timer}
 use Rattle.promised.proofs.CaseMoves.{NoneTakes, NoneTakesDue, event_move, nothing_taken}
 use Rattle.promised.proofs.EventCases.{IsNotDone, event_case}
 use Rattle.promised.proofs.TransactionMoves.{nothing_move}
-use Rattle.traces.specs.Traces.{IsPassed, IsTaken}
+use Rattle.promise.specs.Traces.{IsPassed, IsTaken}
 use Rattle.promised.proofs.Dues.{due_goes}
 use Rattle.promised.proofs.CallInputs.{shown, ties}
 use Rattle.call_core.specs.declared.action.CallTimer.{CallTimer}

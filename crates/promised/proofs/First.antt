@@ -50,7 +50,7 @@ use Rattle.promise.proofs.ReadBack.{SentIsRead}
 use Rattle.promise.proofs.ReadParts.{method_is}
 use Rattle.promise.proofs.Reading.{Reading as ReadsNames}
 use Rattle.promise.proofs.SoundRows.{callee_target}
-use Rattle.traces.specs.Messages.{AreMessages, IsRequestOf, IsTakenOf}
+use Rattle.promise.specs.Messages.{AreMessages, IsRequestOf, IsTakenOf}
 use Rattle.promised.proofs.Leaving.{request_of}
 use Rattle.promised.proofs.Legs.{first_asked}
 use Rattle.promised.proofs.OfferRequests.{first_offers, first_untagged}

@@ -36,9 +36,9 @@ use Rattle.promise.specs.Waiting.{KnowsWaiting}
 use Rattle.promise.proofs.Awaiting.{all_at}
 use Rattle.promise.proofs.CalleeRows.{NamesContact}
 use Rattle.promise.proofs.Reading.{Reading}
-use Rattle.traces.specs.Knowing.{KnowsTrace}
-use Rattle.traces.specs.Messages.{IsTakenOf}
-use Rattle.traces.proofs.Taking.{ReplyLaw}
+use Rattle.promise.specs.KnownTrace.{KnowsTrace}
+use Rattle.promise.specs.Messages.{IsTakenOf}
+use Rattle.promise.proofs.Taking.{ReplyLaw}
 use Rattle.promised.specs.Lines.{FirstLeg, Legs}
 use Rattle.promised.specs.Shows.{ShowsStage}
 use Rattle.promised.specs.Coming.{FitsComing, HasNumbersLeft, scene_at}

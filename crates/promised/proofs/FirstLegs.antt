@@ -26,7 +26,7 @@ use Rattle.call_trace.specs.declared.call.Offer.{Offer}
 use Rattle.call_trace.specs.Moves.{tagged}
 use Rattle.trace_reading.specs.Message.{dialog_named, trace_message}
 use Rattle.promise.proofs.Tagged.{scene_dialog}
-use Rattle.traces.specs.Messages.{IsRequestOf}
+use Rattle.promise.specs.Messages.{IsRequestOf}
 use Rattle.promised.specs.Lines.{FirstLeg}
 use Rattle.promised.specs.Scenes.{LegIn}
 use Rattle.promised.specs.Coming.{first_dialog, scene_at}

@@ -58,21 +58,21 @@ use Rattle.promise.proofs.ReadBodies.{body_read}
 use Rattle.promise.proofs.ReadParts.{method_is}
 use Rattle.promise.proofs.Reading.{Reading as ReadsNames}
 use Rattle.promise.proofs.SoundRows.{callee_target, known_leg}
-use Rattle.promise.proofs.Steps.{new_tags}
+use Rattle.promise.proofs.TaggedSteps.{new_tags}
 use Rattle.promise.proofs.WaitFirst.{first_stands}
 use Rattle.promise.proofs.WrittenLengths.{written_short}
-use Rattle.read_back.specs.SoundScenes.{IsSoundScene}
-use Rattle.read_back.proofs.AnyToken.{any_token_run}
-use Rattle.read_back.proofs.ClientSteps.{first_scene_asks}
-use Rattle.read_back.proofs.SaidActions.{action_said}
-use Rattle.read_back.proofs.Scenes.{hops_low}
-use Rattle.traces.specs.Kinds.{AreBegun}
-use Rattle.traces.specs.Messages.{AreMessages}
-use Rattle.traces.proofs.Effects.{ground, is_ready, says_step}
-use Rattle.traces.proofs.OwnOpens.{step_own}
-use Rattle.traces.proofs.Receptions.{message_begins_none, message_keeps, opens_of}
-use Rattle.traces.proofs.SentKinds.{known}
-use Rattle.traces.proofs.StepSays as saying
+use Rattle.promise.specs.SoundScenes.{IsSoundScene}
+use Rattle.promise.proofs.AnyToken.{any_token_run}
+use Rattle.promise.proofs.ClientSteps.{first_scene_asks}
+use Rattle.promise.proofs.SaidActions.{action_said}
+use Rattle.promise.proofs.Scenes.{hops_low}
+use Rattle.promise.specs.Kinds.{AreBegun}
+use Rattle.promise.specs.Messages.{AreMessages}
+use Rattle.promise.proofs.Effects.{ground, is_ready, says_step}
+use Rattle.promise.proofs.OwnOpens.{step_own}
+use Rattle.promise.proofs.Receptions.{message_begins_none, message_keeps, opens_of}
+use Rattle.promise.proofs.SentKinds.{known}
+use Rattle.promise.proofs.StepSays as saying
 use Rattle.promised.specs.Heard.{HearsActions}
 use Rattle.promised.proofs.HeardActions.{hears_actions}
 use Rattle.promised.proofs.Reading.{Reading}

@@ -39,8 +39,8 @@ use Rattle.promise.proofs.Describing.{BodiesDescribe}
 use Rattle.promise.proofs.Reaching.{response_may_offer, response_reached}
 use Rattle.promise.proofs.Reading.{Reading as ReadsNames, reached_target}
 use Rattle.promise.proofs.Rows.{answered_client}
-use Rattle.read_back.proofs.Comings.{forked_can}
-use Rattle.traces.specs.Messages.{AreMessages, IsTakenOf}
+use Rattle.promise.proofs.Comings.{forked_can}
+use Rattle.promise.specs.Messages.{AreMessages, IsTakenOf}
 use Rattle.promised.specs.Said.{AcksIn, Leaves}
 use Rattle.promised.proofs.Reading.{Reading}
 use Rattle.promised.proofs.SeenWords.{request_dialog, request_of}

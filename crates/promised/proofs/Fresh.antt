@@ -7,7 +7,7 @@ use Rattle.call_trace.specs.declared.datagram.Message.{Message}
 use Rattle.call_trace.specs.Events.{AreNewBytes}
 use Rattle.call_trace.specs.Exchanges.{At}
 use Rattle.call_trace.specs.Messages.{is_answer, is_listed, offering}
-use Rattle.traces.specs.Messages.{IsMessage}
+use Rattle.promise.specs.Messages.{IsMessage}
 use Rattle.promised.specs.Shows.{IsUnanswered}
 use Rattle.promised.proofs.Reading.{Reading, by_bytes}
 

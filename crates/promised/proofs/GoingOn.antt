@@ -33,7 +33,7 @@ use Rattle.trace_reading.specs.Message.{dialog_named, trace_message}
 use Rattle.promise.proofs.AskedCalls.{beside_same as asked_same, beside_taken}
 use Rattle.promise.proofs.Besides.{beside_same}
 use Rattle.promise.proofs.Calls.{KeepsIds, KeepsLeg, call_ids}
-use Rattle.traces.specs.Messages.{IsRequestOf}
+use Rattle.promise.specs.Messages.{IsRequestOf}
 use Rattle.promised.specs.Shows.{ShowsCallee, ShowsLegs}
 use Rattle.promised.proofs.Showing.{SameLegs, legs_on}
 use Rattle.promised.specs.Coming.{FitsComing, IsOwnDialog, first_dialog}

@@ -9,8 +9,8 @@ use Rattle.legs.specs.Dressing.{dress_one, dressed}
 use Rattle.call_trace.specs.declared.datagram.Message.{Message}
 use Rattle.call_trace.specs.Listed.{AllOf}
 use Rattle.promise.specs.Saying.{OneIf, SeesAgain}
-use Rattle.read_back.specs.Said.{IsSaid, SaysAction}
-use Rattle.traces.specs.Messages.{AreMessages, IsMessage}
+use Rattle.promise.specs.Said.{IsSaid, SaysAction}
+use Rattle.promise.specs.Messages.{AreMessages, IsMessage}
 use Rattle.promised.specs.Heard.{HearsAction, HearsActions, HearsAgain, HearsOne}
 use Rattle.promised.proofs.Reading.{Reading, message_is}
 

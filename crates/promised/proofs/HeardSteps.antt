@@ -17,15 +17,15 @@ use Rattle.plans.specs.declared.setting.Setting.{Setting}
 use Rattle.call_trace.specs.declared.datagram.Message.{Message}
 use Rattle.call_trace.specs.Listed.{AllOf}
 use Rattle.promise.proofs.Describing.{BodiesDescribe}
-use Rattle.read_back.specs.Comings.{CanCome, KnowsScenes}
+use Rattle.promise.specs.Comings.{CanCome, KnowsScenes}
 use Rattle.promise.specs.Saying.{OneIf}
 use Rattle.promise.proofs.ReadBack.{SentIsRead}
-use Rattle.read_back.specs.Said.{SaysAction}
-use Rattle.read_back.specs.SoundScenes.{HaveFitStatuses, IsSoundScene, answer_offer, answers_offer}
-use Rattle.read_back.proofs.SaidActions.{action_said}
-use Rattle.read_back.proofs.Scenes.{step_fits, step_scene}
+use Rattle.promise.specs.Said.{SaysAction}
+use Rattle.promise.specs.SoundScenes.{HaveFitStatuses, IsSoundScene, answer_offer, answers_offer}
+use Rattle.promise.proofs.SaidActions.{action_said}
+use Rattle.promise.proofs.Scenes.{step_fits, step_scene}
 use Rattle.promised.specs.Coming.{scene_at}
-use Rattle.traces.specs.Messages.{AreMessages}
+use Rattle.promise.specs.Messages.{AreMessages}
 use Rattle.promised.specs.Heard.{HearsActions}
 use Rattle.promised.proofs.HeardActions.{hears_actions}
 use Rattle.promised.proofs.Reading.{Reading}

@@ -46,14 +46,14 @@ use Rattle.promise.proofs.Describing.{BodiesDescribe}
 use Rattle.promise.proofs.ReadParts.{response_status}
 use Rattle.promise.proofs.ReadBack.{SentIsRead}
 use Rattle.promise.proofs.Reading.{Reading as ReadsNames}
-use Rattle.read_back.specs.Comings.{CanCome}
-use Rattle.read_back.proofs.Comings.{alone_comes, answer_comes, bye_comes, cancel_comes}
+use Rattle.promise.specs.Comings.{CanCome}
+use Rattle.promise.proofs.Comings.{alone_comes, answer_comes, bye_comes, cancel_comes}
 use Rattle.promised.specs.Responding.{RespondsToOffer}
 use Rattle.promised.specs.Taking.{KnowsLegs}
 use Rattle.promise.proofs.Rows.{answered_client}
 use Rattle.promised.proofs.FirstAnswers.{ReadingLaws}
 use Rattle.promised.specs.Coming.{scene_at}
-use Rattle.traces.specs.Messages.{AreMessages, IsTakenOf}
+use Rattle.promise.specs.Messages.{AreMessages, IsTakenOf}
 use Rattle.promised.specs.Listing.{is_listed as is_listed_call}
 use Rattle.promised.specs.Shows.{ShowsCall}
 use Rattle.promised.proofs.HeardActions.{split}
@@ -93,13 +93,13 @@ use Rattle.promise.proofs.Tagged.{tagged as is_tagged}
 use Rattle.promised.specs.Coming.{HasNumbersLeft}
 use Rattle.promised.proofs.Fitting.{first_answer}
 use Rattle.promised.proofs.Legs.{first_in, leg_in}
-use Rattle.service.specs.Serving.{IsStaged}
+use Rattle.promise.specs.Serving.{IsStaged}
 use Rattle.promised.proofs.ReachedAnswers.{answered_fits, counted, reached, target}
 use Rattle.promised.specs.Lines.{IsTagOfNone}
 use Rattle.promised.specs.Scenes.{LegIn}
 use Rattle.promised.specs.Shows.{ShowsCallee, ShowsLegs, is_caller}
 use Rattle.call_trace.proofs.Members.{all_at as all_members}
-use Rattle.traces.specs.Messages.{IsRequestOf}
+use Rattle.promise.specs.Messages.{IsRequestOf}
 use Rattle.promised.proofs.SeenResponses.{provisional_calm}
 use Rattle.promised.proofs.Taken.{none_has}
 use Rattle.promised.proofs.HiddenSignals.{HasNoLine, MovesNone, hidden_answered, hidden_due, hidden_ignores, hidden_refused, hidden_rings_on, hidden_stage, hidden_tag, no_ack, no_bye, no_cancel}

@@ -33,7 +33,7 @@ use Rattle.promised.proofs.LaterKnown.{later_known}
 use Rattle.promised.proofs.LegsKept.{dialog_moved}
 use Rattle.promised.specs.Listing.{Listed}
 use Rattle.promised.specs.Shows.{ShowsCall}
-use Rattle.traces.specs.Traces.{IsPassed}
+use Rattle.promise.specs.Traces.{IsPassed}
 use Rattle.transactions.specs.declared.transaction.Transaction.{Transaction}
 use Rattle.promised.proofs.Knowing.{Laws, agent_known, is_after, known_after, new_known}
 use Rattle.promised.proofs.LateInvites.{among_split, later_after, new_of_begun, of_begun_after}

@@ -20,10 +20,10 @@ use Rattle.plans.specs.Office.{Office}
 use Rattle.promise.specs.Addresses.{IsConfigured}
 use Rattle.promise.specs.Datagrams.{EntersFromSource}
 use Rattle.promise.specs.Knowledge.{sends_of}
-use Rattle.service.proofs.CallLists.{all_weaker}
-use Rattle.service.specs.Serving.{AreHeldByCalls, HoldNoOthers, KnowsServing, holder_in, trace_table}
-use Rattle.service.specs.Traced.{AreTraced, holder_by}
-use Rattle.traces.specs.Traces.{AreTrace}
+use Rattle.promise.proofs.CallLists.{all_weaker}
+use Rattle.promise.specs.Serving.{AreHeldByCalls, HoldNoOthers, KnowsServing, holder_in, trace_table}
+use Rattle.promise.specs.Traced.{AreTraced, holder_by}
+use Rattle.promise.specs.Traces.{AreTrace}
 use Rattle.transactions.specs.declared.transaction.Transaction.{Transaction}
 use Rattle.promised.specs.Standing.{IsUpheld}
 use Rattle.promised.proofs.Invariant.{EventsAreMoves}
@@ -31,7 +31,7 @@ use Rattle.promised.specs.Keeping.{HasPromisedCalls, HoldsFor, KeepsPromise, Rel
 use Rattle.promised.proofs.AllEntries.{entries_upheld, one_event}
 use Rattle.promised.specs.Standing.{AgentStands, StandsOn, StandsThrough}
 use Rattle.plans.specs.declared.taken.Taken.{Taken}
-use Rattle.traces.specs.Messages.{AreMessages}
+use Rattle.promise.specs.Messages.{AreMessages}
 use Rattle.promised.proofs.Invariant.{new_upheld}
 use Rattle.checks.specs.Rows.{after, row}
 use Rattle.events.specs.declared.event.Event.{Event}
@@ -39,7 +39,7 @@ use Rattle.call_trace.specs.declared.datagram.Message.{Message}
 use Rattle.call_trace.specs.Events.{passed}
 use Rattle.promise.specs.Numbers.{begun_in, begun_of}
 use Rattle.promise.specs.Datagrams.{ComesFromSource}
-use Rattle.traces.specs.Traces.{IsPassed, IsTaken}
+use Rattle.promise.specs.Traces.{IsPassed, IsTaken}
 use Rattle.promised.proofs.Knowing.{Laws}
 use Rattle.promised.proofs.LiveCalls.{live_listed}
 use Rattle.promised.specs.Living.{ListsLive}

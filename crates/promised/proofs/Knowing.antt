@@ -45,20 +45,20 @@ use Rattle.promise.proofs.WaitEvents.{after_waits, new_waits}
 use Rattle.promised.specs.Machines.{KnowsMachines}
 use Rattle.promised.specs.Ties.{AreTied}
 use Rattle.promised.proofs.MachineEvents.{after_machines, new_machines}
-use Rattle.read_back.specs.ReadDatagrams.{IsReadDatagram, IsReadText}
-use Rattle.read_back.specs.SoundClients.{KnowsClients}
-use Rattle.read_back.proofs.ClientRows.{after_clients, new_clients}
+use Rattle.promise.specs.ReadDatagrams.{IsReadDatagram, IsReadText}
+use Rattle.promise.specs.SoundClients.{KnowsClients}
+use Rattle.promise.proofs.ClientRows.{after_clients, new_clients}
 use Rattle.promised.specs.Coming.{KnowsNumbersLeft}
 use Rattle.promised.proofs.CountingRows.{after_leaves, new_leaves}
-use Rattle.service.specs.Serving.{AreStaged, KnowsServing}
+use Rattle.promise.specs.Serving.{AreStaged, KnowsServing}
 use Rattle.promised.specs.Steps.{IsAfter}
 use Rattle.sip_message.specs.Grammar.{ReadsMessage}
-use Rattle.traces.specs.Asked.{KnowsAsked}
-use Rattle.traces.specs.Knowing.{KnowsTrace}
-use Rattle.traces.specs.Messages.{AreMessages}
-use Rattle.traces.specs.Traces.{IsPassed}
-use Rattle.traces.proofs.AskedRows.{after_asked, new_asked}
-use Rattle.traces.proofs.KnownTraces.{Laws as TraceLaws, after_trace, new_trace}
+use Rattle.promise.specs.Asked.{KnowsAsked}
+use Rattle.promise.specs.KnownTrace.{KnowsTrace}
+use Rattle.promise.specs.Messages.{AreMessages}
+use Rattle.promise.specs.Traces.{IsPassed}
+use Rattle.promise.proofs.AskedRows.{after_asked, new_asked}
+use Rattle.promise.proofs.KnownTraces.{Laws as TraceLaws, after_trace, new_trace}
 use Rattle.transactions.specs.declared.transaction.Transaction.{Transaction}
 
 -- the laws of the crates below

@@ -32,8 +32,8 @@ use Rattle.sip_message.specs.declared.message.Parts.{Parts}
 use Rattle.sip_message.specs.Words.{tag_text}
 use Rattle.promised.specs.Listing.{Listed}
 use Rattle.promised.specs.Shows.{ShowsCall}
-use Rattle.traces.specs.Knowing.{IsRequested}
-use Rattle.traces.specs.Messages.{IsRequestOf}
+use Rattle.promise.specs.KnownTrace.{IsRequested}
+use Rattle.promise.specs.Messages.{IsRequestOf}
 use Rattle.transactions.specs.declared.transaction.Transaction.{Transaction}
 use Rattle.promised.proofs.BegunRequests.{AsksOne, WentFor, IsAskedIn, asks_one, went_for, dialog_asked_in, first, later, same_dialog, was_asked}
 use Rattle.promised.proofs.Openings.{HasOpenRequest, has_open_request}

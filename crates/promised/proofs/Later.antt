@@ -59,8 +59,8 @@ use Rattle.promise.proofs.Reaching.{offers_may_offer}
 use Rattle.promise.proofs.Reading.{Reading as ReadsNames}
 use Rattle.promise.proofs.Awaiting.{all_at}
 use Rattle.promise.specs.Sound.{HasSoundLegs}
-use Rattle.read_back.proofs.Comings.{offer_comes}
-use Rattle.traces.specs.Messages.{AreMessages, IsRequestOf, IsTakenOf}
+use Rattle.promise.proofs.Comings.{offer_comes}
+use Rattle.promise.specs.Messages.{AreMessages, IsRequestOf, IsTakenOf}
 use Rattle.promised.specs.Coming.{scene_at}
 use Rattle.promised.proofs.GoingOn.{asked_new, legs_go_on, stands_by}
 use Rattle.promised.proofs.Leaving.{request_of}

@@ -10,7 +10,7 @@ use Rattle.call_trace.specs.declared.call.Call.{Call}
 use Rattle.call_trace.specs.declared.datagram.Datagram.{Datagram}
 use Rattle.plans.specs.Office.{Office}
 use Rattle.promise.specs.OpenRequests.{IsAmong}
-use Rattle.traces.specs.Knowing.{KnowsTrace}
+use Rattle.promise.specs.KnownTrace.{KnowsTrace}
 use Rattle.promised.specs.Late.{IsAnsweredOrEnded, IsLater, KnowsLate, dialog_asked}
 
 module _ (s : Office) (begun : List Transaction) (sent : List Sent) (t : List Datagram) (ds : List Call) (known : KnowsTrace s begun sent t)

@@ -53,13 +53,13 @@ use Rattle.promise.proofs.ReadParts.{method_is, same_method}
 use Rattle.promise.proofs.Reading.{Reading}
 use Rattle.promise.proofs.SoundCalls.{counts_sound}
 use Rattle.promise.proofs.WaitPassed.{passes_settled, settled_stage}
-use Rattle.read_back.proofs.LowCalls.{counts_low}
-use Rattle.traces.specs.Kinds.{AreBegun}
-use Rattle.traces.proofs.Effects.{ground, is_ready, says_step}
-use Rattle.traces.proofs.OwnOpens.{step_own}
-use Rattle.traces.proofs.Receptions.{message_begins_none, message_keeps, opens_of}
-use Rattle.traces.proofs.SentKinds.{known}
-use Rattle.traces.proofs.StepSays.{hops_low, offers_says}
+use Rattle.promise.proofs.LowCalls.{counts_low}
+use Rattle.promise.specs.Kinds.{AreBegun}
+use Rattle.promise.proofs.Effects.{ground, is_ready, says_step}
+use Rattle.promise.proofs.OwnOpens.{step_own}
+use Rattle.promise.proofs.Receptions.{message_begins_none, message_keeps, opens_of}
+use Rattle.promise.proofs.SentKinds.{known}
+use Rattle.promise.proofs.StepSays.{hops_low, offers_says}
 use Rattle.promised.specs.Coming.{FitsComing}
 use Rattle.promised.specs.Going.{KeepsDialogs, id_of, put_as}
 use Rattle.promised.proofs.Fitting.{counts_fits}

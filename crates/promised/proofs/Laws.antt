@@ -10,7 +10,7 @@ use Rattle.call_trace.specs.Stands.{AllApart}
 use Rattle.promise.proofs.Describing.{BodiesDescribe}
 use Rattle.promise.proofs.ReadBack.{SentIsRead}
 use Rattle.promise.proofs.Reading.{Reading as ReadsNames}
-use Rattle.traces.proofs.Taking.{ReplyLaw}
+use Rattle.promise.proofs.Taking.{ReplyLaw}
 use Rattle.promised.proofs.FirstAnswers.{ReadingLaws}
 use Rattle.promised.proofs.Reading.{Reading}
 use Rattle.promise.proofs.CalleeRows.{NamesContact}

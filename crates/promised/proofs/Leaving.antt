@@ -32,7 +32,7 @@ use Rattle.call_trace.specs.declared.datagram.Dialog.{Dialog}
 use Rattle.call_trace.specs.Stands.{leg}
 use Rattle.trace_reading.specs.Message.{trace_message}
 use Rattle.promise.proofs.ReadParts.{method_is}
-use Rattle.traces.specs.Messages.{IsRequestOf}
+use Rattle.promise.specs.Messages.{IsRequestOf}
 use Rattle.promised.specs.Scenes.{ByeIn}
 use Rattle.promised.specs.Shows.{ShowsLegs, is_caller}
 use Rattle.promised.specs.Asking.{CancelIn}

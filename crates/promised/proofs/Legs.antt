@@ -38,7 +38,7 @@ use Rattle.promise.specs.Sound.{HasSoundLegs, IsSoundLegIf, IsTarget}
 use Rattle.promise.specs.Waiting.{IsCounted}
 use Rattle.promise.proofs.SoundCalls.{dialog_sound}
 use Rattle.promise.proofs.Tagged.{scene_dialog}
-use Rattle.traces.specs.Messages.{IsRequestOf}
+use Rattle.promise.specs.Messages.{IsRequestOf}
 use Rattle.promised.specs.Scenes.{AskedLeg, LegIn}
 use Rattle.promised.specs.Shows.{ShowsCallee, ShowsLegs, is_caller}
 use Rattle.promised.specs.Coming.{FitsComing, IsOwnDialog, HasByeLeft, HasNumbersLeft, IsSameDialog, first_dialog, scene_at}

@@ -28,7 +28,7 @@ use Rattle.promise.specs.Numbers.{KnowsNumbers}
 use Rattle.promise.specs.OpenRequests.{HasAsked, IsOpenRequest}
 use Rattle.promise.specs.Waiting.{from_tag}
 use Rattle.promise.proofs.AskedCalls.{at_place}
-use Rattle.service.specs.Serving.{IsStaged}
+use Rattle.promise.specs.Serving.{IsStaged}
 use Rattle.promised.proofs.GoingOn.{same_legs}
 use Rattle.promised.specs.Afterwards.{HasSpot, IsLeft, IsLeftOr}
 use Rattle.promised.specs.Lines.{LineMove, goes, parts, released, waits_on}

@@ -21,7 +21,7 @@ use Rattle.calls.specs.declared.standing_call.StandingCall.{StandingCall}
 use Rattle.dialogs.specs.declared.state.Dialog.{Dialog as LegDialog}
 use Rattle.plans.specs.Office.{Office}
 use Rattle.promise.specs.CalleeDialogs.{FitsStage, HasCallee, IsUnanswered, KnowsCallees, is_unanswered}
-use Rattle.service.specs.Serving.{AreStaged, IsStaged}
+use Rattle.promise.specs.Serving.{AreStaged, IsStaged}
 use Rattle.promised.specs.Listing.{Listed}
 use Rattle.promised.specs.Shows.{ShowsCall, ShowsCallee}
 use Rattle.trace_reading.specs.Message.{dialog_named}

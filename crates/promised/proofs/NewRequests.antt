@@ -23,8 +23,8 @@ use Rattle.promise.specs.OpenRequests.{IsAmong}
 use Rattle.promise.proofs.AskerEvents.{new_begun}
 use Rattle.promise.proofs.Coming.{OpensIn}
 use Rattle.promise.proofs.OpenRequests.{opens_among}
-use Rattle.promise.proofs.Serving.{unanswered_server}
-use Rattle.traces.proofs.OwnOpens.{new_server}
+use Rattle.promise.proofs.ServedRequests.{unanswered_server}
+use Rattle.promise.proofs.OwnOpens.{new_server}
 use Rattle.promised.specs.Beginning.{StandsFor, entries_of}
 
 served_parts : (r : Request) (source : Addr) (b : Bool) (t : Transaction) → OpensIn t (cond b Leaves (Opens (served r source) NoTimer) ∷ []) → t.parts ≡ r.parts

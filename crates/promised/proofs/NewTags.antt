@@ -18,9 +18,9 @@ use Rattle.promise.specs.Knowing.{HasMadeTags}
 use Rattle.promise.specs.Tokens.{IsMade}
 use Rattle.promise.proofs.Apartness.{counts_differ, made_tag, old_and_new}
 use Rattle.promise.proofs.Tagged.{tagged}
-use Rattle.read_back.proofs.AnyToken.{any_token_run}
-use Rattle.traces.specs.Knowing.{KnowsTrace}
-use Rattle.traces.proofs.UnusedTokens.{unused_tag}
+use Rattle.promise.proofs.AnyToken.{any_token_run}
+use Rattle.promise.specs.KnownTrace.{KnowsTrace}
+use Rattle.promise.proofs.UnusedTokens.{unused_tag}
 use Rattle.promised.specs.Listing.{Listed}
 use Rattle.promised.specs.Shows.{ShowsCall}
 use Rattle.promised.proofs.CallTags.{shown_tag}

@@ -26,7 +26,7 @@ use Rattle.call_trace.specs.declared.datagram.Dialog.{Dialog}
 use Rattle.call_trace.specs.declared.datagram.Message.{Message}
 use Rattle.call_trace.specs.Stands.{leg}
 use Rattle.promise.specs.Knowing.{HasLegTag, HasMadeTags}
-use Rattle.traces.specs.Asked.{HasAskerIf}
+use Rattle.promise.specs.Asked.{HasAskerIf}
 use Rattle.promised.specs.Listing.{Listed}
 use Rattle.promised.specs.Shows.{Came, ShowsCall, ShowsCallee, ShowsOpen, ShowsSettled, ShowsStage, ShowsStanding, is_caller}
 use Rattle.promised.specs.Answering.{IsOfferersTag, IsReplyTo}

@@ -23,7 +23,7 @@ use Rattle.call_trace.specs.Stands.{IsTagOf}
 use Rattle.promise.specs.Knowing.{HasLegTag, HasMadeTags}
 use Rattle.promise.specs.OpenRequests.{IsAmong}
 use Rattle.promise.specs.Waiting.{IsOffering, from_tag}
-use Rattle.traces.specs.Messages.{IsRequestOf}
+use Rattle.promise.specs.Messages.{IsRequestOf}
 use Rattle.promised.specs.Shows.{ShowsCallee, ShowsLegs, ShowsOpen, ShowsStage}
 
 -- ---- the tag of its From

@@ -22,7 +22,7 @@ use Rattle.promise.specs.OpenRequests.{HasAsked, IsAmong, IsOpenRequest}
 use Rattle.promise.specs.Waiting.{IsCounted}
 use Rattle.promise.proofs.Awaiting.{open_in}
 use Rattle.promised.specs.Shows.{ShowsCall, ShowsOpen, ShowsSettled, ShowsStage, ShowsStanding, Went}
-use Rattle.traces.specs.Messages.{IsRequestOf}
+use Rattle.promise.specs.Messages.{IsRequestOf}
 use Rattle.transactions.specs.declared.transaction.Transaction.{Transaction}
 
 -- the call waits for the answer to the offer, whose request went so; before the first answer there is no dialog with the callee

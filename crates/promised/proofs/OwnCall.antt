@@ -15,7 +15,7 @@ use Rattle.call_trace.specs.declared.call.Offer.{Offer}
 use Rattle.call_trace.specs.declared.call.Stage.{Stage as TraceStage}
 use Rattle.call_trace.specs.declared.datagram.Datagram.{Datagram}
 use Rattle.call_trace.specs.Messages.{invite, update}
-use Rattle.service.specs.Serving.{IsStaged}
+use Rattle.promise.specs.Serving.{IsStaged}
 use Rattle.promised.specs.Listing.{Listing, asking, ending_by, first, hidden, is_listed_stage, listing, talking, updating}
 use Rattle.promised.specs.Shows.{ShowsListing, ShowsOpen, ShowsSettled}
 use Rattle.promised.proofs.Showing.{OfferOn, open_on}

@@ -30,7 +30,7 @@ use Rattle.plans.specs.CallRows.{puts_if}
 use Rattle.promised.specs.Lines.{waits_on}
 use Rattle.promised.proofs.Spots.{all_left, has_spot}
 use Rattle.call_trace.proofs.Members.{all_at}
-use Rattle.service.specs.Serving.{IsStaged}
+use Rattle.promise.specs.Serving.{IsStaged}
 use Rattle.promised.proofs.GoingOn.{leg_ids}
 use Rattle.promised.specs.Steps.{GoesOnAt}
 use Rattle.promised.proofs.LineSteps.{got_set, line_goes_on}

@@ -16,9 +16,9 @@ use Rattle.call_trace.specs.declared.datagram.Direction.TheVariants as direction
 use Rattle.promise.specs.Quiet.{IsRequestIf}
 use Rattle.promise.specs.Sending.{WasSent}
 use Rattle.promise.proofs.QuietReplies.{calm_by}
-use Rattle.read_back.specs.Said.{IsSaid}
-use Rattle.traces.specs.Knowing.{HasBytes}
-use Rattle.traces.specs.Messages.{AreMessages, IsMessage}
+use Rattle.promise.specs.Said.{IsSaid}
+use Rattle.promise.specs.KnownTrace.{HasBytes}
+use Rattle.promise.specs.Messages.{AreMessages, IsMessage}
 use Rattle.promised.proofs.Reading.{Reading, by_bytes, has_bytes, message_is}
 
 -- ---- messages of datagrams

@@ -43,7 +43,7 @@ use Rattle.promise.proofs.Apartness.{HasNewTags}
 use Rattle.promise.proofs.AskedCalls.{beside_same, beside_taken, dialog_same}
 use Rattle.promise.proofs.Awaiting.{all_at, put_or_gone}
 use Rattle.promise.proofs.Calls.{FitsLeg, call_ids, first_ids, same_leg_put}
-use Rattle.promise.proofs.Steps.{counts_fits, new_tags}
+use Rattle.promise.proofs.TaggedSteps.{counts_fits, new_tags}
 use Rattle.promise.proofs.Tables.{IsNoOfferInput, consumes_input, takes_fits}
 use Rattle.promise.proofs.WaitPassed.{passes_on}
 use Rattle.promised.specs.Rising.{IsMadeNext, IsRaised, RisesFrom, began, stood}

@@ -55,7 +55,7 @@ use Rattle.promise.proofs.Events.{after_knows, few_tokens, new_knows}
 use Rattle.promise.proofs.MessageViews.{ReceivedRow, acknowledged, begun_by, dropped, moved, received_view, requested, responded}
 use Rattle.promise.proofs.RequestViews.{by_if}
 use Rattle.promise.proofs.ResponseViews.{ResponseRow, ack_alone, again, answered, fork, provisional, refused, silent}
-use Rattle.promise.proofs.Steps.{answers_fits, counts_fits, refreshes_fits}
+use Rattle.promise.proofs.TaggedSteps.{answers_fits, counts_fits, refreshes_fits}
 use Rattle.promise.proofs.Tables.{IsNoOfferInput}
 use Rattle.promise.proofs.Views.{DueRow, WhatRow, call_fired, came, due, ended, fired_alone, idle, sent_again, stopped, timed, what_view}
 use Rattle.promise.proofs.WaitPassed.{passes_settled}

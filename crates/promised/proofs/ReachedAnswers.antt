@@ -34,7 +34,7 @@ use Rattle.promise.proofs.CalleeRows.{NamesContact}
 use Rattle.promise.proofs.Reaching.{response_may_offer, response_method, response_reached, success_is}
 use Rattle.promise.proofs.Reading.{Reading, reached_target}
 use Rattle.promise.proofs.Rows.{answered_client}
-use Rattle.promise.proofs.Steps.{asked_leg}
+use Rattle.promise.proofs.TaggedSteps.{asked_leg}
 use Rattle.promise.proofs.WaitTakes.{same_is}
 use Rattle.promised.specs.Coming.{FitsComing}
 use Rattle.promised.proofs.Fitting.{answers_fits}

@@ -23,7 +23,7 @@ use Rattle.call_trace.specs.declared.datagram.Message.{Message as TraceMessage}
 use Rattle.trace_reading.specs.Message.{trace_message}
 use Rattle.promise.specs.Quiet.{IsRequestIf}
 use Rattle.promise.proofs.ReadMessages.{message_reads}
-use Rattle.traces.specs.Messages.{IsTakenOf}
+use Rattle.promise.specs.Messages.{IsTakenOf}
 
 -- ---- what was taken
 

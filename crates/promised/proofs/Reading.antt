@@ -6,7 +6,7 @@ use Rattle.sip_writing.specs.Writing.{message_text}
 use Rattle.sip_writing.specs.WritingMessage.{IsWrittenMessage}
 use Rattle.call_trace.specs.declared.datagram.Message.{Message as TraceMessage}
 use Rattle.trace_reading.specs.Message.{trace_message}
-use Rattle.traces.specs.Messages.{IsMessage}
+use Rattle.promise.specs.Messages.{IsMessage}
 
 -- what reading says of bytes
 pub record Reading : Type 0 where

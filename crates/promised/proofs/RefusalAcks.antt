@@ -36,10 +36,10 @@ use Rattle.promise.proofs.Reading.{Reading as ReadsNames}
 use Rattle.promise.proofs.SeenMessages.{refused_sees}
 use Rattle.promise.proofs.Texts.{all_of_run}
 use Rattle.promise.proofs.WrittenRequests.{refusal_ack_stands}
-use Rattle.read_back.specs.Comings.{KnowsScenes}
-use Rattle.read_back.proofs.ClientSlots.{client_at}
-use Rattle.traces.specs.Knowing.{KnowsTrace}
-use Rattle.traces.specs.Messages.{IsMessage, IsRequestOf}
+use Rattle.promise.specs.Comings.{KnowsScenes}
+use Rattle.promise.proofs.ClientSlots.{client_at}
+use Rattle.promise.specs.KnownTrace.{KnowsTrace}
+use Rattle.promise.specs.Messages.{IsMessage, IsRequestOf}
 use Rattle.promised.proofs.Reading.{Reading, message_is}
 use Rattle.promised.proofs.SeenWords.{request_of}
 use Rattle.promised.specs.Machines.{FitsMachine, KnowsMachines}

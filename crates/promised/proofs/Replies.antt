@@ -37,8 +37,8 @@ use Rattle.promise.proofs.Further.{FollowsIn, IsPlain, NeedsNoContact, accept_en
 use Rattle.promise.proofs.QuietReplies.{responds_plain}
 use Rattle.promise.proofs.ReadParts.{IsStatus, IsTokenIf, IsTokenRun, sent_tag, token_or}
 use Rattle.promise.proofs.Repeats.{CanAnswer, FitsReply, fresh_token, responds_written, stateless_token}
-use Rattle.read_back.proofs.Listing.{listing_follows}
-use Rattle.read_back.proofs.ReadReplies.{AreBound}
+use Rattle.promise.proofs.Listing.{listing_follows}
+use Rattle.promise.proofs.ReadReplies.{AreBound}
 use Rattle.promised.proofs.QuietSends.{SaysPlain}
 
 -- ---- one response

@@ -20,8 +20,8 @@ use Rattle.call_trace.specs.declared.datagram.Message.{Message}
 use Rattle.call_trace.specs.Events.{calm, passed, unmoved}
 use Rattle.call_trace.specs.Messages.{offering}
 use Rattle.call_trace.specs.Moves.{Move}
-use Rattle.read_back.proofs.Comings.{alone_comes, bye_comes, cancel_comes}
-use Rattle.traces.specs.Messages.{AreMessages, IsTakenOf}
+use Rattle.promise.proofs.Comings.{alone_comes, bye_comes, cancel_comes}
+use Rattle.promise.specs.Messages.{AreMessages, IsTakenOf}
 use Rattle.promised.specs.Shows.{ShowsCall}
 use Rattle.promised.specs.Ties.{AreTied}
 use Rattle.promised.proofs.ReadTexts.{taken_is}

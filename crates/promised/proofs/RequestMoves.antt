@@ -38,9 +38,9 @@ use Rattle.promise.proofs.ReadParts.{same_method}
 use Rattle.promise.proofs.Reading.{Reading as ReadsNames}
 use Rattle.promise.proofs.Repeats.{CanAnswer, FitsReply}
 use Rattle.promise.proofs.UnsupportedField.{unsupported_written}
-use Rattle.read_back.specs.Comings.{KnowsScenes}
-use Rattle.read_back.proofs.Registered.{answer_bound}
-use Rattle.traces.specs.Messages.{AreMessages, IsTakenOf}
+use Rattle.promise.specs.Comings.{KnowsScenes}
+use Rattle.promise.proofs.Registered.{answer_bound}
+use Rattle.promise.specs.Messages.{AreMessages, IsTakenOf}
 use Rattle.promised.proofs.Reading.{Reading}
 use Rattle.promised.proofs.QuietSends.{plain_move}
 use Rattle.promised.proofs.ReadTexts.{answerable_taken, request_taken}

@@ -30,10 +30,10 @@ use Rattle.call_trace.specs.Stands.{AllApart}
 use Rattle.trace_reading.specs.Message.{trace_message}
 use Rattle.promise.proofs.Describing.{BodiesDescribe}
 use Rattle.promise.proofs.ReadBack.{SentIsRead}
-use Rattle.read_back.specs.Comings.{CanCome}
+use Rattle.promise.specs.Comings.{CanCome}
 use Rattle.promised.specs.Taking.{IsShownAt, KnowsLegs, TakesSignal}
 use Rattle.promised.specs.Coming.{scene_at}
-use Rattle.traces.specs.Messages.{AreMessages, IsTakenOf}
+use Rattle.promise.specs.Messages.{AreMessages, IsTakenOf}
 use Rattle.promised.specs.Listing.{is_listed as is_listed_call}
 use Rattle.promised.specs.Shows.{ShowsCall}
 use Rattle.promised.proofs.Reading.{Reading}
@@ -53,7 +53,7 @@ use Rattle.promise.proofs.ReadParts.{same_method}
 use Rattle.plans.specs.CallRows.{asker, tag_at, takes_request, takes}
 use Rattle.responses.specs.Responding.{stateless}
 use Rattle.promise.specs.Addresses.{IsSource}
-use Rattle.read_back.proofs.Comings.{alone_comes, bye_comes, cancel_comes}
+use Rattle.promise.proofs.Comings.{alone_comes, bye_comes, cancel_comes}
 use Rattle.promised.specs.Coming.{FitsComing}
 use Rattle.promised.proofs.Fitting.{counts_fits}
 use Rattle.promised.proofs.Comings.{ack_signals, bye_signals, cancel_signals}
@@ -61,7 +61,7 @@ use Rattle.call_rules.specs.Speaking.{is_bye}
 use Rattle.promise.specs.Sending.{KnowsSent}
 use Rattle.promise.specs.Sound.{HasSoundLegs}
 use Rattle.promise.proofs.Awaiting.{all_at}
-use Rattle.traces.specs.Knowing.{KnowsTrace}
+use Rattle.promise.specs.KnownTrace.{KnowsTrace}
 use Rattle.call_rules.specs.declared.requests.DialogRule.TheVariants.{Leaves}
 
 unlisted : (a b : Bool) → b ≡ false → IsTrue (not (a && b))

@@ -29,7 +29,7 @@ use Rattle.call_trace.specs.Events.{passed}
 use Rattle.call_trace.specs.Messages.{offering}
 use Rattle.call_trace.specs.Moves.{Move}
 use Rattle.promised.specs.Taking.{KnowsLegs}
-use Rattle.traces.specs.Messages.{AreMessages, IsTakenOf}
+use Rattle.promise.specs.Messages.{AreMessages, IsTakenOf}
 use Rattle.promised.specs.Listing.{is_listed as is_listed_call}
 use Rattle.promised.specs.Shows.{ShowsCall}
 use Rattle.promised.specs.Ties.{AreTied}

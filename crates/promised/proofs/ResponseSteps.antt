@@ -51,17 +51,17 @@ use Rattle.promise.specs.CalleeDialogs.{is_unanswered}
 use Rattle.promise.specs.Waiting.{KnowsWaiting}
 use Rattle.promise.proofs.ReadBack.{SentIsRead}
 use Rattle.promise.proofs.Reading.{Reading as ReadsNames}
-use Rattle.read_back.specs.Comings.{CanCome}
-use Rattle.read_back.proofs.Comings.{alone_comes, answer_comes}
+use Rattle.promise.specs.Comings.{CanCome}
+use Rattle.promise.proofs.Comings.{alone_comes, answer_comes}
 use Rattle.promised.specs.Responding.{RespondsToOffer}
 use Rattle.promised.specs.Taking.{IsShownAt, KnowsLegs, TakesSignal}
-use Rattle.traces.proofs.Taking.{ReplyLaw}
+use Rattle.promise.proofs.Taking.{ReplyLaw}
 use Rattle.promise.proofs.Rows.{answered_client}
 use Rattle.promised.proofs.FirstAnswers.{ReadingLaws, later_fits, success_signals}
 use Rattle.promised.proofs.Responses.{refusal_signals, ringing_signals}
 use Rattle.promised.specs.Coming.{FitsComing, scene_at}
 use Rattle.promised.specs.Lines.{next_in}
-use Rattle.traces.specs.Messages.{AreMessages, IsTakenOf}
+use Rattle.promise.specs.Messages.{AreMessages, IsTakenOf}
 use Rattle.promised.specs.Inputs.{is_bye_signal}
 use Rattle.promised.specs.Listing.{is_listed as is_listed_call, is_listed_stage}
 use Rattle.promised.specs.Shows.{ShowsCall}

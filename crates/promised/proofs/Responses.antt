@@ -36,10 +36,10 @@ use Rattle.promise.proofs.Awaiting.{all_at, opened}
 use Rattle.promise.proofs.MessageViews.{IsResponseTo}
 use Rattle.promise.proofs.ResponseViews.{IsAsked}
 use Rattle.promise.proofs.Rows.{answered_client}
-use Rattle.traces.specs.Knowing.{KnowsTrace}
-use Rattle.traces.specs.Messages.{IsRequestOf, IsTakenOf}
-use Rattle.traces.proofs.Taking.{ReplyLaw, answers_to}
-use Rattle.traces.proofs.TraceRequests.{response_replies, same_request}
+use Rattle.promise.specs.KnownTrace.{KnowsTrace}
+use Rattle.promise.specs.Messages.{IsRequestOf, IsTakenOf}
+use Rattle.promise.proofs.Taking.{ReplyLaw, answers_to}
+use Rattle.promise.proofs.TraceRequests.{response_replies, same_request}
 use Rattle.promised.specs.Inputs.{TookFinal, TookRefusal, TookRinging, TookSuccess}
 use Rattle.promised.specs.Coming.{scene_at}
 use Rattle.promised.specs.Responding.{RespondsToOffer}

@@ -27,7 +27,7 @@ use Rattle.promise.specs.Saying.{SeesCancel, SeesIn, SeesTo}
 use Rattle.promised.specs.Scenes.{AreOwn, ByeIn, LegIn}
 use Rattle.promised.specs.Heard.{HearsAction, HearsActions, HearsOne}
 use Rattle.promised.specs.Said.{Acknowledges, AcksIn, EndSaid, IsLeft, Leaves, acknowledged, leaves, moves_none, was_left}
-use Rattle.traces.proofs.UnusedTokens.{new_branch}
+use Rattle.promise.proofs.UnusedTokens.{new_branch}
 use Rattle.promised.proofs.SeenWords.{cancel_plain, okay_plain}
 use Rattle.promised.proofs.Taking.{SaysOne, take_one}
 

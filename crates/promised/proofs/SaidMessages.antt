@@ -11,9 +11,9 @@ use Rattle.events.specs.declared.sent.Sent.{Sent}
 use Rattle.promise.specs.Datagrams.{ComesFromSource}
 use Rattle.promised.specs.Standing.{SaysMessages}
 use Rattle.promised.proofs.Knowing.{Laws}
-use Rattle.read_back.specs.ReadDatagrams.{IsReadDatagram}
+use Rattle.promise.specs.ReadDatagrams.{IsReadDatagram}
 use Rattle.trace_reading.specs.Message.{trace_message}
-use Rattle.traces.specs.Messages.{AreMessages}
+use Rattle.promise.specs.Messages.{AreMessages}
 
 -- those behind
 last_read : (sent sends : List Sent) → All IsReadDatagram (sent ++ sends) → All IsReadDatagram sends

@@ -30,9 +30,9 @@ use Rattle.promise.specs.Saying.{OneIf, SeesAgain, SeesCancel, SeesIn, SeesTo}
 use Rattle.promise.specs.Seeing.{response_tag}
 use Rattle.promise.specs.Tokens.{IsMade}
 use Rattle.promise.proofs.Speaking.{answer_offer, answers_offer}
-use Rattle.read_back.specs.Said.{IsSaid, SaysAction, SaysActions}
-use Rattle.read_back.specs.SoundScenes.{HasFitStatus, HaveFitStatuses}
-use Rattle.traces.specs.Messages.{AreMessages, IsMessage}
+use Rattle.promise.specs.Said.{IsSaid, SaysAction, SaysActions}
+use Rattle.promise.specs.SoundScenes.{HasFitStatus, HaveFitStatuses}
+use Rattle.promise.specs.Messages.{AreMessages, IsMessage}
 use Rattle.promised.proofs.HeardActions.{split}
 use Rattle.promised.proofs.Reading.{Reading, message_is}
 use Rattle.promised.proofs.Tags.{kept_tag}

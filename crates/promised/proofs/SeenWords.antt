@@ -15,7 +15,7 @@ use Rattle.call_trace.specs.Events.{dialog_sent, is_plain, taken_at}
 use Rattle.call_trace.specs.Messages.{Replies, cancel, is_answer, is_listed, is_method, is_offer, is_ok, is_request, is_request_of, is_success, offering}
 use Rattle.trace_reading.specs.Message.{dialog_named}
 use Rattle.promise.specs.Seeing.{SeesRequest, SeesResponse, response_tag}
-use Rattle.traces.specs.Messages.{IsRequestOf}
+use Rattle.promise.specs.Messages.{IsRequestOf}
 use Rattle.promised.specs.Said.{IsReplyTag}
 
 -- ---- requests that are sent

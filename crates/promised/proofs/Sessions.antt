@@ -15,8 +15,8 @@ use Rattle.call_trace.specs.Listed.{AllOf}
 use Rattle.calls.specs.declared.standing_call.StandingCall.{StandingCall}
 use Rattle.call_trace.proofs.Members.{all_weaker}
 use Rattle.plans.specs.Office.{Office}
-use Rattle.service.specs.Serving.{AreStaged, IsSessionOf, IsStaged, trace_session}
-use Rattle.service.specs.Traced.{AreTraced, WasSettled}
+use Rattle.promise.specs.Serving.{AreStaged, IsSessionOf, IsStaged, trace_session}
+use Rattle.promise.specs.Traced.{AreTraced, WasSettled}
 use Rattle.promised.specs.Listing.{Listed, is_listed_stage}
 use Rattle.promised.specs.Shows.{ShowsCall, ShowsSettled, ShowsStage, ShowsStanding, settled_of}
 use Rattle.transactions.specs.declared.transaction.Transaction.{Transaction}

@@ -70,8 +70,8 @@ use Rattle.promised.specs.Shows.{IsUnanswered, ShowsListing, ShowsOffer, ShowsLe
 use Rattle.promised.proofs.FitLines.{asked_fit, reasked_fit, update_fit}
 use Rattle.promised.proofs.Reading.{Reading}
 use Rattle.promised.proofs.Stages.{other_is}
-use Rattle.traces.specs.Messages.{IsRequestOf, IsTakenOf}
-use Rattle.traces.proofs.Taking.{ReplyLaw}
+use Rattle.promise.specs.Messages.{IsRequestOf, IsTakenOf}
+use Rattle.promise.proofs.Taking.{ReplyLaw}
 use Rattle.promised.specs.FitSteps.{IsFitStep, session_with}
 use Rattle.promised.proofs.FirstLegs.{first_comes, tagged_in}
 

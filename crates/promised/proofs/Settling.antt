@@ -26,11 +26,11 @@ use Rattle.call_trace.specs.Listed.{AllOf}
 use Rattle.call_trace.specs.Messages.{is_listed, offering}
 use Rattle.promise.specs.Saying.{SeesIn, SeesTo}
 use Rattle.promise.specs.Seeing.{SeesRequest, SeesResponse}
-use Rattle.traces.specs.Messages.{IsMessage}
+use Rattle.promise.specs.Messages.{IsMessage}
 use Rattle.promised.specs.Heard.{HearsAction, HearsActions, HearsOne}
 use Rattle.promised.specs.Said.{Acknowledges, Answers, Asks, OfferHeard}
 use Rattle.promised.specs.Shows.{IsUnanswered}
-use Rattle.traces.proofs.UnusedTokens.{new_branch}
+use Rattle.promise.proofs.UnusedTokens.{new_branch}
 use Rattle.promised.proofs.Fresh.{new_answer, other_bytes}
 use Rattle.promised.specs.Scenes.{AreAllRead, AreOwn, AskedLeg, AskerIn, LegIn}
 use Rattle.promised.proofs.SaidActions.{acknowledges_of}

@@ -17,8 +17,8 @@ use Rattle.trace_reading.specs.Message.{dialog_named}
 use Rattle.promise.specs.OpenRequests.{IsAmong}
 use Rattle.promise.specs.Waiting.{IsOffering, from_tag}
 use Rattle.promise.proofs.Calls.{KeepsLeg}
-use Rattle.promise.proofs.Serving.{StandsAs}
-use Rattle.traces.specs.Messages.{IsRequestOf}
+use Rattle.promise.proofs.ServedRequests.{StandsAs}
+use Rattle.promise.specs.Messages.{IsRequestOf}
 use Rattle.promised.specs.Shows.{Came, IsUnanswered, ShowsCallee, ShowsLegs, ShowsOffer, ShowsOpen}
 
 -- ---- dialogs

@@ -65,11 +65,11 @@ use Rattle.promise.proofs.ResponseViews.{ResponseRow, ack_alone, again, answered
 use Rattle.promise.proofs.Rows.{answered_client}
 use Rattle.promise.proofs.SpokenLines.{FitsInput, is_offer_input}
 use Rattle.promise.proofs.UnsupportedField.{unsupported_written}
-use Rattle.read_back.specs.Comings.{CanCome}
-use Rattle.read_back.proofs.Comings.{alone_comes, answer_comes, bye_comes, cancel_comes}
-use Rattle.read_back.proofs.Registered.{answer_bound}
-use Rattle.traces.specs.Asked.{KnowsAsked}
-use Rattle.traces.specs.Messages.{AreMessages, IsMessage}
+use Rattle.promise.specs.Comings.{CanCome}
+use Rattle.promise.proofs.Comings.{alone_comes, answer_comes, bye_comes, cancel_comes}
+use Rattle.promise.proofs.Registered.{answer_bound}
+use Rattle.promise.specs.Asked.{KnowsAsked}
+use Rattle.promise.specs.Messages.{AreMessages, IsMessage}
 use Rattle.promised.proofs.HeardActions.{split}
 use Rattle.promised.specs.Ties.{AreTied}
 use Rattle.promised.proofs.EventMoves.{sends_are_idle}

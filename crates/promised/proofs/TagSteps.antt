@@ -59,12 +59,12 @@ use Rattle.promise.proofs.ReadBack.{SentIsRead}
 use Rattle.promise.proofs.Reading.{Reading as ReadsNames}
 use Rattle.promise.proofs.Speaking.{answer_offer}
 use Rattle.promise.proofs.SpokenLines.{FitsInput, call_speaks, is_offer_input}
-use Rattle.read_back.specs.Comings.{CanCome}
-use Rattle.read_back.specs.SoundScenes.{CanAskIn, HaveFitStatuses}
-use Rattle.read_back.proofs.Comings.{forked_can, later_can, offer_comes}
-use Rattle.read_back.proofs.Scenes.{alone_says, first_says, step_fits, step_says}
-use Rattle.traces.specs.Asked.{HasAskerIf, KnowsAsked}
-use Rattle.traces.specs.Messages.{AreMessages, IsMessage}
+use Rattle.promise.specs.Comings.{CanCome}
+use Rattle.promise.specs.SoundScenes.{CanAskIn, HaveFitStatuses}
+use Rattle.promise.proofs.Comings.{forked_can, later_can, offer_comes}
+use Rattle.promise.proofs.Scenes.{alone_says, first_says, step_fits, step_says}
+use Rattle.promise.specs.Asked.{HasAskerIf, KnowsAsked}
+use Rattle.promise.specs.Messages.{AreMessages, IsMessage}
 use Rattle.promised.proofs.Reading.{Reading}
 use Rattle.promised.specs.Ties.{AreTied}
 use Rattle.promised.proofs.QuietSends.{went_before}

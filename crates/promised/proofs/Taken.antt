@@ -22,7 +22,7 @@ use Rattle.promise.specs.Knowing.{KnowsTokens}
 use Rattle.promise.specs.Waiting.{IsOffering, KnowsWaiting, waits}
 use Rattle.promise.proofs.Awaiting.{fits_at}
 use Rattle.promise.proofs.Rows.{answered_client}
-use Rattle.traces.specs.Knowing.{KnowsTrace}
+use Rattle.promise.specs.KnownTrace.{KnowsTrace}
 use Rattle.promised.specs.Listing.{Listed}
 use Rattle.promised.specs.Shows.{ShowsCall}
 use Rattle.promised.specs.Lateness.{IsLate, IsPassedOver}

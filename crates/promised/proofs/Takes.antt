@@ -31,12 +31,12 @@ use Rattle.promise.proofs.Describing.{BodiesDescribe}
 use Rattle.promise.proofs.ReadBack.{SentIsRead}
 use Rattle.promise.specs.OpenRequests.{HasAsked}
 use Rattle.promise.proofs.AskedCalls.{at_place}
-use Rattle.read_back.specs.Comings.{CanCome}
+use Rattle.promise.specs.Comings.{CanCome}
 use Rattle.promised.specs.Coming.{FitsComing, scene_at}
 use Rattle.promised.specs.Going.{put_as}
-use Rattle.service.specs.Serving.{IsStaged}
+use Rattle.promise.specs.Serving.{IsStaged}
 use Rattle.promised.specs.Taking.{TakesSignal}
-use Rattle.traces.specs.Messages.{AreMessages}
+use Rattle.promise.specs.Messages.{AreMessages}
 use Rattle.promised.specs.Afterwards.{HasSpot}
 use Rattle.promised.specs.Heard.{HearsActions}
 use Rattle.promised.specs.Inputs.{is_bye_signal}

@@ -27,7 +27,7 @@ use Rattle.legs.specs.Dressing.{asks_if, branch, dialog_with, dress_one, method_
 use Rattle.legs.specs.Messages as messages
 use Rattle.sip_writing.specs.Requests.{server_via}
 use Rattle.call_trace.specs.declared.datagram.Message.{Message}
-use Rattle.traces.specs.Messages.{IsMessage}
+use Rattle.promise.specs.Messages.{IsMessage}
 use Rattle.promised.specs.Heard.{HearsAction, HearsActions, HearsOne}
 
 -- ---- one action

@@ -28,13 +28,13 @@ use Rattle.call_trace.specs.Stands.{AllApart}
 use Rattle.promise.specs.Sending.{KnowsSent}
 use Rattle.promise.proofs.Describing.{BodiesDescribe}
 use Rattle.promise.proofs.ReadBack.{SentIsRead}
-use Rattle.read_back.specs.Comings.{CanCome}
-use Rattle.read_back.proofs.Comings.{alone_comes}
+use Rattle.promise.specs.Comings.{CanCome}
+use Rattle.promise.proofs.Comings.{alone_comes}
 use Rattle.call_steps.specs.Values.{without_offer}
 use Rattle.promised.specs.Taking.{KnowsLegs, is_due_signal}
 use Rattle.promised.proofs.Comings.{due_signals}
-use Rattle.traces.specs.Knowing.{KnowsTrace}
-use Rattle.traces.specs.Messages.{AreMessages}
+use Rattle.promise.specs.KnownTrace.{KnowsTrace}
+use Rattle.promise.specs.Messages.{AreMessages}
 use Rattle.promised.specs.Listing.{is_listed}
 use Rattle.promised.specs.Shows.{ShowsCall}
 use Rattle.promised.proofs.Reading.{Reading}

@@ -35,14 +35,14 @@ use Rattle.promise.specs.Sending.{AckWasSent, KnowsSent, WasSent, WasSentIf}
 use Rattle.promise.specs.Waiting.{waits}
 use Rattle.promise.proofs.Reading.{Reading as ReadsNames}
 use Rattle.promise.proofs.Rows.{answered_client}
-use Rattle.read_back.specs.Comings.{KnowsScenes}
-use Rattle.traces.specs.Knowing.{KnowsTrace}
-use Rattle.traces.specs.Messages.{AreMessages, IsMessage, IsTakenOf}
+use Rattle.promise.specs.Comings.{KnowsScenes}
+use Rattle.promise.specs.KnownTrace.{KnowsTrace}
+use Rattle.promise.specs.Messages.{AreMessages, IsMessage, IsTakenOf}
 use Rattle.promised.proofs.Reading.{Reading}
 use Rattle.promised.specs.Machines.{KnowsMachines}
 use Rattle.promised.specs.Verdicts.{IsTransactions}
 use Rattle.promised.proofs.QuietSends.{WentBefore, before_idle, idle_move, request_parts, silent_move, went_before}
-use Rattle.traces.proofs.ReadTexts.{response_seen}
+use Rattle.promise.proofs.ReadTexts.{response_seen}
 use Rattle.promised.proofs.ReadTexts.{request_taken, taken_is}
 use Rattle.promised.proofs.Receptions.{LastGoes, fired_goes, last_sent, request_goes, response_goes}
 use Rattle.promised.proofs.RefusalAcks.{ack_idle}

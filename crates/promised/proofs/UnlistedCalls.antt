@@ -27,10 +27,10 @@ use Rattle.call_trace.specs.Moves.{Move}
 use Rattle.call_trace.specs.Stands.{AllApart}
 use Rattle.promise.proofs.Describing.{BodiesDescribe}
 use Rattle.promise.proofs.ReadBack.{SentIsRead}
-use Rattle.read_back.specs.Comings.{CanCome}
+use Rattle.promise.specs.Comings.{CanCome}
 use Rattle.promised.specs.Coming.{scene_at}
 use Rattle.promised.specs.Going.{put_as}
-use Rattle.traces.specs.Messages.{AreMessages}
+use Rattle.promise.specs.Messages.{AreMessages}
 use Rattle.promised.specs.Heard.{HearsActions}
 use Rattle.promised.specs.Shows.{ShowsCall}
 use Rattle.promised.proofs.Reading.{Reading}

@@ -27,7 +27,7 @@ use Rattle.promise.proofs.AskedCalls.{at_place}
 use Rattle.promise.proofs.OpenRequests.{among_left, among_right}
 use Rattle.promise.proofs.Rising.{pairs_head, pairs_tail}
 use Rattle.promise.proofs.WaitTakes.{same_number}
-use Rattle.traces.specs.Messages.{IsRequestOf}
+use Rattle.promise.specs.Messages.{IsRequestOf}
 use Rattle.promised.specs.Shows.{Came, ShowsCall, ShowsStage, ShowsStanding}
 use Rattle.promise.specs.Askers.{KeepsRequest}
 use Rattle.promised.proofs.Showing.{OfferOn, open_on}

@@ -11,7 +11,7 @@ use Rattle.legs.specs.declared.scene.Scene.{Scene}
 use Rattle.legs.specs.Dressing.{branch, dialog_with, dress_one, method_of}
 use Rattle.call_trace.specs.declared.datagram.Message.{Message}
 use Rattle.promise.specs.Saying.{SeesCancel, SeesIn, SeesTo}
-use Rattle.traces.specs.Messages.{IsMessage}
+use Rattle.promise.specs.Messages.{IsMessage}
 
 -- the message of these bytes
 abbrev pub HearsAgain : Option Sent → Message → Type 0

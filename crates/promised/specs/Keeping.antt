@@ -17,8 +17,8 @@ use Rattle.port_pool.specs.Holdings.{even_of, is_among}
 use Rattle.port_pool.specs.RelayTable.{Rows}
 use Rattle.calls.specs.declared.standing_call.StandingCall.{StandingCall}
 use Rattle.plans.specs.Office.{Office}
-use Rattle.service.specs.Serving.{call_numbered, trace_table}
-use Rattle.service.specs.Traced.{holder_by}
+use Rattle.promise.specs.Serving.{call_numbered, trace_table}
+use Rattle.promise.specs.Traced.{holder_by}
 use Rattle.promised.specs.Listing.{Listed}
 use Rattle.promised.specs.Shows.{ShowsCall}
 use Rattle.trace_reading.specs.Message.{dialog_named}

@@ -22,14 +22,14 @@ use Rattle.promise.specs.Sending.{KnowsSent}
 use Rattle.promise.specs.Waiting.{KnowsWaiting}
 use Rattle.promised.specs.Late.{KnowsLate}
 use Rattle.promised.specs.Machines.{KnowsMachines}
-use Rattle.read_back.specs.Comings.{KnowsScenes}
-use Rattle.service.specs.Serving.{AreStaged}
+use Rattle.promise.specs.Comings.{KnowsScenes}
+use Rattle.promise.specs.Serving.{AreStaged}
 use Rattle.promised.specs.Steps.{GoOn}
 use Rattle.promised.specs.Taking.{KnowsLegs}
 use Rattle.promised.specs.Listing.{Listed}
 use Rattle.promised.specs.Shows.{ShowsCall}
-use Rattle.traces.specs.Asked.{KnowsAsked}
-use Rattle.traces.specs.Knowing.{KnowsTrace}
+use Rattle.promise.specs.Asked.{KnowsAsked}
+use Rattle.promise.specs.KnownTrace.{KnowsTrace}
 use Rattle.transactions.specs.declared.transaction.Transaction.{Transaction}
 
 -- ---- the agent, which began these transactions and sent these datagrams, and the trace of it

@@ -16,7 +16,7 @@ use Rattle.call_trace.specs.Messages.{Replies, ack, bye, is_final, is_listed, is
 use Rattle.call_trace.specs.Stands.{IsTagOf}
 use Rattle.trace_reading.specs.Message.{dialog_named}
 use Rattle.promise.specs.Seeing.{SeesRequest, SeesResponse, response_tag}
-use Rattle.traces.specs.Messages.{IsRequestOf}
+use Rattle.promise.specs.Messages.{IsRequestOf}
 
 -- ---- tags
 

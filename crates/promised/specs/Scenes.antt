@@ -18,8 +18,8 @@ use Rattle.call_trace.specs.Exchanges.{At}
 use Rattle.call_trace.specs.Messages.{bye}
 use Rattle.trace_reading.specs.Message.{dialog_named}
 use Rattle.promise.specs.Seeing.{response_tag}
-use Rattle.traces.specs.Knowing.{HasTokens}
-use Rattle.traces.specs.Messages.{IsMessage, IsRequestOf}
+use Rattle.promise.specs.KnownTrace.{HasTokens}
+use Rattle.promise.specs.Messages.{IsMessage, IsRequestOf}
 use Rattle.promised.specs.Said.{IsReplyTag}
 
 -- ---- the trace

@@ -28,7 +28,7 @@ use Rattle.call_trace.specs.Stands.{leg}
 use Rattle.trace_reading.specs.Message.{dialog_named}
 use Rattle.promise.specs.OpenRequests.{IsAmong}
 use Rattle.promise.specs.Waiting.{IsOffering, from_tag}
-use Rattle.traces.specs.Messages.{IsRequestOf}
+use Rattle.promise.specs.Messages.{IsRequestOf}
 use Rattle.promised.specs.Listing.{Listing, asking, ending_by, first, hidden, listing, talking, updating}
 
 -- ---- ends and dialogs

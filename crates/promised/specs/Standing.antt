@@ -6,7 +6,7 @@ use Rattle.plans.specs.declared.taken.Taken.{Taken}
 use Rattle.call_trace.specs.Events.{passed}
 use Rattle.call_trace.specs.declared.datagram.Message.{Message}
 use Rattle.promise.specs.Datagrams.{EntersFromSource, IsOwnDatagram}
-use Rattle.traces.specs.Traces.{AreTrace, IsPassed}
+use Rattle.promise.specs.Traces.{AreTrace, IsPassed}
 use Rattle.std.specs.Prelude.{List, Option, length, suc, ℕ, ◌++◌, ◌+◌, ◌≡◌}
 use Rattle.std.specs.List.{All}
 use Rattle.call_trace.specs.Lives.{Stands}
@@ -33,12 +33,12 @@ use Rattle.promised.specs.Listing.{Listed}
 use Rattle.promised.specs.Machines.{KnowsMachines}
 use Rattle.promised.specs.Shows.{ShowsCall}
 use Rattle.promised.specs.Taken.{KnowsTaken}
-use Rattle.read_back.specs.ReadDatagrams.{IsReadDatagram}
-use Rattle.read_back.specs.SoundClients.{KnowsClients}
-use Rattle.service.specs.Serving.{KnowsServing}
-use Rattle.traces.specs.Asked.{KnowsAsked}
-use Rattle.traces.specs.Knowing.{KnowsTrace}
-use Rattle.traces.specs.Messages.{AreMessages, IsRequestOf}
+use Rattle.promise.specs.ReadDatagrams.{IsReadDatagram}
+use Rattle.promise.specs.SoundClients.{KnowsClients}
+use Rattle.promise.specs.Serving.{KnowsServing}
+use Rattle.promise.specs.Asked.{KnowsAsked}
+use Rattle.promise.specs.KnownTrace.{KnowsTrace}
+use Rattle.promise.specs.Messages.{AreMessages, IsRequestOf}
 use Rattle.transactions.specs.declared.transaction.Transaction.{Transaction}
 
 -- ---- the agent, which began these transactions and sent these datagrams, and the trace of it

@@ -29,8 +29,8 @@ use Rattle.call_trace.specs.Lives.{Stands}
 use Rattle.promise.specs.Askers.{KeepsAsked}
 use Rattle.promise.specs.Numbers.{KnowsNumbers}
 use Rattle.promise.specs.OpenRequests.{HasAsked}
-use Rattle.read_back.specs.Comings.{KnowsScenes}
-use Rattle.service.specs.Serving.{AreStaged}
+use Rattle.promise.specs.Comings.{KnowsScenes}
+use Rattle.promise.specs.Serving.{AreStaged}
 
 -- the signal that the call sees of an input; of an offer none, nor of an answer that is fit
 abbrev pub IsSignalOf : ServerCall → Input → Signal → Type 0

@@ -7,10 +7,10 @@ use Rattle.plans.specs.Office.{Office}
 use Rattle.promise.specs.Knowing.{KnowsTokens}
 use Rattle.promise.specs.Sending.{KnowsSent}
 use Rattle.promise.specs.Waiting.{KnowsWaiting}
-use Rattle.read_back.specs.Comings.{KnowsScenes}
+use Rattle.promise.specs.Comings.{KnowsScenes}
 use Rattle.promised.specs.Listing.{Listed}
 use Rattle.promised.specs.Shows.{ShowsCall}
-use Rattle.traces.specs.Knowing.{KnowsTrace}
+use Rattle.promise.specs.KnownTrace.{KnowsTrace}
 use Rattle.transactions.specs.declared.transaction.Transaction.{Transaction}
 use Rattle.promised.specs.Machines.{KnowsMachines}
 

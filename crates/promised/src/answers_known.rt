@@ -23,7 +23,7 @@ ghost use Rattle.promised.specs.Taken.{KnowsTaken};
 ghost use Rattle.plans.specs.Office.{Office};
 ghost use Rattle.promise.specs.Knowing.{KnowsTokens};
 ghost use Rattle.promised.specs.Ties.{AreTied};
-ghost use Rattle.traces.specs.Asked.{KnowsAsked};
+ghost use Rattle.promise.specs.Asked.{KnowsAsked};
 ghost use Rattle.transactions.specs.declared.transaction.Transaction.{Transaction};
 
 /// Of the trace of a new agent, and after any event whose messages move the calls of the trace: each answer to an INVITE or UPDATE that was sent

@@ -15,9 +15,9 @@ ghost use Rattle.plans.specs.Office.{Office};
 ghost use Rattle.promise.specs.Datagrams.{ComesFromSource};
 ghost use Rattle.promised.specs.Ties.{AreTied};
 ghost use Rattle.responses.specs.Tokens.{token};
-ghost use Rattle.traces.specs.Asked.{KnowsAsked};
-ghost use Rattle.traces.specs.Knowing.{KnowsTrace};
-ghost use Rattle.traces.specs.Messages.{AreMessages};
+ghost use Rattle.promise.specs.Asked.{KnowsAsked};
+ghost use Rattle.promise.specs.KnownTrace.{KnowsTrace};
+ghost use Rattle.promise.specs.Messages.{AreMessages};
 ghost use Rattle.transactions.specs.declared.transaction.Transaction.{Transaction};
 
 use dialogs::{contacts_are_read, dialogs_are_sound};

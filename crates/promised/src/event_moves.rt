@@ -13,7 +13,7 @@ ghost use Rattle.promise.specs.Askers.{KnowsAskers};
 ghost use Rattle.promise.specs.Datagrams.{ComesFromSource};
 ghost use Rattle.promise.specs.Numbers.{begun_of};
 ghost use Rattle.promised.specs.Steps.{IsAfter};
-ghost use Rattle.traces.specs.Traces.{IsPassed};
+ghost use Rattle.promise.specs.Traces.{IsPassed};
 ghost use Rattle.transactions.specs.declared.transaction.Transaction.{Transaction};
 
 use call_trace::moves_keep;

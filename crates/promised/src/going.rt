@@ -20,7 +20,7 @@ ghost use Rattle.sip_message.specs.declared.message.Response.{Response};
 ghost use Rattle.sip_uri.specs.declared.uri.Uri.{Uri};
 ghost use Rattle.promised.specs.Shows.{ShowsLegs};
 ghost use Rattle.trace_reading.specs.Message.{trace_message};
-ghost use Rattle.traces.specs.Messages.{IsRequestOf};
+ghost use Rattle.promise.specs.Messages.{IsRequestOf};
 
 /// The call that is put in place of one that did a step has its dialogs, where what comes with the event is one of them, so that the trace goes
 /// on to show its legs; where that is the dialog that the first 2xx makes, the callee's leg gets the response's tag. Where it stands, its

@@ -7,9 +7,9 @@ ghost use Rattle.call_trace.specs.declared.datagram.Message.{Message};
 ghost use Rattle.legs.specs.Dressing.{dress_one, dressed};
 ghost use Rattle.legs.specs.declared.scene.Scene.{Scene};
 ghost use Rattle.promise.specs.Saying.{OneIf};
-ghost use Rattle.read_back.specs.Said.{SaysAction};
+ghost use Rattle.promise.specs.Said.{SaysAction};
 ghost use Rattle.promised.specs.Heard.{HearsActions};
-ghost use Rattle.traces.specs.Messages.{AreMessages};
+ghost use Rattle.promise.specs.Messages.{AreMessages};
 
 /// Where each action says one message of the written form at most, a trace that reads the datagrams hears what the actions say, one
 /// behind the other.

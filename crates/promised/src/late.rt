@@ -20,7 +20,7 @@ ghost use Rattle.sip_message.specs.declared.message.Response.{Response};
 ghost use Rattle.promised.specs.Listing.{Listed};
 ghost use Rattle.promised.specs.Shows.{ShowsCall};
 ghost use Rattle.trace_reading.specs.Message.{trace_message};
-ghost use Rattle.traces.specs.Knowing.{KnowsTrace};
+ghost use Rattle.promise.specs.KnownTrace.{KnowsTrace};
 ghost use Rattle.transactions.specs.declared.transaction.Transaction.{Transaction};
 ghost use Rattle.transactions.specs.Slots.{at, is_answered};
 ghost use Rattle.call_trace.specs.declared.datagram.Message.{Message};
@@ -37,7 +37,7 @@ ghost use Rattle.promised.specs.Late.{IsAnsweredOrEnded, IsLater, KnowsLate, dia
 ghost use Rattle.plans.specs.Plan.{moves};
 ghost use Rattle.promised.specs.Ties.{AreTied};
 ghost use Rattle.sip_message.specs.Read.{message_of};
-ghost use Rattle.traces.specs.Messages.{AreMessages, IsTakenOf};
+ghost use Rattle.promise.specs.Messages.{AreMessages, IsTakenOf};
 ghost use Rattle.transactions.specs.Contents.{reception_of};
 ghost use Rattle.transactions.specs.declared.change.Entry.{Entry};
 

@@ -27,7 +27,7 @@ ghost use Rattle.sip_message.specs.declared.message.Message.TheVariants as Kinds
 ghost use Rattle.sip_message.specs.declared.message.Request.{Request};
 ghost use Rattle.sip_uri.specs.declared.uri.Uri.{Uri};
 ghost use Rattle.promised.specs.Shows.{ShowsCall};
-ghost use Rattle.traces.specs.Messages.{AreMessages, IsTakenOf};
+ghost use Rattle.promise.specs.Messages.{AreMessages, IsTakenOf};
 ghost use Rattle.transactions.specs.declared.transaction.Transaction.{Transaction};
 
 use call_trace::moves_keep;

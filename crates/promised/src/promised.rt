@@ -10,7 +10,7 @@ ghost use Rattle.promise.specs.Addresses.{IsConfigured};
 ghost use Rattle.promise.specs.Datagrams.{EntersFromSource};
 ghost use Rattle.promised.specs.Keeping.{HasPromisedCalls};
 ghost use Rattle.promised.specs.Living.{ListsLive};
-ghost use Rattle.traces.specs.Traces.{AreTrace};
+ghost use Rattle.promise.specs.Traces.{AreTrace};
 
 use crate::agents_stand;
 

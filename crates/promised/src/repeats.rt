@@ -17,7 +17,7 @@ ghost use Rattle.sip_message.specs.Read.{message_of};
 ghost use Rattle.sip_message.specs.declared.message.Message.TheVariants as Kinds;
 ghost use Rattle.sip_message.specs.declared.message.Request.{Request};
 ghost use Rattle.sip_message.specs.declared.message.Response.{Response};
-ghost use Rattle.traces.specs.Messages.{AreMessages, IsTakenOf};
+ghost use Rattle.promise.specs.Messages.{AreMessages, IsTakenOf};
 ghost use Rattle.transactions.specs.Changes.{fire_of};
 ghost use Rattle.transactions.specs.Contents.{fired_of, reception_of};
 ghost use Rattle.transactions.specs.Slots.{at};

@@ -20,7 +20,7 @@ ghost use Rattle.plans.specs.declared.rule.Reply.{Reply};
 ghost use Rattle.plans.specs.declared.rule.Reply.TheVariants as replies;
 ghost use Rattle.plans.specs.declared.setting.Setting.{Setting};
 ghost use Rattle.promise.specs.Addresses.{IsSource};
-ghost use Rattle.read_back.specs.Comings.{KnowsScenes};
+ghost use Rattle.promise.specs.Comings.{KnowsScenes};
 ghost use Rattle.responses.specs.Responding.{responds, stateless};
 ghost use Rattle.sip_message.specs.AnswerableParts.{answerable_of};
 ghost use Rattle.sip_message.specs.Read.{message_of};
@@ -28,7 +28,7 @@ ghost use Rattle.sip_message.specs.declared.message.Message.TheVariants as Kinds
 ghost use Rattle.sip_message.specs.declared.message.Parts.{Parts};
 ghost use Rattle.sip_message.specs.declared.message.Request.{Request};
 ghost use Rattle.sip_writing.specs.Reply.{answer_address};
-ghost use Rattle.traces.specs.Messages.{AreMessages, IsTakenOf};
+ghost use Rattle.promise.specs.Messages.{AreMessages, IsTakenOf};
 ghost use Rattle.transactions.specs.declared.change.Entry.{Entry};
 
 use dialogs::{contacts_are_read, dialogs_are_sound};

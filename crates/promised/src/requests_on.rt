@@ -19,7 +19,7 @@ ghost use Rattle.sip_message.specs.Read.{message_of};
 ghost use Rattle.sip_message.specs.declared.message.Message.TheVariants as Kinds;
 ghost use Rattle.promised.specs.Listing.{is_listed};
 ghost use Rattle.promised.specs.Shows.{ShowsCall};
-ghost use Rattle.traces.specs.Messages.{AreMessages, IsTakenOf};
+ghost use Rattle.promise.specs.Messages.{AreMessages, IsTakenOf};
 ghost use Rattle.transactions.specs.declared.change.Entry.{Entry};
 ghost use Rattle.transactions.specs.declared.transaction.Transaction.{Transaction};
 ghost use Rattle.call_media.specs.declared.end.End.{End};
@@ -33,7 +33,7 @@ ghost use Rattle.responses.specs.Responding.{stateless};
 ghost use Rattle.responses.specs.Words.{is_method};
 ghost use Rattle.sip_message.specs.declared.message.Request.{Request};
 ghost use Rattle.sip_message.specs.Words.{is_method as is_sent_method};
-ghost use Rattle.traces.specs.Knowing.{KnowsTrace};
+ghost use Rattle.promise.specs.KnownTrace.{KnowsTrace};
 
 use call_trace::moves_keep;
 use offer_answer::sent_is_read;

@@ -26,8 +26,8 @@ ghost use Rattle.sip_message.specs.Words.{class_of};
 ghost use Rattle.sip_message.specs.declared.message.Message.TheVariants as Kinds;
 ghost use Rattle.sip_message.specs.declared.message.Response.{Response};
 ghost use Rattle.sip_message.specs.declared.words.Class.TheVariants.{Failure, Provisional, Success};
-ghost use Rattle.traces.specs.Knowing.{KnowsTrace};
-ghost use Rattle.traces.specs.Messages.{IsTakenOf};
+ghost use Rattle.promise.specs.KnownTrace.{KnowsTrace};
+ghost use Rattle.promise.specs.Messages.{IsTakenOf};
 ghost use Rattle.transactions.specs.declared.transaction.Transaction.{Transaction};
 
 use dialogs::{contacts_are_read, dialogs_are_sound, invites_name_a_contact};

@@ -30,7 +30,7 @@ ghost use Rattle.sip_uri.specs.declared.uri.Uri.{Uri};
 ghost use Rattle.promised.specs.Scenes.{AskedLeg, LegIn};
 ghost use Rattle.promised.specs.Shows.{ShowsLegs, is_caller};
 ghost use Rattle.trace_reading.specs.Message.{dialog_named, trace_message};
-ghost use Rattle.traces.specs.Messages.{IsRequestOf};
+ghost use Rattle.promise.specs.Messages.{IsRequestOf};
 
 /// The scene of a call that stands has each dialog of the call, as the trace names it, with an address and a number that is left; where an
 /// offer is passed on, also a number for that. Where the first 2xx of the callee comes, it has the dialog that this makes, which is the leg of

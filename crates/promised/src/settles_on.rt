@@ -28,7 +28,7 @@ ghost use Rattle.sip_message.specs.declared.message.Response.{Response};
 ghost use Rattle.sip_message.specs.declared.words.Class.TheVariants.{Success};
 ghost use Rattle.promised.specs.Listing.{is_listed};
 ghost use Rattle.promised.specs.Shows.{ShowsCall};
-ghost use Rattle.traces.specs.Messages.{AreMessages, IsTakenOf};
+ghost use Rattle.promise.specs.Messages.{AreMessages, IsTakenOf};
 ghost use Rattle.transactions.specs.Contents.{reception_of};
 ghost use Rattle.transactions.specs.declared.change.Entry.{Entry};
 ghost use Rattle.transactions.specs.declared.transaction.Transaction.{Transaction};

@@ -23,7 +23,7 @@ ghost use Rattle.promised.specs.Taking.{IsShownAt, KnowsLegs, TakesSignal, is_du
 ghost use Rattle.sip_message.specs.Read.{message_of};
 ghost use Rattle.sip_message.specs.declared.message.Message.TheVariants as Kinds;
 ghost use Rattle.sip_message.specs.declared.message.Request.{Request};
-ghost use Rattle.traces.specs.Messages.{IsTakenOf};
+ghost use Rattle.promise.specs.Messages.{IsTakenOf};
 ghost use Rattle.transactions.specs.declared.transaction.Transaction.{Transaction};
 
 /// A call that the trace lists takes the signal of a timer, with which nothing is taken; and that of an ACK, of a CANCEL, or of a BYE in one of

@@ -17,14 +17,14 @@ ghost use Rattle.promise.specs.Datagrams.{ComesFromSource, EntersFromSource};
 ghost use Rattle.promised.specs.Keeping.{HasPromisedCalls, HoldsFor, RelaysLive};
 ghost use Rattle.promised.specs.Living.{ListsLive};
 ghost use Rattle.promised.specs.Standing.{AgentStands, SaysMessages, StandsOn, StandsThrough};
-ghost use Rattle.service.specs.Serving.{HoldNoOthers, holder_in};
-ghost use Rattle.traces.specs.Traces.{AreTrace, IsPassed};
+ghost use Rattle.promise.specs.Serving.{HoldNoOthers, holder_in};
+ghost use Rattle.promise.specs.Traces.{AreTrace, IsPassed};
 
 use crate::{byes_are_known, events_are_moves};
 use call_trace::{moves_keep, standing_is_promised};
 use dialogs::{contacts_are_read, dialogs_are_sound, invites_name_a_contact};
-use read_back::sends_are_read;
-use service::{calls_are_served, served_as_told, traced_calls_are_served};
+use promise::sends_are_read;
+use promise::{calls_are_served, served_as_told, traced_calls_are_served};
 use sip_writing::written_is_read;
 use trace_reading::bodies_describe;
 use transactions::replies;

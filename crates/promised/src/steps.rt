@@ -32,7 +32,7 @@ ghost use Rattle.promise.specs.Sending.{KnowsSent};
 ghost use Rattle.promised.specs.Coming.{FitsComing, scene_at};
 ghost use Rattle.promised.specs.Going.{put_as};
 ghost use Rattle.sdp.specs.declared.description.Description.{Description};
-ghost use Rattle.service.specs.Serving.{IsStaged};
+ghost use Rattle.promise.specs.Serving.{IsStaged};
 ghost use Rattle.promised.specs.Taking.{TakesSignal};
 ghost use Rattle.promised.specs.Steps.{GoOn, GoesOnAt, IsSignalOf, IsSignalStep, calls_after};
 ghost use Rattle.promised.specs.Afterwards.{HasSpot};
@@ -40,7 +40,7 @@ ghost use Rattle.promised.specs.Heard.{HearsActions};
 ghost use Rattle.promised.specs.Lines.{LineMove, SaysNone, actions_in, next_in};
 ghost use Rattle.promised.specs.Inputs.{is_bye_signal};
 ghost use Rattle.promised.specs.Shows.{ShowsCall};
-ghost use Rattle.traces.specs.Knowing.{KnowsTrace};
+ghost use Rattle.promise.specs.KnownTrace.{KnowsTrace};
 ghost use Rattle.transactions.specs.declared.transaction.Transaction.{Transaction};
 
 use crate::lines_are_moves;

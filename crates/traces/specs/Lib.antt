@@ -1,5 +1,0 @@
-pub mod Messages
-pub mod Traces
-pub mod Knowing
-pub mod Kinds
-pub mod Asked
