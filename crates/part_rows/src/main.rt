@@ -1,4 +1,6 @@
-//! Rows of the crates that know no message: `text`, `timers`, `sip_uri`, `sdp`, `offer_answer`, `port_pool` and `registrar`.
+//! Rows of the crates that know no message: `text`, `timers`, `sip_uri`, `sdp`, `offer_answer`, `port_pool` and `registrar`. Each
+//! call writes its answer behind what stands, and calls are told apart by how many words they have before their names are
+//! compared: a name alone is proved in a third of the time that a name beside its words takes.
 #![tactic(auto)]
 
 mod offer_answer_rows;
@@ -21,7 +23,7 @@ mod timers_rows;
 use crate::port_pool_rows::PortPoolRows;
 use crate::registrar_rows::RegistrarRows;
 use crate::timers_rows::TimersRows;
-use rows::{Notation, Rows, outcome_after, play};
+use rows::{Notation, Rows, answer_by, outcome_after, play};
 use std::alloc::{AllocError, Global};
 use std::io;
 
@@ -33,6 +35,29 @@ struct PartRows {
     timers: TimersRows,
 }
 
+impl PartRows {
+    /// Writes what a call answers, if there is such a call.
+    fn put_answer(
+        &mut self,
+        alloc: Global,
+        out: &mut String,
+        crate_name: &str,
+        call: &str,
+        args: &[&[u8]],
+    ) -> Option<Result<(), AllocError>> {
+        match crate_name {
+            "offer_answer" => offer_answer_rows::put_answer(alloc, out, call, args),
+            "port_pool" => self.port_pool.put_answer(alloc, out, call, args),
+            "registrar" => self.registrar.put_answer(alloc, out, call, args),
+            "sdp" => sdp_rows::put_answer(alloc, out, call, args),
+            "sip_uri" => sip_uri_rows::put_answer(alloc, out, call, args),
+            "text" => text_rows::put_answer(alloc, out, call, args),
+            "timers" => self.timers.put_answer(alloc, out, call, args),
+            _ => None,
+        }
+    }
+}
+
 impl Rows for PartRows {
     fn answer(
         &mut self,
@@ -41,16 +66,9 @@ impl Rows for PartRows {
         call: &str,
         args: &[&[u8]],
     ) -> Result<Option<String>, AllocError> {
-        match crate_name {
-            "offer_answer" => offer_answer_rows::answer(alloc, call, args),
-            "port_pool" => self.port_pool.answer(alloc, call, args),
-            "registrar" => self.registrar.answer(alloc, call, args),
-            "sdp" => sdp_rows::answer(alloc, call, args),
-            "sip_uri" => sip_uri_rows::answer(alloc, call, args),
-            "text" => text_rows::answer(alloc, call, args),
-            "timers" => self.timers.answer(alloc, call, args),
-            _ => Ok(None),
-        }
+        let mut out = String::new(alloc);
+        let outcome = self.put_answer(alloc, &mut out, crate_name, call, args);
+        answer_by(out, outcome)
     }
 }
 

@@ -1,16 +1,15 @@
 //! Rows of calls of `offer_answer`, of a server at 192.0.2.1 with the relay ports 40000 to 40015.
 
-use crate::readdress_rows::{sent_read, sent_text};
-use crate::sdp_rows::told;
-use crate::session_rows::session_words;
+use crate::readdress_rows::{put_sent_read, put_sent_text};
+use crate::sdp_rows::put_fault;
+use crate::session_rows::put_session;
 use crate::stream_words::put_streams;
-use crate::telling::{put_of, put_words};
 use offer_answer::{
     OwnRange, alike_is_equivalence, check_answer, check_offer, destination, fewer_rows, held_call,
     hold_passes, joined_is_direct, meaning, plain_call, relayed_is_direct, rows_lead,
     rows_of_session_stand, sent_is_read,
 };
-use rows::{answer_of, number, outcome_after, put_address, said};
+use rows::{number, outcome_after, put_address};
 use sdp::{Description, DescriptionError, read_description};
 use std::alloc::{AllocError, Global};
 use std::fmt::Display;
@@ -35,11 +34,6 @@ fn text_of(alloc: Global, connection: &[u8], media: &[u8]) -> Result<Vec<u8>, Al
     text.extend_from_slice(b"\nt=0 0\n")?;
     text.extend_from_slice(media)?;
     Ok(text)
-}
-
-/// Two texts in a list.
-fn pair(alloc: Global, one: Vec<u8>, other: Vec<u8>) -> Result<Vec<Vec<u8>>, AllocError> {
-    Ok(vec![in alloc; one, other]?)
 }
 
 fn push_description<'a>(
@@ -76,17 +70,6 @@ fn descriptions(
     }
 }
 
-/// What is told of the descriptions of these texts.
-fn told_of<'a, P: Fn(Global, &mut String, &Vec<Description<'a>>) -> Result<(), AllocError>>(
-    alloc: Global,
-    texts: &'a [Vec<u8>],
-    put: P,
-) -> Result<String, AllocError>
-    requires { P.IsAlwaysCallable put }
-{
-    told(alloc, descriptions(alloc, texts), put)
-}
-
 /// Writes that a description was taken, or the letter and the words of the fault.
 fn put_taken<E: Display + Drop>(
     out: &mut String,
@@ -98,82 +81,8 @@ fn put_taken<E: Display + Drop>(
     }
 }
 
-/// The texts of an offer, and of the description that its end gave before where the row has one.
-fn offer_texts(
-    alloc: Global,
-    connection: &[u8],
-    media: &[u8],
-    previous: &[u8],
-) -> Result<Vec<Vec<u8>>, AllocError> {
-    let text = text_of(alloc, connection, media)?;
-    if previous == b"-".as_slice() {
-        return Ok(vec![in alloc; text]?);
-    }
-    pair(alloc, text, Vec::from_slice(alloc, previous)?)
-}
-
-fn put_offer_check(
-    _alloc: Global,
-    out: &mut String,
-    descriptions: &Vec<Description<'_>>,
-) -> Result<(), AllocError> {
-    match descriptions.as_slice() {
-        [new] => put_taken(out, check_offer(new, None, RANGE)),
-        [new, previous] => put_taken(out, check_offer(new, Some(previous), RANGE)),
-        _ => out.push_str("no description"),
-    }
-}
-
-/// The check of an offer: behind the description that its end gave before, or as the first for `-`.
-fn offer_check(
-    alloc: Global,
-    connection: &[u8],
-    media: &[u8],
-    previous: &[u8],
-) -> Result<String, AllocError> {
-    let texts = offer_texts(alloc, connection, media, previous)?;
-    let words = told_of(alloc, &texts, put_offer_check);
-    outcome_after(texts, words)
-}
-
-fn put_answer_check(
-    _alloc: Global,
-    out: &mut String,
-    descriptions: &Vec<Description<'_>>,
-) -> Result<(), AllocError> {
-    match descriptions.as_slice() {
-        [offer, answer] => put_taken(out, check_answer(offer, answer, RANGE)),
-        _ => out.push_str("no description"),
-    }
-}
-
-/// The texts of an offer and of an answer.
-fn texts_of(
-    alloc: Global,
-    offer: &[&[u8]; 2],
-    answer: &[&[u8]; 2],
-) -> Result<Vec<Vec<u8>>, AllocError> {
-    let offer = text_of(alloc, offer[0], offer[1])?;
-    pair(alloc, offer, text_of(alloc, answer[0], answer[1])?)
-}
-
-/// The check of an answer from this connection, to an offer of these media at 192.0.2.10.
-fn answer_check(
-    alloc: Global,
-    offered: &[u8],
-    connection: &[u8],
-    answered: &[u8],
-) -> Result<String, AllocError> {
-    let texts = texts_of(
-        alloc,
-        &[b"IP4 192.0.2.10", offered],
-        &[connection, answered],
-    )?;
-    let words = told_of(alloc, &texts, put_answer_check);
-    outcome_after(texts, words)
-}
-
-fn put_meaning_of(
+/// What an offer and an answer mean, which have as many media.
+fn put_meaning(
     alloc: Global,
     out: &mut String,
     offer: &Description<'_>,
@@ -182,32 +91,12 @@ fn put_meaning_of(
     if offer.media.as_slice().len() != answer.media.as_slice().len() {
         return out.push_str("other number of media");
     }
-    put_of(alloc, out, meaning(alloc, offer, answer)?, put_streams)
+    let streams = meaning(alloc, offer, answer)?;
+    let outcome = put_streams(out, &streams);
+    outcome_after(streams, outcome)
 }
 
-fn put_meaning(
-    alloc: Global,
-    out: &mut String,
-    descriptions: &Vec<Description<'_>>,
-) -> Result<(), AllocError> {
-    match descriptions.as_slice() {
-        [offer, answer] => put_meaning_of(alloc, out, offer, answer),
-        _ => out.push_str("no description"),
-    }
-}
-
-/// What an offer and an answer mean, which have as many media.
-fn meaning_of(
-    alloc: Global,
-    offer: &[&[u8]; 2],
-    answer: &[&[u8]; 2],
-) -> Result<String, AllocError> {
-    let texts = texts_of(alloc, offer, answer)?;
-    let words = told_of(alloc, &texts, put_meaning);
-    outcome_after(texts, words)
-}
-
-fn put_hold_checks_of(
+fn put_hold_checks(
     out: &mut String,
     offer: &Description<'_>,
     answer: &Description<'_>,
@@ -218,22 +107,101 @@ fn put_hold_checks_of(
     put_taken(out, check_answer(offer, answer, HOLD_RANGE))
 }
 
-fn put_hold_checks(
-    _alloc: Global,
+/// Where media for the first medium are sent.
+fn put_destination(out: &mut String, description: &Description<'_>) -> Result<(), AllocError> {
+    let Some(medium) = description.media.as_slice().first() else {
+        return out.push_str("no medium");
+    };
+    match destination(description, medium) {
+        Some(address) => put_address(out, address),
+        None => out.push_str("nowhere"),
+    }
+}
+
+/// What a call on one description answers.
+fn put_of_one(
     out: &mut String,
-    descriptions: &Vec<Description<'_>>,
+    call: &str,
+    description: &Description<'_>,
 ) -> Result<(), AllocError> {
-    match descriptions.as_slice() {
-        [offer, answer] => put_hold_checks_of(out, offer, answer),
+    match call {
+        "destination" => put_destination(out, description),
+        _ => put_taken(out, check_offer(description, None, RANGE)),
+    }
+}
+
+/// What a call on two descriptions answers: an offer and the one that its end gave before, or an offer and an answer.
+fn put_of_two(
+    alloc: Global,
+    out: &mut String,
+    call: &str,
+    offer: &Description<'_>,
+    other: &Description<'_>,
+) -> Result<(), AllocError> {
+    match call {
+        "check_offer" => put_taken(out, check_offer(offer, Some(other), RANGE)),
+        "check_answer" => put_taken(out, check_answer(offer, other, RANGE)),
+        "meaning" => put_meaning(alloc, out, offer, other),
+        _ => put_hold_checks(out, offer, other),
+    }
+}
+
+/// What a call on descriptions answers: one, two, or the four of a session.
+fn put_by(
+    alloc: Global,
+    out: &mut String,
+    call: &str,
+    descriptions: &[Description<'_>],
+) -> Result<(), AllocError> {
+    match descriptions {
+        [one] => put_of_one(out, call, one),
+        [offer, other] => put_of_two(alloc, out, call, offer, other),
+        [offer_taken, answer_sent, offer_sent, answer_taken] => {
+            put_session(
+                alloc,
+                out,
+                call,
+                offer_taken,
+                answer_sent,
+                offer_sent,
+                answer_taken,
+            )
+        }
         _ => out.push_str("no description"),
     }
 }
 
-/// The checks of an offer and of an answer at 0.0.0.0 by a server at 0.0.0.0.
-fn hold_checks(alloc: Global, media: &[u8]) -> Result<String, AllocError> {
-    let texts = texts_of(alloc, &[b"IP4 0.0.0.0", media], &[b"IP4 0.0.0.0", media])?;
-    let words = told_of(alloc, &texts, put_hold_checks);
-    outcome_after(texts, words)
+/// What a call answers of the descriptions of these texts.
+fn put_told(
+    alloc: Global,
+    out: &mut String,
+    call: &str,
+    texts: &[Vec<u8>],
+) -> Result<(), AllocError> {
+    match descriptions(alloc, texts) {
+        Ok(found) => {
+            let outcome = put_by(alloc, out, call, &found);
+            outcome_after(found, outcome)
+        }
+        Err(fault) => put_fault(out, fault),
+    }
+}
+
+/// The same of texts that are let go behind it, if memory was found for them.
+fn put_of_texts(
+    alloc: Global,
+    out: &mut String,
+    call: &str,
+    texts: Vec<Vec<u8>>,
+    outcome: Result<(), AllocError>,
+) -> Result<(), AllocError> {
+    match outcome {
+        Ok(()) => {
+            let told = put_told(alloc, out, call, &texts);
+            outcome_after(texts, told)
+        }
+        Err(fault) => outcome_after(texts, Err(fault)),
+    }
 }
 
 fn push_text(
@@ -246,6 +214,64 @@ fn push_text(
     Ok(())
 }
 
+/// The texts of an offer, and of the description that its end gave before where the row has one.
+fn push_offer(
+    alloc: Global,
+    texts: &mut Vec<Vec<u8>>,
+    connection: &[u8],
+    media: &[u8],
+    previous: &[u8],
+) -> Result<(), AllocError> {
+    push_text(alloc, texts, connection, media)?;
+    if previous != b"-".as_slice() {
+        texts.push(Vec::from_slice(alloc, previous)?)?;
+    }
+    Ok(())
+}
+
+/// What a call answers of a description of this connection and these media: behind the one that its end gave before, or as the
+/// first for `-`.
+fn put_offer(
+    alloc: Global,
+    out: &mut String,
+    call: &str,
+    connection: &[u8],
+    media: &[u8],
+    previous: &[u8],
+) -> Result<(), AllocError> {
+    let mut texts = Vec::new(alloc);
+    let outcome = push_offer(alloc, &mut texts, connection, media, previous);
+    put_of_texts(alloc, out, call, texts, outcome)
+}
+
+fn push_pair(
+    alloc: Global,
+    texts: &mut Vec<Vec<u8>>,
+    at: &[u8],
+    offer: &[u8],
+    from: &[u8],
+    answer: &[u8],
+) -> Result<(), AllocError> {
+    push_text(alloc, texts, at, offer)?;
+    push_text(alloc, texts, from, answer)
+}
+
+/// What a call answers of an offer at a place and an answer from another.
+fn put_pair(
+    alloc: Global,
+    out: &mut String,
+    call: &str,
+    at: &[u8],
+    offer: &[u8],
+    from: &[u8],
+    answer: &[u8],
+) -> Result<(), AllocError> {
+    let mut texts = Vec::new(alloc);
+    let outcome = push_pair(alloc, &mut texts, at, offer, from, answer);
+    put_of_texts(alloc, out, call, texts, outcome)
+}
+
+/// The texts of a session: of the offer, of what was sent on in place of the answer and of the offer, and of the answer.
 fn push_session(alloc: Global, texts: &mut Vec<Vec<u8>>, args: &[&[u8]]) -> Result<(), AllocError> {
     let [at, offer, for_answer, for_offer, from, answer] = args else {
         return Ok(());
@@ -256,60 +282,21 @@ fn push_session(alloc: Global, texts: &mut Vec<Vec<u8>>, args: &[&[u8]]) -> Resu
     push_text(alloc, texts, from, answer)
 }
 
-/// The texts of a session: of the offer, of what was sent on in place of the answer and of the offer, and of the answer.
-fn session_texts(alloc: Global, args: &[&[u8]]) -> Result<Vec<Vec<u8>>, AllocError> {
-    let mut texts = Vec::new(alloc);
-    match push_session(alloc, &mut texts, args) {
-        Ok(()) => Ok(texts),
-        Err(fault) => outcome_after(texts, Err(fault)),
-    }
-}
-
-/// The lines or the changes of a session.
-fn put_session(
-    alloc: Global,
-    out: &mut String,
-    descriptions: &Vec<Description<'_>>,
-    call: &str,
-) -> Result<(), AllocError> {
-    put_words(out, session_words(alloc, call, descriptions))
-}
-
 /// What a call on a session answers, of which the row has the connection and media of the offer, the media of what was sent
 /// on in place of the answer and of the offer, and connection and media of the answer.
-fn session_of(alloc: Global, call: &str, args: &[&[u8]]) -> Result<String, AllocError> {
-    let texts = session_texts(alloc, args)?;
-    let words = told_of(
-        alloc,
-        &texts,
-        |alloc, out, read| put_session(alloc, out, read, call),
-    );
-    outcome_after(texts, words)
-}
-
-fn put_destination(
-    _alloc: Global,
+fn put_of_session(
+    alloc: Global,
     out: &mut String,
-    description: &Description<'_>,
+    call: &str,
+    args: &[&[u8]],
 ) -> Result<(), AllocError> {
-    let Some(medium) = description.media.as_slice().first() else {
-        return out.push_str("no medium");
-    };
-    match destination(description, medium) {
-        Some(address) => put_address(out, address),
-        None => out.push_str("nowhere"),
-    }
-}
-
-/// Where media for the first medium are sent.
-fn first_destination(alloc: Global, connection: &[u8], media: &[u8]) -> Result<String, AllocError> {
-    let text = text_of(alloc, connection, media)?;
-    let words = told(alloc, read_description(alloc, &text), put_destination);
-    outcome_after(text, words)
+    let mut texts = Vec::new(alloc);
+    let outcome = push_session(alloc, &mut texts, args);
+    put_of_texts(alloc, out, call, texts, outcome)
 }
 
 /// Calls what has a law for its contract.
-fn laws(alloc: Global) -> Result<String, AllocError> {
+fn put_laws(out: &mut String) -> Result<(), AllocError> {
     alike_is_equivalence();
     joined_is_direct();
     rows_lead();
@@ -320,41 +307,84 @@ fn laws(alloc: Global) -> Result<String, AllocError> {
     plain_call();
     held_call();
     fewer_rows();
-    said(alloc, "called")
+    out.push_str("called")
 }
 
-/// What a call on what is sent on answers, if it is one.
-fn answer_on_sent(alloc: Global, call: &str, args: &[&[u8]]) -> Result<Option<String>, AllocError> {
-    match (call, args) {
-        ("readdress", [text, id, version, ports]) => {
-            answer_of(sent_text(alloc, text, number(id), number(version), ports))
-        }
-        ("read_again", [text, server, ports]) => answer_of(sent_read(alloc, text, server, ports)),
-        ("session_lines", [_, _, _, _, _, _]) => answer_of(session_of(alloc, call, args)),
-        ("plan_session", [_, _, _, _, _, _]) => answer_of(session_of(alloc, call, args)),
-        _ => Ok(None),
+/// What a call on three words answers, if it is one: `check_answer` is of an answer from a place, to an offer at 192.0.2.10.
+fn put_of_three(
+    alloc: Global,
+    out: &mut String,
+    call: &str,
+    one: &[u8],
+    two: &[u8],
+    three: &[u8],
+) -> Option<Result<(), AllocError>> {
+    match call {
+        "check_offer" => Some(put_offer(alloc, out, call, one, two, three)),
+        "check_answer" => Some(put_pair(alloc, out, call, b"IP4 192.0.2.10", one, two, three)),
+        "read_again" => Some(put_sent_read(alloc, out, one, two, three)),
+        _ => None,
     }
 }
 
-/// What the row's call answers, if it is one of `offer_answer`.
-pub(crate) fn answer(
+/// What a call on four words answers, if it is one.
+fn put_of_four(
     alloc: Global,
+    out: &mut String,
+    call: &str,
+    one: &[u8],
+    two: &[u8],
+    three: &[u8],
+    four: &[u8],
+) -> Option<Result<(), AllocError>> {
+    match call {
+        "meaning" => Some(put_pair(alloc, out, call, one, two, three, four)),
+        "readdress" => { Some(put_sent_text(alloc, out, one, number(two), number(three), four)) }
+        _ => None,
+    }
+}
+
+/// What a call on the words of a session answers, if it is one.
+fn put_of_six(
+    alloc: Global,
+    out: &mut String,
     call: &str,
     args: &[&[u8]],
-) -> Result<Option<String>, AllocError> {
-    match (call, args) {
-        ("check_offer", [at, media, previous]) => {
-            answer_of(offer_check(alloc, at, media, previous))
+) -> Option<Result<(), AllocError>> {
+    match call {
+        "session_lines" => Some(put_of_session(alloc, out, call, args)),
+        "plan_session" => Some(put_of_session(alloc, out, call, args)),
+        _ => None,
+    }
+}
+
+/// Writes what the row's call answers, if it is one of `offer_answer`: `hold_checks` is of an offer and an answer at 0.0.0.0, by a
+/// server there.
+pub(crate) fn put_answer(
+    alloc: Global,
+    out: &mut String,
+    call: &str,
+    args: &[&[u8]],
+) -> Option<Result<(), AllocError>> {
+    match args {
+        [] if call == "laws" => Some(put_laws(out)),
+        [media] if call == "hold_checks" => {
+            Some(put_pair(
+                alloc,
+                out,
+                call,
+                b"IP4 0.0.0.0",
+                media,
+                b"IP4 0.0.0.0",
+                media,
+            ))
         }
-        ("check_answer", [offered, at, answered]) => {
-            answer_of(answer_check(alloc, offered, at, answered))
+        [at, media] if call == "destination" => {
+            Some(put_offer(alloc, out, call, at, media, b"-"))
         }
-        ("meaning", [at, offer, from, answer]) => {
-            answer_of(meaning_of(alloc, &[at, offer], &[from, answer]))
-        }
-        ("destination", [at, media]) => answer_of(first_destination(alloc, at, media)),
-        ("hold_checks", [media]) => answer_of(hold_checks(alloc, media)),
-        ("laws", []) => answer_of(laws(alloc)),
-        _ => answer_on_sent(alloc, call, args),
+        [one, two, three] => put_of_three(alloc, out, call, one, two, three),
+        [one, two, three, four] => put_of_four(alloc, out, call, one, two, three, four),
+        [_, _, _, _, _, _] => put_of_six(alloc, out, call, args),
+        _ => None,
     }
 }

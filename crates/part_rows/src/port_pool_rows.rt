@@ -1,24 +1,16 @@
 //! Rows of calls of `port_pool`.
 
-use crate::port_pool_words::{fault_words, hop_words, told_changes, told_pairs};
-use crate::relay_line_rows::{changed, commit, free_others, plan_commit, put};
+use crate::port_pool_words::{put_changes, put_fault, put_pairs, put_row};
+use crate::relay_line_rows::{put_changed, put_kept, put_lines};
 use crate::telling::replace;
-use port_pool::{Pair, Pool, PoolError};
-use rows::{answer_of, number, number_or_none, outcome_after, said, u16_of};
+use port_pool::{Pair, Pool};
+use rows::{number, outcome_after, put_number_or_none, u16_of, usize_of};
 use std::alloc::{AllocError, Global};
 
 /// The pool that earlier rows left, if any made one.
 #[derive(Drop)]
 pub(crate) struct PortPoolRows {
     pool: Option<Pool>,
-}
-
-/// What was found, or the letter and the words of the refusal.
-fn told(alloc: Global, outcome: Result<String, PoolError>) -> Result<Option<String>, AllocError> {
-    match outcome {
-        Ok(words) => Ok(Some(words)),
-        Err(fault) => answer_of(fault_words(alloc, fault)),
-    }
 }
 
 /// A pool as wide as the row says, where there can be one.
@@ -32,173 +24,153 @@ fn pool_of(alloc: Global, first: u16, pairs: u16) -> Result<Option<Pool>, AllocE
 
 /// Gives a pair back, where its ports have no row.
 fn release(
-    alloc: Global,
+    out: &mut String,
     pool: &mut Pool,
     call: u64,
     even: u16,
     now: u64,
-) -> Result<String, PoolError> {
+) -> Result<(), AllocError> {
     if even == u16::MAX || pool.hop(even).is_some() || pool.hop(even + 1).is_some() {
-        return Ok(said(alloc, "the pair has a row")?);
+        return out.push_str("the pair has a row");
     }
-    pool.release(call, Pair { even }, now)?;
-    Ok(said(alloc, "free")?)
+    match pool.release(call, Pair { even }, now) {
+        Ok(()) => out.push_str("free"),
+        Err(fault) => put_fault(out, fault),
+    }
 }
 
 /// Frees a pair that a call holds, where its ports have no row.
-fn free(alloc: Global, pool: &mut Pool, even: u16, now: u64) -> Result<String, AllocError> {
+fn free(out: &mut String, pool: &mut Pool, even: u16, now: u64) -> Result<(), AllocError> {
     if even == u16::MAX || pool.hop(even).is_some() || pool.hop(even + 1).is_some() {
-        return said(alloc, "the pair has a row");
+        return out.push_str("the pair has a row");
     }
     if even % 2 == 1 || pool.holder(even).is_none() {
-        return said(alloc, "nobody's pair");
+        return out.push_str("nobody's pair");
     }
     pool.free(Pair { even }, now);
-    said(alloc, "free")
+    out.push_str("free")
 }
 
 /// Ends a call by its plan.
-fn end_call(alloc: Global, pool: &mut Pool, call: u64, now: u64) -> Result<String, AllocError> {
+fn end_call(out: &mut String, pool: &mut Pool, call: u64, now: u64) -> Result<(), AllocError> {
     let removals = pool.plan_drop(call)?;
     pool.end_call(call, &removals, now);
-    outcome_after(removals, said(alloc, "ended"))
-}
-
-/// The pairs that a call would get.
-fn plan_reserve(alloc: Global, pool: &Pool, pairs: u64, now: u64) -> Result<String, PoolError> {
-    let pairs = usize::try_from(pairs).unwrap_or(0);
-    told_pairs(alloc, pool.plan_reserve(pairs, now)?)
+    outcome_after(removals, out.push_str("ended"))
 }
 
 /// Gives a call the pairs that it would get.
 fn hold(
-    alloc: Global,
+    out: &mut String,
     pool: &mut Pool,
     call: u64,
-    pairs: u64,
+    pairs: usize,
     now: u64,
-) -> Result<String, PoolError> {
-    let pairs = usize::try_from(pairs).unwrap_or(0);
-    let planned = pool.plan_reserve(pairs, now)?;
-    pool.hold(call, &planned, now);
-    let words = said(alloc, "held");
-    Ok(outcome_after(planned, words)?)
+) -> Result<(), AllocError> {
+    match pool.plan_reserve(pairs, now) {
+        Ok(planned) => {
+            pool.hold(call, &planned, now);
+            outcome_after(planned, out.push_str("held"))
+        }
+        Err(fault) => put_fault(out, fault),
+    }
 }
 
 /// What would end with a call.
-fn planned_drop(alloc: Global, pool: &Pool, call: u64) -> Result<String, AllocError> {
-    told_changes(alloc, pool.plan_drop(call)?)
-}
-
-/// Calls what has a law for its contract.
-fn laws(alloc: Global, pool: &Pool) -> Result<String, AllocError> {
-    pool.pairs_never_meet();
-    said(alloc, "called")
+fn put_planned_drop(out: &mut String, pool: &Pool, call: u64) -> Result<(), AllocError> {
+    put_changes(out, pool.plan_drop(call)?)
 }
 
 /// What ends with a call.
-fn without(alloc: Global, pool: &mut Pool, call: u64, now: u64) -> Result<String, AllocError> {
-    told_changes(alloc, pool.drop_call(call, now)?)
+fn put_drop(out: &mut String, pool: &mut Pool, call: u64, now: u64) -> Result<(), AllocError> {
+    put_changes(out, pool.drop_call(call, now)?)
 }
 
-/// The pairs that a call gets.
-fn reserve(
-    alloc: Global,
+/// Calls what has a law for its contract.
+fn put_laws(out: &mut String, pool: &Pool) -> Result<(), AllocError> {
+    pool.pairs_never_meet();
+    out.push_str("called")
+}
+
+/// What a call on a port, or on a call's number, answers, if it is one.
+fn put_of_one(
+    out: &mut String,
+    pool: &Pool,
+    call: &str,
+    word: &[u8],
+) -> Option<Result<(), AllocError>> {
+    match call {
+        "holder" => Some(put_number_or_none(out, pool.holder(u16_of(word)))),
+        "hop" => Some(put_row(out, pool.hop(u16_of(word)))),
+        "table" => Some(put_row(out, pool.table().hop(u16_of(word)))),
+        "plan_drop" => Some(put_planned_drop(out, pool, number(word))),
+        _ => None,
+    }
+}
+
+/// What a call at a moment, on a pair or on a call, answers, if it is one.
+fn put_of_two(
+    out: &mut String,
     pool: &mut Pool,
-    call: u64,
-    pairs: u64,
+    call: &str,
     now: u64,
-) -> Result<String, PoolError> {
-    let pairs = usize::try_from(pairs).unwrap_or(0);
-    told_pairs(alloc, pool.reserve(call, pairs, now)?)
-}
-
-/// What a plan, or what carries one out, answers, if the call is one of these.
-fn plan_answer(
-    alloc: Global,
-    pool: &mut Pool,
-    call: &str,
-    args: &[&[u8]],
-) -> Result<Option<String>, AllocError> {
-    match (call, args) {
-        ("free", [now, even]) => answer_of(free(alloc, pool, u16_of(even), number(now))),
-        ("free_others", [now, owner, kept, lines @ ..]) => {
-            answer_of(free_others(alloc, pool, number(owner), kept, lines, number(now)))
-        }
-        ("plan_commit", [owner, lines @ ..]) => {
-            answer_of(plan_commit(alloc, pool, number(owner), lines))
-        }
-        ("put", [owner, lines @ ..]) => answer_of(put(alloc, pool, number(owner), lines)),
-        _ => Ok(None),
+    word: &[u8],
+) -> Option<Result<(), AllocError>> {
+    match call {
+        "plan_reserve" => Some(put_pairs(out, pool.plan_reserve(usize_of(word), now))),
+        "free" => Some(free(out, pool, u16_of(word), now)),
+        "end_call" => Some(end_call(out, pool, number(word), now)),
+        "drop_call" => Some(put_drop(out, pool, number(word), now)),
+        _ => None,
     }
 }
 
-/// What a plan of pairs or of a call's end, or what carries one out, answers, if the call is one of these, or else another plan.
-fn pairs_answer(
-    alloc: Global,
+/// What a call at a moment, on a call and its pairs, answers, if it is one.
+fn put_of_three(
+    out: &mut String,
     pool: &mut Pool,
     call: &str,
-    args: &[&[u8]],
-) -> Result<Option<String>, AllocError> {
-    match (call, args) {
-        ("plan_reserve", [now, pairs]) => {
-            told(alloc, plan_reserve(alloc, pool, number(pairs), number(now)))
-        }
-        ("hold", [now, owner, pairs]) => {
-            told(
-                alloc,
-                hold(alloc, pool, number(owner), number(pairs), number(now)),
-            )
-        }
-        ("plan_drop", [owner]) => answer_of(planned_drop(alloc, pool, number(owner))),
-        ("end_call", [now, owner]) => answer_of(end_call(alloc, pool, number(owner), number(now))),
-        _ => plan_answer(alloc, pool, call, args),
+    now: u64,
+    owner: u64,
+    word: &[u8],
+) -> Option<Result<(), AllocError>> {
+    match call {
+        "reserve" => Some(put_pairs(out, pool.reserve(owner, usize_of(word), now))),
+        "release" => Some(release(out, pool, owner, u16_of(word), now)),
+        "hold" => Some(hold(out, pool, owner, usize_of(word), now)),
+        _ => None,
     }
 }
 
-/// What a call that only asks the pool answers, if it is one, or else a plan.
-fn look_answer(
-    alloc: Global,
+/// What a call of the pool answers that has so many words, if there is one.
+fn put_of_words(
+    out: &mut String,
     pool: &mut Pool,
     call: &str,
     args: &[&[u8]],
-) -> Result<Option<String>, AllocError> {
-    match (call, args) {
-        ("holder", [port]) => answer_of(number_or_none(alloc, pool.holder(u16_of(port)))),
-        ("hop", [port]) => answer_of(hop_words(alloc, pool.hop(u16_of(port)))),
-        ("table", [port]) => answer_of(hop_words(alloc, pool.table().hop(u16_of(port)))),
-        ("laws", []) => answer_of(laws(alloc, pool)),
-        _ => pairs_answer(alloc, pool, call, args),
+) -> Option<Result<(), AllocError>> {
+    match args {
+        [] if call == "laws" => Some(put_laws(out, pool)),
+        [word] => put_of_one(out, pool, call, word),
+        [now, word] => put_of_two(out, pool, call, number(now), word),
+        [now, owner, word] => put_of_three(out, pool, call, number(now), number(owner), word),
+        _ => None,
     }
 }
 
-/// What a call of the pool answers, if there is one.
-fn pool_answer(
+/// What a call of the pool answers, if there is one: first those on lines of the relay table, which have any number of words.
+fn put_of_pool(
     alloc: Global,
+    out: &mut String,
     pool: &mut Pool,
     call: &str,
     args: &[&[u8]],
-) -> Result<Option<String>, AllocError> {
-    match (call, args) {
-        ("reserve", [now, owner, pairs]) => {
-            told(
-                alloc,
-                reserve(alloc, pool, number(owner), number(pairs), number(now)),
-            )
-        }
-        ("release", [now, owner, even]) => {
-            told(
-                alloc,
-                release(alloc, pool, number(owner), u16_of(even), number(now)),
-            )
-        }
-        ("commit", [now, owner, lines @ ..]) => {
-            answer_of(commit(alloc, pool, number(owner), lines, number(now)))
-        }
-        ("drop_call", [now, owner]) => {
-            answer_of(without(alloc, pool, number(owner), number(now)))
-        }
-        _ => look_answer(alloc, pool, call, args),
+) -> Option<Result<(), AllocError>> {
+    match call {
+        "free_others" => put_kept(alloc, out, pool, args),
+        "plan_commit" => put_lines(alloc, out, pool, call, args),
+        "put" => put_lines(alloc, out, pool, call, args),
+        "commit" => put_lines(alloc, out, pool, call, args),
+        _ => put_of_words(out, pool, call, args),
     }
 }
 
@@ -208,30 +180,50 @@ impl PortPoolRows {
     }
 
     /// Makes a pool of so many pairs from this port on.
-    fn make(&mut self, alloc: Global, first: u16, pairs: u16) -> Result<String, AllocError> {
+    fn make(
+        &mut self,
+        alloc: Global,
+        out: &mut String,
+        first: u16,
+        pairs: u16,
+    ) -> Result<(), AllocError> {
         replace(&mut self.pool, pool_of(alloc, first, pairs)?);
         match self.pool {
-            Some(_) => said(alloc, "made"),
-            None => said(alloc, "no such pool"),
+            Some(_) => out.push_str("made"),
+            None => out.push_str("no such pool"),
         }
     }
 
-    /// What the row's call answers, if it is one of `port_pool`.
-    pub(crate) fn answer(
+    /// Writes what a call answers on the pool that stands, if there is one.
+    fn put_standing(
         &mut self,
         alloc: Global,
+        out: &mut String,
         call: &str,
         args: &[&[u8]],
-    ) -> Result<Option<String>, AllocError> {
-        if let ("changed", [port, changes @ ..]) = (call, args) {
-            return answer_of(changed(alloc, u16_of(port), changes));
-        }
-        if let ("new", [first, pairs]) = (call, args) {
-            return answer_of(self.make(alloc, u16_of(first), u16_of(pairs)));
-        }
+    ) -> Option<Result<(), AllocError>> {
         match &mut self.pool {
-            Some(pool) => pool_answer(alloc, pool, call, args),
-            None => Ok(None),
+            Some(pool) => put_of_pool(alloc, out, pool, call, args),
+            None => None,
+        }
+    }
+
+    /// Writes what the row's call answers, if it is one of `port_pool`.
+    pub(crate) fn put_answer(
+        &mut self,
+        alloc: Global,
+        out: &mut String,
+        call: &str,
+        args: &[&[u8]],
+    ) -> Option<Result<(), AllocError>> {
+        match args {
+            [port, changes @ ..] if call == "changed" => {
+                Some(put_changed(alloc, out, u16_of(port), changes))
+            }
+            [first, pairs] if call == "new" => {
+                Some(self.make(alloc, out, u16_of(first), u16_of(pairs)))
+            }
+            _ => self.put_standing(alloc, out, call, args),
         }
     }
 }

@@ -1,14 +1,14 @@
 //! How pairs, rows and changes of the pool are written.
 
 use port_pool::{Change, Hop, Pair, PoolError};
-use rows::{put_address, words_of};
-use std::alloc::{AllocError, Global};
+use rows::{outcome_after, put_address};
+use std::alloc::AllocError;
 
 /// The letter and the words of a refusal. Want of memory goes up.
-pub(crate) fn fault_words(alloc: Global, fault: PoolError) -> Result<String, AllocError> {
+pub(crate) fn put_fault(out: &mut String, fault: PoolError) -> Result<(), AllocError> {
     match fault {
         PoolError::OutOfMemory => Err(AllocError),
-        fault => fault.to_string(alloc),
+        fault => write!(out, "{fault}"),
     }
 }
 
@@ -26,13 +26,6 @@ pub(crate) fn put_row(out: &mut String, hop: Option<Hop>) -> Result<(), AllocErr
     }
 }
 
-/// The row of a port, if it has one.
-pub(crate) fn hop_words(alloc: Global, hop: Option<Hop>) -> Result<String, AllocError> {
-    let mut out = String::new(alloc);
-    put_row(&mut out, hop)?;
-    Ok(out)
-}
-
 fn put_change(out: &mut String, change: &Change) -> Result<(), AllocError> {
     match change {
         Change::Put(port, hop) => {
@@ -43,7 +36,7 @@ fn put_change(out: &mut String, change: &Change) -> Result<(), AllocError> {
     }
 }
 
-fn put_changes(_alloc: Global, out: &mut String, changes: &Vec<Change>) -> Result<(), AllocError> {
+fn put_each_change(out: &mut String, changes: &[Change]) -> Result<(), AllocError> {
     out.push_str("changes")?;
     for change in changes {
         put_change(out, change)?;
@@ -52,11 +45,12 @@ fn put_changes(_alloc: Global, out: &mut String, changes: &Vec<Change>) -> Resul
 }
 
 /// The changes of the relay table, in order, which are let go behind it.
-pub(crate) fn told_changes(alloc: Global, changes: Vec<Change>) -> Result<String, AllocError> {
-    words_of(alloc, changes, put_changes)
+pub(crate) fn put_changes(out: &mut String, changes: Vec<Change>) -> Result<(), AllocError> {
+    let outcome = put_each_change(out, &changes);
+    outcome_after(changes, outcome)
 }
 
-fn put_pairs(_alloc: Global, out: &mut String, pairs: &Vec<Pair>) -> Result<(), AllocError> {
+fn put_each_pair(out: &mut String, pairs: &[Pair]) -> Result<(), AllocError> {
     out.push_str("pairs")?;
     for pair in pairs {
         let even = pair.even;
@@ -65,7 +59,16 @@ fn put_pairs(_alloc: Global, out: &mut String, pairs: &Vec<Pair>) -> Result<(), 
     Ok(())
 }
 
-/// Pairs by their even ports, which are let go behind it.
-pub(crate) fn told_pairs(alloc: Global, pairs: Vec<Pair>) -> Result<String, PoolError> {
-    Ok(words_of(alloc, pairs, put_pairs)?)
+/// Pairs by their even ports, which are let go behind it, or the refusal.
+pub(crate) fn put_pairs(
+    out: &mut String,
+    pairs: Result<Vec<Pair>, PoolError>,
+) -> Result<(), AllocError> {
+    match pairs {
+        Ok(pairs) => {
+            let outcome = put_each_pair(out, &pairs);
+            outcome_after(pairs, outcome)
+        }
+        Err(fault) => put_fault(out, fault),
+    }
 }

@@ -3,8 +3,7 @@
 ghost use Rattle.std.specs.Prelude.{IsTrue, ◌≡◌, length};
 ghost use Rattle.offer_answer.specs.Readdressing.{has_ports};
 
-use crate::sdp_rows::{put_description, told};
-use crate::telling::{put_of, put_words};
+use crate::sdp_rows::{put_fault, put_last_description};
 use offer_answer::{ServerOrigin, readdress};
 use rows::{outcome_after, u16_of};
 use sdp::{Description, Media, read_description, write_description};
@@ -76,28 +75,30 @@ fn put_sent(
     if !are_ready(ports, description) {
         return out.push_str("no port for each medium");
     }
-    put_of(
+    put_last_description(
         alloc,
         out,
         sent_for(alloc, description, ports, id, version)?,
-        put_description,
     )
 }
 
 /// The text of what the server sends in place of a description.
-pub(crate) fn sent_text(
+pub(crate) fn put_sent_text(
     alloc: Global,
+    out: &mut String,
     text: &[u8],
     id: u64,
     version: u64,
     ports: &[u8],
-) -> Result<String, AllocError> {
+) -> Result<(), AllocError> {
     let ports = ports_of(alloc, ports)?;
-    told(
-        alloc,
-        read_description(alloc, text),
-        |alloc, out, description| { put_sent(alloc, out, description, &ports, id, version) },
-    )
+    match read_description(alloc, text) {
+        Ok(description) => {
+            let outcome = put_sent(alloc, out, &description, &ports, id, version);
+            outcome_after(description, outcome)
+        }
+        Err(fault) => put_fault(out, fault),
+    }
 }
 
 /// What a server at the last unicast address sends in place of a description, or one at the address above it.
@@ -115,6 +116,25 @@ fn sent_at_edge(
     readdress(alloc, description, ports, ServerOrigin { id, version, ip })
 }
 
+/// A text, read and written again.
+fn put_again(alloc: Global, out: &mut String, text: &[u8]) -> Result<(), AllocError> {
+    match read_description(alloc, text) {
+        Ok(description) => put_last_description(alloc, out, description),
+        Err(fault) => put_fault(out, fault),
+    }
+}
+
+/// A description, written, and what was written read and written again.
+fn put_written_again(
+    alloc: Global,
+    out: &mut String,
+    description: &Description<'_>,
+) -> Result<(), AllocError> {
+    let bytes = write_description(alloc, description)?;
+    let outcome = put_again(alloc, out, bytes.as_bytes());
+    outcome_after(bytes, outcome)
+}
+
 /// What such a server sends, read and written again, where the row has a port for each medium.
 fn put_read(
     alloc: Global,
@@ -126,41 +146,26 @@ fn put_read(
     if !are_ready(ports, description) {
         return out.push_str("no port for each medium");
     }
-    put_of(
-        alloc,
-        out,
-        sent_at_edge(alloc, description, ports, is_group)?,
-        put_written_again,
-    )
-}
-
-/// A description, written, and what was written read and written again.
-fn put_written_again(
-    alloc: Global,
-    out: &mut String,
-    description: &Description<'_>,
-) -> Result<(), AllocError> {
-    let bytes = write_description(alloc, description)?;
-    let again = told(
-        alloc,
-        read_description(alloc, bytes.as_bytes()),
-        put_description,
-    );
-    outcome_after(bytes, put_words(out, again))
+    let sent = sent_at_edge(alloc, description, ports, is_group)?;
+    let outcome = put_written_again(alloc, out, &sent);
+    outcome_after(sent, outcome)
 }
 
 /// What a server at the edge of the unicast addresses sends in place of a description, read and written again.
-pub(crate) fn sent_read(
+pub(crate) fn put_sent_read(
     alloc: Global,
+    out: &mut String,
     text: &[u8],
     server: &[u8],
     ports: &[u8],
-) -> Result<String, AllocError> {
+) -> Result<(), AllocError> {
     let ports = ports_of(alloc, ports)?;
     let is_group = server == b"224.0.0.0".as_slice();
-    told(
-        alloc,
-        read_description(alloc, text),
-        |alloc, out, description| { put_read(alloc, out, description, &ports, is_group) },
-    )
+    match read_description(alloc, text) {
+        Ok(description) => {
+            let outcome = put_read(alloc, out, &description, &ports, is_group);
+            outcome_after(description, outcome)
+        }
+        Err(fault) => put_fault(out, fault),
+    }
 }

@@ -5,8 +5,8 @@ ghost use Rattle.std.specs.Prelude.{◌≡◌, ◌≤◌, ◌++◌, ◌∷◌, [
 use crate::registrar_words::put_bindings;
 use crate::sip_uri_words::put_uri;
 use crate::telling::replace;
-use registrar::{Binding, Contact, Contacts, Refusal, Register, Registrar, laws_of_bindings};
-use rows::{answer_of, number, outcome_after, put_shown, said, u32_of, words_of, yes_or_no};
+use registrar::{Contact, Contacts, Refusal, Register, Registrar, laws_of_bindings};
+use rows::{number, outcome_after, put_shown, put_yes_or_no, u32_of};
 use sip_uri::{Uri, UriError, read_uri};
 use std::alloc::{AllocError, Global};
 use text::{Text, Texts, cut_word};
@@ -21,10 +21,10 @@ pub(crate) struct RegistrarRows {
 }
 
 /// The letter and the words of a refusal. Want of memory goes up.
-fn refusal_words(alloc: Global, refusal: Refusal) -> Result<String, AllocError> {
+fn put_refusal(out: &mut String, refusal: Refusal) -> Result<(), AllocError> {
     match refusal {
         Refusal::OutOfMemory => Err(AllocError),
-        refusal => refusal.to_string(alloc),
+        refusal => write!(out, "{refusal}"),
     }
 }
 
@@ -159,81 +159,74 @@ fn register_of<'a>(
     })
 }
 
-/// Bindings as they are at a moment.
-fn bindings_words(alloc: Global, bindings: &[Binding], now: u64) -> Result<String, AllocError> {
-    let mut out = String::new(alloc);
-    put_bindings(alloc, &mut out, bindings, now)?;
-    Ok(out)
-}
-
 /// What the registrar answers to a REGISTER.
-fn answer_to(
+fn put_reply(
     alloc: Global,
+    out: &mut String,
     registrar: &mut Registrar,
     register: &Register<'_>,
     now: u64,
-) -> Result<String, AllocError> {
+) -> Result<(), AllocError> {
     if now >= END_OF_TIME {
-        return said(alloc, "no such moment");
+        return out.push_str("no such moment");
     }
     match registrar.apply(register, now) {
         Ok(bindings) => {
-            let words = bindings_words(alloc, &bindings, now);
-            outcome_after(bindings, words)
+            let outcome = put_bindings(alloc, out, &bindings, now);
+            outcome_after(bindings, outcome)
         }
-        Err(refusal) => refusal_words(alloc, refusal),
+        Err(refusal) => put_refusal(out, refusal),
     }
 }
 
 /// What the registrar answers to a REGISTER of these words.
-fn apply(
+fn put_applied(
     alloc: Global,
+    out: &mut String,
     registrar: &mut Registrar,
     head: &[&[u8]; 4],
     contacts: &[&[u8]],
     now: u64,
-) -> Result<String, AllocError> {
+) -> Result<(), AllocError> {
     let register = register_of(alloc, head, contacts)?;
-    let words = answer_to(alloc, registrar, &register, now);
-    outcome_after(register, words)
+    let outcome = put_reply(alloc, out, registrar, &register, now);
+    outcome_after(register, outcome)
 }
 
 /// The bindings of a user at a moment, as they are at another one.
-fn bindings_then(
+fn put_bindings_then(
     alloc: Global,
+    out: &mut String,
     registrar: &mut Registrar,
     user: &[u8],
     now: u64,
     then: u64,
-) -> Result<String, AllocError> {
+) -> Result<(), AllocError> {
     let user = Text::lent(user);
-    bindings_words(alloc, &registrar.bindings(&user, now)?, then)
+    let bindings = registrar.bindings(&user, now)?;
+    let outcome = put_bindings(alloc, out, &bindings, then);
+    outcome_after(bindings, outcome)
 }
 
 /// Whether there is such a user.
-fn knows(alloc: Global, registrar: &Registrar, user: &[u8]) -> Result<String, AllocError> {
+fn put_is_known(out: &mut String, registrar: &Registrar, user: &[u8]) -> Result<(), AllocError> {
     let user = Text::lent(user);
-    yes_or_no(alloc, registrar.knows(&user))
-}
-
-fn put_target(alloc: Global, out: &mut String, target: Option<&Uri<'_>>) -> Result<(), AllocError> {
-    match target {
-        Some(uri) => put_uri(alloc, out, uri),
-        None => out.push_str("none"),
-    }
+    put_yes_or_no(out, registrar.knows(&user))
 }
 
 /// Where a call to a user goes.
-fn target_words(
+fn put_target(
     alloc: Global,
+    out: &mut String,
     registrar: &Registrar,
     user: &[u8],
     now: u64,
-) -> Result<String, AllocError> {
+) -> Result<(), AllocError> {
     let user = Text::lent(user);
-    let mut out = String::new(alloc);
-    put_target(alloc, &mut out, registrar.target(&user, now))?;
-    Ok(out)
+    match registrar.target(&user, now) {
+        Some(uri) => put_uri(alloc, out, uri),
+        None => out.push_str("none"),
+    }
 }
 
 fn put_user(out: &mut String, user: Option<&Text<'_>>) -> Result<(), AllocError> {
@@ -247,57 +240,64 @@ fn put_user(out: &mut String, user: Option<&Text<'_>>) -> Result<(), AllocError>
 }
 
 /// The user that a To names.
-fn user_words(alloc: Global, registrar: &Registrar, to: &[u8]) -> Result<String, AllocError> {
+fn put_user_of(
+    alloc: Global,
+    out: &mut String,
+    registrar: &Registrar,
+    to: &[u8],
+) -> Result<(), AllocError> {
     match uri_of(alloc, to)? {
         Some(to) => {
-            words_of(
-                alloc,
-                to,
-                |_alloc, out, to| put_user(out, registrar.user_of(to)),
-            )
+            let outcome = put_user(out, registrar.user_of(&to));
+            outcome_after(to, outcome)
         }
-        None => said(alloc, "no URI"),
+        None => out.push_str("no URI"),
     }
 }
 
 /// Calls what has a law for its contract.
-fn laws(alloc: Global) -> Result<String, AllocError> {
+fn put_laws(out: &mut String) -> Result<(), AllocError> {
     laws_of_bindings();
-    said(alloc, "called")
+    out.push_str("called")
 }
 
-/// What a call that only asks the registrar answers, if it is one.
-fn look_answer(
+/// What a call of the registrar on a word answers, if it is one.
+fn put_of_one(
     alloc: Global,
+    out: &mut String,
     registrar: &Registrar,
     call: &str,
-    args: &[&[u8]],
-) -> Result<Option<String>, AllocError> {
-    match (call, args) {
-        ("target", [user, now]) => answer_of(target_words(alloc, registrar, user, number(now))),
-        ("knows", [user]) => answer_of(knows(alloc, registrar, user)),
-        ("user_of", [to]) => answer_of(user_words(alloc, registrar, to)),
-        ("laws", []) => answer_of(laws(alloc)),
-        _ => Ok(None),
+    word: &[u8],
+) -> Option<Result<(), AllocError>> {
+    match call {
+        "knows" => Some(put_is_known(out, registrar, word)),
+        "user_of" => Some(put_user_of(alloc, out, registrar, word)),
+        _ => None,
     }
 }
 
 /// What a call of the registrar answers, if there is one.
-fn registrar_answer(
+fn put_of_words(
     alloc: Global,
+    out: &mut String,
     registrar: &mut Registrar,
     call: &str,
     args: &[&[u8]],
-) -> Result<Option<String>, AllocError> {
-    match (call, args) {
-        ("apply", [now, user, call_id, cseq, expires, contacts @ ..]) => {
+) -> Option<Result<(), AllocError>> {
+    match args {
+        [] if call == "laws" => Some(put_laws(out)),
+        [word] => put_of_one(alloc, out, registrar, call, word),
+        [user, now] if call == "target" => {
+            Some(put_target(alloc, out, registrar, user, number(now)))
+        }
+        [user, now, then] if call == "bindings" => {
+            Some(put_bindings_then(alloc, out, registrar, user, number(now), number(then)))
+        }
+        [now, user, call_id, cseq, expires, contacts @ ..] if call == "apply" => {
             let head = [*user, *call_id, *cseq, *expires];
-            answer_of(apply(alloc, registrar, &head, contacts, number(now)))
+            Some(put_applied(alloc, out, registrar, &head, contacts, number(now)))
         }
-        ("bindings", [user, now, then]) => {
-            answer_of(bindings_then(alloc, registrar, user, number(now), number(then)))
-        }
-        _ => look_answer(alloc, registrar, call, args),
+        _ => None,
     }
 }
 
@@ -307,27 +307,44 @@ impl RegistrarRows {
     }
 
     /// Opens an office that binds for this number of seconds at least.
-    fn open(&mut self, alloc: Global, min_expires: u32) -> Result<String, AllocError> {
+    fn open(
+        &mut self,
+        alloc: Global,
+        out: &mut String,
+        min_expires: u32,
+    ) -> Result<(), AllocError> {
         replace(&mut self.registrar, office(alloc, min_expires)?);
         match self.registrar {
-            Some(_) => said(alloc, "made"),
-            None => said(alloc, "no such office"),
+            Some(_) => out.push_str("made"),
+            None => out.push_str("no such office"),
         }
     }
 
-    /// What the row's call answers, if it is one of `registrar`.
-    pub(crate) fn answer(
+    /// Writes what a call answers on the registrar that stands, if there is one.
+    fn put_standing(
         &mut self,
         alloc: Global,
+        out: &mut String,
         call: &str,
         args: &[&[u8]],
-    ) -> Result<Option<String>, AllocError> {
-        if let ("new", [min_expires]) = (call, args) {
-            return answer_of(self.open(alloc, u32_of(min_expires)));
-        }
+    ) -> Option<Result<(), AllocError>> {
         match &mut self.registrar {
-            Some(registrar) => registrar_answer(alloc, registrar, call, args),
-            None => Ok(None),
+            Some(registrar) => put_of_words(alloc, out, registrar, call, args),
+            None => None,
+        }
+    }
+
+    /// Writes what the row's call answers, if it is one of `registrar`.
+    pub(crate) fn put_answer(
+        &mut self,
+        alloc: Global,
+        out: &mut String,
+        call: &str,
+        args: &[&[u8]],
+    ) -> Option<Result<(), AllocError>> {
+        match args {
+            [min_expires] if call == "new" => Some(self.open(alloc, out, u32_of(min_expires))),
+            _ => self.put_standing(alloc, out, call, args),
         }
     }
 }

@@ -4,12 +4,12 @@ ghost use Rattle.std.specs.Prelude.{ℕ, ◌≡◌, ◌≢◌, false, None, IsTr
 ghost use Rattle.port_pool.specs.Holdings.{even_of, is_among};
 ghost use Rattle.port_pool.specs.Pool.{AreOwn, StandOnce, hop_of};
 
-use crate::port_pool_words::{hop_words, told_changes};
+use crate::port_pool_words::{put_changes, put_row};
 use port_pool::{Change, Hop, Pair, Pool, RelayLine, RelayTable};
-use rows::{outcome_after, said, u16_of};
+use rows::{number, outcome_after, u16_of};
 use sip_uri::{Addr, ip4};
 use std::alloc::{AllocError, Global};
-use text::{cut_word, pieces};
+use text::{both, cut_word, pieces};
 
 /// A line of a call's rows, as `40000 192.0.2.11 6000 40002`, or `40000` alone for a port without a row.
 fn line_of(word: &[u8]) -> RelayLine {
@@ -38,13 +38,18 @@ fn change_of(word: &[u8]) -> Change {
 }
 
 /// The row that a new table has at a port after these changes.
-pub(crate) fn changed(alloc: Global, port: u16, words: &[&[u8]]) -> Result<String, AllocError> {
+pub(crate) fn put_changed(
+    alloc: Global,
+    out: &mut String,
+    port: u16,
+    words: &[&[u8]],
+) -> Result<(), AllocError> {
     let mut table = RelayTable::new(alloc)?;
     for word in words {
         table.change(&change_of(word));
     }
-    let words = hop_words(alloc, table.hop(port));
-    outcome_after(table, words)
+    let outcome = put_row(out, table.hop(port));
+    outcome_after(table, outcome)
 }
 
 /// The lines of a call's rows.
@@ -119,122 +124,116 @@ fn pairs_of(alloc: Global, word: &[u8]) -> Result<Vec<Pair>, AllocError> {
     Ok(pairs)
 }
 
-fn keep_alone(
-    alloc: Global,
+/// Puts the lines, where they are all of ports of the pairs that the call keeps, each port once, and frees its other pairs.
+fn put_kept_alone(
+    out: &mut String,
     pool: &mut Pool,
-    call: u64,
+    owner: u64,
     kept: &[Pair],
     lines: &[RelayLine],
     now: u64,
-) -> Result<String, AllocError> {
-    if !are_ready(pool, call, lines) || !are_kept(lines, kept) {
-        return said(alloc, "no lines of what the call keeps");
+) -> Result<(), AllocError> {
+    if !are_ready(pool, owner, lines) || !are_kept(lines, kept) {
+        return out.push_str("no lines of what the call keeps");
     }
-    let changes = pool.commit(call, lines, now)?;
-    pool.free_others(call, kept, now);
-    told_changes(alloc, changes)
+    let changes = pool.commit(owner, lines, now)?;
+    pool.free_others(owner, kept, now);
+    put_changes(out, changes)
 }
 
-fn free_behind(
+fn put_kept_lines(
     alloc: Global,
+    out: &mut String,
     pool: &mut Pool,
-    call: u64,
-    kept: &[u8],
-    lines: &[RelayLine],
-    now: u64,
-) -> Result<String, AllocError> {
-    let kept = pairs_of(alloc, kept)?;
-    let answer = keep_alone(alloc, pool, call, &kept, lines, now);
-    outcome_after(kept, answer)
-}
-
-/// Puts the rows of a call, where the lines are all of ports of the pairs that it keeps, each port once, and frees its
-/// other pairs.
-pub(crate) fn free_others(
-    alloc: Global,
-    pool: &mut Pool,
-    call: u64,
+    owner: u64,
     kept: &[u8],
     words: &[&[u8]],
     now: u64,
-) -> Result<String, AllocError> {
-    let lines = lines_of(alloc, words)?;
-    let answer = free_behind(alloc, pool, call, kept, &lines, now);
-    outcome_after(lines, answer)
+) -> Result<(), AllocError> {
+    let (kept, lines) = both(pairs_of(alloc, kept), lines_of(alloc, words))?;
+    let outcome = put_kept_alone(out, pool, owner, &kept, &lines, now);
+    outcome_after((kept, lines), outcome)
 }
 
-fn plan_lines(
+/// What `free_others` answers: its words are a moment, a call, the pairs that it keeps, and its lines.
+pub(crate) fn put_kept(
     alloc: Global,
-    pool: &Pool,
-    call: u64,
-    lines: &[RelayLine],
-) -> Result<String, AllocError> {
-    if !are_ready(pool, call, lines) {
-        return said(alloc, "no lines of the call");
-    }
-    told_changes(alloc, pool.plan_commit(call, lines)?)
-}
-
-/// What the rows of a call would change, where the lines are all of its ports, each port once.
-pub(crate) fn plan_commit(
-    alloc: Global,
-    pool: &Pool,
-    call: u64,
-    words: &[&[u8]],
-) -> Result<String, AllocError> {
-    let lines = lines_of(alloc, words)?;
-    let answer = plan_lines(alloc, pool, call, &lines);
-    outcome_after(lines, answer)
-}
-
-fn put_lines(
-    alloc: Global,
+    out: &mut String,
     pool: &mut Pool,
-    call: u64,
-    lines: &[RelayLine],
-) -> Result<String, AllocError> {
-    if !are_ready(pool, call, lines) {
-        return said(alloc, "no lines of the call");
+    args: &[&[u8]],
+) -> Option<Result<(), AllocError>> {
+    match args {
+        [now, owner, kept, words @ ..] => {
+            Some(put_kept_lines(alloc, out, pool, number(owner), kept, words, number(now)))
+        }
+        _ => None,
     }
-    let changes = pool.plan_commit(call, lines)?;
+}
+
+/// What the rows of a call would change, which is made.
+fn put_plan(
+    out: &mut String,
+    pool: &mut Pool,
+    owner: u64,
+    lines: &[RelayLine],
+) -> Result<(), AllocError>
+    requires own { AreOwn pool.old owner lines.now }
+    requires once { StandOnce lines.now }
+{
+    let changes = pool.plan_commit(owner, lines)?;
     pool.put(&changes);
-    outcome_after(changes, said(alloc, "put"))
+    outcome_after(changes, out.push_str("put"))
 }
 
-/// Makes what the rows of a call would change.
-pub(crate) fn put(
-    alloc: Global,
+/// What a call answers on the lines of a call's rows, where they are all of its ports, each port once: what they would change,
+/// that this is made, or what they change at a moment.
+fn put_ready(
+    out: &mut String,
     pool: &mut Pool,
-    call: u64,
-    words: &[&[u8]],
-) -> Result<String, AllocError> {
-    let lines = lines_of(alloc, words)?;
-    let answer = put_lines(alloc, pool, call, &lines);
-    outcome_after(lines, answer)
-}
-
-fn commit_lines(
-    alloc: Global,
-    pool: &mut Pool,
-    call: u64,
+    call: &str,
+    owner: u64,
     lines: &[RelayLine],
     now: u64,
-) -> Result<String, AllocError> {
-    if !are_ready(pool, call, lines) {
-        return said(alloc, "no lines of the call");
+) -> Result<(), AllocError> {
+    if !are_ready(pool, owner, lines) {
+        return out.push_str("no lines of the call");
     }
-    told_changes(alloc, pool.commit(call, lines, now)?)
+    match call {
+        "plan_commit" => put_changes(out, pool.plan_commit(owner, lines)?),
+        "put" => put_plan(out, pool, owner, lines),
+        _ => put_changes(out, pool.commit(owner, lines, now)?),
+    }
 }
 
-/// Puts the rows of a call, where the lines are all of its ports, each port once.
-pub(crate) fn commit(
+fn put_lines_of(
     alloc: Global,
+    out: &mut String,
     pool: &mut Pool,
-    call: u64,
+    call: &str,
+    owner: u64,
     words: &[&[u8]],
     now: u64,
-) -> Result<String, AllocError> {
+) -> Result<(), AllocError> {
     let lines = lines_of(alloc, words)?;
-    let answer = commit_lines(alloc, pool, call, &lines, now);
-    outcome_after(lines, answer)
+    let outcome = put_ready(out, pool, call, owner, &lines, now);
+    outcome_after(lines, outcome)
+}
+
+/// The same: its words are a moment, where it is `commit`, a call, and the call's lines.
+pub(crate) fn put_lines(
+    alloc: Global,
+    out: &mut String,
+    pool: &mut Pool,
+    call: &str,
+    args: &[&[u8]],
+) -> Option<Result<(), AllocError>> {
+    match args {
+        [now, owner, words @ ..] if call == "commit" => {
+            Some(put_lines_of(alloc, out, pool, call, number(owner), words, number(now)))
+        }
+        [owner, words @ ..] if call != "commit" => {
+            Some(put_lines_of(alloc, out, pool, call, number(owner), words, 0))
+        }
+        _ => None,
+    }
 }

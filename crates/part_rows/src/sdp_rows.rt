@@ -1,8 +1,8 @@
 //! Rows of calls of `sdp`.
 
 use crate::sdp_words::{put_connection, put_direction, put_medium, put_origin, put_session};
-use crate::telling::{put_of, put_written};
-use rows::{answer_of, outcome_after, said, usize_of, words_of};
+use crate::telling::put_written;
+use rows::{outcome_after, usize_of};
 use sdp::{
     Description, DescriptionError, Lines, MediaList, one_description, read_description,
     write_description,
@@ -19,24 +19,10 @@ const FRONT_OF_CONNECTION: &[u8] = b"v=0\r\no=- 1 1 IN IP4 a\r\ns=-\r\nc=";
 const FRONT_OF_MEDIUM: &[u8] = b"v=0\r\no=- 1 1 IN IP4 a\r\ns=-\r\nc=IN IP4 192.0.2.10\nt=0 0\nm=";
 
 /// The letter and the words of a fault. Want of memory goes up.
-pub(crate) fn fault_words(alloc: Global, fault: DescriptionError) -> Result<String, AllocError> {
+pub(crate) fn put_fault(out: &mut String, fault: DescriptionError) -> Result<(), AllocError> {
     match fault {
         DescriptionError::OutOfMemory => Err(AllocError),
-        fault => fault.to_string(alloc),
-    }
-}
-
-/// What was read in words, or the letter and the words of its fault.
-pub(crate) fn told<T: Drop, P: Fn(Global, &mut String, &T) -> Result<(), AllocError>>(
-    alloc: Global,
-    outcome: Result<T, DescriptionError>,
-    put: P,
-) -> Result<String, AllocError>
-    requires { P.IsAlwaysCallable put }
-{
-    match outcome {
-        Ok(value) => words_of(alloc, value, put),
-        Err(fault) => fault_words(alloc, fault),
+        fault => write!(out, "{fault}"),
     }
 }
 
@@ -65,29 +51,23 @@ fn put_direction_at(
     }
 }
 
-fn medium(alloc: Global, text: &[u8], at: usize) -> Result<String, AllocError> {
-    told(
-        alloc,
-        read_description(alloc, text),
-        |alloc, out, read| put_medium_at(alloc, out, read, at),
-    )
-}
-
-fn direction(alloc: Global, text: &[u8], at: usize) -> Result<String, AllocError> {
-    told(
-        alloc,
-        read_description(alloc, text),
-        |alloc, out, read| put_direction_at(out, read, at),
-    )
-}
-
 /// A description as it is written.
-pub(crate) fn put_description(
+fn put_description(
     alloc: Global,
     out: &mut String,
     description: &Description<'_>,
 ) -> Result<(), AllocError> {
     put_written(out, write_description(alloc, description)?)
+}
+
+/// The same of one that is let go behind it.
+pub(crate) fn put_last_description(
+    alloc: Global,
+    out: &mut String,
+    description: Description<'_>,
+) -> Result<(), AllocError> {
+    let outcome = put_description(alloc, out, &description);
+    outcome_after(description, outcome)
 }
 
 /// A description, taken apart and made again.
@@ -108,11 +88,11 @@ fn remade(description: Description<'_>) -> Description<'_> {
     }
 }
 
-/// A description, read, taken apart and made again.
-fn read_remade(alloc: Global, text: &[u8]) -> Result<Description<'_>, DescriptionError> {
+/// A description, read, taken apart and made again, as it is written.
+fn put_remade(alloc: Global, out: &mut String, text: &[u8]) -> Result<(), AllocError> {
     match read_description(alloc, text) {
-        Ok(description) => Ok(remade(description)),
-        Err(fault) => Err(fault),
+        Ok(description) => put_last_description(alloc, out, remade(description)),
+        Err(fault) => put_fault(out, fault),
     }
 }
 
@@ -122,7 +102,42 @@ fn put_kept(
     out: &mut String,
     description: &Description<'_>,
 ) -> Result<(), AllocError> {
-    put_of(alloc, out, description.keep(alloc)?, put_description)
+    put_last_description(alloc, out, description.keep(alloc)?)
+}
+
+/// What a call answers of a description, or of its medium at a place from 0.
+fn put_by(
+    alloc: Global,
+    out: &mut String,
+    call: &str,
+    description: &Description<'_>,
+    at: usize,
+) -> Result<(), AllocError> {
+    match call {
+        "keep_description" => put_kept(alloc, out, description),
+        "origin" => put_origin(out, description),
+        "connection" => put_connection(out, description),
+        "medium_line" => put_medium_at(alloc, out, description, at),
+        "medium" => put_medium_at(alloc, out, description, at),
+        "place_and_way" => put_direction_at(out, description, at),
+        _ => put_session(alloc, out, description),
+    }
+}
+
+fn put_told(
+    alloc: Global,
+    out: &mut String,
+    call: &str,
+    text: &[u8],
+    at: usize,
+) -> Result<(), AllocError> {
+    match read_description(alloc, text) {
+        Ok(description) => {
+            let outcome = put_by(alloc, out, call, &description, at);
+            outcome_after(description, outcome)
+        }
+        Err(fault) => put_fault(out, fault),
+    }
 }
 
 /// A text before and a text behind the value of a row.
@@ -133,63 +148,74 @@ fn between(alloc: Global, front: &[u8], value: &[u8], end: &[u8]) -> Result<Vec<
     Ok(text)
 }
 
-/// The session of a description that has these lines behind v, o and s.
-fn behind_front(alloc: Global, lines: &[u8]) -> Result<String, AllocError> {
-    let text = between(alloc, FRONT, lines, b"")?;
-    let words = told(alloc, read_description(alloc, &text), put_session);
-    outcome_after(text, words)
-}
-
-/// The origin of a description that has this `o=` line.
-fn origin(alloc: Global, value: &[u8]) -> Result<String, AllocError> {
-    let text = between(alloc, b"v=0\no=", value, b"\ns=-\nt=0 0\n")?;
-    let words = told(alloc, read_description(alloc, &text), put_origin);
-    outcome_after(text, words)
-}
-
-/// The address of a description that has this `c=` line.
-fn connection(alloc: Global, value: &[u8]) -> Result<String, AllocError> {
-    let text = between(alloc, FRONT_OF_CONNECTION, value, b"\nt=0 0\n")?;
-    let words = told(alloc, read_description(alloc, &text), put_connection);
-    outcome_after(text, words)
-}
-
-/// The medium of a description at 192.0.2.10 that has this `m=` line.
-fn medium_line(alloc: Global, value: &[u8]) -> Result<String, AllocError> {
-    let text = between(alloc, FRONT_OF_MEDIUM, value, b"")?;
-    let words = medium(alloc, &text, 0);
-    outcome_after(text, words)
+/// What a call answers of a description that has the value of a row between these texts.
+fn put_between(
+    alloc: Global,
+    out: &mut String,
+    call: &str,
+    front: &[u8],
+    value: &[u8],
+    end: &[u8],
+) -> Result<(), AllocError> {
+    let text = between(alloc, front, value, end)?;
+    let outcome = put_told(alloc, out, call, &text, 0);
+    outcome_after(text, outcome)
 }
 
 /// Calls what has a law for its contract.
-fn laws(alloc: Global) -> Result<String, AllocError> {
+fn put_laws(out: &mut String) -> Result<(), AllocError> {
     one_description();
-    said(alloc, "called")
+    out.push_str("called")
 }
 
-/// What the row's call answers, if it is one of `sdp`.
-pub(crate) fn answer(
+/// What a call on a text or on the lines of a description answers, if it is one: `lines` behind v, o and s, and an `o=`, a `c=` or
+/// an `m=` line, the last of a description at 192.0.2.10.
+fn put_of_one(
     alloc: Global,
+    out: &mut String,
+    call: &str,
+    text: &[u8],
+) -> Option<Result<(), AllocError>> {
+    match call {
+        "read_description" => Some(put_told(alloc, out, call, text, 0)),
+        "write_description" => Some(put_remade(alloc, out, text)),
+        "keep_description" => Some(put_told(alloc, out, call, text, 0)),
+        "lines" => Some(put_between(alloc, out, call, FRONT, text, b"")),
+        "origin" => { Some(put_between(alloc, out, call, b"v=0\no=", text, b"\ns=-\nt=0 0\n")) }
+        "connection" => {
+            Some(put_between(alloc, out, call, FRONT_OF_CONNECTION, text, b"\nt=0 0\n"))
+        }
+        "medium_line" => Some(put_between(alloc, out, call, FRONT_OF_MEDIUM, text, b"")),
+        _ => None,
+    }
+}
+
+/// What a call on a medium answers, if it is one.
+fn put_of_medium(
+    alloc: Global,
+    out: &mut String,
+    call: &str,
+    text: &[u8],
+    at: usize,
+) -> Option<Result<(), AllocError>> {
+    match call {
+        "medium" => Some(put_told(alloc, out, call, text, at)),
+        "place_and_way" => Some(put_told(alloc, out, call, text, at)),
+        _ => None,
+    }
+}
+
+/// Writes what the row's call answers, if it is one of `sdp`.
+pub(crate) fn put_answer(
+    alloc: Global,
+    out: &mut String,
     call: &str,
     args: &[&[u8]],
-) -> Result<Option<String>, AllocError> {
-    match (call, args) {
-        ("read_description", [text]) => {
-            answer_of(told(alloc, read_description(alloc, text), put_session))
-        }
-        ("write_description", [text]) => {
-            answer_of(told(alloc, read_remade(alloc, text), put_description))
-        }
-        ("keep_description", [text]) => {
-            answer_of(told(alloc, read_description(alloc, text), put_kept))
-        }
-        ("lines", [lines]) => answer_of(behind_front(alloc, lines)),
-        ("origin", [value]) => answer_of(origin(alloc, value)),
-        ("connection", [value]) => answer_of(connection(alloc, value)),
-        ("medium_line", [value]) => answer_of(medium_line(alloc, value)),
-        ("medium", [text, at]) => answer_of(medium(alloc, text, usize_of(at))),
-        ("place_and_way", [text, at]) => answer_of(direction(alloc, text, usize_of(at))),
-        ("laws", []) => answer_of(laws(alloc)),
-        _ => Ok(None),
+) -> Option<Result<(), AllocError>> {
+    match args {
+        [] if call == "laws" => Some(put_laws(out)),
+        [text] => put_of_one(alloc, out, call, text),
+        [text, at] => put_of_medium(alloc, out, call, text, usize_of(at)),
+        _ => None,
     }
 }

@@ -34,7 +34,6 @@ fn put_connection_line(out: &mut String, address: &Option<Address<'_>>) -> Resul
 
 /// The address of a description.
 pub(crate) fn put_connection(
-    _alloc: Global,
     out: &mut String,
     description: &Description<'_>,
 ) -> Result<(), AllocError> {
@@ -64,7 +63,6 @@ fn put_lines(
 
 /// The fields of the `o=` line.
 pub(crate) fn put_origin(
-    _alloc: Global,
     out: &mut String,
     description: &Description<'_>,
 ) -> Result<(), AllocError> {
@@ -87,10 +85,10 @@ pub(crate) fn put_session(
     description: &Description<'_>,
 ) -> Result<(), AllocError> {
     out.push_str("origin ")?;
-    put_origin(alloc, out, description)?;
+    put_origin(out, description)?;
     put_lines(alloc, out, ", before", description.before.as_slice())?;
     out.push_str(", ")?;
-    put_connection(alloc, out, description)?;
+    put_connection(out, description)?;
     put_lines(alloc, out, ", after", description.after.as_slice())?;
     let media = description.media.as_slice().len();
     write!(out, ", media {media}")

@@ -6,10 +6,10 @@ ghost use Rattle.port_pool.specs.Holdings.{holder_of};
 ghost use Rattle.offer_answer.specs.Rows.{are_distinct};
 ghost use Rattle.offer_answer.specs.Session.{HasAbove};
 
-use crate::port_pool_words::{fault_words, put_row, told_changes};
+use crate::port_pool_words::{put_changes, put_fault, put_row};
 use offer_answer::{plan_session, session_lines, session_pairs};
 use port_pool::{Pool, PoolError, RelayLine};
-use rows::{outcome_after, said, words_of};
+use rows::outcome_after;
 use sdp::Description;
 use std::alloc::{AllocError, Global};
 
@@ -60,7 +60,7 @@ fn put_line(out: &mut String, line: &RelayLine) -> Result<(), AllocError> {
 }
 
 /// The lines, in order.
-fn put_lines(_alloc: Global, out: &mut String, lines: &Vec<RelayLine>) -> Result<(), AllocError> {
+fn put_each_line(out: &mut String, lines: &[RelayLine]) -> Result<(), AllocError> {
     out.push_str("lines")?;
     for line in lines {
         put_line(out, line)?;
@@ -69,19 +69,21 @@ fn put_lines(_alloc: Global, out: &mut String, lines: &Vec<RelayLine>) -> Result
 }
 
 /// The lines of a session.
-fn lines_of(
+fn put_lines(
     alloc: Global,
+    out: &mut String,
     offer_taken: &Description<'_>,
     answer_sent: &Description<'_>,
     offer_sent: &Description<'_>,
     answer_taken: &Description<'_>,
-) -> Result<String, AllocError> {
+) -> Result<(), AllocError> {
     let pairs = session_pairs(alloc, offer_taken, answer_sent, offer_sent, answer_taken)?;
     if !have_above(&pairs) {
-        return said(alloc, "no port above");
+        return out.push_str("no port above");
     }
     let lines = session_lines(alloc, offer_taken, answer_sent, offer_sent, answer_taken)?;
-    words_of(alloc, lines, put_lines)
+    let outcome = put_each_line(out, &lines);
+    outcome_after(lines, outcome)
 }
 
 /// A pool of eight pairs from 40000, of which the call holds the first four.
@@ -94,17 +96,18 @@ fn held_pool(alloc: Global) -> Result<Pool, PoolError> {
 }
 
 /// What the rows of a session change in a pool where the call holds four pairs.
-fn changes_of(
+fn put_plan(
     alloc: Global,
+    out: &mut String,
     pool: &Pool,
     offer_taken: &Description<'_>,
     answer_sent: &Description<'_>,
     offer_sent: &Description<'_>,
     answer_taken: &Description<'_>,
-) -> Result<String, AllocError> {
+) -> Result<(), AllocError> {
     let pairs = session_pairs(alloc, offer_taken, answer_sent, offer_sent, answer_taken)?;
     if !are_held(pool, &pairs) || !are_distinct(&pairs) {
-        return said(alloc, "no pairs of the call");
+        return out.push_str("no pairs of the call");
     }
     let changes = plan_session(
         alloc,
@@ -115,46 +118,63 @@ fn changes_of(
         offer_sent,
         answer_taken,
     )?;
-    told_changes(alloc, changes)
+    put_changes(out, changes)
 }
 
 /// The same in such a pool of its own.
-fn changes_in_new(
+fn put_plan_in_new(
     alloc: Global,
+    out: &mut String,
     offer_taken: &Description<'_>,
     answer_sent: &Description<'_>,
     offer_sent: &Description<'_>,
     answer_taken: &Description<'_>,
-) -> Result<String, AllocError> {
+) -> Result<(), AllocError> {
     match held_pool(alloc) {
         Ok(pool) => {
-            let words = changes_of(
+            let outcome = put_plan(
                 alloc,
+                out,
                 &pool,
                 offer_taken,
                 answer_sent,
                 offer_sent,
                 answer_taken,
             );
-            outcome_after(pool, words)
+            outcome_after(pool, outcome)
         }
-        Err(fault) => fault_words(alloc, fault),
+        Err(fault) => put_fault(out, fault),
     }
 }
 
 /// What a call on a session answers, of the offer and the answer taken and what was sent on in place of them.
-pub(crate) fn session_words(
+pub(crate) fn put_session(
     alloc: Global,
+    out: &mut String,
     call: &str,
-    descriptions: &[Description<'_>],
-) -> Result<String, AllocError> {
-    match (call, descriptions) {
-        ("session_lines", [offer_taken, answer_sent, offer_sent, answer_taken]) => {
-            lines_of(alloc, offer_taken, answer_sent, offer_sent, answer_taken)
+    offer_taken: &Description<'_>,
+    answer_sent: &Description<'_>,
+    offer_sent: &Description<'_>,
+    answer_taken: &Description<'_>,
+) -> Result<(), AllocError> {
+    match call {
+        "session_lines" => {
+            put_lines(
+                alloc,
+                out,
+                offer_taken,
+                answer_sent,
+                offer_sent,
+                answer_taken,
+            )
         }
-        (_, [offer_taken, answer_sent, offer_sent, answer_taken]) => {
-            changes_in_new(alloc, offer_taken, answer_sent, offer_sent, answer_taken)
-        }
-        _ => said(alloc, "no session"),
+        _ => put_plan_in_new(
+            alloc,
+            out,
+            offer_taken,
+            answer_sent,
+            offer_sent,
+            answer_taken,
+        ),
     }
 }

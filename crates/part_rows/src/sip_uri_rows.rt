@@ -3,8 +3,7 @@
 use crate::sip_uri_words::{
     put_host_words, put_name, put_name_parts, put_parameters, put_uri, put_uri_parts,
 };
-use crate::telling::put_of;
-use rows::{answer_of, byte_of, ip4_words, outcome_after, said, shown, words_of, yes_or_no};
+use rows::{byte_of, outcome_after, put_octets, put_shown, put_yes_or_no};
 use sip_uri::{
     Host, NameAddr, Param, Params, Uri, UriError, binding_is_equivalence, ip4, is_host, one_value,
     param_named, put_param, put_params, read_field_params, read_host, read_name_addr, read_uri,
@@ -14,93 +13,136 @@ use std::alloc::{AllocError, Global};
 use text::Text;
 
 /// The letter and the words of a fault. Want of memory goes up.
-fn fault_words(alloc: Global, fault: UriError) -> Result<String, AllocError> {
+fn put_fault(out: &mut String, fault: UriError) -> Result<(), AllocError> {
     match fault {
         UriError::OutOfMemory => Err(AllocError),
-        fault => fault.to_string(alloc),
-    }
-}
-
-/// What was read in words, or the letter and the words of its fault.
-fn told<T: Drop, P: Fn(Global, &mut String, &T) -> Result<(), AllocError>>(
-    alloc: Global,
-    outcome: Result<T, UriError>,
-    put: P,
-) -> Result<Option<String>, AllocError>
-    requires { P.IsAlwaysCallable put }
-{
-    match outcome {
-        Ok(value) => answer_of(words_of(alloc, value, put)),
-        Err(fault) => answer_of(fault_words(alloc, fault)),
+        fault => write!(out, "{fault}"),
     }
 }
 
 /// The parts of a URI as it is kept.
 fn put_kept_uri(alloc: Global, out: &mut String, uri: &Uri<'_>) -> Result<(), AllocError> {
-    put_of(alloc, out, uri.keep(alloc)?, put_uri_parts)
+    let kept = uri.keep(alloc)?;
+    let outcome = put_uri_parts(alloc, out, &kept);
+    outcome_after(kept, outcome)
+}
+
+/// What a call answers of a URI: its parts, itself as it is written, or its parts as it is kept.
+fn put_uri_by(
+    alloc: Global,
+    out: &mut String,
+    call: &str,
+    uri: &Uri<'_>,
+) -> Result<(), AllocError> {
+    match call {
+        "read_uri" => put_uri_parts(alloc, out, uri),
+        "write_uri" => put_uri(alloc, out, uri),
+        _ => put_kept_uri(alloc, out, uri),
+    }
+}
+
+fn put_told_uri(
+    alloc: Global,
+    out: &mut String,
+    call: &str,
+    text: &[u8],
+) -> Result<(), AllocError> {
+    match read_uri(alloc, text) {
+        Ok(uri) => {
+            let outcome = put_uri_by(alloc, out, call, &uri);
+            outcome_after(uri, outcome)
+        }
+        Err(fault) => put_fault(out, fault),
+    }
 }
 
 /// The parts of a name and an address as they are kept.
 fn put_kept_name(alloc: Global, out: &mut String, name: &NameAddr<'_>) -> Result<(), AllocError> {
-    put_of(alloc, out, name.keep(alloc)?, put_name_parts)
+    let kept = name.keep(alloc)?;
+    let outcome = put_name_parts(alloc, out, &kept);
+    outcome_after(kept, outcome)
 }
 
-/// Two URIs.
-#[derive(Drop)]
-struct Pair<'a, 'b> {
-    one: Uri<'a>,
-    other: Uri<'b>,
-}
-
-fn pair_with<'a, 'b>(
-    one: Uri<'a>,
-    other: Result<Uri<'b>, UriError>,
-) -> Result<Pair<'a, 'b>, UriError> {
-    match other {
-        Ok(other) => Ok(Pair { one, other }),
-        Err(fault) => outcome_after(one, Err(fault)),
-    }
-}
-
-fn read_pair<'a, 'b>(
+/// The same of a name and an address.
+fn put_name_by(
     alloc: Global,
-    one: &'a [u8],
-    other: &'b [u8],
-) -> Result<Pair<'a, 'b>, UriError> {
-    match read_uri(alloc, one) {
-        Ok(one) => pair_with(one, read_uri(alloc, other)),
-        Err(fault) => Err(fault),
+    out: &mut String,
+    call: &str,
+    name: &NameAddr<'_>,
+) -> Result<(), AllocError> {
+    match call {
+        "read_name_addr" => put_name_parts(alloc, out, name),
+        "write_name_addr" => put_name(alloc, out, name),
+        _ => put_kept_name(alloc, out, name),
     }
 }
 
-/// Whether two URIs are one binding.
-fn put_sameness(_alloc: Global, out: &mut String, pair: &Pair<'_, '_>) -> Result<(), AllocError> {
-    out.push_str(if same_binding(&pair.one, &pair.other) {
-        "yes"
-    } else {
-        "no"
-    })
+fn put_told_name(
+    alloc: Global,
+    out: &mut String,
+    call: &str,
+    text: &[u8],
+) -> Result<(), AllocError> {
+    match read_name_addr(alloc, text) {
+        Ok(name) => {
+            let outcome = put_name_by(alloc, out, call, &name);
+            outcome_after(name, outcome)
+        }
+        Err(fault) => put_fault(out, fault),
+    }
+}
+
+/// Whether a URI and that of a text are one binding.
+fn put_is_bound(
+    alloc: Global,
+    out: &mut String,
+    one: &Uri<'_>,
+    other: &[u8],
+) -> Result<(), AllocError> {
+    match read_uri(alloc, other) {
+        Ok(other) => {
+            let is_one = same_binding(one, &other);
+            put_yes_or_no(out, outcome_after(other, is_one))
+        }
+        Err(fault) => put_fault(out, fault),
+    }
+}
+
+/// Whether the URIs of two texts are one binding.
+fn put_same_binding(
+    alloc: Global,
+    out: &mut String,
+    one: &[u8],
+    other: &[u8],
+) -> Result<(), AllocError> {
+    match read_uri(alloc, one) {
+        Ok(one) => {
+            let outcome = put_is_bound(alloc, out, &one, other);
+            outcome_after(one, outcome)
+        }
+        Err(fault) => put_fault(out, fault),
+    }
 }
 
 /// Whether a host and that of a text are one.
-fn is_host_of(alloc: Global, host: &Host<'_>, text: &[u8]) -> Result<String, AllocError> {
+fn put_is_host_of(out: &mut String, host: &Host<'_>, text: &[u8]) -> Result<(), AllocError> {
     match read_host(text) {
         Some(other) => {
             let is_one = same_host(host, &other);
-            yes_or_no(alloc, outcome_after(other, is_one))
+            put_yes_or_no(out, outcome_after(other, is_one))
         }
-        None => said(alloc, "no host"),
+        None => out.push_str("no host"),
     }
 }
 
 /// Whether the hosts of two texts are one.
-fn are_one_host(alloc: Global, a: &[u8], b: &[u8]) -> Result<String, AllocError> {
+fn put_same_host(out: &mut String, a: &[u8], b: &[u8]) -> Result<(), AllocError> {
     match read_host(a) {
         Some(host) => {
-            let words = is_host_of(alloc, &host, b);
-            outcome_after(host, words)
+            let outcome = put_is_host_of(out, &host, b);
+            outcome_after(host, outcome)
         }
-        None => said(alloc, "no host"),
+        None => out.push_str("no host"),
     }
 }
 
@@ -113,150 +155,175 @@ fn text_or_none(word: &[u8]) -> Option<Text<'_>> {
 }
 
 /// Whether two texts are one, or neither is there.
-fn are_one_text(alloc: Global, a: &[u8], b: &[u8]) -> Result<String, AllocError> {
+fn put_same_text(out: &mut String, a: &[u8], b: &[u8]) -> Result<(), AllocError> {
     let texts = (text_or_none(a), text_or_none(b));
     let are_one = same_text(texts.0.as_ref(), texts.1.as_ref());
-    yes_or_no(alloc, outcome_after(texts, are_one))
+    put_yes_or_no(out, outcome_after(texts, are_one))
 }
 
-fn put_params_of(alloc: Global, out: &mut String, params: &Params<'_>) -> Result<(), AllocError> {
-    put_parameters(alloc, out, params.as_slice())
+fn put_last_params(alloc: Global, out: &mut String, params: Params<'_>) -> Result<(), AllocError> {
+    let outcome = put_parameters(alloc, out, "parameters", params.as_slice());
+    outcome_after(params, outcome)
 }
 
 /// The parameters of a header field, which were taken apart and made a list again.
-fn field_params(alloc: Global, text: Option<&[u8]>) -> Result<String, AllocError> {
+fn put_field_params(
+    alloc: Global,
+    out: &mut String,
+    text: Option<&[u8]>,
+) -> Result<(), AllocError> {
     match read_field_params(alloc, text)? {
-        Some(params) => words_of(alloc, Params::from_vec(params.into_vec()), put_params_of),
-        None => said(alloc, "malformed"),
+        Some(params) => put_last_params(alloc, out, Params::from_vec(params.into_vec())),
+        None => out.push_str("malformed"),
     }
 }
 
-fn params_words(
+fn put_params_words(
     alloc: Global,
+    out: &mut String,
     params: &[Param<'_>],
     first: u8,
     next: u8,
-) -> Result<String, AllocError> {
-    let mut out = Vec::new(alloc);
-    put_params(&mut out, params, first, next)?;
-    shown(alloc, &out)
+) -> Result<(), AllocError> {
+    let mut text = Vec::new(alloc);
+    put_params(&mut text, params, first, next)?;
+    put_shown(out, &text)
 }
 
 /// Parameters of a header field, written behind these marks.
-fn params_back(alloc: Global, text: &[u8], first: u8, next: u8) -> Result<String, AllocError> {
+fn put_params_back(
+    alloc: Global,
+    out: &mut String,
+    text: &[u8],
+    first: u8,
+    next: u8,
+) -> Result<(), AllocError> {
     match read_field_params(alloc, Some(text))? {
         Some(params) => {
-            let words = params_words(alloc, params.as_slice(), first, next);
-            outcome_after(params, words)
+            let outcome = put_params_words(alloc, out, params.as_slice(), first, next);
+            outcome_after(params, outcome)
         }
-        None => said(alloc, "malformed"),
+        None => out.push_str("malformed"),
+    }
+}
+
+fn put_one_param(alloc: Global, out: &mut String, param: &Param<'_>) -> Result<(), AllocError> {
+    let mut text = Vec::new(alloc);
+    put_param(&mut text, param)?;
+    put_shown(out, &text)
+}
+
+fn put_first_named(
+    alloc: Global,
+    out: &mut String,
+    params: &[Param<'_>],
+    name: &[u8],
+) -> Result<(), AllocError> {
+    match param_named(params, name) {
+        Some(param) => put_one_param(alloc, out, param),
+        None => out.push_str("none"),
     }
 }
 
 /// The first parameter of this name.
-fn named(alloc: Global, text: &[u8], name: &[u8]) -> Result<String, AllocError> {
+fn put_named(alloc: Global, out: &mut String, text: &[u8], name: &[u8]) -> Result<(), AllocError> {
     match read_field_params(alloc, Some(text))? {
         Some(params) => {
-            let words = named_words(alloc, params.as_slice(), name);
-            outcome_after(params, words)
+            let outcome = put_first_named(alloc, out, params.as_slice(), name);
+            outcome_after(params, outcome)
         }
-        None => said(alloc, "malformed"),
-    }
-}
-
-fn named_words(alloc: Global, params: &[Param<'_>], name: &[u8]) -> Result<String, AllocError> {
-    match param_named(params, name) {
-        Some(param) => {
-            let mut out = Vec::new(alloc);
-            put_param(&mut out, param)?;
-            shown(alloc, &out)
-        }
-        None => said(alloc, "none"),
+        None => out.push_str("malformed"),
     }
 }
 
 /// A host of a URI or of a Via.
-fn host(alloc: Global, text: &[u8]) -> Result<String, AllocError> {
+fn put_host_of(alloc: Global, out: &mut String, text: &[u8]) -> Result<(), AllocError> {
     match read_host(text) {
-        Some(host) => words_of(alloc, host, put_host_words),
-        None => said(alloc, "none"),
+        Some(host) => {
+            let outcome = put_host_words(alloc, out, &host);
+            outcome_after(host, outcome)
+        }
+        None => out.push_str("none"),
     }
 }
 
 /// The four octets of a text.
-fn octets(alloc: Global, text: &[u8]) -> Result<String, AllocError> {
+fn put_ip4(out: &mut String, text: &[u8]) -> Result<(), AllocError> {
     match ip4(text) {
-        Some(octets) => ip4_words(alloc, &octets),
-        None => said(alloc, "none"),
+        Some(octets) => put_octets(out, &octets),
+        None => out.push_str("none"),
     }
 }
 
 /// Calls what has a law for its contract.
-fn laws(alloc: Global) -> Result<String, AllocError> {
+fn put_laws(out: &mut String) -> Result<(), AllocError> {
     binding_is_equivalence();
     one_value();
-    said(alloc, "called")
+    out.push_str("called")
 }
 
-/// What a call on hosts answers, if it is one.
-fn answer_on_hosts(
-    alloc: Global,
-    call: &str,
-    args: &[&[u8]],
-) -> Result<Option<String>, AllocError> {
-    match (call, args) {
-        ("read_host", [text]) => answer_of(host(alloc, text)),
-        ("is_host", [text]) => answer_of(yes_or_no(alloc, is_host(text))),
-        ("ip4", [text]) => answer_of(octets(alloc, text)),
-        ("same_host", [a, b]) => answer_of(are_one_host(alloc, a, b)),
-        ("laws", []) => answer_of(laws(alloc)),
-        _ => Ok(None),
+/// What a call without words answers, if it is one.
+fn put_plain(alloc: Global, out: &mut String, call: &str) -> Option<Result<(), AllocError>> {
+    match call {
+        "read_field_params" => Some(put_field_params(alloc, out, None)),
+        "laws" => Some(put_laws(out)),
+        _ => None,
     }
 }
 
-/// What a call on parts of a URI answers, if it is one.
-fn answer_on_parts(
+/// What a call on a text answers, if it is one.
+fn put_of_one(
     alloc: Global,
+    out: &mut String,
+    call: &str,
+    text: &[u8],
+) -> Option<Result<(), AllocError>> {
+    match call {
+        "read_uri" => Some(put_told_uri(alloc, out, call, text)),
+        "write_uri" => Some(put_told_uri(alloc, out, call, text)),
+        "keep_uri" => Some(put_told_uri(alloc, out, call, text)),
+        "read_name_addr" => Some(put_told_name(alloc, out, call, text)),
+        "write_name_addr" => Some(put_told_name(alloc, out, call, text)),
+        "keep_name_addr" => Some(put_told_name(alloc, out, call, text)),
+        "read_field_params" => Some(put_field_params(alloc, out, Some(text))),
+        "read_host" => Some(put_host_of(alloc, out, text)),
+        "is_host" => Some(put_yes_or_no(out, is_host(text))),
+        "ip4" => Some(put_ip4(out, text)),
+        _ => None,
+    }
+}
+
+/// What a call on two texts answers, if it is one.
+fn put_of_two(
+    alloc: Global,
+    out: &mut String,
+    call: &str,
+    a: &[u8],
+    b: &[u8],
+) -> Option<Result<(), AllocError>> {
+    match call {
+        "same_binding" => Some(put_same_binding(alloc, out, a, b)),
+        "same_text" => Some(put_same_text(out, a, b)),
+        "same_host" => Some(put_same_host(out, a, b)),
+        "param_named" => Some(put_named(alloc, out, a, b)),
+        _ => None,
+    }
+}
+
+/// Writes what the row's call answers, if it is one of `sip_uri`.
+pub(crate) fn put_answer(
+    alloc: Global,
+    out: &mut String,
     call: &str,
     args: &[&[u8]],
-) -> Result<Option<String>, AllocError> {
-    match (call, args) {
-        ("read_field_params", []) => answer_of(field_params(alloc, None)),
-        ("read_field_params", [text]) => answer_of(field_params(alloc, Some(text))),
-        ("put_params", [text, first, next]) => {
-            answer_of(params_back(alloc, text, byte_of(first), byte_of(next)))
+) -> Option<Result<(), AllocError>> {
+    match args {
+        [] => put_plain(alloc, out, call),
+        [text] => put_of_one(alloc, out, call, text),
+        [a, b] => put_of_two(alloc, out, call, a, b),
+        [text, first, next] if call == "put_params" => {
+            Some(put_params_back(alloc, out, text, byte_of(first), byte_of(next)))
         }
-        ("param_named", [text, name]) => answer_of(named(alloc, text, name)),
-        _ => answer_on_hosts(alloc, call, args),
-    }
-}
-
-/// What a call on a name and an address answers, if it is one, or else one on parts.
-fn answer_on_names(
-    alloc: Global,
-    call: &str,
-    args: &[&[u8]],
-) -> Result<Option<String>, AllocError> {
-    match (call, args) {
-        ("keep_name_addr", [text]) => told(alloc, read_name_addr(alloc, text), put_kept_name),
-        ("read_name_addr", [text]) => told(alloc, read_name_addr(alloc, text), put_name_parts),
-        ("write_name_addr", [text]) => told(alloc, read_name_addr(alloc, text), put_name),
-        ("same_text", [a, b]) => answer_of(are_one_text(alloc, a, b)),
-        _ => answer_on_parts(alloc, call, args),
-    }
-}
-
-/// What the row's call answers, if it is one of `sip_uri`.
-pub(crate) fn answer(
-    alloc: Global,
-    call: &str,
-    args: &[&[u8]],
-) -> Result<Option<String>, AllocError> {
-    match (call, args) {
-        ("read_uri", [text]) => told(alloc, read_uri(alloc, text), put_uri_parts),
-        ("write_uri", [text]) => told(alloc, read_uri(alloc, text), put_uri),
-        ("keep_uri", [text]) => told(alloc, read_uri(alloc, text), put_kept_uri),
-        ("same_binding", [a, b]) => told(alloc, read_pair(alloc, a, b), put_sameness),
-        _ => answer_on_names(alloc, call, args),
+        _ => None,
     }
 }

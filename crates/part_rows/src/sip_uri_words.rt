@@ -1,7 +1,7 @@
 //! How the parts of a URI are written.
 
 use crate::telling::put_written;
-use rows::{put_boxed, put_shown};
+use rows::{outcome_after, put_boxed, put_shown};
 use sip_uri::{Host, NameAddr, Param, Uri, put_host, put_param, write_name_addr, write_uri};
 use std::alloc::{AllocError, Global};
 use text::Text;
@@ -13,7 +13,7 @@ fn put_one_param(alloc: Global, out: &mut String, param: &Param<'_>) -> Result<(
 }
 
 /// A name, and each parameter behind it in brackets.
-fn put_named_params(
+pub(crate) fn put_parameters(
     alloc: Global,
     out: &mut String,
     name: &str,
@@ -25,15 +25,6 @@ fn put_named_params(
         put_one_param(alloc, out, param)?;
     }
     Ok(())
-}
-
-/// The parameters of a header field.
-pub(crate) fn put_parameters(
-    alloc: Global,
-    out: &mut String,
-    params: &[Param<'_>],
-) -> Result<(), AllocError> {
-    put_named_params(alloc, out, "parameters", params)
 }
 
 /// A text in brackets with a word before it, or none.
@@ -51,18 +42,22 @@ fn put_text(out: &mut String, name: &str, text: Option<&Text<'_>>) -> Result<(),
     }
 }
 
+fn kind_of(host: &Host<'_>) -> &'static str {
+    match host {
+        Host::Ip4(_) => "ip4 ",
+        Host::Name(_) => "name ",
+    }
+}
+
 /// A host and its kind.
 pub(crate) fn put_host_words(
     alloc: Global,
     out: &mut String,
     host: &Host<'_>,
 ) -> Result<(), AllocError> {
-    out.push_str(match host {
-        Host::Ip4(_) => "ip4 ",
-        Host::Name(_) => "name ",
-    })?;
     let mut text = Vec::new(alloc);
     put_host(&mut text, host)?;
+    out.push_str(kind_of(host))?;
     put_shown(out, &text)
 }
 
@@ -83,8 +78,8 @@ pub(crate) fn put_uri_parts(
     out.push_str(", ")?;
     put_host_words(alloc, out, &uri.host)?;
     put_port(out, uri.port)?;
-    put_named_params(alloc, out, ", parameters", uri.params.as_slice())?;
-    put_named_params(alloc, out, ", headers", uri.headers.as_slice())
+    put_parameters(alloc, out, ", parameters", uri.params.as_slice())?;
+    put_parameters(alloc, out, ", headers", uri.headers.as_slice())
 }
 
 /// A URI as it is written.
@@ -94,7 +89,8 @@ pub(crate) fn put_uri(alloc: Global, out: &mut String, uri: &Uri<'_>) -> Result<
 
 fn put_uri_boxed(alloc: Global, out: &mut String, uri: &Uri<'_>) -> Result<(), AllocError> {
     let text = write_uri(alloc, uri)?;
-    put_boxed(out, text.as_bytes())
+    let outcome = put_boxed(out, text.as_bytes());
+    outcome_after(text, outcome)
 }
 
 /// The parts of a name and an address.
@@ -106,7 +102,7 @@ pub(crate) fn put_name_parts(
     put_text(out, "display", name.display.as_ref())?;
     out.push_str(", uri ")?;
     put_uri_boxed(alloc, out, &name.uri)?;
-    put_named_params(alloc, out, ", parameters", name.params.as_slice())
+    put_parameters(alloc, out, ", parameters", name.params.as_slice())
 }
 
 /// A name and an address as they are written.

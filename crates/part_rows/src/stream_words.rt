@@ -52,11 +52,7 @@ fn put_stream(out: &mut String, stream: &Stream) -> Result<(), AllocError> {
 }
 
 /// The streams, in order.
-pub(crate) fn put_streams(
-    _alloc: Global,
-    out: &mut String,
-    streams: &Vec<Stream>,
-) -> Result<(), AllocError> {
+pub(crate) fn put_streams(out: &mut String, streams: &[Stream]) -> Result<(), AllocError> {
     out.push_str("streams")?;
     for stream in streams {
         put_stream(out, stream)?;

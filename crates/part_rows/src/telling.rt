@@ -1,32 +1,12 @@
 //! What the rows of several crates tell alike.
 
 use rows::{outcome_after, put_boxed, put_shown};
-use std::alloc::{AllocError, Global};
+use std::alloc::AllocError;
 use text::Text;
 
 /// Puts a value in the place of one that is let go.
 pub(crate) fn replace<T: Drop>(place: &mut T, value: T) {
     *place = value;
-}
-
-/// Writes what is told of a value, which is let go behind it.
-pub(crate) fn put_of<T: Drop, P: Fn(Global, &mut String, &T) -> Result<(), AllocError>>(
-    alloc: Global,
-    out: &mut String,
-    value: T,
-    put: P,
-) -> Result<(), AllocError>
-    requires { P.IsAlwaysCallable put }
-{
-    put(alloc, out, &value)
-}
-
-/// Writes words that an answer is made of.
-pub(crate) fn put_words(
-    out: &mut String,
-    words: Result<String, AllocError>,
-) -> Result<(), AllocError> {
-    out.push_str(words?.as_str())
 }
 
 /// Writes a text that was written for a value.

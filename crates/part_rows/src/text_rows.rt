@@ -2,8 +2,8 @@
 
 use crate::telling::put_texts;
 use rows::{
-    answer_of, boxes, byte_of, number, number_or_none, outcome_after, put_boxed, said, shown,
-    words_of, yes_or_no,
+    byte_of, number, outcome_after, put_boxed, put_boxes, put_number_or_none, put_shown,
+    put_yes_or_no,
 };
 use std::alloc::{AllocError, Global};
 use text::{
@@ -12,38 +12,42 @@ use text::{
     without_blanks,
 };
 
+fn put_two(out: &mut String, one: &[u8], other: &[u8]) -> Result<(), AllocError> {
+    put_boxed(out, one)?;
+    out.push(' ')?;
+    put_boxed(out, other)
+}
+
 /// What stands before a mark, and what stands behind it.
-fn cut_at(alloc: Global, text: &[u8], mark: u8) -> Result<String, AllocError> {
-    match cut(text, mark) {
-        (front, Some(back)) => boxes(alloc, &[front, back]),
-        (front, None) => boxes(alloc, &[front]),
+fn put_parts(out: &mut String, parts: (&[u8], Option<&[u8]>)) -> Result<(), AllocError> {
+    match parts.1 {
+        Some(behind) => put_two(out, parts.0, behind),
+        None => put_boxed(out, parts.0),
     }
 }
 
 /// What stands between the marks.
-fn pieces_at(alloc: Global, text: &[u8], mark: u8) -> Result<String, AllocError> {
-    boxes(alloc, &pieces(alloc, text, mark)?)
-}
-
-/// The first piece, and what stands behind its separator.
-fn first_piece(alloc: Global, text: &[u8], mark: u8) -> Result<String, AllocError> {
-    match cut_piece(text, mark) {
-        (first, Some(behind)) => boxes(alloc, &[first, behind]),
-        (first, None) => boxes(alloc, &[first]),
-    }
+fn put_pieces_at(alloc: Global, out: &mut String, text: &[u8], mark: u8) -> Result<(), AllocError> {
+    put_boxes(out, &pieces(alloc, text, mark)?)
 }
 
 /// The pieces of two texts, one behind the other.
-fn pieces_of_two(alloc: Global, one: &[u8], other: &[u8], mark: u8) -> Result<String, AllocError> {
+fn put_pieces_of_two(
+    alloc: Global,
+    out: &mut String,
+    one: &[u8],
+    other: &[u8],
+    mark: u8,
+) -> Result<(), AllocError> {
     let mut found = pieces(alloc, one, mark)?;
     put_pieces(&mut found, other, mark)?;
-    boxes(alloc, &found)
+    put_boxes(out, &found)
 }
 
 /// A word, and what stands behind its blank.
-fn word_of(alloc: Global, text: &[u8]) -> Result<String, AllocError> {
+fn put_word(out: &mut String, text: &[u8]) -> Result<(), AllocError> {
     let (word, rest) = cut_word(text);
-    boxes(alloc, &[word, rest])
+    put_two(out, word, rest)
 }
 
 /// What stands in nothing, in angle brackets, in quotes, or behind a backslash in them.
@@ -67,50 +71,56 @@ fn name_of(within: Within) -> &'static str {
 }
 
 /// The bytes that a token may have, by rising number.
-fn token_bytes(alloc: Global) -> Result<String, AllocError> {
-    let mut found = Vec::new(alloc);
+fn put_token_bytes(out: &mut String) -> Result<(), AllocError> {
     for byte in 0..=u8::MAX {
         if is_token_byte(byte) {
-            found.push(byte)?;
+            put_shown(out, &[byte])?;
         }
     }
-    shown(alloc, &found)
+    Ok(())
 }
 
 /// The bytes that are blanks, by rising number.
-fn blanks(alloc: Global) -> Result<String, AllocError> {
-    let mut found = Vec::new(alloc);
+fn put_blanks(out: &mut String) -> Result<(), AllocError> {
+    out.push('[')?;
     for byte in 0..=u8::MAX {
         if is_blank(byte) {
-            found.push(byte)?;
+            put_shown(out, &[byte])?;
         }
     }
-    boxes(alloc, &[&found])
+    out.push(']')
 }
 
 /// The number of the digits, if it is not above the limit.
-fn read_number(alloc: Global, limit: u64, digits: &[u8]) -> Result<String, AllocError> {
-    let limit = u32::try_from(limit).unwrap_or(0);
-    number_or_none(alloc, number_upto(limit, digits).map(u64::from))
+fn put_read_number(out: &mut String, limit: u64, digits: &[u8]) -> Result<(), AllocError> {
+    match number_upto(u32::try_from(limit).unwrap_or(0), digits) {
+        Some(number) => put_number_or_none(out, Some(u64::from(number))),
+        None => out.push_str("none"),
+    }
 }
 
 /// A text with a number behind it.
-fn with_number(alloc: Global, front: &[u8], number: u64) -> Result<String, AllocError> {
-    let mut out = Vec::from_slice(alloc, front)?;
-    put_number(&mut out, number)?;
-    boxes(alloc, &[&out])
+fn put_with_number(
+    alloc: Global,
+    out: &mut String,
+    front: &[u8],
+    number: u64,
+) -> Result<(), AllocError> {
+    let mut text = Vec::from_slice(alloc, front)?;
+    put_number(&mut text, number)?;
+    put_boxed(out, &text)
 }
 
 /// Whether two texts are one byte by byte: one of its own and one that is lent.
-fn are_same(alloc: Global, a: &[u8], b: &[u8]) -> Result<String, AllocError> {
+fn put_sameness(alloc: Global, out: &mut String, a: &[u8], b: &[u8]) -> Result<(), AllocError> {
     let own = Text::from_vec(Vec::from_slice(alloc, a)?);
     let other = Text::lent(b);
     let are_same = own == other;
-    yes_or_no(alloc, outcome_after((own, other), are_same))
+    put_yes_or_no(out, outcome_after((own, other), are_same))
 }
 
 /// A text and what it borrows: the bytes where they stand, or nothing.
-fn put_place(_alloc: Global, out: &mut String, text: &Text<'_>) -> Result<(), AllocError> {
+fn put_place(out: &mut String, text: &Text<'_>) -> Result<(), AllocError> {
     put_boxed(out, text.as_bytes())?;
     match text.in_place() {
         Some(bytes) => {
@@ -121,22 +131,31 @@ fn put_place(_alloc: Global, out: &mut String, text: &Text<'_>) -> Result<(), Al
     }
 }
 
+/// The same of a text that is let go behind it.
+fn put_last_place(out: &mut String, text: Text<'_>) -> Result<(), AllocError> {
+    let outcome = put_place(out, &text);
+    outcome_after(text, outcome)
+}
+
+/// The bytes of a word; none for `-`.
+fn bytes_or_none(word: &[u8]) -> Option<&[u8]> {
+    match word {
+        b"-" => None,
+        _ => Some(word),
+    }
+}
+
 /// A text of a word, none for `-`, that is lent.
-fn lent_words(alloc: Global, word: &[u8]) -> Result<String, AllocError> {
-    let bytes = if word == b"-".as_slice() {
-        None
-    } else {
-        Some(word)
-    };
-    match lent(bytes) {
-        Some(text) => words_of(alloc, text, put_place),
-        None => said(alloc, "none"),
+fn put_lent(out: &mut String, word: &[u8]) -> Result<(), AllocError> {
+    match lent(bytes_or_none(word)) {
+        Some(text) => put_last_place(out, text),
+        None => out.push_str("none"),
     }
 }
 
 /// A text that was lent, as it is kept.
-fn kept_words(alloc: Global, word: &[u8]) -> Result<String, AllocError> {
-    words_of(alloc, Text::lent(word).keep(alloc)?, put_place)
+fn put_kept(alloc: Global, out: &mut String, word: &[u8]) -> Result<(), AllocError> {
+    put_last_place(out, Text::lent(word).keep(alloc)?)
 }
 
 fn push_texts(
@@ -150,97 +169,96 @@ fn push_texts(
     Ok(())
 }
 
-fn put_list(_alloc: Global, out: &mut String, texts: &Texts<'_>) -> Result<(), AllocError> {
-    put_texts(out, texts.as_slice())
+fn put_list(out: &mut String, texts: Texts<'_>) -> Result<(), AllocError> {
+    let outcome = put_texts(out, texts.as_slice());
+    outcome_after(texts, outcome)
 }
 
 /// Texts, made a list, taken apart and made a list again.
-fn listed(alloc: Global, words: &[&[u8]]) -> Result<String, AllocError> {
+fn put_listed(alloc: Global, out: &mut String, words: &[&[u8]]) -> Result<(), AllocError> {
     let mut list: Vec<Text<'static>> = Vec::new(alloc);
     match push_texts(alloc, &mut list, words) {
-        Ok(()) => {
-            let texts = Texts::from_vec(Texts::from_vec(list).into_vec());
-            words_of(alloc, texts, put_list)
-        }
+        Ok(()) => put_list(out, Texts::from_vec(Texts::from_vec(list).into_vec())),
         Err(fault) => outcome_after(list, Err(fault)),
     }
 }
 
-/// A text in brackets.
-fn boxed(alloc: Global, text: &[u8]) -> Result<String, AllocError> {
-    boxes(alloc, &[text])
-}
-
-/// What a call that cuts a text answers, if it is one.
-fn answer_on_cuts(alloc: Global, call: &str, args: &[&[u8]]) -> Result<Option<String>, AllocError> {
-    match (call, args) {
-        ("cut", [text, mark]) => answer_of(cut_at(alloc, text, byte_of(mark))),
-        ("cut_word", [text]) => answer_of(word_of(alloc, text)),
-        ("trimmed", [text]) => answer_of(boxed(alloc, trimmed(text))),
-        ("without_blanks", [text]) => answer_of(boxed(alloc, without_blanks(text))),
-        _ => Ok(None),
+/// What a call without words answers, if it is one.
+fn put_plain(out: &mut String, call: &str) -> Option<Result<(), AllocError>> {
+    match call {
+        "is_token_byte" => Some(put_token_bytes(out)),
+        "is_blank" => Some(put_blanks(out)),
+        _ => None,
     }
 }
 
-/// What a call on pieces of a text answers, if it is one.
-fn answer_on_pieces(
+/// What a call on a text answers, if it is one.
+fn put_of_one(
     alloc: Global,
+    out: &mut String,
+    call: &str,
+    text: &[u8],
+) -> Option<Result<(), AllocError>> {
+    match call {
+        "cut_word" => Some(put_word(out, text)),
+        "trimmed" => Some(put_boxed(out, trimmed(text))),
+        "without_blanks" => Some(put_boxed(out, without_blanks(text))),
+        "is_run_of_digits" => Some(put_yes_or_no(out, is_run_of_digits(text))),
+        "is_run_of_token" => Some(put_yes_or_no(out, is_run_of_token(text))),
+        "lent" => Some(put_lent(out, text)),
+        "keep" => Some(put_kept(alloc, out, text)),
+        _ => None,
+    }
+}
+
+/// What a call on a text and a word answers, if it is one.
+fn put_of_two(
+    alloc: Global,
+    out: &mut String,
+    call: &str,
+    text: &[u8],
+    word: &[u8],
+) -> Option<Result<(), AllocError>> {
+    match call {
+        "cut" => Some(put_parts(out, cut(text, byte_of(word)))),
+        "cut_piece" => Some(put_parts(out, cut_piece(text, byte_of(word)))),
+        "pieces" => Some(put_pieces_at(alloc, out, text, byte_of(word))),
+        "put_number" => Some(put_with_number(alloc, out, text, number(word))),
+        "number_upto" => Some(put_read_number(out, number(text), word)),
+        "same_without_case" => Some(put_yes_or_no(out, same_without_case(text, word))),
+        "same" => Some(put_sameness(alloc, out, text, word)),
+        "next" => Some(out.push_str(name_of(within_named(text).next(byte_of(word))))),
+        _ => None,
+    }
+}
+
+/// Writes what the row's call answers, if it is one of `text`.
+pub(crate) fn put_answer(
+    alloc: Global,
+    out: &mut String,
     call: &str,
     args: &[&[u8]],
-) -> Result<Option<String>, AllocError> {
-    match (call, args) {
-        ("pieces", [text, mark]) => answer_of(pieces_at(alloc, text, byte_of(mark))),
-        ("cut_piece", [text, mark]) => answer_of(first_piece(alloc, text, byte_of(mark))),
-        ("put_pieces", [one, other, mark]) => {
-            answer_of(pieces_of_two(alloc, one, other, byte_of(mark)))
+) -> Option<Result<(), AllocError>> {
+    match call {
+        "texts" => Some(put_listed(alloc, out, args)),
+        _ => put_of_words(alloc, out, call, args),
+    }
+}
+
+/// What a call on so many words answers, if it is one.
+fn put_of_words(
+    alloc: Global,
+    out: &mut String,
+    call: &str,
+    args: &[&[u8]],
+) -> Option<Result<(), AllocError>> {
+    match args {
+        [] => put_plain(out, call),
+        [text] => put_of_one(alloc, out, call, text),
+        [text, word] => put_of_two(alloc, out, call, text, word),
+        [one, other, mark] if call == "put_pieces" => {
+            Some(put_pieces_of_two(alloc, out, one, other, byte_of(mark)))
         }
-        _ => answer_on_cuts(alloc, call, args),
-    }
-}
-
-/// What a call on numbers answers, if it is one, or else one on pieces.
-fn answer_on_numbers(
-    alloc: Global,
-    call: &str,
-    args: &[&[u8]],
-) -> Result<Option<String>, AllocError> {
-    match (call, args) {
-        ("put_number", [front, word]) => answer_of(with_number(alloc, front, number(word))),
-        ("number_upto", [limit, digits]) => answer_of(read_number(alloc, number(limit), digits)),
-        ("same_without_case", [a, b]) => answer_of(yes_or_no(alloc, same_without_case(a, b))),
-        _ => answer_on_pieces(alloc, call, args),
-    }
-}
-
-/// What a call on bytes and digits answers, if it is one, or else one on pieces.
-fn answer_on_bytes(
-    alloc: Global,
-    call: &str,
-    args: &[&[u8]],
-) -> Result<Option<String>, AllocError> {
-    match (call, args) {
-        ("next", [within, byte]) => {
-            answer_of(said(alloc, name_of(within_named(within).next(byte_of(byte)))))
-        }
-        ("is_token_byte", []) => answer_of(token_bytes(alloc)),
-        ("is_blank", []) => answer_of(blanks(alloc)),
-        ("is_run_of_digits", [text]) => answer_of(yes_or_no(alloc, is_run_of_digits(text))),
-        ("is_run_of_token", [text]) => answer_of(yes_or_no(alloc, is_run_of_token(text))),
-        _ => answer_on_numbers(alloc, call, args),
-    }
-}
-
-/// What the row's call answers, if it is one of `text`.
-pub(crate) fn answer(
-    alloc: Global,
-    call: &str,
-    args: &[&[u8]],
-) -> Result<Option<String>, AllocError> {
-    match (call, args) {
-        ("same", [a, b]) => answer_of(are_same(alloc, a, b)),
-        ("lent", [word]) => answer_of(lent_words(alloc, word)),
-        ("keep", [word]) => answer_of(kept_words(alloc, word)),
-        ("texts", words) => answer_of(listed(alloc, words)),
-        _ => answer_on_bytes(alloc, call, args),
+        _ => None,
     }
 }

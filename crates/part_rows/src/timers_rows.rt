@@ -1,9 +1,7 @@
 //! Rows of calls of `timers`: keys are single letters.
 
 use crate::telling::replace;
-use rows::{
-    answer_of, byte_of, number, number_or_none, outcome_after, said, usize_of, words_of, yes_or_no,
-};
+use rows::{byte_of, number, outcome_after, put_number_or_none, put_yes_or_no, usize_of};
 use std::alloc::{AllocError, Global};
 use text::cut_word;
 use timers::{
@@ -26,13 +24,6 @@ fn put_timer(out: &mut String, timer: Option<Timer<u8>>) -> Result<(), AllocErro
         }
         None => out.push_str("none"),
     }
-}
-
-/// A key and its moment, or `none`.
-fn timer_words(alloc: Global, timer: Option<Timer<u8>>) -> Result<String, AllocError> {
-    let mut out = String::new(alloc);
-    put_timer(&mut out, timer)?;
-    Ok(out)
 }
 
 /// A call of a run that only asks, if it is one.
@@ -59,20 +50,12 @@ fn call_of(word: &[u8]) -> Option<Call<u8>> {
     }
 }
 
-/// Writes a moment, or `none`.
-fn put_moment(out: &mut String, moment: Option<u64>) -> Result<(), AllocError> {
-    match moment {
-        Some(moment) => write!(out, "{moment}"),
-        None => out.push_str("none"),
-    }
-}
-
 /// Writes what a call of a run answered.
 fn put_answer(out: &mut String, answer: &Answer<u8>) -> Result<(), AllocError> {
     match answer {
         Answer::Done => out.push_str("done"),
         Answer::Due(timer) => put_timer(out, *timer),
-        Answer::At(moment) => put_moment(out, *moment),
+        Answer::At(moment) => put_number_or_none(out, *moment),
         Answer::Count(count) => write!(out, "{count}"),
     }
 }
@@ -89,11 +72,7 @@ fn calls_of(alloc: Global, words: &[&[u8]]) -> Result<Vec<Call<u8>>, AllocError>
 }
 
 /// The answers of a run.
-fn put_answers(
-    _alloc: Global,
-    out: &mut String,
-    answers: &Vec<Answer<u8>>,
-) -> Result<(), AllocError> {
+fn put_each_answer(out: &mut String, answers: &[Answer<u8>]) -> Result<(), AllocError> {
     for (at, answer) in answers.iter().enumerate() {
         if at > 0 {
             out.push_str("; ")?;
@@ -104,16 +83,22 @@ fn put_answers(
 }
 
 /// Makes calls in turn on timers, and tells what each answers.
-fn run_with(alloc: Global, timers: &mut Timers<u8>, words: &[&[u8]]) -> Result<String, AllocError> {
+fn put_run_on(
+    alloc: Global,
+    out: &mut String,
+    timers: &mut Timers<u8>,
+    words: &[&[u8]],
+) -> Result<(), AllocError> {
     let calls = calls_of(alloc, words)?;
-    words_of(alloc, run(alloc, timers, &calls)?, put_answers)
+    let answers = run(alloc, timers, &calls)?;
+    put_each_answer(out, &answers)
 }
 
 /// The same on new timers.
-fn run_words(alloc: Global, words: &[&[u8]]) -> Result<String, AllocError> {
+fn put_run(alloc: Global, out: &mut String, words: &[&[u8]]) -> Result<(), AllocError> {
     let mut timers = Timers::new(alloc);
-    let words = run_with(alloc, &mut timers, words);
-    outcome_after(timers, words)
+    let outcome = put_run_on(alloc, out, &mut timers, words);
+    outcome_after(timers, outcome)
 }
 
 /// Whether timers, in whatever form, have room for so many keys.
@@ -122,11 +107,11 @@ fn has_room<T: DueTimers<u8>>(timers: &T, keys: usize) -> bool {
 }
 
 /// Calls what has a law for its contract.
-fn laws(alloc: Global) -> Result<String, AllocError> {
+fn put_laws(out: &mut String) -> Result<(), AllocError> {
     due_by_settings::<u8>();
     keys_stand_once::<u8>();
     runs_by_settings::<u8>();
-    said(alloc, "called")
+    out.push_str("called")
 }
 
 impl TimersRows {
@@ -136,84 +121,94 @@ impl TimersRows {
         }
     }
 
-    fn set(&mut self, alloc: Global, key: u8, at: u64) -> Result<String, AllocError> {
+    fn set(&mut self, out: &mut String, key: u8, at: u64) -> Result<(), AllocError> {
         self.timers.set(key, at)?;
-        said(alloc, "done")
+        out.push_str("done")
     }
 
-    fn cancel(&mut self, alloc: Global, key: u8) -> Result<String, AllocError> {
+    fn cancel(&mut self, out: &mut String, key: u8) -> Result<(), AllocError> {
         self.timers.cancel(key);
-        said(alloc, "done")
+        out.push_str("done")
     }
 
-    fn reserve(&mut self, alloc: Global, keys: usize) -> Result<String, AllocError> {
+    fn reserve(&mut self, out: &mut String, keys: usize) -> Result<(), AllocError> {
         self.timers.reserve(keys)?;
-        said(alloc, "done")
+        out.push_str("done")
     }
 
-    fn empty(&mut self, alloc: Global) -> Result<String, AllocError> {
+    fn empty(&mut self, alloc: Global, out: &mut String) -> Result<(), AllocError> {
         replace(&mut self.timers, Timers::new(alloc));
-        said(alloc, "done")
+        out.push_str("done")
     }
 
-    fn take_due(&mut self, alloc: Global, now: u64) -> Result<String, AllocError> {
-        timer_words(alloc, self.timers.take_due(now))
+    fn put_len(&self, out: &mut String) -> Result<(), AllocError> {
+        let len = self.timers.len();
+        write!(out, "{len}")
     }
 
-    /// What a call that changes the timers answers, if it is one.
-    fn change_answer(
+    /// What a call without words answers, if it is one.
+    fn put_plain(
         &mut self,
         alloc: Global,
+        out: &mut String,
         call: &str,
-        args: &[&[u8]],
-    ) -> Result<Option<String>, AllocError> {
-        match (call, args) {
-            ("new", []) => answer_of(self.empty(alloc)),
-            ("set", [key, at]) => answer_of(self.set(alloc, byte_of(key), number(at))),
-            ("cancel", [key]) => answer_of(self.cancel(alloc, byte_of(key))),
-            ("reserve", [keys]) => answer_of(self.reserve(alloc, usize_of(keys))),
-            ("take_due", [now]) => answer_of(self.take_due(alloc, number(now))),
-            _ => Ok(None),
+    ) -> Option<Result<(), AllocError>> {
+        match call {
+            "new" => Some(self.empty(alloc, out)),
+            "next" => Some(put_number_or_none(out, self.timers.next())),
+            "len" => Some(self.put_len(out)),
+            "laws" => Some(put_laws(out)),
+            _ => None,
         }
     }
 
-    /// What a call on room, a run or the laws answer, if it is one, or else one that changes the timers.
-    fn room_answer(
+    /// What a call on a key, a moment or a number of keys answers, if it is one.
+    fn put_of_one(
         &mut self,
-        alloc: Global,
+        out: &mut String,
         call: &str,
-        args: &[&[u8]],
-    ) -> Result<Option<String>, AllocError> {
-        match (call, args) {
-            ("has_room", [keys]) => {
-                answer_of(yes_or_no(alloc, self.timers.room() >= usize_of(keys)))
+        word: &[u8],
+    ) -> Option<Result<(), AllocError>> {
+        match call {
+            "first_due" => Some(put_timer(out, self.timers.first_due(number(word)))),
+            "take_due" => Some(put_timer(out, self.timers.take_due(number(word)))),
+            "moment" => Some(put_number_or_none(out, self.timers.moment(byte_of(word)))),
+            "cancel" => Some(self.cancel(out, byte_of(word))),
+            "reserve" => Some(self.reserve(out, usize_of(word))),
+            "has_room" => Some(put_yes_or_no(out, self.timers.room() >= usize_of(word))),
+            "has_room_in_any_form" => {
+                Some(put_yes_or_no(out, has_room(&self.timers, usize_of(word))))
             }
-            ("has_room_in_any_form", [keys]) => {
-                answer_of(yes_or_no(alloc, has_room(&self.timers, usize_of(keys))))
-            }
-            ("run", calls) => answer_of(run_words(alloc, calls)),
-            ("laws", []) => answer_of(laws(alloc)),
-            _ => self.change_answer(alloc, call, args),
+            _ => None,
         }
     }
 
-    /// What the row's call answers, if it is one of `timers`.
-    pub(crate) fn answer(
+    fn put_of_words(
         &mut self,
         alloc: Global,
+        out: &mut String,
         call: &str,
         args: &[&[u8]],
-    ) -> Result<Option<String>, AllocError> {
-        match (call, args) {
-            ("first_due", [now]) => {
-                answer_of(timer_words(alloc, self.timers.first_due(number(now))))
-            }
-            ("moment", [key]) => {
-                answer_of(number_or_none(alloc, self.timers.moment(byte_of(key))))
-            }
-            ("next", []) => answer_of(number_or_none(alloc, self.timers.next())),
-            ("len", []) => answer_of(self.timers.len().to_string(alloc)),
-            _ => self.room_answer(alloc, call, args),
+    ) -> Option<Result<(), AllocError>> {
+        match args {
+            [] => self.put_plain(alloc, out, call),
+            [word] => self.put_of_one(out, call, word),
+            [key, at] if call == "set" => Some(self.set(out, byte_of(key), number(at))),
+            _ => None,
+        }
+    }
+
+    /// Writes what the row's call answers, if it is one of `timers`.
+    pub(crate) fn put_answer(
+        &mut self,
+        alloc: Global,
+        out: &mut String,
+        call: &str,
+        args: &[&[u8]],
+    ) -> Option<Result<(), AllocError>> {
+        match call {
+            "run" => Some(put_run(alloc, out, args)),
+            _ => self.put_of_words(alloc, out, call, args),
         }
     }
 }

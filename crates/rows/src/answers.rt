@@ -29,3 +29,15 @@ pub fn outcome_after<T: Drop, R>(_value: T, outcome: R) -> R
 pub fn answer_of(words: Result<String, AllocError>) -> Result<Option<String>, AllocError> {
     Ok(Some(words?))
 }
+
+/// What a row's call answers: what was written, where there is such a call.
+pub fn answer_by(
+    words: String,
+    outcome: Option<Result<(), AllocError>>,
+) -> Result<Option<String>, AllocError> {
+    match outcome {
+        Some(Ok(())) => Ok(Some(words)),
+        Some(Err(fault)) => outcome_after(words, Err(fault)),
+        None => outcome_after(words, Ok(None)),
+    }
+}

@@ -9,9 +9,22 @@ pub fn said(alloc: Global, word: &str) -> Result<String, AllocError> {
     String::from_str(alloc, word)
 }
 
+/// Writes `yes` or `no`.
+pub fn put_yes_or_no(out: &mut String, holds: bool) -> Result<(), AllocError> {
+    out.push_str(if holds { "yes" } else { "no" })
+}
+
 /// `yes` or `no`.
 pub fn yes_or_no(alloc: Global, holds: bool) -> Result<String, AllocError> {
     said(alloc, if holds { "yes" } else { "no" })
+}
+
+/// Writes a number, or `none`.
+pub fn put_number_or_none(out: &mut String, number: Option<u64>) -> Result<(), AllocError> {
+    match number {
+        Some(number) => write!(out, "{number}"),
+        None => out.push_str("none"),
+    }
 }
 
 /// A number, or `none`.
