@@ -1,103 +1,188 @@
 //! Rows of header fields alone: `Headers`, and how they are looked up.
 
-use crate::message_texts::{contacts_text, headers_text, put_value};
-use rows::{answer_of, said, shown};
+use crate::message_texts::{put_contacts, put_headers, put_value};
+use rows::{outcome_after, put_shown};
 use sip_message::{FieldValue, Header, Headers, contact_values, first_value, values_named};
-use sip_uri::put_param;
+use sip_uri::{Param, put_param};
 use sip_writing::tag_param;
 use std::alloc::{AllocError, Global};
 use text::{cut, trimmed};
 
-/// The header fields that the words write.
-fn headers_of(alloc: Global, words: &[&[u8]]) -> Result<Vec<Header<'static>>, AllocError> {
-    let mut headers = Vec::new(alloc);
+fn push_headers(
+    alloc: Global,
+    headers: &mut Vec<Header<'static>>,
+    words: &[&[u8]],
+) -> Result<(), AllocError> {
     for word in words {
         let (name, value) = cut(word, b':');
         headers.push(Header::of(alloc, name, trimmed(value.unwrap_or(&[])))?)?;
     }
-    Ok(headers)
+    Ok(())
 }
 
-/// Two header fields put behind those of the words, the second one as name and value.
-fn added(alloc: Global, words: &[&[u8]]) -> Result<Headers<'static>, AllocError> {
-    let mut headers = Headers::from_vec(headers_of(alloc, words)?);
+/// The header fields that the words write.
+fn headers_of(alloc: Global, words: &[&[u8]]) -> Result<Vec<Header<'static>>, AllocError> {
+    let mut headers: Vec<Header<'static>> = Vec::new(alloc);
+    match push_headers(alloc, &mut headers, words) {
+        Ok(()) => Ok(headers),
+        Err(fault) => outcome_after(headers, Err(fault)),
+    }
+}
+
+/// Two header fields put behind these, the second one as name and value.
+fn add_two(alloc: Global, headers: &mut Headers<'static>) -> Result<(), AllocError> {
     headers.push(Header::of(alloc, b"Pushed", b"1")?)?;
-    headers.add(alloc, b"Added", b"2")?;
-    Ok(headers)
+    headers.add(alloc, b"Added", b"2")
+}
+
+fn put_last_headers(
+    alloc: Global,
+    out: &mut String,
+    headers: Vec<Header<'_>>,
+) -> Result<(), AllocError> {
+    let outcome = put_headers(alloc, out, &headers);
+    outcome_after(headers, outcome)
 }
 
 /// The header fields, put into a list, two more behind them, and taken out again.
-fn added_text(alloc: Global, words: &[&[u8]]) -> Result<String, AllocError> {
-    let headers = added(alloc, words)?.into_vec();
-    headers_text(alloc, &headers)
-}
-
-fn listed_text(alloc: Global, words: &[&[u8]]) -> Result<String, AllocError> {
-    let headers = Headers::from_vec(headers_of(alloc, words)?);
-    headers_text(alloc, headers.as_slice())
-}
-
-fn value_text(alloc: Global, value: &FieldValue<'_>) -> Result<String, AllocError> {
-    let mut out = String::new(alloc);
-    put_value(alloc, &mut out, value)?;
-    Ok(out)
-}
-
-fn values_text(alloc: Global, values: &[&FieldValue<'_>]) -> Result<String, AllocError> {
-    if values.is_empty() {
-        return said(alloc, "none");
+fn put_added(alloc: Global, out: &mut String, words: &[&[u8]]) -> Result<(), AllocError> {
+    let mut headers = Headers::from_vec(headers_of(alloc, words)?);
+    match add_two(alloc, &mut headers) {
+        Ok(()) => put_last_headers(alloc, out, headers.into_vec()),
+        Err(fault) => outcome_after(headers, Err(fault)),
     }
-    let mut out = String::new(alloc);
+}
+
+fn put_listed(alloc: Global, out: &mut String, words: &[&[u8]]) -> Result<(), AllocError> {
+    let headers = Headers::from_vec(headers_of(alloc, words)?);
+    let outcome = put_headers(alloc, out, headers.as_slice());
+    outcome_after(headers, outcome)
+}
+
+fn put_each_value(
+    alloc: Global,
+    out: &mut String,
+    values: &[&FieldValue<'_>],
+) -> Result<(), AllocError> {
     for (at, value) in values.iter().enumerate() {
         if at > 0 {
             out.push(' ')?;
         }
-        put_value(alloc, &mut out, value)?;
+        put_value(alloc, out, value)?;
         out.push(';')?;
     }
-    Ok(out)
+    Ok(())
 }
 
-fn named_text(alloc: Global, name: &[u8], words: &[&[u8]]) -> Result<String, AllocError> {
-    let headers = headers_of(alloc, words)?;
-    let values = values_named(alloc, &headers, name)?;
-    values_text(alloc, &values)
+fn put_values(
+    alloc: Global,
+    out: &mut String,
+    headers: &[Header<'_>],
+    name: &[u8],
+) -> Result<(), AllocError> {
+    let values = values_named(alloc, headers, name)?;
+    if values.is_empty() {
+        return out.push_str("none");
+    }
+    put_each_value(alloc, out, &values)
 }
 
-fn contact_values_text(alloc: Global, words: &[&[u8]]) -> Result<String, AllocError> {
-    let headers = headers_of(alloc, words)?;
-    let values = contact_values(alloc, &headers)?;
-    contacts_text(alloc, &values)
-}
-
-fn first_text(alloc: Global, name: &[u8], words: &[&[u8]]) -> Result<String, AllocError> {
-    let headers = headers_of(alloc, words)?;
-    match first_value(&headers, name) {
-        Some(value) => value_text(alloc, value),
-        None => said(alloc, "none"),
+fn put_first(
+    alloc: Global,
+    out: &mut String,
+    headers: &[Header<'_>],
+    name: &[u8],
+) -> Result<(), AllocError> {
+    match first_value(headers, name) {
+        Some(value) => put_value(alloc, out, value),
+        None => out.push_str("none"),
     }
 }
 
-fn tag_text(alloc: Global, tag: &[u8]) -> Result<String, AllocError> {
-    let mut out = Vec::new(alloc);
+/// What is told of the header fields with a name: the first of them, or all.
+fn put_by(
+    alloc: Global,
+    out: &mut String,
+    call: &str,
+    headers: &[Header<'_>],
+    name: &[u8],
+) -> Result<(), AllocError> {
+    match call {
+        "first_value" => put_first(alloc, out, headers, name),
+        _ => put_values(alloc, out, headers, name),
+    }
+}
+
+fn put_named_of(
+    alloc: Global,
+    out: &mut String,
+    call: &str,
+    name: &[u8],
+    words: &[&[u8]],
+) -> Result<(), AllocError> {
+    let headers = headers_of(alloc, words)?;
+    let outcome = put_by(alloc, out, call, &headers, name);
+    outcome_after(headers, outcome)
+}
+
+/// What a call on the header fields with a name answers, of which the first word is.
+pub(crate) fn put_named(
+    alloc: Global,
+    out: &mut String,
+    call: &str,
+    args: &[&[u8]],
+) -> Option<Result<(), AllocError>> {
+    match args {
+        [name, words @ ..] => Some(put_named_of(alloc, out, call, name, words)),
+        [] => None,
+    }
+}
+
+fn put_contact_values(alloc: Global, out: &mut String, words: &[&[u8]]) -> Result<(), AllocError> {
+    let headers = headers_of(alloc, words)?;
+    match contact_values(alloc, &headers) {
+        Ok(values) => {
+            let outcome = put_contacts(alloc, out, values);
+            outcome_after(headers, outcome)
+        }
+        Err(fault) => outcome_after(headers, Err(fault)),
+    }
+}
+
+fn put_shown_param(alloc: Global, out: &mut String, param: &Param<'_>) -> Result<(), AllocError> {
+    let mut text = Vec::new(alloc);
+    put_param(&mut text, param)?;
+    put_shown(out, &text)
+}
+
+fn put_tag_of(alloc: Global, out: &mut String, tag: &[u8]) -> Result<(), AllocError> {
     let param = tag_param(alloc, tag)?;
-    put_param(&mut out, &param)?;
-    shown(alloc, &out)
+    let outcome = put_shown_param(alloc, out, &param);
+    outcome_after(param, outcome)
+}
+
+/// The parameter of a tag.
+pub(crate) fn put_tag(
+    alloc: Global,
+    out: &mut String,
+    args: &[&[u8]],
+) -> Option<Result<(), AllocError>> {
+    match args {
+        [tag] => Some(put_tag_of(alloc, out, tag)),
+        _ => None,
+    }
 }
 
 /// What a call on header fields that the words write answers.
-pub(crate) fn of_headers(
+pub(crate) fn put_of_headers(
     alloc: Global,
+    out: &mut String,
     call: &str,
-    args: &[&[u8]],
-) -> Result<Option<String>, AllocError> {
-    match (call, args) {
-        ("tag_param", [tag]) => answer_of(tag_text(alloc, tag)),
-        ("added", words) => answer_of(added_text(alloc, words)),
-        ("listed", words) => answer_of(listed_text(alloc, words)),
-        ("first_value", [name, words @ ..]) => answer_of(first_text(alloc, name, words)),
-        ("values_named", [name, words @ ..]) => answer_of(named_text(alloc, name, words)),
-        ("contact_values", words) => answer_of(contact_values_text(alloc, words)),
-        _ => Ok(None),
+    words: &[&[u8]],
+) -> Result<(), AllocError> {
+    match call {
+        "added" => put_added(alloc, out, words),
+        "listed" => put_listed(alloc, out, words),
+        _ => put_contact_values(alloc, out, words),
     }
 }

@@ -6,7 +6,7 @@ mod message_texts;
 mod sip_message_rows;
 mod words_rows;
 
-use rows::{Notation, Rows, play};
+use rows::{Notation, Rows, answer_by, play};
 use std::alloc::{AllocError, Global};
 use std::io;
 
@@ -22,10 +22,12 @@ impl Rows for MessageRows {
         call: &str,
         args: &[&[u8]],
     ) -> Result<Option<String>, AllocError> {
-        match crate_name {
-            "sip_message" => sip_message_rows::answer(alloc, call, args),
-            _ => Ok(None),
+        if crate_name != "sip_message" {
+            return Ok(None);
         }
+        let mut out = String::new(alloc);
+        let outcome = sip_message_rows::put_answer(alloc, &mut out, call, args);
+        answer_by(out, outcome)
     }
 }
 

@@ -1,13 +1,19 @@
 //! Messages and their parts as a row writes them.
 
-use rows::{put_shown, said};
+use rows::{outcome_after, put_shown};
 use sip_message::{ContactValue, FieldValue, Header, Message, Parts, Request, Response, Via};
 use sip_uri::{Host, NameAddr, Param, Uri, put_host, put_params, write_name_addr, write_uri};
 use std::alloc::{AllocError, Global};
+use text::Text;
+
+/// Writes a text that was written for a value.
+pub(crate) fn put_written(out: &mut String, text: Text<'_>) -> Result<(), AllocError> {
+    let outcome = put_shown(out, text.as_bytes());
+    outcome_after(text, outcome)
+}
 
 fn put_uri(alloc: Global, out: &mut String, uri: &Uri<'_>) -> Result<(), AllocError> {
-    let text = write_uri(alloc, uri)?;
-    put_shown(out, text.as_bytes())
+    put_written(out, write_uri(alloc, uri)?)
 }
 
 fn put_request(alloc: Global, out: &mut String, request: &Request<'_>) -> Result<(), AllocError> {
@@ -30,18 +36,16 @@ fn put_response(out: &mut String, response: &Response<'_>) -> Result<(), AllocEr
     write!(out, "', {headers} headers, {bytes} bytes")
 }
 
-fn put_message(alloc: Global, out: &mut String, message: &Message<'_>) -> Result<(), AllocError> {
+/// Kind and start line of a message, how many header fields it has, and how many bytes its body.
+pub(crate) fn put_message(
+    alloc: Global,
+    out: &mut String,
+    message: &Message<'_>,
+) -> Result<(), AllocError> {
     match message {
         Message::Request(request) => put_request(alloc, out, request),
         Message::Response(response) => put_response(out, response),
     }
-}
-
-/// Kind and start line of a message, how many header fields it has, and how many bytes its body.
-pub(crate) fn summary(alloc: Global, message: &Message<'_>) -> Result<String, AllocError> {
-    let mut out = String::new(alloc);
-    put_message(alloc, &mut out, message)?;
-    Ok(out)
 }
 
 fn put_place(
@@ -76,7 +80,12 @@ fn put_via(alloc: Global, out: &mut String, via: &Via<'_>) -> Result<(), AllocEr
     out.push(';')
 }
 
-fn put_vias(alloc: Global, out: &mut String, vias: &[Via<'_>]) -> Result<(), AllocError> {
+/// Via values in order.
+pub(crate) fn put_vias(
+    alloc: Global,
+    out: &mut String,
+    vias: &[Via<'_>],
+) -> Result<(), AllocError> {
     for (at, via) in vias.iter().enumerate() {
         if at > 0 {
             out.push(' ')?;
@@ -86,17 +95,9 @@ fn put_vias(alloc: Global, out: &mut String, vias: &[Via<'_>]) -> Result<(), All
     Ok(())
 }
 
-/// Via values in order.
-pub(crate) fn vias_text(alloc: Global, vias: &[Via<'_>]) -> Result<String, AllocError> {
-    let mut out = String::new(alloc);
-    put_vias(alloc, &mut out, vias)?;
-    Ok(out)
-}
-
 /// Writes a name and an address.
 fn put_name(alloc: Global, out: &mut String, name: &NameAddr<'_>) -> Result<(), AllocError> {
-    let text = write_name_addr(alloc, name)?;
-    put_shown(out, text.as_bytes())
+    put_written(out, write_name_addr(alloc, name)?)
 }
 
 fn put_named_parts(alloc: Global, out: &mut String, parts: &Parts<'_>) -> Result<(), AllocError> {
@@ -121,11 +122,14 @@ fn put_texts_received(out: &mut String, parts: &Parts<'_>) -> Result<(), AllocEr
 }
 
 /// What an answer repeats: the values, and behind `as` the texts of From, To and CSeq as received.
-pub(crate) fn parts_text(alloc: Global, parts: &Parts<'_>) -> Result<String, AllocError> {
-    let mut out = vias_text(alloc, parts.vias.as_slice())?;
-    put_named_parts(alloc, &mut out, parts)?;
-    put_texts_received(&mut out, parts)?;
-    Ok(out)
+pub(crate) fn put_parts(
+    alloc: Global,
+    out: &mut String,
+    parts: &Parts<'_>,
+) -> Result<(), AllocError> {
+    put_vias(alloc, out, parts.vias.as_slice())?;
+    put_named_parts(alloc, out, parts)?;
+    put_texts_received(out, parts)
 }
 
 /// Writes the value of a header field.
@@ -147,12 +151,15 @@ fn put_header(alloc: Global, out: &mut String, header: &Header<'_>) -> Result<()
 }
 
 /// Header fields in order, each on a line of its own.
-pub(crate) fn headers_text(alloc: Global, headers: &[Header<'_>]) -> Result<String, AllocError> {
-    let mut out = String::new(alloc);
+pub(crate) fn put_headers(
+    alloc: Global,
+    out: &mut String,
+    headers: &[Header<'_>],
+) -> Result<(), AllocError> {
     for header in headers {
-        put_header(alloc, &mut out, header)?;
+        put_header(alloc, out, header)?;
     }
-    Ok(out)
+    Ok(())
 }
 
 fn put_contact(
@@ -170,20 +177,38 @@ fn put_contact(
     }
 }
 
-/// Contact values in order.
-pub(crate) fn contacts_text(
+fn put_each_contact(
     alloc: Global,
+    out: &mut String,
     contacts: &[ContactValue<'_>],
-) -> Result<String, AllocError> {
-    if contacts.is_empty() {
-        return said(alloc, "none");
-    }
-    let mut out = String::new(alloc);
+) -> Result<(), AllocError> {
     for (at, contact) in contacts.iter().enumerate() {
         if at > 0 {
             out.push(' ')?;
         }
-        put_contact(alloc, &mut out, contact)?;
+        put_contact(alloc, out, contact)?;
     }
-    Ok(out)
+    Ok(())
+}
+
+/// Contact values in order.
+fn put_contacts_of(
+    alloc: Global,
+    out: &mut String,
+    contacts: &[ContactValue<'_>],
+) -> Result<(), AllocError> {
+    match contacts {
+        [] => out.push_str("none"),
+        _ => put_each_contact(alloc, out, contacts),
+    }
+}
+
+/// The same of a list that is let go behind it.
+pub(crate) fn put_contacts(
+    alloc: Global,
+    out: &mut String,
+    contacts: Vec<ContactValue<'_>>,
+) -> Result<(), AllocError> {
+    let outcome = put_contacts_of(alloc, out, &contacts);
+    outcome_after(contacts, outcome)
 }

@@ -1,6 +1,7 @@
 //! Rows of words on messages, and of requests that are built.
 
-use rows::{outcome_after, put_address, put_shown, said, shown};
+use crate::message_texts::put_written;
+use rows::{outcome_after, put_address, put_shown};
 use sip_message::{
     Class, Header, Message, Parts, Request, Via, class_of, content_type, is_method, tag_text,
     top_branch,
@@ -57,43 +58,38 @@ fn put_tags(out: &mut String, parts: &Parts<'_>) -> Result<(), AllocError> {
 }
 
 /// Kind, branch, tags, whether the method is INVITE, and type of the body.
-pub(crate) fn words_text(
+pub(crate) fn put_words(
     alloc: Global,
+    out: &mut String,
     message: &Message<'_>,
     parts: &Parts<'_>,
     headers: &[Header<'_>],
-) -> Result<String, AllocError> {
-    let mut out = String::new(alloc);
-    put_kind(&mut out, message)?;
+) -> Result<(), AllocError> {
+    put_kind(out, message)?;
     out.push_str("; branch ")?;
-    put_branch(&mut out, parts)?;
+    put_branch(out, parts)?;
     out.push_str("; tags ")?;
-    put_tags(&mut out, parts)?;
+    put_tags(out, parts)?;
     out.push_str("; type ")?;
-    put_type(alloc, &mut out, headers)?;
-    Ok(out)
-}
-
-fn request_shown(alloc: Global, request: &Request<'_>) -> Result<String, AllocError> {
-    let text = write_request(alloc, request)?;
-    shown(alloc, text.as_bytes())
+    put_type(alloc, out, headers)
 }
 
 /// A request that the server makes, written.
-fn draft_shown(alloc: Global, draft: &Draft<'_, '_>) -> Result<String, AllocError> {
+fn put_draft(alloc: Global, out: &mut String, draft: &Draft<'_, '_>) -> Result<(), AllocError> {
     let built = build_request(alloc, draft)?;
-    let words = request_shown(alloc, &built);
-    outcome_after(built, words)
+    let text = write_request(alloc, &built);
+    put_written(out, outcome_after(built, text)?)
 }
 
 /// A request to this URI between these ends, written.
-fn between<'m, 'a>(
+fn put_between<'m, 'a>(
     alloc: Global,
+    out: &mut String,
     request: &'m Request<'a>,
     via: &'m Via<'a>,
     from: &'m NameAddr<'a>,
     to: &'m NameAddr<'a>,
-) -> Result<String, AllocError> {
+) -> Result<(), AllocError> {
     let draft = Draft {
         method: request.method.as_bytes(),
         uri: &request.uri,
@@ -106,49 +102,52 @@ fn between<'m, 'a>(
         further: request.headers.as_slice().get(6..).unwrap_or(&[]),
         body: request.body.as_bytes(),
     };
-    draft_shown(alloc, &draft)
+    put_draft(alloc, out, &draft)
 }
 
 /// A request through this Via from this end to one without a tag, written.
-fn from_end(
+fn put_from_end(
     alloc: Global,
+    out: &mut String,
     request: &Request<'_>,
     via: &Via<'_>,
     from: &NameAddr<'_>,
-) -> Result<String, AllocError> {
+) -> Result<(), AllocError> {
     let party = &request.parts.to;
     let to = name_with_tag(alloc, &party.display, &party.uri, b"")?;
-    let words = between(alloc, request, via, from, &to);
-    outcome_after(to, words)
+    let outcome = put_between(alloc, out, request, via, from, &to);
+    outcome_after(to, outcome)
 }
 
 /// A request through this Via from an end with this tag, written.
-fn through_via(
+fn put_through_via(
     alloc: Global,
+    out: &mut String,
     request: &Request<'_>,
     via: &Via<'_>,
     tag: &[u8],
-) -> Result<String, AllocError> {
+) -> Result<(), AllocError> {
     let party = &request.parts.from;
     let from = name_with_tag(alloc, &party.display, &party.uri, tag)?;
-    let words = from_end(alloc, request, via, &from);
-    outcome_after(from, words)
+    let outcome = put_from_end(alloc, out, request, via, &from);
+    outcome_after(from, outcome)
 }
 
 /// The request as one that the server makes of it, with its header fields from the seventh on: From has this tag, and To
 /// none.
-pub(crate) fn built_text(
+pub(crate) fn put_built(
     alloc: Global,
+    out: &mut String,
     message: &Message<'_>,
     server: Addr,
     token: &[u8],
     tag: &[u8],
-) -> Result<String, AllocError> {
+) -> Result<(), AllocError> {
     written_is_read();
     let Message::Request(request) = message else {
-        return said(alloc, "no request");
+        return out.push_str("no request");
     };
     let via = server_via(alloc, server, token)?;
-    let words = through_via(alloc, request, &via, tag);
-    outcome_after(via, words)
+    let outcome = put_through_via(alloc, out, request, &via, tag);
+    outcome_after(via, outcome)
 }
