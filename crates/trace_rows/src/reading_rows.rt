@@ -1,19 +1,20 @@
 //! Rows of `trace_reading`.
 
 use call_trace::{Datagram, Direction, Kind, Message};
-use rows::{boxes, number};
+use rows::{number, outcome_after, put_boxes};
 use sip_message::MessageError;
 use std::alloc::{AllocError, Global};
 use trace_reading::{
     bodies_describe, bytes_say_all, dialogs_agree, methods_agree, read_trace_message, replies_agree,
 };
 
-pub(crate) fn reading_laws() {
+pub(crate) fn put_reading_laws(out: &mut String) -> Result<(), AllocError> {
     replies_agree();
     dialogs_agree();
     methods_agree();
     bodies_describe();
     bytes_say_all();
+    out.push_str("hold")
 }
 
 /// The datagram of an event.
@@ -31,18 +32,30 @@ pub(crate) fn datagram(
 }
 
 /// A fault in its words. Want of memory goes up.
-pub(crate) fn fault_words(alloc: Global, fault: MessageError) -> Result<String, AllocError> {
+pub(crate) fn put_message_fault(out: &mut String, fault: MessageError) -> Result<(), AllocError> {
     match fault {
         MessageError::OutOfMemory => Err(AllocError),
-        fault => fault.to_string(alloc),
+        fault => write!(out, "{fault}"),
     }
 }
 
-fn kind_text(alloc: Global, kind: Kind) -> Result<String, AllocError> {
+fn put_kind(out: &mut String, kind: Kind) -> Result<(), AllocError> {
     match kind {
-        Kind::Request => String::from_str(alloc, "request"),
-        Kind::Response(status) => status.to_string(alloc),
+        Kind::Request => out.push_str("request "),
+        Kind::Response(status) => write!(out, "{status} "),
     }
+}
+
+/// Branch, Call-ID, tags and method.
+fn put_words(out: &mut String, message: &Message) -> Result<(), AllocError> {
+    let words = [
+        message.branch.as_bytes(),
+        message.call_id.as_bytes(),
+        message.from_tag.as_bytes(),
+        message.to_tag.as_bytes(),
+        message.method.as_bytes(),
+    ];
+    put_boxes(out, &words)
 }
 
 fn described_word(is_described: bool) -> &'static str {
@@ -54,30 +67,21 @@ fn described_word(is_described: bool) -> &'static str {
 }
 
 /// Kind, branch, Call-ID, tags, method, number, whether the body describes anything, and how many bytes there are.
-fn message_text(alloc: Global, message: &Message) -> Result<String, AllocError> {
-    let kind = kind_text(alloc, message.kind)?;
-    let texts = boxes(
-        alloc,
-        &[
-            message.branch.as_bytes(),
-            message.call_id.as_bytes(),
-            message.from_tag.as_bytes(),
-            message.to_tag.as_bytes(),
-            message.method.as_bytes(),
-        ],
-    )?;
+fn put_message(out: &mut String, message: &Message) -> Result<(), AllocError> {
+    let (number, length) = (message.number, message.bytes.as_bytes().len());
     let described = described_word(message.description.is_some());
-    let length = message.bytes.as_bytes().len();
-    format!(in alloc;
-        "{kind} {texts} {}, {described}, {length} bytes",
-        message.number
-    )
+    put_kind(out, message.kind)?;
+    put_words(out, message)?;
+    write!(out, " {number}, {described}, {length} bytes")
 }
 
 /// What a trace sees of the bytes, or the words of their fault.
-pub(crate) fn read_text(alloc: Global, bytes: &[u8]) -> Result<String, AllocError> {
+pub(crate) fn put_read(alloc: Global, out: &mut String, bytes: &[u8]) -> Result<(), AllocError> {
     match read_trace_message(alloc, bytes) {
-        Ok(message) => message_text(alloc, &message),
-        Err(fault) => fault_words(alloc, fault),
+        Ok(message) => {
+            let outcome = put_message(out, &message);
+            outcome_after(message, outcome)
+        }
+        Err(fault) => put_message_fault(out, fault),
     }
 }

@@ -2,9 +2,10 @@
 //! status, branch, Call-ID, tag of From, tag of To, number and method of CSeq, and the name of its description.
 
 use call_trace::{Datagram, Dialog, Direction, Kind, Message};
+use rows::outcome_after;
 use sdp::{Description, DescriptionError, read_description};
 use std::alloc::{AllocError, Global};
-use text::{Text, Texts};
+use text::{Text, Texts, both};
 
 /// A description with a name.
 #[derive(Drop)]
@@ -33,8 +34,10 @@ impl Descriptions {
         name: &[u8],
         bytes: &[u8],
     ) -> Result<(), AllocError> {
-        let name = Text::from_slice(alloc, name)?;
-        let bytes = Text::from_slice(alloc, bytes)?;
+        let (name, bytes) = both(
+            Text::from_slice(alloc, name),
+            Text::from_slice(alloc, bytes),
+        )?;
         Ok(self.entries.push(Named { name, bytes })?)
     }
 
@@ -45,7 +48,7 @@ impl Descriptions {
     ) -> Result<Option<Description<'static>>, DescriptionError> {
         for named in self.entries.as_slice() {
             if named.name.as_bytes() == name.as_bytes() {
-                return Ok(Some(read_description(alloc, named.bytes.as_bytes())?.keep(alloc)?));
+                return Ok(Some(description_of(alloc, named.bytes.as_bytes())?));
             }
         }
         Ok(None)
@@ -67,17 +70,26 @@ impl Descriptions {
                 number,
                 method,
                 description,
-            ] => Ok(Message {
-                kind: kind(first),
-                branch: word(alloc, branch)?,
-                call_id: word(alloc, call_id)?,
-                from_tag: word(alloc, from_tag)?,
-                to_tag: word(alloc, to_tag)?,
-                number: number.parse::<u32>().unwrap_or(0),
-                method: word(alloc, method)?,
-                description: self.described(alloc, description)?,
-                bytes: word(alloc, line)?,
-            }),
+            ] => {
+                let found = self.described(alloc, description)?;
+                let place = both(word(alloc, branch), word(alloc, call_id));
+                let tags = both(word(alloc, from_tag), word(alloc, to_tag));
+                let said = both(word(alloc, method), word(alloc, line));
+                let rest = both(said, Ok(found));
+                let (((branch, call_id), (from_tag, to_tag)), ((method, bytes), description)) =
+                    both(both(place, tags), rest)?;
+                Ok(Message {
+                    kind: kind(first),
+                    branch,
+                    call_id,
+                    from_tag,
+                    to_tag,
+                    number: number.parse::<u32>().unwrap_or(0),
+                    method,
+                    description,
+                    bytes,
+                })
+            }
             _ => Err(DescriptionError::Order),
         }
     }
@@ -88,22 +100,34 @@ impl Descriptions {
         self.from_words(alloc, line, &words)
     }
 
-    fn datagram(&self, alloc: Global, line: &str) -> Result<Datagram, DescriptionError> {
-        if let Some((event, rest)) = line.split_once('<') {
-            return Ok(Datagram {
-                event: event.parse::<u64>().unwrap_or(0),
-                direction: Direction::Taken,
-                message: self.message(alloc, rest)?,
-            });
-        }
-        let Some((event, rest)) = line.split_once('>') else {
-            return Err(DescriptionError::Order);
-        };
+    /// The datagram of a line, of what stands before its mark and behind it.
+    fn datagram_of(
+        &self,
+        alloc: Global,
+        event: &str,
+        direction: Direction,
+        rest: &str,
+    ) -> Result<Datagram, DescriptionError> {
+        let message = self.message(alloc, rest)?;
         Ok(Datagram {
             event: event.parse::<u64>().unwrap_or(0),
-            direction: Direction::Sent,
-            message: self.message(alloc, rest)?,
+            direction,
+            message,
         })
+    }
+
+    fn sent(&self, alloc: Global, line: &str) -> Result<Datagram, DescriptionError> {
+        match line.split_once('>') {
+            Some((event, rest)) => self.datagram_of(alloc, event, Direction::Sent, rest),
+            None => Err(DescriptionError::Order),
+        }
+    }
+
+    fn datagram(&self, alloc: Global, line: &str) -> Result<Datagram, DescriptionError> {
+        match line.split_once('<') {
+            Some((event, rest)) => self.datagram_of(alloc, event, Direction::Taken, rest),
+            None => self.sent(alloc, line),
+        }
     }
 
     fn put(
@@ -118,6 +142,18 @@ impl Descriptions {
         Ok(())
     }
 
+    fn put_tables(
+        &self,
+        alloc: Global,
+        trace: &mut Vec<Datagram>,
+        tables: &[&[u8]],
+    ) -> Result<(), DescriptionError> {
+        for table in tables {
+            self.put(alloc, trace, readable(table))?;
+        }
+        Ok(())
+    }
+
     /// The tables, one behind the other.
     pub(crate) fn trace_of(
         &self,
@@ -125,11 +161,18 @@ impl Descriptions {
         tables: &[&[u8]],
     ) -> Result<Vec<Datagram>, DescriptionError> {
         let mut trace = Vec::new(alloc);
-        for table in tables {
-            self.put(alloc, &mut trace, readable(table))?;
+        match self.put_tables(alloc, &mut trace, tables) {
+            Ok(()) => Ok(trace),
+            Err(fault) => outcome_after(trace, Err(fault)),
         }
-        Ok(trace)
     }
+}
+
+/// A description of these bytes, which it does not borrow.
+fn description_of(alloc: Global, bytes: &[u8]) -> Result<Description<'static>, DescriptionError> {
+    let lent = read_description(alloc, bytes)?;
+    let kept = lent.keep(alloc);
+    Ok(outcome_after(lent, kept)?)
 }
 
 /// The bytes as a text, empty where they are none.
@@ -157,25 +200,26 @@ fn kind(word: &str) -> Kind {
 pub(crate) fn dialog(alloc: Global, words: &[u8]) -> Result<Dialog, AllocError> {
     let (call_id, tags) = readable(words).split_once(' ').unwrap_or(("-", "- -"));
     let (ours, theirs) = tags.split_once(' ').unwrap_or(("-", "-"));
+    let tags = both(word(alloc, ours), word(alloc, theirs));
+    let (call_id, (ours, theirs)) = both(word(alloc, call_id), tags)?;
     Ok(Dialog {
-        call_id: word(alloc, call_id)?,
-        ours: word(alloc, ours)?,
-        theirs: word(alloc, theirs)?,
+        call_id,
+        ours,
+        theirs,
     })
 }
 
 /// INVITE and UPDATE may carry an offer.
 pub(crate) fn methods(alloc: Global) -> Result<Texts<'static>, AllocError> {
-    let mut methods = Vec::new(alloc);
-    methods.push(word(alloc, "INVITE")?)?;
-    methods.push(word(alloc, "UPDATE")?)?;
+    let (invite, update) = both(word(alloc, "INVITE"), word(alloc, "UPDATE"))?;
+    let methods = vec![in alloc; invite, update]?;
     Ok(Texts::from_vec(methods))
 }
 
 /// A fault in its words. Want of memory goes up.
-pub(crate) fn fault_text(alloc: Global, fault: DescriptionError) -> Result<String, AllocError> {
+pub(crate) fn put_fault(out: &mut String, fault: DescriptionError) -> Result<(), AllocError> {
     match fault {
         DescriptionError::OutOfMemory => Err(AllocError),
-        fault => fault.to_string(alloc),
+        fault => write!(out, "{fault}"),
     }
 }
