@@ -4,10 +4,10 @@ use crate::call_media_rows;
 use crate::call_words::{end_of, signal_of, standing_of};
 use crate::whole_calls::call_words;
 use call_core::{
-    Action, Clash, Row, Signal, Standing, clash_at, clash_without_offer, first_row, row_at,
+    Action, Clash, End, Row, Signal, Standing, clash_at, clash_without_offer, first_row, row_at,
     session_is_direct, session_is_of_its_exchange, spared_call_is_served, status_passed_on,
 };
-use rows::{Rows, answer_of, said, u16_of};
+use rows::{Rows, answer_of, outcome_after, said, u16_of};
 use std::alloc::{AllocError, Global};
 
 /// The rows: no call leaves anything for the rows behind it.
@@ -43,7 +43,10 @@ fn row_words(alloc: Global, row: &Row) -> Result<String, AllocError> {
 fn line_words(alloc: Global, row: Option<Row>) -> Result<String, AllocError> {
     match row {
         None => said(alloc, "no line"),
-        Some(row) => row_words(alloc, &row),
+        Some(row) => {
+            let words = row_words(alloc, &row);
+            outcome_after(row, words)
+        }
     }
 }
 
@@ -59,6 +62,35 @@ fn row_words_at(alloc: Global, standing: Standing, signal: Signal) -> Result<Str
     line_words(alloc, row_at(alloc, standing, signal)?)
 }
 
+/// What a signal does where a call stands so, if the call asks for it.
+fn answer_to(
+    alloc: Global,
+    standing: Standing,
+    call: &str,
+    signal: Signal,
+) -> Result<Option<String>, AllocError> {
+    match call {
+        "row_at" => answer_of(row_words_at(alloc, standing, signal)),
+        _ => Ok(None),
+    }
+}
+
+/// What an offer of an end would clash with where a call stands so, if the call asks for it.
+fn clash_answer(
+    alloc: Global,
+    standing: Standing,
+    call: &str,
+    end: End,
+) -> Result<Option<String>, AllocError> {
+    match call {
+        "clash_at" => answer_of(clash_words(alloc, clash_at(standing, end))),
+        "clash_without_offer" => {
+            answer_of(clash_words(alloc, clash_without_offer(standing, end)))
+        }
+        _ => Ok(None),
+    }
+}
+
 /// What a call of the table answers where a call stands so.
 fn answer_at(
     alloc: Global,
@@ -66,13 +98,9 @@ fn answer_at(
     call: &str,
     word: &[u8],
 ) -> Result<Option<String>, AllocError> {
-    match (call, signal_of(word)) {
-        ("row_at", Some(signal)) => answer_of(row_words_at(alloc, standing, signal)),
-        ("clash_at", None) => answer_of(clash_words(alloc, clash_at(standing, end_of(word)))),
-        ("clash_without_offer", None) => {
-            answer_of(clash_words(alloc, clash_without_offer(standing, end_of(word))))
-        }
-        _ => Ok(None),
+    match signal_of(word) {
+        Some(signal) => answer_to(alloc, standing, call, signal),
+        None => clash_answer(alloc, standing, call, end_of(word)),
     }
 }
 
@@ -94,6 +122,43 @@ fn laws(alloc: Global) -> Result<String, AllocError> {
     said(alloc, "hold")
 }
 
+/// What a call on where a call stands answers, if it is one.
+fn answer_standing(
+    alloc: Global,
+    call: &str,
+    offerer: &[u8],
+    stage: &[u8],
+    word: &[u8],
+) -> Result<Option<String>, AllocError> {
+    match standing_of(offerer, stage) {
+        Some(standing) => answer_at(alloc, standing, call, word),
+        None => Ok(None),
+    }
+}
+
+/// What a call of `call_core` with so many words answers, if there is one.
+fn answer_of_words(
+    alloc: Global,
+    call: &str,
+    args: &[&[u8]],
+) -> Result<Option<String>, AllocError> {
+    match args {
+        [] if call == "first_row" => answer_of(first_row_words(alloc)),
+        [] if call == "laws" => answer_of(laws(alloc)),
+        [status] if call == "status_passed_on" => answer_of(status_words(alloc, u16_of(status))),
+        [offerer, stage, word] => answer_standing(alloc, call, offerer, stage, word),
+        _ => Ok(None),
+    }
+}
+
+/// What a call of `call_core` answers: a whole call has any number of words.
+fn answer_of_call(alloc: Global, call: &str, args: &[&[u8]]) -> Result<Option<String>, AllocError> {
+    match call {
+        "call" => answer_of(call_words(alloc, args)),
+        _ => answer_of_words(alloc, call, args),
+    }
+}
+
 impl Rows for CallCoreRows {
     fn answer(
         &mut self,
@@ -102,18 +167,9 @@ impl Rows for CallCoreRows {
         call: &str,
         args: &[&[u8]],
     ) -> Result<Option<String>, AllocError> {
-        match (crate_name, call, args) {
-            ("call_core", "first_row", []) => answer_of(first_row_words(alloc)),
-            ("call_core", "status_passed_on", [status]) => {
-                answer_of(status_words(alloc, u16_of(status)))
-            }
-            ("call_core", "call", words) => answer_of(call_words(alloc, words)),
-            ("call_core", "laws", []) => answer_of(laws(alloc)),
-            ("call_media", call, args) => call_media_rows::answer(alloc, call, args),
-            ("call_core", call, [offerer, stage, word]) => match standing_of(offerer, stage) {
-                Some(standing) => answer_at(alloc, standing, call, word),
-                None => Ok(None),
-            },
+        match crate_name {
+            "call_core" => answer_of_call(alloc, call, args),
+            "call_media" => call_media_rows::answer(alloc, call, args),
             _ => Ok(None),
         }
     }

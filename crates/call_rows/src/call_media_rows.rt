@@ -125,16 +125,38 @@ fn offer_seated(
     }
 }
 
+fn push_description<'t>(
+    alloc: Global,
+    descriptions: &mut Vec<Description<'t>>,
+    text: &'t [u8],
+) -> Result<(), DescriptionError> {
+    match read_description(alloc, text) {
+        Ok(description) => Ok(descriptions.push(description)?),
+        Err(fault) => Err(fault),
+    }
+}
+
+fn push_descriptions<'t>(
+    alloc: Global,
+    descriptions: &mut Vec<Description<'t>>,
+    texts: &[&'t [u8]],
+) -> Result<(), DescriptionError> {
+    for text in texts {
+        push_description(alloc, descriptions, text)?;
+    }
+    Ok(())
+}
+
 /// The descriptions of these texts, in a list that is let go as a whole.
 fn descriptions_of<'t>(
     alloc: Global,
     texts: &[&'t [u8]],
 ) -> Result<Vec<Description<'t>>, DescriptionError> {
     let mut descriptions = Vec::new(alloc);
-    for text in texts {
-        descriptions.push(read_description(alloc, text)?)?;
+    match push_descriptions(alloc, &mut descriptions, texts) {
+        Ok(()) => Ok(descriptions),
+        Err(fault) => outcome_after(descriptions, Err(fault)),
     }
-    Ok(descriptions)
 }
 
 /// The pairs of a session of four descriptions: its offer taken, answer sent, offer sent and answer taken.
@@ -151,7 +173,10 @@ fn in_use_words(alloc: Global, session: &[Description<'_>]) -> Result<String, Al
 /// The same of a session of these texts.
 fn session_in_use(alloc: Global, texts: &[&[u8]]) -> Result<String, AllocError> {
     match descriptions_of(alloc, texts) {
-        Ok(session) => in_use_words(alloc, &session),
+        Ok(session) => {
+            let words = in_use_words(alloc, &session);
+            outcome_after(session, words)
+        }
         Err(fault) => fault_words(alloc, fault),
     }
 }

@@ -4,6 +4,11 @@ use call_core::{Cancelled, End, Input, OfferMethod, Signal, Stage, Standing};
 use rows::{number, u16_of};
 use text::cut_word;
 
+/// A word as a text, empty where it is none.
+pub(crate) fn readable(word: &[u8]) -> &str {
+    str::from_utf8(word).unwrap_or("")
+}
+
 /// The end of a word; the caller where it is no other.
 pub(crate) fn end_of(word: &[u8]) -> End {
     if word == b"callee".as_slice() {
@@ -14,9 +19,9 @@ pub(crate) fn end_of(word: &[u8]) -> End {
 }
 
 fn cancelled_of(word: &[u8]) -> Cancelled {
-    match str::from_utf8(word) {
-        Ok("waits") => Cancelled::Waits,
-        Ok("passed_on") => Cancelled::PassedOn,
+    match readable(word) {
+        "waits" => Cancelled::Waits,
+        "passed_on" => Cancelled::PassedOn,
         _ => Cancelled::Never,
     }
 }
@@ -27,11 +32,11 @@ fn has_rung(word: &[u8]) -> bool {
 
 /// The stage of a word for a call whose first offer was answered, and of what stands behind it.
 fn later_stage_of(name: &[u8], first: &[u8], second: &[u8]) -> Option<Stage> {
-    match str::from_utf8(name) {
-        Ok("settled") => Some(Stage::Settled),
-        Ok("reasked") => Some(Stage::Reasked(has_rung(first), cancelled_of(second))),
-        Ok("reanswered") => Some(Stage::Reanswered(number(first))),
-        Ok("updating") => Some(Stage::Updating),
+    match readable(name) {
+        "settled" => Some(Stage::Settled),
+        "reasked" => Some(Stage::Reasked(has_rung(first), cancelled_of(second))),
+        "reanswered" => Some(Stage::Reanswered(number(first))),
+        "updating" => Some(Stage::Updating),
         _ => None,
     }
 }
@@ -40,11 +45,11 @@ fn later_stage_of(name: &[u8], first: &[u8], second: &[u8]) -> Option<Stage> {
 fn stage_of(word: &[u8]) -> Option<Stage> {
     let (name, rest) = cut_word(word);
     let (first, second) = cut_word(rest);
-    match str::from_utf8(name) {
-        Ok("asked") => Some(Stage::Asked(has_rung(first))),
-        Ok("cancelling") => Some(Stage::Cancelling(first == b"sent".as_slice())),
-        Ok("answered") => Some(Stage::Answered(number(first))),
-        Ok("ending") => Some(Stage::Ending(number(first))),
+    match readable(name) {
+        "asked" => Some(Stage::Asked(has_rung(first))),
+        "cancelling" => Some(Stage::Cancelling(first == b"sent".as_slice())),
+        "answered" => Some(Stage::Answered(number(first))),
+        "ending" => Some(Stage::Ending(number(first))),
         _ => later_stage_of(name, first, second),
     }
 }
@@ -67,22 +72,22 @@ fn offer_of(rest: &[u8]) -> Signal {
 
 /// The signal of a word for a timer of the call.
 fn clock_signal_of(name: &[u8]) -> Option<Signal> {
-    match str::from_utf8(name) {
-        Ok("limit") => Some(Signal::Limit),
-        Ok("repeat") => Some(Signal::Repeat),
-        Ok("wait") => Some(Signal::Wait),
+    match readable(name) {
+        "limit" => Some(Signal::Limit),
+        "repeat" => Some(Signal::Repeat),
+        "wait" => Some(Signal::Wait),
         _ => None,
     }
 }
 
 /// The signal of a word that nothing stands behind.
 fn one_word_signal_of(name: &[u8]) -> Option<Signal> {
-    match str::from_utf8(name) {
-        Ok("fit_answer") => Some(Signal::FitAnswer),
-        Ok("unfit_answer") => Some(Signal::UnfitAnswer),
-        Ok("timed_out") => Some(Signal::TimedOut),
-        Ok("ack") => Some(Signal::Ack),
-        Ok("cancel") => Some(Signal::Cancel),
+    match readable(name) {
+        "fit_answer" => Some(Signal::FitAnswer),
+        "unfit_answer" => Some(Signal::UnfitAnswer),
+        "timed_out" => Some(Signal::TimedOut),
+        "ack" => Some(Signal::Ack),
+        "cancel" => Some(Signal::Cancel),
         _ => clock_signal_of(name),
     }
 }
@@ -90,11 +95,11 @@ fn one_word_signal_of(name: &[u8]) -> Option<Signal> {
 /// The signal of a word and of what stands behind it.
 pub(crate) fn signal_of(word: &[u8]) -> Option<Signal> {
     let (name, rest) = cut_word(word);
-    match str::from_utf8(name) {
-        Ok("offer") => Some(offer_of(rest)),
-        Ok("provisional") => Some(Signal::Provisional(u16_of(rest))),
-        Ok("refusal") => Some(Signal::Refusal(u16_of(rest))),
-        Ok("bye") => Some(Signal::Bye(end_of(rest))),
+    match readable(name) {
+        "offer" => Some(offer_of(rest)),
+        "provisional" => Some(Signal::Provisional(u16_of(rest))),
+        "refusal" => Some(Signal::Refusal(u16_of(rest))),
+        "bye" => Some(Signal::Bye(end_of(rest))),
         _ => one_word_signal_of(name),
     }
 }

@@ -6,7 +6,7 @@ ghost use Rattle.call_core.specs.Calls.{IsServed};
 
 use crate::call_core_rows::{clash_words, put_actions};
 use crate::call_told::put_call;
-use crate::call_words::{end_of, plain_input, signal_of};
+use crate::call_words::{end_of, plain_input, readable, signal_of};
 use call_core::{Call, CallRefusal, Done, End, Input, Signal};
 use dialogs::{Dialog, DialogId, Party};
 use offer_answer::OwnRange;
@@ -231,11 +231,11 @@ impl WholeCall {
         ensures { IsServed self.new.call self.new.pool }
     {
         let (name, rest) = cut_word(word);
-        match str::from_utf8(name) {
-            Ok("ask") => self.asked_by(alloc, body),
-            Ok("dialog") => self.put_callee(alloc, u32_of(rest)),
-            Ok("clash") => clash_words(alloc, self.call.clash(end_of(rest))),
-            Ok("clash_without_offer") => {
+        match readable(name) {
+            "ask" => self.asked_by(alloc, body),
+            "dialog" => self.put_callee(alloc, u32_of(rest)),
+            "clash" => clash_words(alloc, self.call.clash(end_of(rest))),
+            "clash_without_offer" => {
                 clash_words(alloc, self.call.clash_without_offer(end_of(rest)))
             }
             _ => said(alloc, "no such input"),
