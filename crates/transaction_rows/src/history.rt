@@ -2,20 +2,20 @@
 
 ghost use Rattle.std.specs.Prelude.{◌<◌, ◌^◌};
 
-use crate::machines::{advanced, timer_kind};
+use crate::machines::{put_advance, timer_kind};
 use crate::table_texts::{
-    PLACE, filled, id_text, next_text, refusal_text, timer_text, verdict_text,
+    PLACE, put_before, put_filled, put_id, put_moment, put_refusal, put_timer, put_verdict,
 };
-use row_messages::{fault_text, message_of};
-use rows::{address_of, address_words, number, said, shown, u16_of, usize_of};
-use sip_message::{Message, Request, Response};
+use row_messages::fault_text;
+use rows::{address_of, number, outcome_after, put_address, put_shown, u16_of, usize_of};
+use sip_message::{Message, MessageError, Request, Response, read_message};
 use sip_uri::Addr;
 use sip_writing::write_request;
 use std::alloc::{AllocError, Global};
 use text::cut;
 use transactions::{
-    Change, Fired, Outgoing, Reception, Started, Table, TimerId, answers_are_repeated, cancel_of,
-    once, others_are_untouched, replies, servers,
+    Change, Fired, Outgoing, Reception, Started, Table, TimerId, Transaction, answers_are_repeated,
+    cancel_of, once, others_are_untouched, replies, servers,
 };
 
 /// The table that the rows before have left, and the bytes that were sent last.
@@ -38,18 +38,67 @@ fn moment(word: &[u8]) -> u64
 }
 
 /// Calls what has a law for its contract.
-fn laws() {
+fn put_laws(out: &mut String) -> Result<(), AllocError> {
     once();
     replies();
     servers();
     others_are_untouched();
     answers_are_repeated();
+    out.push_str("hold")
+}
+
+/// Puts a value in the place of one that is let go.
+fn replace<T: Drop>(place: &mut T, value: T) {
+    *place = value;
 }
 
 /// The bytes of a request.
-fn written(alloc: Global, request: &Request<'_>) -> Result<String, AllocError> {
-    let bytes = write_request(alloc, request)?;
-    shown(alloc, bytes.as_bytes())
+fn put_request(alloc: Global, out: &mut String, request: &Request<'_>) -> Result<(), AllocError> {
+    let text = write_request(alloc, request)?;
+    let outcome = put_shown(out, text.as_bytes());
+    outcome_after(text, outcome)
+}
+
+/// The CANCEL of a transaction, if it has one.
+fn put_cancel_of(
+    alloc: Global,
+    out: &mut String,
+    transaction: &Transaction,
+) -> Result<(), AllocError> {
+    match cancel_of(alloc, transaction)? {
+        Some(cancel) => {
+            let outcome = put_request(alloc, out, &cancel);
+            outcome_after(cancel, outcome)
+        }
+        None => out.push_str("none"),
+    }
+}
+
+/// A request of the server's own, and that it is abandoned.
+fn push_changes(
+    alloc: Global,
+    changes: &mut Vec<Change>,
+    request: &Request<'_>,
+) -> Result<(), AllocError> {
+    changes.push(Change::starts(alloc, request, PLACE)?)?;
+    changes.push(Change::abandons(0))?;
+    Ok(())
+}
+
+fn changes_of(alloc: Global, request: &Request<'_>) -> Result<Vec<Change>, AllocError> {
+    let mut changes = Vec::new(alloc);
+    match push_changes(alloc, &mut changes, request) {
+        Ok(()) => Ok(changes),
+        Err(fault) => outcome_after(changes, Err(fault)),
+    }
+}
+
+fn put_fault(alloc: Global, out: &mut String, fault: MessageError) -> Result<(), AllocError> {
+    out.push_str(fault_text(alloc, fault)?.as_str())
+}
+
+fn put_truth(out: &mut String, truth: bool) -> Result<(), AllocError> {
+    out.push_str(if truth { "true" } else { "false" })
 }
 
 impl History {
@@ -60,236 +109,389 @@ impl History {
         }
     }
 
-    /// What is sent, whose bytes are kept.
-    fn send_text(&mut self, alloc: Global, send: &Outgoing) -> Result<String, AllocError> {
-        let bytes = send.bytes.as_bytes();
-        self.sent = Vec::from_slice(alloc, bytes)?;
-        let line = shown(alloc, cut(bytes, b'\r').0)?;
-        let to = address_words(alloc, send.to)?;
-        format!(in alloc; "sends {line} to {to}")
+    fn empty(&mut self, alloc: Global, out: &mut String) -> Result<(), AllocError> {
+        replace(&mut self.table, Table::new(alloc));
+        out.push_str("empty")
     }
 
-    fn reception_text(
+    /// What is sent, whose bytes are kept.
+    fn put_send(
         &mut self,
         alloc: Global,
+        out: &mut String,
+        send: &Outgoing,
+    ) -> Result<(), AllocError> {
+        let bytes = send.bytes.as_bytes();
+        replace(&mut self.sent, Vec::from_slice(alloc, bytes)?);
+        out.push_str("sends ")?;
+        put_shown(out, cut(bytes, b'\r').0)?;
+        out.push_str(" to ")?;
+        put_address(out, send.to)
+    }
+
+    fn put_reception(
+        &mut self,
+        alloc: Global,
+        out: &mut String,
         reception: &Reception,
-    ) -> Result<String, AllocError> {
-        let verdict = verdict_text(alloc, reception.verdict)?;
-        let before = match reception.before {
-            Some(before) => format!(in alloc; "was {before:?}")?,
-            None => said(alloc, "was nothing")?,
-        };
-        let sends = match &reception.send {
-            Some(send) => self.send_text(alloc, send)?,
-            None => said(alloc, "sends nothing")?,
-        };
-        format!(in alloc; "{verdict}, {before}, {sends}")
+    ) -> Result<(), AllocError> {
+        put_verdict(out, reception.verdict)?;
+        put_before(out, reception.before)?;
+        match &reception.send {
+            Some(send) => self.put_send(alloc, out, send),
+            None => out.push_str("sends nothing"),
+        }
     }
 
-    fn started_text(&mut self, alloc: Global, started: &Started) -> Result<String, AllocError> {
-        let sends = self.send_text(alloc, &started.send)?;
-        let number = id_text(alloc, started.id)?;
-        format!(in alloc; "{number} {sends}")
+    fn put_started(
+        &mut self,
+        alloc: Global,
+        out: &mut String,
+        started: &Started,
+    ) -> Result<(), AllocError> {
+        put_id(out, started.id)?;
+        out.push(' ')?;
+        self.put_send(alloc, out, &started.send)
     }
 
-    fn fired_text(&mut self, alloc: Global, fired: &Fired) -> Result<String, AllocError> {
+    fn put_fired(
+        &mut self,
+        alloc: Global,
+        out: &mut String,
+        fired: &Fired,
+    ) -> Result<(), AllocError> {
         match fired {
-            Fired::Send(send) => self.send_text(alloc, send),
-            Fired::TimedOut => said(alloc, "timed out"),
-            Fired::Ended => said(alloc, "ended"),
+            Fired::Send(send) => self.put_send(alloc, out, send),
+            Fired::TimedOut => out.push_str("timed out"),
+            Fired::Ended => out.push_str("ended"),
         }
     }
 
     fn receive(
         &mut self,
         alloc: Global,
+        out: &mut String,
         message: &Message<'_>,
         source: Addr,
         now: u64,
-    ) -> Result<String, AllocError>
+    ) -> Result<(), AllocError>
         requires { now < 2 ^ 60 }
     {
         match self.table.receive(message, source, now) {
-            Ok(reception) => self.reception_text(alloc, &reception),
-            Err(fault) => refusal_text(alloc, fault),
+            Ok(reception) => {
+                let outcome = self.put_reception(alloc, out, &reception);
+                outcome_after(reception, outcome)
+            }
+            Err(fault) => put_refusal(out, fault),
         }
     }
 
     fn start(
         &mut self,
         alloc: Global,
+        out: &mut String,
         request: &Request<'_>,
         to: Addr,
         now: u64,
-    ) -> Result<String, AllocError>
+    ) -> Result<(), AllocError>
         requires { now < 2 ^ 60 }
     {
         let started = self.table.start(request, to, now)?;
-        self.started_text(alloc, &started)
+        let outcome = self.put_started(alloc, out, &started);
+        outcome_after(started, outcome)
     }
 
     /// A request of the server's own, abandoned at once: two changes that are entered together.
     fn apply(
         &mut self,
         alloc: Global,
+        out: &mut String,
         request: &Request<'_>,
         now: u64,
-    ) -> Result<String, AllocError>
+    ) -> Result<(), AllocError>
         requires { now < 2 ^ 60 }
     {
-        let mut changes = Vec::new(alloc);
-        changes.push(Change::starts(alloc, request, PLACE)?)?;
-        changes.push(Change::abandons(0))?;
-        self.table.apply(changes, now)?;
-        said(alloc, "entered")
+        self.table.apply(changes_of(alloc, request)?, now)?;
+        out.push_str("entered")
     }
 
-    fn state_text(&self, alloc: Global, id: usize) -> Result<String, AllocError> {
+    fn put_state(&self, out: &mut String, id: usize) -> Result<(), AllocError> {
         match self.table.transaction(id) {
-            Some(transaction) => format!(in alloc; "{:?}", transaction.state),
-            None => said(alloc, "none"),
+            Some(transaction) => write!(out, "{:?}", transaction.state),
+            None => out.push_str("none"),
         }
     }
 
-    fn cancel_text(&self, alloc: Global, id: usize) -> Result<String, AllocError> {
-        let Some(transaction) = self.table.transaction(id) else {
-            return said(alloc, "none");
-        };
-        match cancel_of(alloc, transaction)? {
-            Some(cancel) => written(alloc, &cancel),
-            None => said(alloc, "none"),
+    fn put_cancel(&self, alloc: Global, out: &mut String, id: usize) -> Result<(), AllocError> {
+        match self.table.transaction(id) {
+            Some(transaction) => put_cancel_of(alloc, out, transaction),
+            None => out.push_str("none"),
         }
+    }
+
+    fn put_timer_count(&self, out: &mut String) -> Result<(), AllocError> {
+        let count = self.table.timer_count();
+        write!(out, "{count}")
     }
 
     fn reply(
         &mut self,
         alloc: Global,
+        out: &mut String,
         id: usize,
         response: &Response<'_>,
         now: u64,
-    ) -> Result<String, AllocError>
+    ) -> Result<(), AllocError>
         requires { now < 2 ^ 60 }
     {
         match self.table.answer(id, response, now) {
-            Ok(send) => self.send_text(alloc, &send),
-            Err(fault) => refusal_text(alloc, fault),
+            Ok(send) => {
+                let outcome = self.put_send(alloc, out, &send);
+                outcome_after(send, outcome)
+            }
+            Err(fault) => put_refusal(out, fault),
         }
     }
 
-    fn abandon(&mut self, alloc: Global, id: usize, now: u64) -> Result<String, AllocError>
+    fn abandon(&mut self, out: &mut String, id: usize, now: u64) -> Result<(), AllocError>
         requires { now < 2 ^ 60 }
     {
         match self.table.abandon(id, now) {
-            Ok(()) => said(alloc, "abandoned"),
-            Err(fault) => refusal_text(alloc, fault),
+            Ok(()) => out.push_str("abandoned"),
+            Err(fault) => put_refusal(out, fault),
         }
     }
 
-    fn fire(&mut self, alloc: Global, timer: TimerId, now: u64) -> Result<String, AllocError>
+    fn fire(
+        &mut self,
+        alloc: Global,
+        out: &mut String,
+        timer: TimerId,
+        now: u64,
+    ) -> Result<(), AllocError>
         requires { now < 2 ^ 60 }
     {
         match self.table.fire(timer, now) {
-            Ok(fired) => self.fired_text(alloc, &fired),
-            Err(fault) => refusal_text(alloc, fault),
+            Ok(fired) => {
+                let outcome = self.put_fired(alloc, out, &fired);
+                outcome_after(fired, outcome)
+            }
+            Err(fault) => put_refusal(out, fault),
         }
     }
 
-    /// What a call with a message answers.
-    fn of_message(
+    fn fire_named(
         &mut self,
         alloc: Global,
+        out: &mut String,
+        id: usize,
+        kind: &[u8],
+        now: u64,
+    ) -> Option<Result<(), AllocError>>
+        requires { now < 2 ^ 60 }
+    {
+        match timer_kind(kind) {
+            Some(kind) => Some(self.fire(alloc, out, TimerId { id, kind }, now)),
+            None => None,
+        }
+    }
+
+    /// What the receiving of a message answers.
+    fn put_received(
+        &mut self,
+        alloc: Global,
+        out: &mut String,
+        message: &Message<'_>,
+        more: &[&[u8]],
+    ) -> Option<Result<(), AllocError>> {
+        match more {
+            [now] => Some(self.receive(alloc, out, message, PLACE, moment(now))),
+            [now, source] => {
+                Some(self.receive(alloc, out, message, address_of(source), moment(now)))
+            }
+            _ => None,
+        }
+    }
+
+    /// What a call that only asks about a request answers, if it is one.
+    fn put_look(
+        &self,
+        out: &mut String,
+        request: &Request<'_>,
+        call: &str,
+    ) -> Option<Result<(), AllocError>> {
+        match call {
+            "cancels" => Some(put_id(out, self.table.cancels(request))),
+            "merged" => Some(put_truth(out, self.table.merged(request))),
+            _ => None,
+        }
+    }
+
+    /// What a call with a request at a moment answers, if it is one.
+    fn put_at(
+        &mut self,
+        alloc: Global,
+        out: &mut String,
+        request: &Request<'_>,
+        call: &str,
+        now: u64,
+    ) -> Option<Result<(), AllocError>>
+        requires { now < 2 ^ 60 }
+    {
+        match call {
+            "start" => Some(self.start(alloc, out, request, PLACE, now)),
+            "apply" => Some(self.apply(alloc, out, request, now)),
+            _ => None,
+        }
+    }
+
+    /// What a call with a request answers, if it is one.
+    fn put_of_request(
+        &mut self,
+        alloc: Global,
+        out: &mut String,
+        request: &Request<'_>,
+        call: &str,
+        more: &[&[u8]],
+    ) -> Option<Result<(), AllocError>> {
+        match more {
+            [] => self.put_look(out, request, call),
+            [now] => self.put_at(alloc, out, request, call, moment(now)),
+            [now, to] if call == "start" => {
+                Some(self.start(alloc, out, request, address_of(to), moment(now)))
+            }
+            _ => None,
+        }
+    }
+
+    /// What a call with a response answers, if it is one.
+    fn put_of_response(
+        &mut self,
+        alloc: Global,
+        out: &mut String,
+        response: &Response<'_>,
+        call: &str,
+        more: &[&[u8]],
+    ) -> Option<Result<(), AllocError>> {
+        match more {
+            [number, now] if call == "answer" => {
+                Some(self.reply(alloc, out, usize_of(number), response, moment(now)))
+            }
+            _ => None,
+        }
+    }
+
+    /// What a call with a message answers, if it is one.
+    fn put_of_message(
+        &mut self,
+        alloc: Global,
+        out: &mut String,
         message: &Message<'_>,
         call: &str,
         more: &[&[u8]],
-    ) -> Result<Option<String>, AllocError> {
-        let answer = match (call, message, more) {
-            ("receive", _, [now]) => self.receive(alloc, message, PLACE, moment(now)),
-            ("receive", _, [now, source]) => {
-                self.receive(alloc, message, address_of(source), moment(now))
-            }
-            ("start", Message::Request(request), [now]) => {
-                self.start(alloc, request, PLACE, moment(now))
-            }
-            ("start", Message::Request(request), [now, to]) => {
-                self.start(alloc, request, address_of(to), moment(now))
-            }
-            ("apply", Message::Request(request), [now]) => {
-                self.apply(alloc, request, moment(now))
-            }
-            ("answer", Message::Response(response), [number, now]) => {
-                self.reply(alloc, usize_of(number), response, moment(now))
-            }
-            ("cancels", Message::Request(request), []) => id_text(
-                alloc,
-                self.table.cancels(request),
-            ),
-            ("merged", Message::Request(request), []) => {
-                format!(in alloc; "{}", self.table.merged(request))
-            }
-            _ => return Ok(None),
-        };
-        Ok(Some(answer?))
-    }
-
-    /// What a call with the bytes of a message answers.
-    fn of_bytes(
-        &mut self,
-        alloc: Global,
-        bytes: &[u8],
-        call: &str,
-        more: &[&[u8]],
-    ) -> Result<Option<String>, AllocError> {
-        let messages = match message_of(alloc, bytes) {
-            Ok(messages) => messages,
-            Err(fault) => return Ok(Some(fault_text(alloc, fault)?)),
-        };
-        match messages.first() {
-            Some(message) => self.of_message(alloc, message, call, more),
-            None => Ok(None),
+    ) -> Option<Result<(), AllocError>> {
+        if call == "receive" {
+            return self.put_received(alloc, out, message, more);
+        }
+        match message {
+            Message::Request(request) => self.put_of_request(alloc, out, request, call, more),
+            Message::Response(response) => self.put_of_response(alloc, out, response, call, more),
         }
     }
 
-    /// What the row's call answers, if it is one of `transactions`.
-    pub(crate) fn answer_to(
+    /// What a call with the bytes of a message answers.
+    fn put_of_bytes(
         &mut self,
         alloc: Global,
+        out: &mut String,
         call: &str,
         args: &[&[u8]],
-    ) -> Result<Option<String>, AllocError> {
-        let answer = match (call, args) {
-            ("laws", []) => {
-                laws();
-                said(alloc, "hold")
-            }
-            ("advance", [machine, state, input]) => return advanced(alloc, machine, state, input),
-            ("new", []) => {
-                self.table = Table::new(alloc);
-                said(alloc, "empty")
-            }
-            ("abandon", [number, now]) => self.abandon(alloc, usize_of(number), moment(now)),
-            ("fire", [id, kind, now]) => match timer_kind(kind) {
-                Some(kind) => {
-                    let id = usize_of(id);
-                    self.fire(alloc, TimerId { id, kind }, moment(now))
-                }
-                None => return Ok(None),
-            },
-            ("transaction", [number]) => self.state_text(alloc, usize_of(number)),
-            ("cancel_of", [number]) => self.cancel_text(alloc, usize_of(number)),
-            ("timer_count", []) => format!(in alloc; "{}", self.table.timer_count()),
-            ("may_answer", [number, status]) => {
-                format!(in alloc;
-                    "{}",
-                    self.table.may_answer(usize_of(number), u16_of(status))
-                )
-            }
-            ("first_due", [now]) => timer_text(alloc, self.table.first_due(number(now))),
-            ("next", []) => next_text(alloc, self.table.next()),
-            ("sent", []) => shown(alloc, &self.sent),
-            ("fill", [text, count]) => filled(alloc, &mut self.table, text, number(count)),
-            (_, [bytes, more @ ..]) => return self.of_bytes(alloc, bytes, call, more),
-            _ => return Ok(None),
+    ) -> Option<Result<(), AllocError>> {
+        let [bytes, more @ ..] = args else {
+            return None;
         };
-        Ok(Some(answer?))
+        match read_message(alloc, bytes) {
+            Ok(message) => {
+                let outcome = self.put_of_message(alloc, out, &message, call, more);
+                outcome_after(message, outcome)
+            }
+            Err(fault) => Some(put_fault(alloc, out, fault)),
+        }
+    }
+
+    /// What a call without words answers, if it is one.
+    fn put_plain(
+        &mut self,
+        alloc: Global,
+        out: &mut String,
+        call: &str,
+    ) -> Option<Result<(), AllocError>> {
+        match call {
+            "laws" => Some(put_laws(out)),
+            "new" => Some(self.empty(alloc, out)),
+            "timer_count" => Some(self.put_timer_count(out)),
+            "next" => Some(put_moment(out, self.table.next())),
+            "sent" => Some(put_shown(out, &self.sent)),
+            _ => None,
+        }
+    }
+
+    /// What a call with a number or a moment answers, or else one with the bytes of a message.
+    fn put_of_one(
+        &mut self,
+        alloc: Global,
+        out: &mut String,
+        call: &str,
+        args: &[&[u8]],
+        word: &[u8],
+    ) -> Option<Result<(), AllocError>> {
+        match call {
+            "transaction" => Some(self.put_state(out, usize_of(word))),
+            "cancel_of" => Some(self.put_cancel(alloc, out, usize_of(word))),
+            "first_due" => Some(put_timer(out, self.table.first_due(number(word)))),
+            _ => self.put_of_bytes(alloc, out, call, args),
+        }
+    }
+
+    /// The same with two words.
+    fn put_of_two(
+        &mut self,
+        alloc: Global,
+        out: &mut String,
+        call: &str,
+        args: &[&[u8]],
+        one: &[u8],
+        two: &[u8],
+    ) -> Option<Result<(), AllocError>> {
+        match call {
+            "abandon" => Some(self.abandon(out, usize_of(one), moment(two))),
+            "may_answer" => {
+                Some(put_truth(out, self.table.may_answer(usize_of(one), u16_of(two))))
+            }
+            "fill" => Some(put_filled(alloc, out, &mut self.table, one, number(two))),
+            _ => self.put_of_bytes(alloc, out, call, args),
+        }
+    }
+
+    /// Writes what the row's call answers, if it is one of `transactions`.
+    pub(crate) fn put_answer(
+        &mut self,
+        alloc: Global,
+        out: &mut String,
+        call: &str,
+        args: &[&[u8]],
+    ) -> Option<Result<(), AllocError>> {
+        match args {
+            [] => self.put_plain(alloc, out, call),
+            [word] => self.put_of_one(alloc, out, call, args, word),
+            [one, two] => self.put_of_two(alloc, out, call, args, one, two),
+            [machine, state, input] if call == "advance" => {
+                put_advance(out, machine, state, input)
+            }
+            [id, kind, now] if call == "fire" => {
+                self.fire_named(alloc, out, usize_of(id), kind, moment(now))
+            }
+            _ => self.put_of_bytes(alloc, out, call, args),
+        }
     }
 }

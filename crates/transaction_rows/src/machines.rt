@@ -1,8 +1,8 @@
 //! Rows of the machines of transactions: what an input does in a state.
 
-use rows::{number, said};
+use rows::number;
 use sip_message::Class;
-use std::alloc::{AllocError, Global};
+use std::alloc::AllocError;
 use text::cut;
 use transaction_machines::{
     Input, InviteClient, InviteServer, OtherClient, OtherServer, Start, Starts, State, Step,
@@ -30,46 +30,42 @@ pub(crate) fn timer_kind(word: &[u8]) -> Option<TimerKind> {
 }
 
 fn invite_client(word: &[u8], interval: u64) -> Option<State> {
-    let state = match word {
-        b"Calling" => InviteClient::Calling(interval, false),
-        b"Abandoned" => InviteClient::Calling(interval, true),
-        b"Proceeding" => InviteClient::Proceeding,
-        b"Completed" => InviteClient::Completed,
-        b"Accepted" => InviteClient::Accepted,
-        _ => return None,
-    };
-    Some(State::InviteClient(state))
+    match word {
+        b"Calling" => Some(State::InviteClient(InviteClient::Calling(interval, false))),
+        b"Abandoned" => Some(State::InviteClient(InviteClient::Calling(interval, true))),
+        b"Proceeding" => Some(State::InviteClient(InviteClient::Proceeding)),
+        b"Completed" => Some(State::InviteClient(InviteClient::Completed)),
+        b"Accepted" => Some(State::InviteClient(InviteClient::Accepted)),
+        _ => None,
+    }
 }
 
 fn invite_server(word: &[u8], interval: u64) -> Option<State> {
-    let state = match word {
-        b"Proceeding" => InviteServer::Proceeding,
-        b"Completed" => InviteServer::Completed(interval),
-        b"Confirmed" => InviteServer::Confirmed,
-        b"Accepted" => InviteServer::Accepted,
-        _ => return None,
-    };
-    Some(State::InviteServer(state))
+    match word {
+        b"Proceeding" => Some(State::InviteServer(InviteServer::Proceeding)),
+        b"Completed" => Some(State::InviteServer(InviteServer::Completed(interval))),
+        b"Confirmed" => Some(State::InviteServer(InviteServer::Confirmed)),
+        b"Accepted" => Some(State::InviteServer(InviteServer::Accepted)),
+        _ => None,
+    }
 }
 
 fn other_client(word: &[u8], interval: u64) -> Option<State> {
-    let state = match word {
-        b"Trying" => OtherClient::Trying(interval),
-        b"Proceeding" => OtherClient::Proceeding,
-        b"Completed" => OtherClient::Completed,
-        _ => return None,
-    };
-    Some(State::OtherClient(state))
+    match word {
+        b"Trying" => Some(State::OtherClient(OtherClient::Trying(interval))),
+        b"Proceeding" => Some(State::OtherClient(OtherClient::Proceeding)),
+        b"Completed" => Some(State::OtherClient(OtherClient::Completed)),
+        _ => None,
+    }
 }
 
 fn other_server(word: &[u8]) -> Option<State> {
-    let state = match word {
-        b"Trying" => OtherServer::Trying,
-        b"Proceeding" => OtherServer::Proceeding,
-        b"Completed" => OtherServer::Completed,
-        _ => return None,
-    };
-    Some(State::OtherServer(state))
+    match word {
+        b"Trying" => Some(State::OtherServer(OtherServer::Trying)),
+        b"Proceeding" => Some(State::OtherServer(OtherServer::Proceeding)),
+        b"Completed" => Some(State::OtherServer(OtherServer::Completed)),
+        _ => None,
+    }
 }
 
 /// The state of a machine that the word names, with its interval behind a space where it has one.
@@ -101,44 +97,57 @@ fn input(word: &[u8]) -> Option<Input> {
     }
 }
 
-fn start_text(alloc: Global, start: Start) -> Result<String, AllocError> {
-    format!(in alloc; "{:?} {}", start.kind, start.after)
+fn put_start(out: &mut String, start: Start) -> Result<(), AllocError> {
+    let (kind, after) = (start.kind, start.after);
+    write!(out, "{kind:?} {after}")
 }
 
-fn starts_text(alloc: Global, starts: Starts) -> Result<String, AllocError> {
+fn put_starts(out: &mut String, starts: Starts) -> Result<(), AllocError> {
     match starts {
-        Starts::NoTimer => said(alloc, "none"),
-        Starts::One(start) => start_text(alloc, start),
+        Starts::NoTimer => out.push_str("none"),
+        Starts::One(start) => put_start(out, start),
         Starts::Two(one, other) => {
-            let (one, other) = (start_text(alloc, one)?, start_text(alloc, other)?);
-            format!(in alloc; "{one} and {other}")
+            put_start(out, one)?;
+            out.push_str(" and ")?;
+            put_start(out, other)
         }
     }
 }
 
+fn put_next(out: &mut String, next: Option<State>) -> Result<(), AllocError> {
+    match next {
+        Some(next) => write!(out, "{next:?}"),
+        None => out.push_str("ended"),
+    }
+}
+
 /// A step: the next state, what is sent and told, which timers stop and which start.
-fn step_text(alloc: Global, step: Option<Step>) -> Result<String, AllocError> {
-    let Some(step) = step else {
-        return said(alloc, "no line");
-    };
-    let next = match step.next {
-        Some(next) => format!(in alloc; "{next:?}")?,
-        None => said(alloc, "ended")?,
-    };
-    let starts = starts_text(alloc, step.starts)?;
+fn put_step(out: &mut String, step: &Step) -> Result<(), AllocError> {
     let (send, told, stops) = (step.send, step.told, step.stops);
-    format!(in alloc; "{next}, sends {send:?}, tells {told:?}, stops {stops:?}, starts {starts}")
+    put_next(out, step.next)?;
+    write!(
+        out,
+        ", sends {send:?}, tells {told:?}, stops {stops:?}, starts "
+    )?;
+    put_starts(out, step.starts)
+}
+
+fn put_step_of(out: &mut String, step: Option<Step>) -> Result<(), AllocError> {
+    match step {
+        Some(step) => put_step(out, &step),
+        None => out.push_str("no line"),
+    }
 }
 
 /// What the input does in the state of the machine, if there are such.
-pub(crate) fn advanced(
-    alloc: Global,
+pub(crate) fn put_advance(
+    out: &mut String,
     machine: &[u8],
     before: &[u8],
     comes: &[u8],
-) -> Result<Option<String>, AllocError> {
+) -> Option<Result<(), AllocError>> {
     match (state(machine, before), input(comes)) {
-        (Some(state), Some(input)) => Ok(Some(step_text(alloc, advance(state, input))?)),
-        _ => Ok(None),
+        (Some(state), Some(input)) => Some(put_step_of(out, advance(state, input))),
+        _ => None,
     }
 }

@@ -6,7 +6,7 @@ mod machines;
 mod table_texts;
 
 use crate::history::History;
-use rows::{Notation, Rows, play};
+use rows::{Notation, Rows, answer_by, play};
 use std::alloc::{AllocError, Global};
 use std::io;
 
@@ -18,10 +18,12 @@ impl Rows for History {
         call: &str,
         args: &[&[u8]],
     ) -> Result<Option<String>, AllocError> {
-        match crate_name {
-            "transactions" => self.answer_to(alloc, call, args),
-            _ => Ok(None),
+        if crate_name != "transactions" {
+            return Ok(None);
         }
+        let mut out = String::new(alloc);
+        let outcome = self.put_answer(alloc, &mut out, call, args);
+        answer_by(out, outcome)
     }
 }
 
