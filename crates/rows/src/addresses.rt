@@ -20,13 +20,6 @@ pub fn put_octets(out: &mut String, octets: &[u8; 4]) -> Result<(), AllocError> 
     write!(out, "{a}.{b}.{c}.{d}")
 }
 
-/// Four octets with dots between them.
-pub fn ip4_words(alloc: Global, octets: &[u8; 4]) -> Result<String, AllocError> {
-    let mut out = String::new(alloc);
-    put_octets(&mut out, octets)?;
-    Ok(out)
-}
-
 /// Writes an address and a port.
 pub fn put_address(out: &mut String, address: Addr) -> Result<(), AllocError> {
     let port = address.port;

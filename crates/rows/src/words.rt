@@ -27,14 +27,6 @@ pub fn put_number_or_none(out: &mut String, number: Option<u64>) -> Result<(), A
     }
 }
 
-/// A number, or `none`.
-pub fn number_or_none(alloc: Global, number: Option<u64>) -> Result<String, AllocError> {
-    match number {
-        Some(number) => number.to_string(alloc),
-        None => said(alloc, "none"),
-    }
-}
-
 /// Writes a text in brackets.
 pub fn put_boxed(out: &mut String, text: &[u8]) -> Result<(), AllocError> {
     out.push('[')?;
