@@ -2,9 +2,8 @@
 
 use crate::port_pool_words::{put_changes, put_fault, put_pairs, put_row};
 use crate::relay_line_rows::{put_changed, put_kept, put_lines};
-use crate::telling::replace;
 use port_pool::{Pair, Pool};
-use rows::{number, outcome_after, put_number_or_none, u16_of, usize_of};
+use rows::{number, outcome_after, put_number_or_none, replace, u16_of, usize_of};
 use std::alloc::{AllocError, Global};
 
 /// The pool that earlier rows left, if any made one.

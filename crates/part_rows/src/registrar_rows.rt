@@ -4,9 +4,8 @@ ghost use Rattle.std.specs.Prelude.{◌≡◌, ◌≤◌, ◌++◌, ◌∷◌, [
 
 use crate::registrar_words::put_bindings;
 use crate::sip_uri_words::put_uri;
-use crate::telling::replace;
 use registrar::{Contact, Contacts, Refusal, Register, Registrar, laws_of_bindings};
-use rows::{number, outcome_after, put_shown, put_yes_or_no, u32_of};
+use rows::{number, outcome_after, put_shown, put_yes_or_no, replace, u32_of};
 use sip_uri::{Uri, UriError, read_uri};
 use std::alloc::{AllocError, Global};
 use text::{Text, Texts, cut_word};

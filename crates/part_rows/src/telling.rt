@@ -4,11 +4,6 @@ use rows::{outcome_after, put_boxed, put_shown};
 use std::alloc::AllocError;
 use text::Text;
 
-/// Puts a value in the place of one that is let go.
-pub(crate) fn replace<T: Drop>(place: &mut T, value: T) {
-    *place = value;
-}
-
 /// Writes a text that was written for a value.
 pub(crate) fn put_written(out: &mut String, text: Text<'_>) -> Result<(), AllocError> {
     let outcome = put_shown(out, text.as_bytes());

@@ -1,7 +1,6 @@
 //! Rows of calls of `timers`: keys are single letters.
 
-use crate::telling::replace;
-use rows::{byte_of, number, outcome_after, put_number_or_none, put_yes_or_no, usize_of};
+use rows::{byte_of, number, outcome_after, put_number_or_none, put_yes_or_no, replace, usize_of};
 use std::alloc::{AllocError, Global};
 use text::cut_word;
 use timers::{

@@ -30,6 +30,13 @@ pub fn answer_of(words: Result<String, AllocError>) -> Result<Option<String>, Al
     Ok(Some(words?))
 }
 
+/// Puts a value in the place of one that is let go.
+pub fn replace<T: Drop>(place: &mut T, value: T)
+    ensures { place.new ≡ value }
+{
+    *place = value;
+}
+
 /// What a row's call answers: what was written, where there is such a call.
 pub fn answer_by(
     words: String,

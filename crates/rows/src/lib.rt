@@ -10,9 +10,10 @@ mod playing;
 mod words;
 
 pub use crate::addresses::{address_of, address_words, put_address, put_octets};
-pub use crate::answers::{answer_by, answer_of, outcome_after, words_of};
+pub use crate::answers::{answer_by, answer_of, outcome_after, replace, words_of};
 pub use crate::notation::{Notation, number, put_shown, shown, u16_of, u32_of, usize_of};
 pub use crate::playing::{Rows, play};
 pub use crate::words::{
-    boxes, byte_of, put_boxed, put_boxes, put_number_or_none, put_yes_or_no, said, yes_or_no,
+    boxes, byte_of, put_boxed, put_boxes, put_number_or_none, put_truth, put_yes_or_no, said,
+    yes_or_no,
 };

@@ -19,6 +19,11 @@ pub fn yes_or_no(alloc: Global, holds: bool) -> Result<String, AllocError> {
     said(alloc, if holds { "yes" } else { "no" })
 }
 
+/// Writes `true` or `false`.
+pub fn put_truth(out: &mut String, truth: bool) -> Result<(), AllocError> {
+    out.push_str(if truth { "true" } else { "false" })
+}
+
 /// Writes a number, or `none`.
 pub fn put_number_or_none(out: &mut String, number: Option<u64>) -> Result<(), AllocError> {
     match number {

@@ -8,7 +8,7 @@ use call_trace::{
     has_ended, is_call, is_exchange, is_last, is_live, is_named, is_open, is_passed_on,
     moves_are_promised, moves_keep, relayed_is_promised, replies, standing_is_promised,
 };
-use rows::{Rows, answer_by, outcome_after, put_shown, usize_of};
+use rows::{Rows, answer_by, outcome_after, put_shown, put_truth, replace, usize_of};
 use std::alloc::{AllocError, Global};
 use text::{Texts, both, cut};
 
@@ -26,11 +26,6 @@ fn places(word: &[u8]) -> Places {
         asked: usize_of(asked),
         answered: usize_of(answered.unwrap_or(&[])),
     }
-}
-
-/// Puts a value in the place of one that is let go.
-fn replace<T: Drop>(place: &mut T, value: T) {
-    *place = value;
 }
 
 fn put_either(
@@ -128,10 +123,6 @@ fn put_laws(out: &mut String) -> Result<(), AllocError> {
     dialogs_are_known();
     calls_are_spared();
     out.push_str("hold")
-}
-
-fn put_truth(out: &mut String, truth: bool) -> Result<(), AllocError> {
-    put_either(out, truth, "true", "false")
 }
 
 /// What is true of a dialog in a trace, if the call asks for it.

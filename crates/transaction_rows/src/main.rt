@@ -1,6 +1,7 @@
 //! Rows of `transactions`: its machines line by line, and histories of a table.
 #![tactic(auto)]
 
+mod calls;
 mod history;
 mod machines;
 mod table_texts;
