@@ -1,7 +1,5 @@
 -- The replies of the rules, and the responses that no transaction sends, read back.
-use Rattle.std.proofs.Common.{◌≡◌, ℕ, ◌∙◌, ◌≤◌, ◌<◌, ◌^◌, false, List, [], ◌∷◌, codes, map, option_map, Option, Some, None, Result, Ok, Err, refl, sym, subst, arith}
-use Rattle.std.specs.Prelude.{nat_eq, option_and_then}
-use Rattle.std.specs.Cmp.Lexicographic.{pointwise}
+use Rattle.std.proofs.Common.{◌≡◌, ℕ, ◌∙◌, ◌≤◌, ◌<◌, ◌^◌, List, [], ◌∷◌, codes, map, option_map, Option, None, Result, Ok, Err, refl, sym, subst, arith}
 use Rattle.std.specs.List.{All}
 use Rattle.std.proofs.lemmas.List.Elements.{All-cons, All-nil}
 use Rattle.events.specs.declared.sent.Sent.{Sent}
@@ -15,26 +13,23 @@ use Rattle.sip_writing.specs.Reply.{answer_address}
 use Rattle.sip_writing.specs.Writing.{message_text}
 use Rattle.registrar.specs.declared.binding.Binding.{Binding}
 use Rattle.registrar.specs.declared.refusal.Refusal.{Refusal}
-use Rattle.registrar.specs.declared.refusal.Refusal.TheVariants as refusals
 use Rattle.registrar.specs.Registrar.{PlanContents, answer_of, plan_of, rules_of}
 use Rattle.responses.specs.Registering.{register_of}
 use Rattle.responses.specs.Responding.{allow, contact_header, refusal_headers, responds, stateless, status_of}
 use Rattle.legs.specs.Messages.{contact, retry_after}
 use Rattle.transactions.specs.declared.change.Entry.{Entry}
-use Rattle.transactions.specs.declared.transaction.Transaction.{Transaction}
-use Rattle.transactions.specs.Slots.{at}
 use Rattle.plans.specs.Office.{Office}
 use Rattle.plans.specs.CallRows.{okay_plan}
-use Rattle.plans.specs.Replies.{accept, accept_encoding, fresh_tag, registers, registers_by, reply_row, responds_in, tag_in, tag_sent, unsupported}
+use Rattle.plans.specs.Replies.{accept, accept_encoding, fresh_tag, registers, registers_by, reply_row, responds_in, tag_sent, unsupported}
 use Rattle.plans.specs.declared.rule.Reply.{Reply}
 use Rattle.plans.specs.declared.rule.Reply.TheVariants as replies
 use Rattle.plans.specs.declared.setting.Setting.{Setting}
 use Rattle.promise.specs.Addresses.{IsReached, IsSource}
 use Rattle.promise.specs.Datagrams.{IsReadResponse}
 use Rattle.promise.specs.Sound.{IsBound}
-use Rattle.promise.proofs.Further.{FollowsIn, IsPlain, NeedsNoContact, accept_encoding_plain, accept_plain, allow_plain, contact_follows, none_follows, other_needs_none, plain_follows, refusal_follows, refusal_needs_none, retry_after_plain}
-use Rattle.promise.proofs.ReadParts.{IsStatus, IsTokenIf, IsTokenRun, sent_tag, token_or}
-use Rattle.promise.proofs.Repeats.{CanAnswer, FitsReply, fresh_token, responds_read, stateless_token}
+use Rattle.promise.proofs.Further.{FollowsIn, IsPlain, accept_encoding_plain, accept_plain, allow_plain, contact_follows, none_follows, plain_follows, refusal_follows, refusal_needs_none, retry_after_plain}
+use Rattle.promise.proofs.ReadParts.{IsStatus}
+use Rattle.promise.proofs.Repeats.{CanAnswer, FitsReply, fresh_token, method_needs_none, okay_status, refused_high, responds_read, stateless_token, tag_sent_token}
 use Rattle.promise.specs.ReadDatagrams.{IsReadDatagram}
 use Rattle.promise.proofs.Listing.{listing_follows}
 
@@ -44,9 +39,6 @@ one_read d h = All-cons IsReadDatagram d [] h (All-nil IsReadDatagram)
 -- a response that reads back
 response_read : (to : Addr) (bytes : List ℕ) → IsReadResponse bytes → All IsReadDatagram (record { to = to; bytes = bytes } ∷ [])
 response_read to bytes h = one_read (record { to = to; bytes = bytes }) (Kinds.Response h.response, h.said, h.written)
-
-okay_status : IsStatus 200
-okay_status = record { low = omega arith; high = omega arith }
 
 responds_in_read : (s : Office) (e : Setting) (r : Request) (begun : List Entry) (id status : ℕ) (further : List Header) (registration : Option PlanContents) → CanAnswer s e r → IsStatus status
     → FollowsIn status r.parts.cseq.method further → All IsReadDatagram (responds_in s e r begun id status further registration).sends
@@ -71,27 +63,6 @@ pub okay_read : (s : Office) (e : Setting) (r : Request) (begun : List Entry) (i
 okay_read s e r begun id can reached = responds_in_read s e r begun id 200 (contact s.server ∷ []) None can okay_status (contact_follows s.server 200 r.parts.cseq.method reached)
 
 -- ---- each reply
-
-method_needs_none : (s : Office) (e : Setting) (r : Request) (status : ℕ) (method : List ℕ) → CanAnswer s e r → r.method ≡ method → pointwise nat_eq method (codes "INVITE") ≡ false
-    → pointwise nat_eq method (codes "UPDATE") ≡ false → NeedsNoContact status r.parts.cseq.method
-method_needs_none s e r status method can is invite update =
-    subst (λ (m : List ℕ). NeedsNoContact status m) (sym (can.method ∙ is)) (other_needs_none status method invite update)
-
-tag_sent_token : (s : Office) (other : ℕ) → IsTokenRun (tag_sent s other)
-tag_sent_token s other = token_or _ stateless (last_tag (at s.table.slots other)) stateless_token
-  where
-    last_tag : (t : Option Transaction) → IsTokenIf (option_and_then (λ (x : Transaction). tag_in x.last) t)
-    last_tag None = tt
-    last_tag (Some t) = sent_tag t.last
-
-refused_high : (refusal : Refusal) → (300 ≤ status_of refusal) × (status_of refusal ≤ 699)
-refused_high refusals.OutOfMemory = (omega arith, omega arith)
-refused_high refusals.UnknownUser = (omega arith, omega arith)
-refused_high refusals.StarMisused = (omega arith, omega arith)
-refused_high refusals.TooBrief = (omega arith, omega arith)
-refused_high refusals.OutOfOrder = (omega arith, omega arith)
-refused_high refusals.TooManyBindings = (omega arith, omega arith)
-refused_high refusals.BadContact = (omega arith, omega arith)
 
 -- of a REGISTER: its bindings lead to addresses
 abbrev pub AreBound : Result (List Binding) Refusal → Type 0

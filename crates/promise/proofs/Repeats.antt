@@ -99,7 +99,7 @@ plain_own s e r begun id status h can low high plain =
     responds_in_own s e r begun id status (h ∷ []) None can (record { low = omega (arith, low); high = high })
     (plain_follows status r.parts.cseq.method h (refusal_needs_none status r.parts.cseq.method low) plain)
 
-okay_status : IsStatus 200
+pub okay_status : IsStatus 200
 okay_status = record { low = omega arith; high = omega arith }
 
 -- the 200 to an UPDATE without an offer
@@ -116,19 +116,19 @@ FitsReply r replies.MethodsListed = r.method ≡ codes "OPTIONS"
 FitsReply r replies.Registration = r.method ≡ codes "REGISTER"
 FitsReply r reply = Unit {0}
 
-method_needs_none : (s : Office) (e : Setting) (r : Request) (status : ℕ) (method : List ℕ) → CanAnswer s e r → r.method ≡ method → pointwise nat_eq method (codes "INVITE") ≡ false
+pub method_needs_none : (s : Office) (e : Setting) (r : Request) (status : ℕ) (method : List ℕ) → CanAnswer s e r → r.method ≡ method → pointwise nat_eq method (codes "INVITE") ≡ false
     → pointwise nat_eq method (codes "UPDATE") ≡ false → NeedsNoContact status r.parts.cseq.method
 method_needs_none s e r status method can is invite update =
     subst (λ (m : List ℕ). NeedsNoContact status m) (sym (can.method ∙ is)) (other_needs_none status method invite update)
 
-tag_sent_token : (s : Office) (other : ℕ) → IsTokenRun (tag_sent s other)
+pub tag_sent_token : (s : Office) (other : ℕ) → IsTokenRun (tag_sent s other)
 tag_sent_token s other = token_or _ stateless (last_tag (at s.table.slots other)) stateless_token
   where
     last_tag : (t : Option Transaction) → IsTokenIf (option_and_then (λ (x : Transaction). tag_in x.last) t)
     last_tag None = tt
     last_tag (Some t) = sent_tag t.last
 
-refused_high : (refusal : Refusal) → (300 ≤ status_of refusal) × (status_of refusal ≤ 699)
+pub refused_high : (refusal : Refusal) → (300 ≤ status_of refusal) × (status_of refusal ≤ 699)
 refused_high refusals.OutOfMemory = (omega arith, omega arith)
 refused_high refusals.UnknownUser = (omega arith, omega arith)
 refused_high refusals.StarMisused = (omega arith, omega arith)

@@ -53,7 +53,7 @@ use Rattle.promise.proofs.ResponseViews.{IsAsked}
 use Rattle.promise.proofs.Views as views
 use Rattle.promise.proofs.Views.{DueRow, WhatRow, what_view}
 use Rattle.promised.specs.Verdicts.{IsTransactions}
-use Rattle.promised.proofs.AckRequests.{IsAckIf, up_is_ack}
+use Rattle.checks.proofs.AckRequests.{IsAckIf, up_is_ack}
 use Rattle.promised.proofs.RequestCases.{RequestCase, request_view}
 use Rattle.promised.proofs.RuleReasons.{Reason, rule_reason}
 
@@ -176,7 +176,7 @@ response_by_case s e r begun (verdicts.Up id) send is found = up_case s e r begu
 response_by_case s e r begun verdicts.Stray send is found = dropped (takens.Dropped whys.Stray) tt refl
 
 received_by_case : (s : Office) (e : Setting) (m : Message) (begun : List Entry) (send : Option Outgoing) → MessageCase s e m begun send (received_by s e m begun (reception_of s.table m).verdict send)
-received_by_case s e (Kinds.Request r) begun send = request_by_case s e r begun (reception_of s.table (Kinds.Request r)).verdict send refl (up_is_ack s r)
+received_by_case s e (Kinds.Request r) begun send = request_by_case s e r begun (reception_of s.table (Kinds.Request r)).verdict send refl (up_is_ack s.table r)
 received_by_case s e (Kinds.Response r) begun send = response_by_case s e r begun (reception_of s.table (Kinds.Response r)).verdict send refl (up_found s r)
 
 abbrev pub ReceivedCase : Office → Setting → Message → Effect → Type 0

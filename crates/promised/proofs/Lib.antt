@@ -67,7 +67,6 @@ pub mod ForkMoves
 pub mod LegsKept
 pub mod AckMoves
 pub mod RequestCases
-pub mod AckRequests
 pub mod EventCases
 pub mod CaseMoves
 pub mod MachineRows

@@ -1,7 +1,5 @@
 -- What the server answers by itself is plain, and reads back as the response that it was dressed as.
-use Rattle.std.proofs.Common.{◌≡◌, ℕ, ◌∙◌, ◌≤◌, ◌<◌, ◌^◌, false, List, [], ◌∷◌, codes, le-ltb, map, nat_le, nat_lt, option_map, Option, Some, None, Result, Ok, Err, refl, sym, subst, inl, inr, arith}
-use Rattle.std.specs.Prelude.{nat_eq, option_and_then}
-use Rattle.std.specs.Cmp.Lexicographic.{pointwise}
+use Rattle.std.proofs.Common.{◌≡◌, ℕ, ◌∙◌, ◌≤◌, ◌<◌, ◌^◌, false, List, [], ◌∷◌, codes, le-ltb, map, nat_le, nat_lt, option_map, Option, None, Result, Ok, Err, refl, sym, subst, inl, inr, arith}
 use Rattle.std.proofs.lemmas.Bool.{and_right}
 use Rattle.sip_uri.specs.declared.uri.Addr.{Addr}
 use Rattle.sip_message.specs.declared.headers.Header.{Header}
@@ -14,18 +12,15 @@ use Rattle.sip_writing.specs.Writing.{message_text}
 use Rattle.sip_writing.specs.WritingMessage.{IsWrittenMessage}
 use Rattle.registrar.specs.declared.binding.Binding.{Binding}
 use Rattle.registrar.specs.declared.refusal.Refusal.{Refusal}
-use Rattle.registrar.specs.declared.refusal.Refusal.TheVariants as refusals
 use Rattle.registrar.specs.Registrar.{PlanContents, answer_of, plan_of, rules_of}
 use Rattle.responses.specs.Registering.{register_of}
 use Rattle.responses.specs.Responding.{allow, contact_header, refusal_headers, responds, stateless, status_of}
 use Rattle.legs.specs.Messages.{contact, retry_after}
 use Rattle.transactions.specs.declared.change.Entry.{Entry}
-use Rattle.transactions.specs.declared.transaction.Transaction.{Transaction}
-use Rattle.transactions.specs.Slots.{at}
 use Rattle.plans.specs.Office.{Office}
 use Rattle.plans.specs.CallRows.{okay_plan}
 use Rattle.plans.specs.Plan.{replies as plain_replies, sent_response}
-use Rattle.plans.specs.Replies.{accept, accept_encoding, fresh_tag, registers, registers_by, reply_row, responds_in, tag_in, tag_sent, unsupported}
+use Rattle.plans.specs.Replies.{accept, accept_encoding, fresh_tag, registers, registers_by, reply_row, responds_in, tag_sent, unsupported}
 use Rattle.plans.specs.declared.rule.Reply.{Reply}
 use Rattle.plans.specs.declared.rule.Reply.TheVariants as replies
 use Rattle.plans.specs.declared.setting.Setting.{Setting}
@@ -33,10 +28,10 @@ use Rattle.call_trace.specs.declared.datagram.Kind.TheVariants as kinds
 use Rattle.call_trace.specs.Messages.{is_success, offering}
 use Rattle.promise.specs.Addresses.{IsReached, IsSource}
 use Rattle.promise.specs.Quiet.{IsQuietReply, IsQuietStatus, MovesNone}
-use Rattle.promise.proofs.Further.{FollowsIn, IsPlain, NeedsNoContact, accept_encoding_plain, accept_plain, allow_plain, contact_follows, none_follows, other_needs_none, plain_follows, refusal_follows, refusal_needs_none, retry_after_plain}
+use Rattle.promise.proofs.Further.{FollowsIn, IsPlain, accept_encoding_plain, accept_plain, allow_plain, contact_follows, none_follows, plain_follows, refusal_follows, refusal_needs_none, retry_after_plain}
 use Rattle.promise.proofs.QuietReplies.{responds_plain}
-use Rattle.promise.proofs.ReadParts.{IsStatus, IsTokenIf, IsTokenRun, sent_tag, token_or}
-use Rattle.promise.proofs.Repeats.{CanAnswer, FitsReply, fresh_token, responds_written, stateless_token}
+use Rattle.promise.proofs.ReadParts.{IsStatus, IsTokenRun}
+use Rattle.promise.proofs.Repeats.{CanAnswer, FitsReply, fresh_token, method_needs_none, okay_status, refused_high, responds_written, stateless_token, tag_sent_token}
 use Rattle.promise.proofs.Listing.{listing_follows}
 use Rattle.promise.proofs.ReadReplies.{AreBound}
 use Rattle.promised.proofs.QuietSends.{SaysPlain}
@@ -53,9 +48,6 @@ one_says : (to : Addr) (parts : Parts) (source : Addr) (status : ℕ) (tag : Lis
 one_says to parts source status tag further from repeats token is follows quiet =
     let response = Kinds.Response (responds parts source status tag further) in
     ((response, refl, responds_stands parts source status tag further from repeats token is follows, responds_plain offering (message_text response) parts source status tag further quiet), tt)
-
-okay_status : IsStatus 200
-okay_status = record { low = omega arith; high = omega arith }
 
 in_says : (s : Office) (e : Setting) (r : Request) (begun : List Entry) (id status : ℕ) (further : List Header) (registration : Option PlanContents) → CanAnswer s e r → IsStatus status
     → FollowsIn status r.parts.cseq.method further → IsQuietStatus r.parts status → SaysPlain (responds_in s e r begun id status further registration).sends
@@ -93,27 +85,6 @@ pub okay_says : (s : Office) (e : Setting) (r : Request) (begun : List Entry) (i
 okay_says s e r begun id can reached none = in_says s e r begun id 200 (contact s.server ∷ []) None can okay_status (contact_follows s.server 200 r.parts.cseq.method reached) (inr none)
 
 -- ---- each reply
-
-method_needs_none : (s : Office) (e : Setting) (r : Request) (status : ℕ) (method : List ℕ) → CanAnswer s e r → r.method ≡ method → pointwise nat_eq method (codes "INVITE") ≡ false
-    → pointwise nat_eq method (codes "UPDATE") ≡ false → NeedsNoContact status r.parts.cseq.method
-method_needs_none s e r status method can is invite update =
-    subst (λ (m : List ℕ). NeedsNoContact status m) (sym (can.method ∙ is)) (other_needs_none status method invite update)
-
-tag_sent_token : (s : Office) (other : ℕ) → IsTokenRun (tag_sent s other)
-tag_sent_token s other = token_or _ stateless (last_tag (at s.table.slots other)) stateless_token
-  where
-    last_tag : (t : Option Transaction) → IsTokenIf (option_and_then (λ (x : Transaction). tag_in x.last) t)
-    last_tag None = tt
-    last_tag (Some t) = sent_tag t.last
-
-refused_high : (refusal : Refusal) → (300 ≤ status_of refusal) × (status_of refusal ≤ 699)
-refused_high refusals.OutOfMemory = (omega arith, omega arith)
-refused_high refusals.UnknownUser = (omega arith, omega arith)
-refused_high refusals.StarMisused = (omega arith, omega arith)
-refused_high refusals.TooBrief = (omega arith, omega arith)
-refused_high refusals.OutOfOrder = (omega arith, omega arith)
-refused_high refusals.TooManyBindings = (omega arith, omega arith)
-refused_high refusals.BadContact = (omega arith, omega arith)
 
 registers_says : (s : Office) (e : Setting) (r : Request) (begun : List Entry) (id : ℕ) (user : Option (List ℕ)) (answer : Result (List Binding) Refusal) → CanAnswer s e r → s.least < 2 ^ 64
     → r.method ≡ codes "REGISTER" → AreBound answer → MovesNone r.parts → SaysPlain (registers_by s e r begun id user answer).sends

@@ -57,7 +57,8 @@ use Rattle.rulings.specs.Registering.{Registers}
 use Rattle.rulings.proofs.CallRows.{IsDoneBy, IsNoRegistration, call_done, call_timer_done, fire_ready, moves_done, reply_done, response_done, takes_done, timeout_done}
 use Rattle.rulings.proofs.Ready.{change_ready}
 use Rattle.rulings.proofs.ReadySteps.{AllReady, none_ready, one_ready}
-use Rattle.rulings.proofs.Receptions.{IsAckIf, IsNotNew, own_method, response_not_new, up_is_ack}
+use Rattle.checks.proofs.AckRequests.{IsAckIf, up_is_ack}
+use Rattle.rulings.proofs.Receptions.{IsNotNew, own_method, response_not_new}
 
 pub data EventCase (s : Contents) (event : Event) (x : Effect) : Type 0 where
   ignored : (taken : Taken) → IsAnsweredFor s event taken → x ≡ of_plan (office s) (nothing taken) → EventCase s event x

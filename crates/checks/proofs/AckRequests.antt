@@ -1,7 +1,7 @@
 -- A request that goes up, or that belongs to no transaction and begins none, is an ACK (RFC 3261 sections 17.1.1.3 and 17.2).
-use Rattle.std.proofs.Common.{◌≡◌, ◌∙◌, ◌&&◌, ℕ, Bool, true, false, codes, Option, Some, None, position, refl, sym}
+use Rattle.std.proofs.Common.{◌≡◌, ◌∙◌, ℕ, Bool, true, false, codes, Option, Some, None, position, refl, sym}
+use Rattle.std.proofs.lemmas.Bool.{and_parts, false≢true}
 use Rattle.std.proofs.lemmas.List.Quantifiers.{position-Some}
-use Rattle.std.proofs.lemmas.Bool.{false≢true}
 use Rattle.sip_message.specs.declared.message.Message.TheVariants as Kinds
 use Rattle.sip_message.specs.declared.message.Parts.{Parts}
 use Rattle.sip_message.specs.declared.message.Request.{Request}
@@ -20,10 +20,9 @@ use Rattle.transaction_machines.specs.OtherServer.{other_server_row}
 use Rattle.transactions.specs.declared.outcome.Verdict.{Verdict}
 use Rattle.transactions.specs.declared.outcome.Verdict.TheVariants as verdicts
 use Rattle.transactions.specs.declared.transaction.Transaction.{Transaction}
-use Rattle.transactions.specs.Contents.{begun, input_of, reception_at, reception_by, reception_of, request_reception}
+use Rattle.transactions.specs.Contents.{Contents, begun, input_of, reception_at, reception_by, reception_of, request_reception}
 use Rattle.transactions.specs.Matching.{is_copy}
 use Rattle.transactions.specs.Slots.{at, is_asked}
-use Rattle.plans.specs.Office.{Office}
 
 abbrev pub IsAckIf : Request → Verdict → Type 0
 IsAckIf r (verdicts.New id) = Unit {0}
@@ -39,8 +38,7 @@ any_ack r verdicts.Swallowed is = tt
 any_ack r (verdicts.Up id) is = is
 any_ack r verdicts.Stray is = is
 
--- ---- a copy of a request is none that goes up
-
+-- a copy of a request is none that goes up
 abbrev Repeats : Request → ℕ → Transaction → Option Step → Type 0
 Repeats r id t line = IsAckIf r (reception_by id t machine_inputs.Repeat None line).verdict
 
@@ -64,15 +62,9 @@ repeat_again r id t (OfInvite state) server = invite_again r id t state
 repeat_again r id t (OtherClient state) server = absurd (false≢true server)
 repeat_again r id t (OfOther state) server = other_again r id t state
 
--- ---- what is told of a request
-
-first_of : (a b : Bool) → (a && b) ≡ true → a ≡ true
-first_of true b is = refl
-first_of false b is = absurd (false≢true is)
-
 asked_server : (parts : Parts) (t : Transaction) → is_asked parts (Some t) ≡ true → is_server t.state ≡ true
 unfolding is_asked
-asked_server parts t is = first_of (is_server t.state) (is_copy parts t.parts) is
+asked_server parts t is = (and_parts (is_server t.state) (is_copy parts t.parts) is).0
 
 none_asked : (parts : Parts) → is_asked parts None ≡ false
 unfolding is_asked
@@ -86,14 +78,14 @@ at_slot : (r : Request) (id : ℕ) (o : Option Transaction) → is_asked r.parts
 at_slot r id None is = absurd (false≢true (sym (none_asked r.parts) ∙ is))
 at_slot r id (Some t) is = in_transaction r id t (is_method (codes "ACK") r.parts) refl (asked_server r.parts t is)
 
-outside : (s : Office) (r : Request) (ack : Bool) → is_method (codes "ACK") r.parts ≡ ack → IsAckIf r (begun s.table r.parts).verdict
-outside s r true is = any_ack r (begun s.table r.parts).verdict is
-outside s r false is = rw is tt
+outside : (table : Contents) (r : Request) (ack : Bool) → is_method (codes "ACK") r.parts ≡ ack → IsAckIf r (begun table r.parts).verdict
+outside table r true is = any_ack r (begun table r.parts).verdict is
+outside table r false is = rw is tt
 
-in_place : (s : Office) (r : Request) (id : Option ℕ) → position (is_asked r.parts) s.table.slots ≡ id → IsAckIf r (request_reception s.table r id).verdict
-in_place s r None there = outside s r (is_method (codes "ACK") r.parts) refl
-in_place s r (Some id) there = at_slot r id (at s.table.slots id) (position-Some (is_asked r.parts) s.table.slots id None there).1
+in_place : (table : Contents) (r : Request) (id : Option ℕ) → position (is_asked r.parts) table.slots ≡ id → IsAckIf r (request_reception table r id).verdict
+in_place table r None there = outside table r (is_method (codes "ACK") r.parts) refl
+in_place table r (Some id) there = at_slot r id (at table.slots id) (position-Some (is_asked r.parts) table.slots id None there).1
 
-pub up_is_ack : (s : Office) (r : Request) → IsAckIf r (reception_of s.table (Kinds.Request r)).verdict
+pub up_is_ack : (table : Contents) (r : Request) → IsAckIf r (reception_of table (Kinds.Request r)).verdict
 unfolding reception_of
-up_is_ack s r = in_place s r (position (is_asked r.parts) s.table.slots) refl
+up_is_ack table r = in_place table r (position (is_asked r.parts) table.slots) refl
