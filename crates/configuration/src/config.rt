@@ -7,7 +7,6 @@ use std::alloc::{AllocError, Global};
 use text::{Text, Texts};
 
 /// How an office is configured. It may break each rule.
-#[derive(Drop)]
 pub struct Config {
     /// The first relay port.
     pub relay_first: u16,
@@ -27,6 +26,22 @@ pub struct Config {
     pub workers: u8,
     /// The key of the random numbers that salts are taken from.
     pub random_key: [u8; 32],
+}
+
+impl Drop for Config {
+    fn drop(self) {
+        let Config {
+            relay_first: _,
+            relay_pairs: _,
+            ip: _,
+            sip_port: _,
+            users: _,
+            min_expires: _,
+            domain: _,
+            workers: _,
+            random_key: _,
+        } = self;
+    }
 }
 
 impl Config {

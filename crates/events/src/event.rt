@@ -4,7 +4,6 @@ use sip_uri::Addr;
 use text::Text;
 
 /// Something that happens to the server: when, in milliseconds, and with which salt.
-#[derive(Drop)]
 pub struct Event {
     /// The moment, in milliseconds.
     pub now: u64,
@@ -13,11 +12,32 @@ pub struct Event {
     pub what: What,
 }
 
+impl Drop for Event {
+    fn drop(self) {
+        let Event {
+            now: _,
+            salt: _,
+            what: _,
+        } = self;
+    }
+}
+
 /// What happens.
-#[derive(Drop)]
 pub enum What {
     /// Bytes came from a telephone. Contracts see them as a list.
     Datagram { source: Addr, bytes: Text<'static> },
     /// The moment of a timer may have come.
     Due,
+}
+
+impl Drop for What {
+    fn drop(self) {
+        match self {
+            What::Datagram {
+                source: _,
+                bytes: _,
+            } => {}
+            What::Due => {}
+        }
+    }
 }

@@ -20,11 +20,20 @@ use std::alloc::{AllocError, Global};
 use std::marker::Model;
 
 /// Pairs of ports, each of which one call may hold, and the rows of these calls.
-#[derive(Drop)]
 pub struct Pool {
     alloc: Global,
     holdings: Vec<Holding>,
     table: RelayTable,
+}
+
+impl Drop for Pool {
+    fn drop(self) {
+        let Pool {
+            alloc: _,
+            holdings: _,
+            table: _,
+        } = self;
+    }
 }
 
 impl Model for Pool {

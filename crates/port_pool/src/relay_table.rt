@@ -14,9 +14,14 @@ const PORTS: usize = 65_536;
 
 /// Where the datagrams of each port of the server go: a finite map from a port to a place and a sending port. It is made
 /// once, with room for a row at every port.
-#[derive(Drop)]
 pub struct RelayTable {
     slots: Vec<Option<Hop>>,
+}
+
+impl Drop for RelayTable {
+    fn drop(self) {
+        let RelayTable { slots: _ } = self;
+    }
 }
 
 impl Model for RelayTable {

@@ -8,13 +8,24 @@ use text::Text;
 /// A contact of a user, with the moment in milliseconds at which it is over, and the Call-ID and number of the
 /// REGISTER that made or refreshed it last. Of two bindings of a user, the one whose `refreshed` is greater was
 /// refreshed later; the numbers are given anew by each REGISTER.
-#[derive(Drop)]
 pub struct Binding {
     pub uri: Uri<'static>,
     pub expires_at: u64,
     pub call_id: Text<'static>,
     pub cseq: u32,
     pub refreshed: u32,
+}
+
+impl Drop for Binding {
+    fn drop(self) {
+        let Binding {
+            uri: _,
+            expires_at: _,
+            call_id: _,
+            cseq: _,
+            refreshed: _,
+        } = self;
+    }
 }
 
 impl Binding {
@@ -53,9 +64,14 @@ impl Binding {
 }
 
 /// Bindings, oldest first, which contracts see as a list.
-#[derive(Drop)]
 pub(crate) struct Bindings {
     entries: Vec<Binding>,
+}
+
+impl Drop for Bindings {
+    fn drop(self) {
+        let Bindings { entries: _ } = self;
+    }
 }
 
 impl Model for Bindings {

@@ -6,10 +6,15 @@ use text::Text;
 
 /// A value of Contact that is no star: its URI, none where the value cannot be read as a URI of the scheme `sip`, and
 /// the seconds that its own parameter `expires` gives.
-#[derive(Drop)]
 pub struct Contact<'a> {
     pub uri: Option<Uri<'a>>,
     pub expires: Option<u32>,
+}
+
+impl Drop for Contact<'_> {
+    fn drop(self) {
+        let Contact { uri: _, expires: _ } = self;
+    }
 }
 
 /// Contacts in order, which contracts see as a list.
@@ -54,7 +59,6 @@ impl<'a> Contacts<'a> {
 
 /// A REGISTER (RFC 3261 section 10.2): the user that its To names, whether `*` stands among its contacts, the other
 /// contacts, a further `*` being one without a URI, the seconds of its header Expires, and its Call-ID and number.
-#[derive(Drop)]
 pub struct Register<'a> {
     pub user: Option<Text<'a>>,
     pub star: bool,
@@ -62,4 +66,17 @@ pub struct Register<'a> {
     pub expires: Option<u32>,
     pub call_id: Text<'a>,
     pub cseq: u32,
+}
+
+impl Drop for Register<'_> {
+    fn drop(self) {
+        let Register {
+            user: _,
+            star: _,
+            contacts: _,
+            expires: _,
+            call_id: _,
+            cseq: _,
+        } = self;
+    }
 }

@@ -24,7 +24,6 @@ use std::marker::Model;
 use text::{Text, Texts};
 
 /// The bindings of each user of the office (RFC 3261 section 10.3).
-#[derive(Drop)]
 pub struct Registrar {
     alloc: Global,
     entries: Vec<UserBindings>,
@@ -32,6 +31,19 @@ pub struct Registrar {
     sip_port: u16,
     domain: Text<'static>,
     min_expires: u32,
+}
+
+impl Drop for Registrar {
+    fn drop(self) {
+        let Registrar {
+            alloc: _,
+            entries: _,
+            ip: _,
+            sip_port: _,
+            domain: _,
+            min_expires: _,
+        } = self;
+    }
 }
 
 impl Model for Registrar {

@@ -10,10 +10,18 @@ use std::alloc::{AllocError, Global};
 use text::{Text, Texts};
 
 /// A user and its bindings.
-#[derive(Drop)]
 pub(crate) struct UserBindings {
     pub user: Text<'static>,
     pub bindings: Bindings,
+}
+
+impl Drop for UserBindings {
+    fn drop(self) {
+        let UserBindings {
+            user: _,
+            bindings: _,
+        } = self;
+    }
 }
 
 /// These users, without bindings.

@@ -11,17 +11,30 @@ pub struct Addr {
 }
 
 /// Where a URI leads: the four octets of an IPv4 address, or a host name as written.
-#[derive(Drop)]
 pub enum Host<'a> {
     Ip4([u8; 4]),
     Name(Text<'a>),
 }
 
+impl Drop for Host<'_> {
+    fn drop(self) {
+        match self {
+            Host::Ip4(_) => {}
+            Host::Name(_) => {}
+        }
+    }
+}
+
 /// A parameter, as written: `name` or `name=value`.
-#[derive(Drop)]
 pub struct Param<'a> {
     pub name: Text<'a>,
     pub value: Option<Text<'a>>,
+}
+
+impl Drop for Param<'_> {
+    fn drop(self) {
+        let Param { name: _, value: _ } = self;
+    }
 }
 
 /// Parameters in order, which contracts see as a list.
@@ -65,7 +78,6 @@ impl<'a> Params<'a> {
 }
 
 /// A URI of the scheme `sip` (RFC 3261 section 19.1.1). The user has its escapes undone, and has the password in it.
-#[derive(Drop)]
 pub struct Uri<'a> {
     pub user: Option<Text<'a>>,
     pub host: Host<'a>,
@@ -74,11 +86,32 @@ pub struct Uri<'a> {
     pub headers: Params<'a>,
 }
 
+impl Drop for Uri<'_> {
+    fn drop(self) {
+        let Uri {
+            user: _,
+            host: _,
+            port: _,
+            params: _,
+            headers: _,
+        } = self;
+    }
+}
+
 /// A URI with a display name and the parameters of its header, as in From, To and Contact (RFC 3261 section 20.10).
 /// The display is the text between the quotation marks, as written.
-#[derive(Drop)]
 pub struct NameAddr<'a> {
     pub display: Option<Text<'a>>,
     pub uri: Uri<'a>,
     pub params: Params<'a>,
+}
+
+impl Drop for NameAddr<'_> {
+    fn drop(self) {
+        let NameAddr {
+            display: _,
+            uri: _,
+            params: _,
+        } = self;
+    }
 }
