@@ -8,6 +8,7 @@ use sdp::{
     write_description,
 };
 use std::alloc::{AllocError, Global};
+use std::mem;
 
 /// The lines v, o and s, which stand before those of a row.
 const FRONT: &[u8] = b"v=0\r\no=- 1 1 IN IP4 a\r\ns=-\r\n";
@@ -70,28 +71,22 @@ pub(crate) fn put_last_description(
     outcome_after(description, outcome)
 }
 
-/// A description, taken apart and made again.
-fn remade(description: Description<'_>) -> Description<'_> {
-    let Description {
-        origin,
-        before,
-        connection,
-        after,
-        media,
-    } = description;
-    Description {
-        origin,
-        before: Lines::from_vec(before.into_vec()),
-        connection,
-        after,
-        media: MediaList::from_vec(media.into_vec()),
-    }
+/// A description whose lines and media are taken out and put in again.
+fn remade(alloc: Global, mut description: Description<'_>) -> Description<'_> {
+    let lines = mem::replace(&mut description.before, Lines::from_vec(Vec::new(alloc)));
+    let _ = mem::replace(&mut description.before, Lines::from_vec(lines.into_vec()));
+    let media = mem::replace(&mut description.media, MediaList::from_vec(Vec::new(alloc)));
+    let _ = mem::replace(
+        &mut description.media,
+        MediaList::from_vec(media.into_vec()),
+    );
+    description
 }
 
-/// A description, read, taken apart and made again, as it is written.
+/// A description, read and remade, as it is written.
 fn put_remade(alloc: Global, out: &mut String, text: &[u8]) -> Result<(), AllocError> {
     match read_description(alloc, text) {
-        Ok(description) => put_last_description(alloc, out, remade(description)),
+        Ok(description) => put_last_description(alloc, out, remade(alloc, description)),
         Err(fault) => put_fault(out, fault),
     }
 }

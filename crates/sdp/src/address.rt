@@ -3,7 +3,6 @@
 use text::Text;
 
 /// The address of a `c=` line (RFC 4566 section 5.7), of the network type `IN`.
-#[derive(Drop)]
 pub enum Address<'a> {
     /// Address type `IP4`: the four octets of a unicast address, which is below 224.0.0.0.
     Ip4([u8; 4]),
@@ -13,4 +12,15 @@ pub enum Address<'a> {
     Ip6(Text<'a>),
     /// Address type `IP4`: a host name, as written.
     Name(Text<'a>),
+}
+
+impl Drop for Address<'_> {
+    fn drop(self) {
+        match self {
+            Address::Ip4(_) => {}
+            Address::Multicast(_) => {}
+            Address::Ip6(_) => {}
+            Address::Name(_) => {}
+        }
+    }
 }

@@ -7,7 +7,6 @@ use text::{Text, Texts};
 
 /// The fields of an `o=` line (RFC 4566 section 5.2), as written. Of a description that was read the id and the version are
 /// decimal digits.
-#[derive(Drop)]
 pub struct Origin<'a> {
     pub username: Text<'a>,
     pub id: Text<'a>,
@@ -17,9 +16,21 @@ pub struct Origin<'a> {
     pub address: Text<'a>,
 }
 
+impl Drop for Origin<'_> {
+    fn drop(self) {
+        let Origin {
+            username: _,
+            id: _,
+            version: _,
+            network_type: _,
+            address_type: _,
+            address: _,
+        } = self;
+    }
+}
+
 /// A medium: an `m=` line and what stands under it (RFC 4566 sections 5 and 5.14). Of a description that was read a count is 1 or
 /// more, and there is a format.
-#[derive(Drop)]
 pub struct Media<'a> {
     /// What is sent, as `audio`.
     pub kind: Text<'a>,
@@ -37,6 +48,21 @@ pub struct Media<'a> {
     pub connection: Option<Address<'a>>,
     /// The lines behind those: `b`, `k` and `a`.
     pub after: Lines<'a>,
+}
+
+impl Drop for Media<'_> {
+    fn drop(self) {
+        let Media {
+            kind: _,
+            port: _,
+            count: _,
+            proto: _,
+            formats: _,
+            info: _,
+            connection: _,
+            after: _,
+        } = self;
+    }
 }
 
 /// Media in order, which contracts see as a list.
@@ -80,7 +106,6 @@ impl<'a> MediaList<'a> {
 }
 
 /// A description of a session (RFC 4566 section 5), of version 0.
-#[derive(Drop)]
 pub struct Description<'a> {
     pub origin: Origin<'a>,
     /// The lines between `o=` and the session's `c=`: `s`, `i`, `u`, `e` and `p`.
@@ -90,4 +115,16 @@ pub struct Description<'a> {
     /// The session's lines behind those: `b`, `t`, `r`, `z`, `k` and `a`.
     pub after: Lines<'a>,
     pub media: MediaList<'a>,
+}
+
+impl Drop for Description<'_> {
+    fn drop(self) {
+        let Description {
+            origin: _,
+            before: _,
+            connection: _,
+            after: _,
+            media: _,
+        } = self;
+    }
 }

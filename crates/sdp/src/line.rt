@@ -5,10 +5,18 @@ use text::Text;
 
 /// A line `type=value` (RFC 4566 section 5): the type is one letter, whose case counts. Of a description that was read the value
 /// is any bytes but NUL, CR and LF.
-#[derive(Drop)]
 pub struct Line<'a> {
     pub letter: u8,
     pub value: Text<'a>,
+}
+
+impl Drop for Line<'_> {
+    fn drop(self) {
+        let Line {
+            letter: _,
+            value: _,
+        } = self;
+    }
 }
 
 /// Lines in order, which contracts see as a list.

@@ -11,10 +11,18 @@ use text::{Text, cut_word, is_run_of_digits, is_run_of_token, number_upto, witho
 const GREATEST_NUMBER: u32 = 2_147_483_647;
 
 /// A sequence number and a method.
-#[derive(Drop)]
 pub struct CSeq<'a> {
     pub number: u32,
     pub method: Text<'a>,
+}
+
+impl Drop for CSeq<'_> {
+    fn drop(self) {
+        let CSeq {
+            number: _,
+            method: _,
+        } = self;
+    }
 }
 
 /// The value, and its text as received, unfolded and trimmed.

@@ -20,9 +20,14 @@ enum Form<'a> {
 
 /// The value of a header field without blanks at its ends, each line end in it, and the blanks around that, read as one space
 /// (RFC 3261 section 7.3.1). Contracts see it as a list of bytes, wherever it stands.
-#[derive(Drop)]
 pub struct FieldValue<'a> {
     form: Form<'a>,
+}
+
+impl Drop for FieldValue<'_> {
+    fn drop(self) {
+        let FieldValue { form: _ } = self;
+    }
 }
 
 impl<'a> Model for FieldValue<'a> {

@@ -12,7 +12,6 @@ use text::Text;
 
 /// What an answer repeats of its request: the values of these header fields, and beside them the texts of From, To
 /// and CSeq as received, unfolded and trimmed (RFC 3261 section 8.2.6.2).
-#[derive(Drop)]
 pub struct Parts<'a> {
     pub vias: Vias<'a>,
     pub from: NameAddr<'a>,
@@ -22,6 +21,21 @@ pub struct Parts<'a> {
     pub from_text: Text<'a>,
     pub to_text: Text<'a>,
     pub cseq_text: Text<'a>,
+}
+
+impl Drop for Parts<'_> {
+    fn drop(self) {
+        let Parts {
+            vias: _,
+            from: _,
+            to: _,
+            call_id: _,
+            cseq: _,
+            from_text: _,
+            to_text: _,
+            cseq_text: _,
+        } = self;
+    }
 }
 
 /// The parts of these values. With no way out it keeps the proofs of those that read or copy them short.
@@ -47,7 +61,6 @@ pub fn parts_with<'a>(
 }
 
 /// A request (RFC 3261 section 7.1). `headers` are all header fields in order but Content-Length, which the body says.
-#[derive(Drop)]
 pub struct Request<'a> {
     pub method: Text<'a>,
     pub uri: Uri<'a>,
@@ -58,8 +71,20 @@ pub struct Request<'a> {
     pub body: Text<'a>,
 }
 
+impl Drop for Request<'_> {
+    fn drop(self) {
+        let Request {
+            method: _,
+            uri: _,
+            parts: _,
+            max_forwards: _,
+            headers: _,
+            body: _,
+        } = self;
+    }
+}
+
 /// An answer (RFC 3261 section 7.2). `headers` are all header fields in order but Content-Length, which the body says.
-#[derive(Drop)]
 pub struct Response<'a> {
     /// 100 to 699.
     pub status: u16,
@@ -69,9 +94,29 @@ pub struct Response<'a> {
     pub body: Text<'a>,
 }
 
+impl Drop for Response<'_> {
+    fn drop(self) {
+        let Response {
+            status: _,
+            reason: _,
+            parts: _,
+            headers: _,
+            body: _,
+        } = self;
+    }
+}
+
 /// A message.
-#[derive(Drop)]
 pub enum Message<'a> {
     Request(Request<'a>),
     Response(Response<'a>),
+}
+
+impl Drop for Message<'_> {
+    fn drop(self) {
+        match self {
+            Message::Request(_) => {}
+            Message::Response(_) => {}
+        }
+    }
 }

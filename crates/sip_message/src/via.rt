@@ -22,12 +22,22 @@ use text::{
 };
 
 /// Where an answer goes (RFC 3261 section 18.2.2). `sent_by` is host and port as received, without blanks.
-#[derive(Drop)]
 pub struct Via<'a> {
     pub sent_by: Text<'a>,
     pub host: Host<'a>,
     pub port: Option<u16>,
     pub params: Params<'a>,
+}
+
+impl Drop for Via<'_> {
+    fn drop(self) {
+        let Via {
+            sent_by: _,
+            host: _,
+            port: _,
+            params: _,
+        } = self;
+    }
 }
 
 /// Via values, the top one first.

@@ -5,7 +5,6 @@
 
 mod body;
 mod laws;
-mod letting_go;
 mod message;
 mod read;
 

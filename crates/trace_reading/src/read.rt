@@ -7,7 +7,6 @@ ghost use Rattle.sip_message.specs.Grammar.{ReadsMessage, IsWithin, Refuses};
 ghost use Rattle.trace_reading.specs.Message.{trace_message};
 ghost use Rattle.trace_reading.specs.Read.{Shows, read_of};
 
-use crate::letting_go::let_message_go;
 use crate::message::trace_message;
 use call_trace::Message as TraceMessage;
 use sip_message::{Message, MessageError, read_message};
@@ -31,7 +30,6 @@ fn shown_last(
     ensures { Gives result (Ok (trace_message bytes.now message.entry)) }
 {
     let seen = shown(alloc, bytes, &message);
-    let_message_go(message);
     seen
 }
 
