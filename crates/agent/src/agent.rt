@@ -30,7 +30,6 @@ use std::marker::Model;
 use transactions::Table;
 
 /// The server as one value: a step takes an event, and gives what is sent.
-#[derive(Drop)]
 pub struct Agent {
     pub(crate) alloc: Global,
     pub(crate) registrar: Registrar,
@@ -51,6 +50,25 @@ pub struct Agent {
     /// How many tokens were made.
     pub(crate) tokens: u64,
     pub(crate) tally: Tally,
+}
+
+impl Drop for Agent {
+    fn drop(self) {
+        let Agent {
+            alloc: _,
+            registrar: _,
+            table: _,
+            calls: _,
+            acks: _,
+            changes: _,
+            server: _,
+            range: _,
+            least: _,
+            moment: _,
+            tokens: _,
+            tally: _,
+        } = self;
+    }
 }
 
 impl Model for Agent {

@@ -53,9 +53,14 @@ pub enum Action {
 }
 
 /// Actions in order, which contracts see as a list.
-#[derive(Drop)]
 pub struct Actions {
     actions: Vec<Action>,
+}
+
+impl Drop for Actions {
+    fn drop(self) {
+        let Actions { actions: _ } = self;
+    }
 }
 
 impl Model for Actions {

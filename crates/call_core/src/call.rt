@@ -14,7 +14,6 @@ use offer_answer::OwnRange;
 use sip_uri::Uri;
 
 /// A call: where it stands, its media, and the dialogs with its two ends.
-#[derive(Drop)]
 pub struct Call {
     pub(crate) number: u64,
     /// None before the first offer, and once the call is gone.
@@ -23,6 +22,18 @@ pub struct Call {
     pub(crate) caller: Dialog,
     /// None before the callee's first 2xx.
     pub(crate) callee: Option<Dialog>,
+}
+
+impl Drop for Call {
+    fn drop(self) {
+        let Call {
+            number: _,
+            standing: _,
+            media: _,
+            caller: _,
+            callee: _,
+        } = self;
+    }
 }
 
 /// The other side of this dialog is reached at this target from now on.

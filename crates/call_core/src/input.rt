@@ -9,7 +9,6 @@ use sdp::Description;
 
 /// What reaches a call. The responses are those to the open offer, which the end across from the offerer gives. A body that is
 /// missing, of another type or encoding, or unreadable is no description.
-#[derive(Drop)]
 pub enum Input<'d> {
     /// An offer of this end, inside the call.
     Offer(End, OfferMethod, Option<Description<'d>>),
@@ -33,6 +32,24 @@ pub enum Input<'d> {
     Repeat,
     /// No ACK came in time (section 13.3.1.4).
     Wait,
+}
+
+impl Drop for Input<'_> {
+    fn drop(self) {
+        match self {
+            Input::Offer(_, _, _) => {}
+            Input::Provisional(_) => {}
+            Input::Answer(_) => {}
+            Input::Refusal(_) => {}
+            Input::TimedOut => {}
+            Input::Ack => {}
+            Input::Cancel => {}
+            Input::Bye(_) => {}
+            Input::Limit => {}
+            Input::Repeat => {}
+            Input::Wait => {}
+        }
+    }
 }
 
 impl Input<'_> {

@@ -7,9 +7,14 @@ use sdp::Description;
 use std::marker::Model;
 
 /// The pairs of media in order, which contracts see as a list: none for a medium without pairs.
-#[derive(Drop)]
 pub struct Seats {
     seats: Vec<Option<Seat>>,
+}
+
+impl Drop for Seats {
+    fn drop(self) {
+        let Seats { seats: _ } = self;
+    }
 }
 
 impl Model for Seats {
@@ -39,9 +44,14 @@ impl Seats {
 }
 
 /// Pairs in order, which contracts see as a list.
-#[derive(Drop)]
 pub struct Pairs {
     pairs: Vec<Pair>,
+}
+
+impl Drop for Pairs {
+    fn drop(self) {
+        let Pairs { pairs: _ } = self;
+    }
 }
 
 impl Model for Pairs {
@@ -84,7 +94,6 @@ pub struct OpenOffer {
 }
 
 /// The descriptions of the last exchange, which both ends go by.
-#[derive(Drop)]
 pub struct Session {
     /// The end that offered.
     pub offerer: End,
@@ -96,6 +105,19 @@ pub struct Session {
     pub answer_taken: Description<'static>,
     /// The pairs that its media use.
     pub pairs: Pairs,
+}
+
+impl Drop for Session {
+    fn drop(self) {
+        let Session {
+            offerer: _,
+            offer_taken: _,
+            answer_sent: _,
+            offer_sent: _,
+            answer_taken: _,
+            pairs: _,
+        } = self;
+    }
 }
 
 /// What leads to the rows of a session in place of its call's former ones, and the pairs that they are of.

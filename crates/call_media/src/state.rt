@@ -5,13 +5,24 @@ use crate::versions::Versions;
 use offer_answer::OwnRange;
 
 /// The media of one call: its session, and an offer that was passed on, if any.
-#[derive(Drop)]
 pub struct CallMedia {
     pub(crate) number: u64,
     pub(crate) range: OwnRange,
     pub(crate) versions: Versions,
     pub(crate) offer: Option<OpenOffer>,
     pub(crate) session: Option<Session>,
+}
+
+impl Drop for CallMedia {
+    fn drop(self) {
+        let CallMedia {
+            number: _,
+            range: _,
+            versions: _,
+            offer: _,
+            session: _,
+        } = self;
+    }
 }
 
 impl CallMedia {

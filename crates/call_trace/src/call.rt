@@ -4,12 +4,22 @@ use crate::datagram::{Dialog, Message};
 use sdp::Description;
 
 /// The four descriptions of a session (RFC 3264): one end offers and the other answers, each through the server.
-#[derive(Drop)]
 pub struct Session {
     pub offer_taken: Description<'static>,
     pub answer_sent: Description<'static>,
     pub offer_sent: Description<'static>,
     pub answer_taken: Description<'static>,
+}
+
+impl Drop for Session {
+    fn drop(self) {
+        let Session {
+            offer_taken: _,
+            answer_sent: _,
+            offer_sent: _,
+            answer_taken: _,
+        } = self;
+    }
 }
 
 /// A session, and which end offered it.
@@ -20,7 +30,6 @@ pub struct Settled {
 }
 
 /// How far a call has come.
-#[derive(Drop)]
 pub enum Stage {
     /// The callee was asked and has not answered. A call that is cancelled is listed no more.
     Asked,
@@ -30,8 +39,17 @@ pub enum Stage {
     Ending(bool),
 }
 
+impl Drop for Stage {
+    fn drop(self) {
+        match self {
+            Stage::Asked => {}
+            Stage::Answered(_) => {}
+            Stage::Ending(_) => {}
+        }
+    }
+}
+
 /// An offer that was passed on and has no final response yet.
-#[derive(Drop)]
 pub struct Offer {
     pub by_caller: bool,
     /// The request that was taken.
@@ -40,12 +58,32 @@ pub struct Offer {
     pub went: Message,
 }
 
+impl Drop for Offer {
+    fn drop(self) {
+        let Offer {
+            by_caller: _,
+            came: _,
+            went: _,
+        } = self;
+    }
+}
+
 /// A call of two dialogs.
-#[derive(Drop)]
 pub struct Call {
     pub caller: Dialog,
     /// The callee's tag is empty until it answers.
     pub callee: Dialog,
     pub stage: Stage,
     pub offer: Option<Offer>,
+}
+
+impl Drop for Call {
+    fn drop(self) {
+        let Call {
+            caller: _,
+            callee: _,
+            stage: _,
+            offer: _,
+        } = self;
+    }
 }

@@ -18,7 +18,6 @@ pub enum Kind {
 }
 
 /// A message as the grammar reads it, whether or not the server refused it.
-#[derive(Drop)]
 pub struct Message {
     pub kind: Kind,
     /// The branch of the top Via.
@@ -38,20 +37,55 @@ pub struct Message {
     pub bytes: Text<'static>,
 }
 
+impl Drop for Message {
+    fn drop(self) {
+        let Message {
+            kind: _,
+            branch: _,
+            call_id: _,
+            from_tag: _,
+            to_tag: _,
+            number: _,
+            method: _,
+            description: _,
+            bytes: _,
+        } = self;
+    }
+}
+
 /// A datagram of a trace. The event is the number of the step in which it was taken or sent.
-#[derive(Drop)]
 pub struct Datagram {
     pub event: u64,
     pub direction: Direction,
     pub message: Message,
 }
 
+impl Drop for Datagram {
+    fn drop(self) {
+        let Datagram {
+            event: _,
+            direction: _,
+            message: _,
+        } = self;
+    }
+}
+
 /// What names a dialog at this server (RFC 3261 section 12): an absent tag is the empty text.
-#[derive(Drop, PartialEq, Eq)]
+#[derive(PartialEq, Eq)]
 pub struct Dialog {
     pub call_id: Text<'static>,
     /// The tag that this server gave.
     pub ours: Text<'static>,
     /// The tag that the other end gave.
     pub theirs: Text<'static>,
+}
+
+impl Drop for Dialog {
+    fn drop(self) {
+        let Dialog {
+            call_id: _,
+            ours: _,
+            theirs: _,
+        } = self;
+    }
 }

@@ -38,7 +38,6 @@ pub struct TakenOffer {
 }
 
 /// A call, with what the server keeps beside it.
-#[derive(Drop)]
 pub struct StandingCall {
     pub call: Call,
     /// The tag of From in what the server sends the callee, which names that leg before there is a dialog.
@@ -49,4 +48,16 @@ pub struct StandingCall {
     pub target: Option<Uri<'static>>,
     /// The 200 to it, which goes again until its ACK comes.
     pub answer: Option<Sent>,
+}
+
+impl Drop for StandingCall {
+    fn drop(self) {
+        let StandingCall {
+            call: _,
+            callee_tag: _,
+            asked: _,
+            target: _,
+            answer: _,
+        } = self;
+    }
 }

@@ -14,13 +14,23 @@ use std::marker::Model;
 use timers::Timers;
 
 /// The calls that stand, in the order in which they began, and the pool that serves them.
-#[derive(Drop)]
 pub struct Calls {
     pub(crate) calls: Vec<StandingCall>,
     pub(crate) pool: Pool,
     /// How many calls began.
     pub(crate) begun: u64,
     pub(crate) timers: Timers<CallTimerId>,
+}
+
+impl Drop for Calls {
+    fn drop(self) {
+        let Calls {
+            calls: _,
+            pool: _,
+            begun: _,
+            timers: _,
+        } = self;
+    }
 }
 
 impl Model for Calls {

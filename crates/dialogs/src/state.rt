@@ -5,10 +5,15 @@ use sip_uri::Uri;
 use text::Text;
 
 /// An end of a dialog, as From and To name it: display and URI, without the tag.
-#[derive(Drop)]
 pub struct Party {
     pub display: Option<Text<'static>>,
     pub uri: Uri<'static>,
+}
+
+impl Drop for Party {
+    fn drop(self) {
+        let Party { display: _, uri: _ } = self;
+    }
 }
 
 /// The state of a dialog (RFC 3261 section 12). No route set is kept: the server sends each request to the target.

@@ -6,11 +6,16 @@ ghost use Rattle.std.specs.Option.{option_copied};
 use events::Sent;
 
 /// The ACK of a 2xx, which goes again where that 2xx comes again (RFC 3261 section 13.2.2.4).
-#[derive(Drop)]
 pub struct KeptAck {
     /// The number of the transaction of its INVITE.
     pub id: usize,
     pub sent: Sent,
+}
+
+impl Drop for KeptAck {
+    fn drop(self) {
+        let KeptAck { id: _, sent: _ } = self;
+    }
 }
 
 /// What changes among the ACKs that go again.

@@ -37,11 +37,20 @@ use transaction_machines::{Input, advance, is_server};
 
 /// The transactions of the server (RFC 3261 section 17), each with a number, and their timers. Moments are in
 /// milliseconds.
-#[derive(Drop)]
 pub struct Table {
     pub(crate) alloc: Global,
     pub(crate) slots: Vec<Slot>,
     pub(crate) timers: Timers<TimerId>,
+}
+
+impl Drop for Table {
+    fn drop(self) {
+        let Table {
+            alloc: _,
+            slots: _,
+            timers: _,
+        } = self;
+    }
 }
 
 impl Model for Table {

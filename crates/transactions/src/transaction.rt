@@ -26,7 +26,6 @@ pub struct TimerId {
 }
 
 /// A transaction: the request that began it, its state, and what it sends again.
-#[derive(Drop)]
 pub struct Transaction {
     /// The Request-URI.
     pub uri: Uri<'static>,
@@ -36,6 +35,18 @@ pub struct Transaction {
     pub place: Addr,
     /// What it sent last: its request, an answer, or the ACK to a refusal. None where nothing was sent.
     pub last: Option<Text<'static>>,
+}
+
+impl Drop for Transaction {
+    fn drop(self) {
+        let Transaction {
+            uri: _,
+            parts: _,
+            state: _,
+            place: _,
+            last: _,
+        } = self;
+    }
 }
 
 /// The transaction that a request of another begins.
