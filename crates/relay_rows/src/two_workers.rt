@@ -1,12 +1,11 @@
-//! Two workers of `relay` in threads of their own, each with one datagram, whose sends wait for each other: both succeed only where
+//! Two workers in threads of their own, each with one datagram, whose sends wait for each other: both succeed only where
 //! neither keeps the other out. Then a row changes, one worker learns it, and its next datagram goes where the row leads now.
-#![tactic(auto)]
+//! The same with each receive and each send failing in turn: a receive that fails loses nothing, and a send its datagram alone.
 
-mod gate;
-
-use crate::gate::{Flags, Gate, Outgoing};
+use crate::boards::open_board;
+use crate::gate::{Failing, Flags, Gate, Outgoing};
 use port_pool::{Change, Hop};
-use relay::{Board, Unopened, Viewer, Worker, serve_media};
+use relay::{Board, TurnFault, Viewer, Worker, serve_media};
 use rows::{put_address, put_shown};
 use sip_uri::Addr;
 use std::alloc::AllocError;
@@ -30,6 +29,33 @@ const CALLER_AGAIN: Addr = Addr {
     ip: [192, 0, 2, 10],
     port: 5010,
 };
+
+/// What fails, at the worker of which port.
+#[derive(Clone, Copy)]
+struct Case {
+    words: &'static str,
+    port: u16,
+    failing: Failing,
+}
+
+impl Case {
+    fn new(words: &'static str, port: u16, failing: Failing) -> Case {
+        Case {
+            words,
+            port,
+            failing,
+        }
+    }
+
+    /// What fails at the worker of this port.
+    fn at(&self, port: u16) -> Failing {
+        if port == self.port {
+            self.failing
+        } else {
+            Failing::Nothing
+        }
+    }
+}
 
 fn let_go<T: Drop>(_value: T) {}
 
@@ -58,8 +84,9 @@ fn worker_of<R: Clock + AllocGlobal + Clone + Drop>(
     viewer: Viewer,
     flags: Flags,
     port: u16,
+    case: Case,
 ) -> Result<Worker<Gate<R>>, AllocError> {
-    let mut gate = Gate::new(rt.clone()?, rt.alloc(), flags);
+    let mut gate = Gate::new(rt.clone()?, rt.alloc(), flags, case.at(port));
     gate.put(port, b"abc")?;
     match Worker::new(rt.alloc(), viewer, gate) {
         Ok(worker) => Ok(worker),
@@ -86,15 +113,16 @@ fn workers_of<R: Clock + AllocGlobal + Clone + Drop>(
     rt: &R,
     viewers: Vec<Viewer>,
     stop: &Arc<AtomicBool>,
+    case: Case,
 ) -> Result<Vec<Worker<Gate<R>>>, AllocError> {
     let left = Arc::new(rt.alloc(), AtomicBool::new(false))?;
     let right = Arc::new(rt.alloc(), AtomicBool::new(false))?;
     let mut workers = Vec::new(rt.alloc());
     for viewer in viewers {
         let worker = if workers.is_empty() {
-            worker_of(rt, viewer, flags_of(&left, &right, stop)?, 40_000)?
+            worker_of(rt, viewer, flags_of(&left, &right, stop)?, 40_000, case)?
         } else {
-            worker_of(rt, viewer, flags_of(&right, &left, stop)?, 40_002)?
+            worker_of(rt, viewer, flags_of(&right, &left, stop)?, 40_002, case)?
         };
         workers.push(worker)?;
     }
@@ -112,9 +140,8 @@ fn publish<R: Wait + AllocGlobal>(
     }
 }
 
-/// The last worker learns what is published, and takes one more datagram.
+/// The last worker learns what is published, and takes one more datagram, in its next turn where it can't receive.
 fn put_later<R: Clock>(
-    out: &mut String,
     board: &mut Board,
     workers: &mut Vec<Worker<Gate<R>>>,
 ) -> Result<(), AllocError> {
@@ -126,8 +153,8 @@ fn put_later<R: Clock>(
     };
     worker.learn(stamp);
     worker.socket.put(40_002, b"de")?;
-    if worker.turn().is_err() {
-        return out.push_str("a failed turn\n");
+    if worker.turn() == Err(TurnFault::Receive) {
+        let _ = worker.turn();
     }
     Ok(())
 }
@@ -136,6 +163,7 @@ fn drive<R: Threads + Wait + Clock + AllocGlobal + Sync + Send + Clone + Drop>(
     rt: &R,
     board: &mut Board,
     viewers: Vec<Viewer>,
+    case: Case,
 ) -> Result<String, AllocError> {
     publish(
         rt,
@@ -143,28 +171,44 @@ fn drive<R: Threads + Wait + Clock + AllocGlobal + Sync + Send + Clone + Drop>(
         &[put(40_000, CALLEE, 40_002), put(40_002, CALLER, 40_000)],
     )?;
     let stop = Arc::new(rt.alloc(), AtomicBool::new(false))?;
-    let workers = workers_of(rt, viewers, &stop)?;
+    let workers = workers_of(rt, viewers, &stop, case)?;
     let mut workers = serve_media(rt, workers, &stop)?;
     publish(rt, board, &[put(40_002, CALLER_AGAIN, 40_000)])?;
     let mut out = String::new(rt.alloc());
-    put_later(&mut out, board, &mut workers)?;
+    put_later(board, &mut workers)?;
     for worker in &workers {
         put_worker(&mut out, worker)?;
     }
     Ok(out)
 }
 
-fn main(rt: HostRuntime) -> io::Result<()> {
-    let (mut board, viewers) = match Board::new(rt.alloc(), 2) {
-        Ok(made) => made,
-        Err(Unopened::Memory) => return Err(io::Error::from(AllocError)),
-        Err(Unopened::NoViewer(board)) => {
-            board.close(&rt);
-            return Err(io::Error::from(AllocError));
-        }
-    };
-    let sent = drive(&rt, &mut board, viewers);
-    board.close(&rt);
+fn tell_case<R: Print + Threads + Wait + Clock + AllocGlobal + Sync + Send + Clone + Drop>(
+    rt: &R,
+    case: Case,
+) -> io::Result<()> {
+    let (mut board, viewers) = open_board(rt)?;
+    let sent = drive(rt, &mut board, viewers, case);
+    board.close(rt);
     let sent = sent?;
-    print!(rt; "{sent}")
+    let words = case.words;
+    print!(rt; "{words}\n{sent}")
+}
+
+/// Prints what the two workers sent, a line each datagram, in each case.
+pub(crate) fn tell_sent<
+    R: Print + Threads + Wait + Clock + AllocGlobal + Sync + Send + Clone + Drop,
+>(rt: &R) -> io::Result<()> {
+    let cases = [
+        Case::new("nothing fails", 40_000, Failing::Nothing),
+        Case::new("40000: receive 1 fails", 40_000, Failing::Receive(1)),
+        Case::new("40000: send 1 fails", 40_000, Failing::Send(1)),
+        Case::new("40002: receive 1 fails", 40_002, Failing::Receive(1)),
+        Case::new("40002: send 1 fails", 40_002, Failing::Send(1)),
+        Case::new("40002: receive 2 fails", 40_002, Failing::Receive(2)),
+        Case::new("40002: send 2 fails", 40_002, Failing::Send(2)),
+    ];
+    for case in cases {
+        tell_case(rt, case)?;
+    }
+    Ok(())
 }

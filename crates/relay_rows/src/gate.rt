@@ -36,6 +36,14 @@ pub(crate) struct Flags {
     pub(crate) stop: Arc<AtomicBool>,
 }
 
+/// What fails of a socket, once: the receive or the send of one of its datagrams, counted from 1.
+#[derive(Clone, Copy)]
+pub(crate) enum Failing {
+    Nothing,
+    Receive(usize),
+    Send(usize),
+}
+
 /// Sockets that give what is in a list. A send sets its flag, and succeeds where it sees the other's.
 #[derive(Drop)]
 pub(crate) struct Gate<R> {
@@ -46,12 +54,13 @@ pub(crate) struct Gate<R> {
     inbox: Vec<Incoming>,
     next: usize,
     outbox: Vec<Outgoing>,
+    failing: Failing,
     failed: bool,
     ghost within: { next ≤ length inbox.items },
 }
 
 impl<R> Gate<R> {
-    pub(crate) fn new(rt: R, alloc: Global, flags: Flags) -> Gate<R> {
+    pub(crate) fn new(rt: R, alloc: Global, flags: Flags, failing: Failing) -> Gate<R> {
         Gate {
             rt,
             alloc,
@@ -60,6 +69,7 @@ impl<R> Gate<R> {
             inbox: Vec::new(alloc),
             next: 0,
             outbox: Vec::new(alloc),
+            failing,
             failed: false,
         }
     }
@@ -90,6 +100,11 @@ impl<R: Clock> MediaSocket for Gate<R> {
         if self.next >= self.inbox.len() {
             return Ok(None);
         }
+        if matches!(self.failing, Failing::Receive(place) if place == self.next + 1) {
+            self.failing = Failing::Nothing;
+            self.failed = true;
+            return Err(SocketFault);
+        }
         let incoming = &self.inbox[self.next];
         let length = incoming.bytes.len();
         if length > buffer.len() {
@@ -103,10 +118,11 @@ impl<R: Clock> MediaSocket for Gate<R> {
 
     fn send(&mut self, from: u16, to: Addr, bytes: &[u8]) -> Result<(), SocketFault> {
         self.failed = false;
+        let fails = matches!(self.failing, Failing::Send(place) if place == self.next);
         let met = meet(&self.rt, &self.flags.mine, &self.flags.other);
         let kept = Vec::from_slice(self.alloc, bytes);
         if let Ok(bytes) = kept {
-            if met && self.outbox.push(Outgoing { from, to, bytes }).is_ok() {
+            if met && !fails && self.outbox.push(Outgoing { from, to, bytes }).is_ok() {
                 return Ok(());
             }
         }
