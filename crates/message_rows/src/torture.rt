@@ -1,6 +1,4 @@
-//! Reads messages of the kinds that RFC 4475 lists, and says of each what the server makes of it: that it is read, or
-//! its first fault.
-#![tactic(auto)]
+//! Messages of the kinds that RFC 4475 lists, and what the server makes of each: that it is read, or its first fault.
 
 ghost use Rattle.std.specs.Prelude.{◌≡◌, Ok, None, IfSome, IfNone};
 ghost use Rattle.sip_message.specs.Faults.{Fails};
@@ -9,9 +7,10 @@ ghost use Rattle.sip_message.specs.declared.message.Message.{Message};
 
 use sip_message::{MessageError, read_message};
 use std::alloc::Global;
-use std::{env, fs, io};
+use std::fs::Files;
+use std::{fs, io};
 
-/// No fault, once the value that was read is let go: to let a message go where it was read takes minutes of proof.
+/// No fault, once the value that was read is let go.
 fn no_fault<T: Drop>(_value: T) -> Option<MessageError>
     ensures { result ≡ None }
 {
@@ -29,13 +28,11 @@ fn fault(alloc: Global, bytes: &[u8]) -> Option<MessageError>
     }
 }
 
-fn main(rt: HostRuntime) -> io::Result<()> {
-    for name in env::args(&rt)?.skip(1) {
-        let bytes = fs::read(&rt, name.as_str())?;
-        match fault(rt.alloc(), &bytes) {
-            None => println!(rt; "{name}: read")?,
-            Some(fault) => println!(rt; "{name}: {fault}")?,
-        }
+/// Prints what becomes of the message in the file of this name.
+pub(crate) fn tell_outcome<R: Print + Files + AllocGlobal>(rt: &R, name: &str) -> io::Result<()> {
+    let bytes = fs::read(rt, name)?;
+    match fault(rt.alloc(), &bytes) {
+        None => println!(rt; "{name}: read"),
+        Some(fault) => println!(rt; "{name}: {fault}"),
     }
-    Ok(())
 }
