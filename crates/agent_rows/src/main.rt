@@ -1,221 +1,152 @@
-//! Days of the example office: each line of standard input names a script of data/, which is played on an agent to which nothing
-//! has happened. Prints what is sent, in the form of scripts; then, moment by moment, what changed in the relay table; the calls that
-//! stand, the rows of the relay table, and who holds the example's ports; and a line with how the events were answered (in the order
-//! of `Tally`) and the moment of the next timer. An event that is lost for want of memory is taken once more.
+//! Rows of the agent and of its live turns. `day` and the name of a script of data/: what a day of the example office comes to.
+//!
+//! Turns of the live server over a wire in memory: an office at 127.0.0.1, with SIP at port 15060 and four pairs of relay ports
+//! from 41000. Such a line names a script of data/, and which of its sends fails: `none`, the one at a place, counted from 1, or
+//! `each` in turn. Prints what was sent, how many sends failed, and behind each event how many lists were published, the calls
+//! that stand and the rows of the relay table; where each fails in turn, whether all of that is as in the run without a failure.
+//! `receives` and a script: what stands after each of its datagrams, and whether that is the same where its receive fails once.
+//! Other lines are `serve`, so many turns, and how many receives in a row fail before one doesn't: how the signalling ends, and
+//! after how many receives and waits; `stopped`, the same with the stop flag set; and `salts`, the first two of a key of zeros.
 #![tactic(auto)]
 
-use agent::{Agent, Tally};
-use call_core::Phase;
-use calls::StandingCall;
-use configuration::{ConfigError, example_config};
-use events::{Event, Sent};
-use port_pool::{Change, RelayTable};
-use scripts::{ScriptError, put_call, put_hop, put_sent, read_script};
-use std::alloc::{AllocError, Global};
+mod days;
+mod memory_wire;
+mod playing;
+mod receiving;
+mod serving;
+mod state_text;
+
+use crate::days::day_text;
+use crate::playing::{Played, play};
+use crate::receiving::put_receives;
+use crate::serving::{salts_text, serve_text};
+use events::Event;
+use scripts::{ScriptError, read_script};
+use std::alloc::AllocError;
 use std::fs::Files;
 use std::io::Write;
+use std::sync::Wait;
 use std::{fs, io};
 
-fn put_words(out: &mut Vec<u8>, words: &str) -> Result<(), AllocError> {
-    out.extend_from_slice(words.as_bytes())?;
-    Ok(())
-}
-
-fn put_all_sent(out: &mut Vec<u8>, sent: &[Sent]) -> Result<(), AllocError> {
-    for datagram in sent {
-        put_sent(out, datagram)?;
-    }
-    Ok(())
-}
-
-fn put_tally(alloc: Global, out: &mut Vec<u8>, t: Tally) -> Result<(), AllocError> {
-    let first = format!(in alloc;
-        "done {} unread {} stray {} ack {}",
-        t.done, t.unread, t.stray, t.ack
-    )?;
-    put_words(out, first.as_str())?;
-    let second = format!(in alloc;
-        " no_branch {} clock {} spent {}",
-        t.no_branch, t.clock, t.spent
-    )?;
-    put_words(out, second.as_str())?;
-    let third = format!(in alloc; " shed {} idle {}", t.shed, t.idle)?;
-    put_words(out, third.as_str())
-}
-
-fn put_next(alloc: Global, out: &mut Vec<u8>, next: Option<u64>) -> Result<(), AllocError> {
-    match next {
-        Some(moment) => {
-            let words = format!(in alloc; ", next {moment}\n")?;
-            put_words(out, words.as_str())
-        }
-        None => put_words(out, ", nothing next\n"),
-    }
-}
-
-fn put_summary(alloc: Global, out: &mut Vec<u8>, agent: &Agent) -> Result<(), AllocError> {
-    put_tally(alloc, out, agent.tally())?;
-    put_next(alloc, out, agent.next_due())
-}
-
-// ---- calls, rows and pairs
-
-fn phase_word(phase: Option<Phase>) -> &'static [u8] {
-    match phase {
-        None => b"nowhere",
-        Some(Phase::Asked) => b"asked",
-        Some(Phase::Cancelling) => b"cancelling",
-        Some(Phase::Answered) => b"answered",
-        Some(Phase::Settled) => b"settled",
-        Some(Phase::Reasked) => b"reasked",
-        Some(Phase::Reanswered) => b"reanswered",
-        Some(Phase::Updating) => b"updating",
-        Some(Phase::Ending) => b"ending",
-    }
-}
-
-fn put_calls(out: &mut Vec<u8>, calls: &[StandingCall]) -> Result<(), AllocError> {
-    for call in calls {
-        put_call(out, call.call.number(), phase_word(call.call.phase()))?;
-    }
-    Ok(())
-}
-
-fn put_hop_at(out: &mut Vec<u8>, relay: &RelayTable, port: u16) -> Result<(), AllocError> {
-    match relay.hop(port) {
-        None => Ok(()),
-        Some(hop) => put_hop(out, port, hop),
-    }
-}
-
-fn put_hops(out: &mut Vec<u8>, relay: &RelayTable) -> Result<(), AllocError> {
-    for port in 40000..40016 {
-        put_hop_at(out, relay, port)?;
-    }
-    Ok(())
-}
-
-fn put_holder(
-    alloc: Global,
-    out: &mut Vec<u8>,
-    agent: &Agent,
-    port: u16,
-) -> Result<(), AllocError> {
-    match agent.holder(port) {
-        None => Ok(()),
-        Some(number) => {
-            let words = format!(in alloc; "held {port} {number}\n")?;
-            put_words(out, words.as_str())
-        }
-    }
-}
-
-fn put_holders(alloc: Global, out: &mut Vec<u8>, agent: &Agent) -> Result<(), AllocError> {
-    for port in 40000..40016 {
-        put_holder(alloc, out, agent, port)?;
-    }
-    Ok(())
-}
-
-fn put_change(alloc: Global, out: &mut Vec<u8>, change: Change) -> Result<(), AllocError> {
-    match change {
-        Change::Put(port, hop) => {
-            put_words(out, "put ")?;
-            put_hop(out, port, hop)
-        }
-        Change::Remove(port) => {
-            let words = format!(in alloc; "remove {port}\n")?;
-            put_words(out, words.as_str())
-        }
-    }
-}
-
-fn put_changes(
-    alloc: Global,
-    out: &mut Vec<u8>,
-    now: u64,
-    changes: &[Change],
-) -> Result<(), AllocError> {
-    for change in changes {
-        let words = format!(in alloc; "at {now} ")?;
-        put_words(out, words.as_str())?;
-        put_change(alloc, out, *change)?;
-    }
-    Ok(())
-}
-
-// ---- a day
-
-/// Takes an event; where it is lost, once more.
-fn step(agent: &mut Agent, event: &Event, sent: &mut Vec<Sent>) -> Result<(), AllocError> {
-    if agent.step(event, sent).is_err() {
-        agent.step(event, sent)?;
-    }
-    Ok(())
-}
-
-fn play_event(
-    alloc: Global,
-    out: &mut Vec<u8>,
-    changed: &mut Vec<u8>,
-    agent: &mut Agent,
-    event: &Event,
-) -> Result<(), AllocError> {
-    let mut sent = Vec::new(alloc);
-    step(agent, event, &mut sent)?;
-    put_all_sent(out, &sent)?;
-    put_changes(alloc, changed, event.now, agent.changes())
-}
-
-fn play(
-    alloc: Global,
-    out: &mut Vec<u8>,
-    agent: &mut Agent,
-    events: &[Event],
-) -> Result<(), AllocError> {
-    let mut changed = Vec::new(alloc);
-    for event in events {
-        play_event(alloc, out, &mut changed, agent, event)?;
-    }
-    out.append(&mut changed)?;
-    put_calls(out, agent.calls())?;
-    put_hops(out, agent.relay())?;
-    put_holders(alloc, out, agent)
-}
-
-fn play_day(alloc: Global, out: &mut Vec<u8>, events: &[Event]) -> Result<(), AllocError> {
-    let config = example_config(alloc)?;
-    match Agent::new(alloc, &config) {
-        Ok(mut agent) => {
-            play(alloc, out, &mut agent, events)?;
-            put_summary(alloc, out, &agent)
-        }
-        Err(ConfigError::OutOfMemory) => Err(AllocError),
-        Err(_) => put_words(out, "no such office\n"),
-    }
-}
-
-fn put_day(alloc: Global, out: &mut Vec<u8>, script: &[u8]) -> Result<(), AllocError> {
-    match read_script(alloc, script) {
-        Ok(events) => play_day(alloc, out, &events),
-        Err(ScriptError::OutOfMemory) => Err(AllocError),
-        Err(ScriptError::Malformed) => put_words(out, "no script\n"),
-    }
-}
-
-fn day<R: Files + AllocGlobal>(rt: &R, name: &str) -> io::Result<Vec<u8>> {
+fn events_of<R: Files + AllocGlobal>(rt: &R, name: &str) -> io::Result<Vec<Event>> {
     let path = format!(in rt.alloc(); "{name}.script")?;
     let script = fs::read(rt, path.as_str())?;
+    match read_script(rt.alloc(), &script) {
+        Ok(events) => Ok(events),
+        Err(ScriptError::OutOfMemory) => Err(io::Error::from(AllocError)),
+        Err(ScriptError::Malformed) => Err(io::Error::from(io::ErrorKind::InvalidData)),
+    }
+}
+
+/// All of a run.
+fn tell<W: Write>(writer: &mut W, played: &Played) -> io::Result<()> {
+    writer.write_all(&played.sent)?;
+    writer.write_all(&played.summary)?;
+    writer.write_all(&played.states)
+}
+
+/// A run in which the send at this place fails, beside the one in which none does.
+fn compare<R: Wait + AllocGlobal>(
+    rt: &R,
+    events: &[Event],
+    undisturbed: &Played,
+    place: u64,
+) -> Result<String, AllocError> {
+    let played = play(rt, events, Some(place))?;
+    let like = if played.states.as_slice() == undisturbed.states.as_slice() {
+        "the same"
+    } else {
+        "other"
+    };
+    format!(in rt.alloc(); "send {place} fails: {like} lists, calls and rows\n")
+}
+
+fn tell_each<R: Wait + AllocGlobal, W: Write>(
+    rt: &R,
+    writer: &mut W,
+    events: &[Event],
+) -> io::Result<()> {
+    let undisturbed = play(rt, events, None)?;
+    for place in 0..undisturbed.sends {
+        let told = compare(rt, events, &undisturbed, place.saturating_add(1))?;
+        writer.write_all(told.as_bytes())?;
+    }
+    Ok(())
+}
+
+/// The row of a script.
+fn script_row<R: Files + Wait + AllocGlobal, W: Write>(
+    rt: &R,
+    writer: &mut W,
+    name: &str,
+    which: &str,
+) -> io::Result<()> {
+    let events = events_of(rt, name)?;
+    match which {
+        "each" => tell_each(rt, writer, &events),
+        "none" => tell(writer, &play(rt, &events, None)?),
+        _ => match which.parse::<u64>() {
+            Ok(place) => tell(writer, &play(rt, &events, Some(place))?),
+            Err(_) => writer.write_all(b"no such row\n"),
+        },
+    }
+}
+
+fn serve_row<R: Wait + AllocGlobal, W: Write>(
+    rt: &R,
+    writer: &mut W,
+    words: &str,
+    is_stopped: bool,
+) -> io::Result<()> {
+    let Some((turns, failing)) = words.split_once('|') else {
+        return writer.write_all(b"no such row\n");
+    };
+    let (Ok(turns), Ok(failing)) = (turns.parse::<u64>(), failing.parse::<u32>()) else {
+        return writer.write_all(b"no such row\n");
+    };
+    let told = serve_text(rt, turns, failing, is_stopped)?;
+    writer.write_all(told.as_bytes())
+}
+
+fn day_row<R: Files + AllocGlobal, W: Write>(rt: &R, writer: &mut W, name: &str) -> io::Result<()> {
+    let events = events_of(rt, name)?;
+    writer.write_all(&day_text(rt.alloc(), &events)?)
+}
+
+fn receives_row<R: Files + Wait + AllocGlobal, W: Write>(
+    rt: &R,
+    writer: &mut W,
+    name: &str,
+) -> io::Result<()> {
+    let events = events_of(rt, name)?;
     let mut out = Vec::new(rt.alloc());
-    put_day(rt.alloc(), &mut out, &script)?;
-    Ok(out)
+    put_receives(rt, &mut out, &events)?;
+    writer.write_all(&out)
+}
+
+/// The row of a line.
+fn row<R: Files + Wait + AllocGlobal, W: Write>(
+    rt: &R,
+    writer: &mut W,
+    line: &str,
+) -> io::Result<()> {
+    match line.split_once('|') {
+        Some(("day", name)) => day_row(rt, writer, name),
+        Some(("receives", name)) => receives_row(rt, writer, name),
+        Some(("serve", words)) => serve_row(rt, writer, words, false),
+        Some(("stopped", words)) => serve_row(rt, writer, words, true),
+        Some((name, which)) => script_row(rt, writer, name, which),
+        None => writer.write_all(salts_text(rt.alloc())?.as_bytes()),
+    }
 }
 
 fn main(rt: HostRuntime) -> io::Result<()> {
     let mut writer = io::writer(&rt);
     for line in rt.lines(rt.alloc()) {
-        let out = day(&rt, line?.as_str())?;
-        writer.write_all(&out)?;
+        let line = line?;
+        writer.write_all(line.as_bytes())?;
+        writer.write_all(b"\n")?;
+        row(&rt, &mut writer, line.as_str())?;
     }
     writer.flush()
 }

@@ -1,12 +1,20 @@
 //! A wire in memory.
+ghost use Rattle.std.specs.Prelude.{◌≤◌, length, take, map};
 
 use events::Sent;
 use live::{Wire, WireFault};
 use sip_uri::Addr;
-use std::alloc::Global;
+use std::alloc::{AllocError, Global};
 use text::Text;
 
-/// A wire at which nothing comes in, and which keeps what is sent. One send may fail, and receives may.
+/// A datagram that is to come in.
+#[derive(Drop)]
+struct Incoming {
+    source: Addr,
+    bytes: Vec<u8>,
+}
+
+/// A wire that gives what is in a list, and keeps what is sent. One send may fail, and receives may.
 #[derive(Drop)]
 pub(crate) struct MemoryWire {
     alloc: Global,
@@ -22,7 +30,12 @@ pub(crate) struct MemoryWire {
     pub(crate) waits: u64,
     /// So many receives in a row fail, and then one doesn't.
     pub(crate) failing_receives: u32,
+    /// Of which datagram the receive fails, once, counted from 1.
+    pub(crate) failing_datagram: Option<usize>,
+    inbox: Vec<Incoming>,
+    next: usize,
     failed: bool,
+    ghost within: { next ≤ length inbox.items },
 }
 
 fn is_at(failing: Option<u64>, count: u64) -> bool {
@@ -48,28 +61,53 @@ impl MemoryWire {
             receives: 0,
             waits: 0,
             failing_receives: 0,
+            failing_datagram: None,
+            inbox: Vec::new(alloc),
+            next: 0,
             failed: false,
         }
+    }
+
+    /// A datagram comes.
+    pub(crate) fn put(&mut self, source: Addr, bytes: &[u8]) -> Result<(), AllocError> {
+        let bytes = Vec::from_slice(self.alloc, bytes)?;
+        self.inbox.push(Incoming { source, bytes })?;
+        Ok(())
     }
 }
 
 impl Wire for MemoryWire {
-    ghost use Rattle.std.specs.Prelude.{[]};
+    ghost use Rattle.std.specs.Prelude.{take, map};
 
-    ghost taken = { λ _. [] };
+    ghost taken = { λ s. map (λ d. record { source = d.source; bytes = d.bytes.items }) (take s.next s.inbox.items) };
 
     ghost sent = { λ s. s.outbox.items };
 
     ghost failed = { λ s. s.failed };
 
-    fn receive(&mut self, _buffer: &mut [u8]) -> Result<Option<(Addr, usize)>, WireFault> {
+    fn receive(&mut self, buffer: &mut [u8]) -> Result<Option<(Addr, usize)>, WireFault> {
         self.receives = self.receives.saturating_add(1);
         self.failed = !is_last_of(self.receives, self.failing_receives);
         if self.failed {
-            Err(WireFault)
-        } else {
-            Ok(None)
+            return Err(WireFault);
         }
+        if self.next >= self.inbox.len() {
+            return Ok(None);
+        }
+        if matches!(self.failing_datagram, Some(place) if place == self.next + 1) {
+            self.failing_datagram = None;
+            self.failed = true;
+            return Err(WireFault);
+        }
+        let incoming = &self.inbox[self.next];
+        let length = incoming.bytes.len();
+        if length > buffer.len() {
+            return Ok(None);
+        }
+        buffer[..length].copy_from_slice(incoming.bytes.as_slice());
+        let source = incoming.source;
+        self.next += 1;
+        Ok(Some((source, length)))
     }
 
     fn send(&mut self, to: Addr, bytes: &[u8]) -> Result<(), WireFault> {

@@ -22,7 +22,7 @@ fn phase_word(phase: Option<Phase>) -> &'static [u8] {
     }
 }
 
-fn put_words(out: &mut Vec<u8>, words: &str) -> Result<(), AllocError> {
+pub(crate) fn put_words(out: &mut Vec<u8>, words: &str) -> Result<(), AllocError> {
     out.extend_from_slice(words.as_bytes())?;
     Ok(())
 }
@@ -41,7 +41,7 @@ fn put_moment(
     put_words(out, words.as_str())
 }
 
-fn put_calls(out: &mut Vec<u8>, calls: &[StandingCall]) -> Result<(), AllocError> {
+pub(crate) fn put_calls(out: &mut Vec<u8>, calls: &[StandingCall]) -> Result<(), AllocError> {
     for call in calls {
         put_call(out, call.call.number(), phase_word(call.call.phase()))?;
     }

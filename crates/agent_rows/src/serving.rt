@@ -1,8 +1,10 @@
-//! The signalling from its start to its end, over a wire at which nothing comes in.
+//! The signalling over so many turns, from its start.
+
+ghost use Rattle.live.specs.Turns.{HasTable};
 
 use crate::memory_wire::MemoryWire;
 use crate::playing::new_office;
-use live::{Clock, End, Operator, Trouble, next_salt, salts_of, serve};
+use live::{Clock, End, Operator, Signalling, Trouble, next_salt, salts_of, serve};
 use std::alloc::{AllocError, Global};
 use std::sync::Wait;
 use std::sync::atomic::AtomicBool;
@@ -19,7 +21,7 @@ impl Clock for Still {
 
 /// An operator who counts what is told.
 #[derive(Drop)]
-struct Counting {
+pub(crate) struct Counting {
     told: Option<Trouble>,
     sockets: u32,
     memories: u32,
@@ -46,6 +48,32 @@ fn end_word(end: End) -> &'static str {
     }
 }
 
+/// Serves so many turns.
+pub(crate) fn serve_turns<R: Wait>(
+    rt: &R,
+    signalling: &mut Signalling<MemoryWire>,
+    turns: u64,
+    is_stopped: bool,
+) -> (End, Counting)
+    requires { HasTable signalling.old.board signalling.old.agent }
+{
+    let stop = AtomicBool::new(is_stopped);
+    let mut operator = Counting {
+        told: None,
+        sockets: 0,
+        memories: 0,
+    };
+    let end = serve(
+        rt,
+        signalling,
+        &mut Still,
+        &mut operator,
+        &stop,
+        Some(turns),
+    );
+    (end, operator)
+}
+
 /// How the signalling ends, where so many receives in a row fail before one doesn't, and after how many receives and waits; and how
 /// often an operator was told that the socket fails, and that memory is refused.
 pub(crate) fn serve_text<R: Wait + AllocGlobal>(
@@ -57,20 +85,7 @@ pub(crate) fn serve_text<R: Wait + AllocGlobal>(
     let mut wire = MemoryWire::new(rt.alloc(), None);
     wire.failing_receives = failing;
     let (mut signalling, _viewer) = new_office(rt, rt.alloc(), wire)?;
-    let stop = AtomicBool::new(is_stopped);
-    let mut operator = Counting {
-        told: None,
-        sockets: 0,
-        memories: 0,
-    };
-    let end = serve(
-        rt,
-        &mut signalling,
-        &mut Still,
-        &mut operator,
-        &stop,
-        Some(turns),
-    );
+    let (end, operator) = serve_turns(rt, &mut signalling, turns, is_stopped);
     let (receives, waits) = (signalling.wire.receives, signalling.wire.waits);
     signalling.close(rt);
     let word = end_word(end);
