@@ -5,7 +5,7 @@ ghost use Rattle.legs.specs.Dressed.{again, asks, asks_at, behind, no_message, r
 
 use crate::scene::Asker;
 use events::Sent;
-use sip_message::{Request, Response};
+use sip_message::{Request, Response, class_of};
 use sip_uri::{Addr, address_of};
 use sip_writing::{reply_address, write_request, write_response};
 use std::alloc::{AllocError, Global};
@@ -74,6 +74,19 @@ impl Dressed {
         }
     }
 
+    // One change and one datagram, for which so many tokens are made.
+    fn of_one(alloc: Global, change: Change, sent: Sent, made: u64) -> Result<Dressed, AllocError>
+        ensures { IfOk result (λ d. d ≡ record { changes = change ∷ []; sends = sent ∷ []; made = made }) }
+    {
+        let changes = one_change(alloc, change)?;
+        let sends = one_send(alloc, sent)?;
+        Ok(Dressed {
+            changes,
+            sends,
+            made,
+        })
+    }
+
     fn response(
         alloc: Global,
         asker: &Asker<'_, '_>,
@@ -82,13 +95,10 @@ impl Dressed {
         ensures { IfOk result (λ d. d ≡ responds_through asker.now response.now) }
     {
         let to = reply_address(asker.parts, asker.source);
-        let sends = one_send(alloc, sent_response(alloc, to, response)?)?;
-        let changes = one_change(alloc, Change::answers(alloc, asker.id, response)?)?;
-        Ok(Dressed {
-            changes,
-            sends,
-            made: 0,
-        })
+        let sent = sent_response(alloc, to, response)?;
+        let kept = sent.bytes.keep(alloc)?;
+        let change = Change::answers_with(asker.id, class_of(response.status), kept);
+        Dressed::of_one(alloc, change, sent, 0)
     }
 
     /// A response through the transaction of the request, which is let go.
@@ -115,13 +125,10 @@ impl Dressed {
         let Some(to) = to else {
             return Ok(Dressed::no_message(alloc));
         };
-        let sends = one_send(alloc, sent_request(alloc, to, request)?)?;
-        let changes = one_change(alloc, Change::starts(alloc, request, to)?)?;
-        Ok(Dressed {
-            changes,
-            sends,
-            made,
-        })
+        let sent = sent_request(alloc, to, request)?;
+        let kept = sent.bytes.keep(alloc)?;
+        let change = Change::starts_with(alloc, request, to, kept)?;
+        Dressed::of_one(alloc, change, sent, made)
     }
 
     /// A request to the address of its Request-URI, for which so many tokens are made, and which is let go.

@@ -1,8 +1,9 @@
-//! Rows of the crates that know no message: `text`, `timers`, `sip_uri`, `sdp`, `offer_answer`, `port_pool` and `registrar`. Each
+//! Rows of the crates that know no message: `text`, `timers`, `index`, `sip_uri`, `sdp`, `offer_answer`, `port_pool` and `registrar`. Each
 //! call writes its answer behind what stands, and calls are told apart by how many words they have before their names are
 //! compared: a name alone is proved in a third of the time that a name beside its words takes.
 #![tactic(auto)]
 
+mod index_rows;
 mod offer_answer_rows;
 mod port_pool_rows;
 mod port_pool_words;
@@ -20,6 +21,7 @@ mod telling;
 mod text_rows;
 mod timers_rows;
 
+use crate::index_rows::IndexRows;
 use crate::port_pool_rows::PortPoolRows;
 use crate::registrar_rows::RegistrarRows;
 use crate::timers_rows::TimersRows;
@@ -30,6 +32,7 @@ use std::io;
 /// What the calls of a crate leave for the rows behind them.
 #[derive(Drop)]
 struct PartRows {
+    index: IndexRows,
     port_pool: PortPoolRows,
     registrar: RegistrarRows,
     timers: TimersRows,
@@ -46,6 +49,7 @@ impl PartRows {
         args: &[&[u8]],
     ) -> Option<Result<(), AllocError>> {
         match crate_name {
+            "index" => self.index.put_answer(alloc, out, call, args),
             "offer_answer" => offer_answer_rows::put_answer(alloc, out, call, args),
             "port_pool" => self.port_pool.put_answer(alloc, out, call, args),
             "registrar" => self.registrar.put_answer(alloc, out, call, args),
@@ -87,6 +91,7 @@ fn play_lines<R: Input + Print + AllocGlobal, A: Rows>(
 fn main(rt: HostRuntime) -> io::Result<()> {
     let mut notation = Notation::new(rt.alloc());
     let mut rows = PartRows {
+        index: IndexRows::new(rt.alloc()),
         port_pool: PortPoolRows::new(rt.alloc()),
         registrar: RegistrarRows::new(rt.alloc()),
         timers: TimersRows::new(rt.alloc()),

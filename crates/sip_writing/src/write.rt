@@ -11,6 +11,10 @@ use sip_uri::write_uri;
 use std::alloc::{AllocError, Global};
 use text::{Text, put_number};
 
+/// Room that most messages fit in, in bytes: one allocation is enough for them, and it is small enough for the lists of free
+/// blocks that the C library keeps.
+const ROOM: usize = 1024;
+
 fn put_request_line(alloc: Global, out: &mut Vec<u8>, request: &Request) -> Result<(), AllocError>
     ensures { OnOk result (out.new.items ≡ out.old.items ++ request_line request.now) }
 {
@@ -89,7 +93,7 @@ pub fn write_request(alloc: Global, request: &Request) -> Result<Text<'static>, 
     // What is written for a request of the written form is that request, also past the limits of reading.
     ensures again { IsWrittenMessage (Kinds.Request request.now) → IfOk result (λ t. ReadsMessage t (Kinds.Request request.now)) }
 {
-    let mut out = Vec::new(alloc);
+    let mut out = Vec::with_capacity(alloc, ROOM)?;
     put_request(alloc, &mut out, request)?;
     Ok(Text::from_vec(out))
 }
@@ -100,7 +104,7 @@ pub fn write_response(alloc: Global, response: &Response) -> Result<Text<'static
     // What is written for an answer of the written form is that answer, also past the limits of reading.
     ensures again { IsWrittenMessage (Kinds.Response response.now) → IfOk result (λ t. ReadsMessage t (Kinds.Response response.now)) }
 {
-    let mut out = Vec::new(alloc);
+    let mut out = Vec::with_capacity(alloc, ROOM)?;
     put_response(&mut out, response)?;
     Ok(Text::from_vec(out))
 }

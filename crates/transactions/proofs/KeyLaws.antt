@@ -1,5 +1,5 @@
 -- Each timer's key once, by whichever test of keys.
-use Rattle.std.proofs.Common.{◌≡◌, Bool, false, List, [], ◌∷◌, ◌||◌, refl, ap, sym, ◌∙◌}
+use Rattle.std.proofs.Common.{◌≡◌, Bool, List, [], ◌∷◌, ◌||◌, refl, ap, sym, ◌∙◌}
 use Rattle.timers.specs.declared.timers.Timer.{Timer}
 use Rattle.timers.specs.Queue.{EachKeyOnce, stands}
 

@@ -27,7 +27,7 @@ use Rattle.sip_message.specs.Words.{is_method}
 use Rattle.transactions.specs.Matching.{is_copy}
 use Rattle.transactions.specs.Slots.{at, is_asked, is_answered, free_number}
 use Rattle.transactions.specs.Transactions.{went, served, served_state, asking, asking_timers}
-use Rattle.transactions.specs.Contents.{Contents, stepped_by, table_at, opened, placed, stray, reception_of, request_reception, input_of, response_input, answer_input, ack_at, IsNew}
+use Rattle.transactions.specs.Contents.{Contents, stepped_by, table_at, placed, stray, reception_of, request_reception, input_of, response_input, answer_input, ack_at, IsNew}
 use Rattle.transactions.specs.Changes.{entered, request_change, response_change, change_of, after_message}
 use Rattle.transactions.specs.Calls.{Call, Receive, Start, Answer, Abandon, Fire, Leave, after, after_all, tells, noticed, is_end, is_ended}
 use Rattle.transaction_machines.specs.Lines.{follows, follows_to, is_answer}

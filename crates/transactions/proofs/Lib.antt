@@ -11,3 +11,5 @@ pub mod KeyLaws
 pub mod SameBranchLaws
 pub mod MemoryLaws
 pub mod PrintLaws
+pub mod NumberLaws
+pub mod PlaceLaws

@@ -13,7 +13,7 @@ use Rattle.transaction_machines.specs.declared.step.Step.{Step}
 use Rattle.transaction_machines.specs.Lines.{starts_none}
 use Rattle.transactions.specs.declared.change.Entry.TheVariants.{Opens, Leaves}
 use Rattle.transactions.specs.declared.transaction.Transaction.{Transaction}
-use Rattle.transactions.specs.Slots.{at, is_asked, is_answered}
+use Rattle.transactions.specs.Slots.{is_asked, is_answered}
 use Rattle.transactions.specs.Transactions.{served}
 use Rattle.transactions.specs.Contents.{Contents, line_at, input_of, response_input, sends, takes_memory, request_takes, response_takes, message_takes}
 use Rattle.transactions.specs.Changes.{request_change, response_change, change_of, starts_count, step_timers, needs_room}

@@ -1,5 +1,5 @@
 -- What a look-up looks for has its print: so the print decides nothing.
-use Rattle.std.proofs.Common.{◌≡◌, ℕ, Bool, true, false, not, List, [], ◌∷◌, Option, Some, None, eqb, refl, ap, sym, ◌∙◌}
+use Rattle.std.proofs.Common.{◌≡◌, ℕ, true, not, List, [], ◌∷◌, Option, Some, None, eqb, refl, ap, sym}
 use Rattle.std.specs.Cmp.Lexicographic.{bytes_decides}
 use Rattle.std.proofs.lemmas.Bool.{false≢true, and_parts, and_from, eq-eqb}
 use Rattle.sip_message.specs.declared.message.Parts.{Parts}
@@ -11,14 +11,9 @@ use Rattle.transaction_machines.specs.Machines.{is_server}
 use Rattle.transactions.specs.declared.transaction.Transaction.{Transaction}
 use Rattle.transactions.specs.Matching.{is_copy, is_reply, is_merged_with, same_top}
 use Rattle.transactions.specs.Prints.{print_of, print_by, branch_print, print_at, may_serve, may_ask, may_merge}
+use Rattle.transactions.specs.Places.{has_branch, has_call}
 use Rattle.transactions.specs.Slots.{is_asked, is_answered, is_invite_server, is_named_invite, is_named, is_merged}
 use Rattle.transactions.proofs.ReplyLaws.{text_is}
-
--- ---- what fails a test that all pass that are looked for is not looked for
-
-pub missed : (p q r : Bool) → (q ≡ true → p ≡ true) → r ≡ p → r ≡ false → r ≡ q
-missed p true r h e f = e ∙ h refl
-missed p false r h e f = f
 
 -- ---- equal texts
 
@@ -39,14 +34,14 @@ serves t vias server top =
 
 -- ---- the look-ups
 
-pub asked_may : (parts : Parts) (slot : Option Transaction) → is_asked parts slot ≡ true → may_serve (branch_print parts.vias) (print_at slot) ≡ true
+asked_may : (parts : Parts) (slot : Option Transaction) → is_asked parts slot ≡ true → may_serve (branch_print parts.vias) (print_at slot) ≡ true
 unfolding is_asked is_copy
 asked_may parts None h = absurd (false≢true h)
 asked_may parts (Some t) h =
     let both = and_parts (is_server t.state) _ h in
     serves t parts.vias both.0 (and_parts _ (same_top t.parts.vias parts.vias) both.1).1
 
-pub answered_may : (parts : Parts) (slot : Option Transaction) → is_answered parts slot ≡ true → may_ask (branch_print parts.vias) (print_at slot) ≡ true
+answered_may : (parts : Parts) (slot : Option Transaction) → is_answered parts slot ≡ true → may_ask (branch_print parts.vias) (print_at slot) ≡ true
 unfolding is_answered is_reply
 answered_may parts None h = absurd (false≢true h)
 answered_may parts (Some t) h =
@@ -61,21 +56,21 @@ invite_serves (InviteClient state) h = absurd (false≢true h)
 invite_serves (OtherClient state) h = absurd (false≢true h)
 invite_serves (OtherServer state) h = refl
 
-pub named_invite_may : (parts : Parts) (slot : Option Transaction) → is_named_invite parts slot ≡ true → may_serve (branch_print parts.vias) (print_at slot) ≡ true
+named_invite_may : (parts : Parts) (slot : Option Transaction) → is_named_invite parts slot ≡ true → may_serve (branch_print parts.vias) (print_at slot) ≡ true
 unfolding is_named_invite
 named_invite_may parts None h = absurd (false≢true h)
 named_invite_may parts (Some t) h =
     let both = and_parts (is_invite_server t.state) _ h in
     serves t parts.vias (invite_serves t.state both.0) both.1
 
-pub named_may : (parts : Parts) (slot : Option Transaction) → is_named parts slot ≡ true → may_serve (branch_print parts.vias) (print_at slot) ≡ true
+named_may : (parts : Parts) (slot : Option Transaction) → is_named parts slot ≡ true → may_serve (branch_print parts.vias) (print_at slot) ≡ true
 unfolding is_named
 named_may parts None h = absurd (false≢true h)
 named_may parts (Some t) h =
     let both = and_parts _ (same_top t.parts.vias parts.vias) h in
     serves t parts.vias (and_parts (is_server t.state) _ both.0).0 both.1
 
-pub merged_may : (parts : Parts) (slot : Option Transaction) → is_merged parts slot ≡ true → may_merge (print_of parts.call_id) (print_at slot) ≡ true
+merged_may : (parts : Parts) (slot : Option Transaction) → is_merged parts slot ≡ true → may_merge (print_of parts.call_id) (print_at slot) ≡ true
 unfolding is_merged is_merged_with
 merged_may parts None h = absurd (false≢true h)
 merged_may parts (Some t) h =
@@ -83,3 +78,28 @@ merged_may parts (Some t) h =
     let ids = (and_parts _ _ (and_parts _ _ (and_parts _ _ (and_parts _ _ both.1).0).0).0).0 in
     and_from (is_server t.state) _ both.0
     (same_print (print_of t.parts.call_id) (print_of parts.call_id) (ap print_of (sym ((bytes_decides parts.call_id t.parts.call_id).0 ids))))
+
+-- ---- what is looked for is under its print
+
+under_branch : (b : ℕ) (slot : Option Transaction) → may_serve b (print_at slot) ≡ true → has_branch b slot ≡ true
+under_branch b None h = absurd (false≢true h)
+under_branch b (Some t) h = (and_parts (is_server t.state) _ h).1
+
+pub asked_has : (parts : Parts) (slot : Option Transaction) → is_asked parts slot ≡ true → has_branch (branch_print parts.vias) slot ≡ true
+asked_has parts slot h = under_branch (branch_print parts.vias) slot (asked_may parts slot h)
+
+pub answered_has : (parts : Parts) (slot : Option Transaction) → is_answered parts slot ≡ true → has_branch (branch_print parts.vias) slot ≡ true
+unfolding is_answered
+answered_has parts None h = absurd (false≢true h)
+answered_has parts (Some t) h = (and_parts (not (is_server t.state)) _ (answered_may parts (Some t) h)).1
+
+pub named_invite_has : (parts : Parts) (slot : Option Transaction) → is_named_invite parts slot ≡ true → has_branch (branch_print parts.vias) slot ≡ true
+named_invite_has parts slot h = under_branch (branch_print parts.vias) slot (named_invite_may parts slot h)
+
+pub named_has : (parts : Parts) (slot : Option Transaction) → is_named parts slot ≡ true → has_branch (branch_print parts.vias) slot ≡ true
+named_has parts slot h = under_branch (branch_print parts.vias) slot (named_may parts slot h)
+
+pub merged_has : (parts : Parts) (slot : Option Transaction) → is_merged parts slot ≡ true → has_call (print_of parts.call_id) slot ≡ true
+unfolding is_merged
+merged_has parts None h = absurd (false≢true h)
+merged_has parts (Some t) h = (and_parts (is_server t.state) _ (merged_may parts (Some t) h)).1

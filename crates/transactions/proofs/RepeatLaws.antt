@@ -1,11 +1,10 @@
 -- A copy of a request gets the bytes of its final answer again.
-use Rattle.std.proofs.Common.{◌≡◌, ◌≢◌, ℕ, ◌<◌, Bool, true, false, cond, eqb, List, [], ◌∷◌, set, Option, Some, None, option_map, option_and_then, codes, position, is_some, refl, ap, sym, subst, ◌∙◌, inl, inr}
+use Rattle.std.proofs.Common.{◌≡◌, ℕ, Bool, true, false, cond, List, [], ◌∷◌, Option, Some, None, option_map, option_and_then, codes, position, is_some, refl, ap, sym, subst, ◌∙◌, inl, inr}
 use Rattle.std.specs.Prelude.{IfSome, IsSome}
 use Rattle.std.proofs.lemmas.Bool.{false≢true, cases_eq}
 use Rattle.std.proofs.lemmas.List.{get_or-set_same}
 use Rattle.sip_uri.specs.declared.uri.Addr.{Addr}
 use Rattle.sip_message.specs.declared.message.Message.TheVariants as Kinds
-use Rattle.sip_message.specs.declared.message.Parts.{Parts}
 use Rattle.sip_message.specs.declared.message.Request.{Request}
 use Rattle.sip_message.specs.declared.message.Response.{Response}
 use Rattle.sip_message.specs.declared.words.Class.{Class}
@@ -29,12 +28,11 @@ use Rattle.transaction_machines.specs.OtherServer.{other_server_row}
 use Rattle.transaction_machines.specs.Machines.{row_of}
 use Rattle.transactions.specs.declared.change.Entry.TheVariants.{Opens, Leaves}
 use Rattle.transactions.specs.declared.outcome.Fired.TheVariants as fires
-use Rattle.transactions.specs.declared.outcome.Reception.{Reception}
 use Rattle.transactions.specs.declared.outcome.Verdict.TheVariants as verdicts
 use Rattle.transactions.specs.declared.transaction.Transaction.{Transaction}
 use Rattle.transactions.specs.Slots.{at, is_asked, is_answered}
 use Rattle.transactions.specs.Transactions.{served, asking, asking_timers, went, outgoing}
-use Rattle.transactions.specs.Contents.{Contents, stepped_by, table_at, line_at, ack_at, input_of, response_input, answer_input, after_answer, reception_by, reception_at, request_reception, reception_of, fired_step, fired_of}
+use Rattle.transactions.specs.Contents.{Contents, stepped_by, table_at, ack_at, input_of, response_input, answer_input, reception_by, reception_at, reception_of, fired_step}
 use Rattle.transactions.specs.Changes.{entered, request_change, response_change, change_of, after_message}
 use Rattle.transactions.specs.Calls as calls
 use Rattle.transactions.specs.Calls.{Call, after, after_all}

@@ -1,6 +1,6 @@
 -- No two server transactions have one key, and there are no more than may be.
-use Rattle.std.proofs.Common.{◌≡◌, ◌≢◌, ◌≤◌, ◌<◌, ◌+◌, ℕ, Bool, true, false, cond, not, ◌&&◌, eqb, nat_eq, List, [], ◌∷◌, ◌++◌, length, set, Option, Some, None, option_map, codes, nat_lt, unwrap_or, is_none, position, refl, ap, sym, subst, ◌∙◌, inl, inr, arith}
-use Rattle.std.specs.List.{list_any, sum_by}
+use Rattle.std.proofs.Common.{◌≡◌, ◌≢◌, ◌≤◌, ◌<◌, ◌+◌, ℕ, Bool, true, false, cond, not, ◌&&◌, nat_eq, List, [], ◌∷◌, ◌++◌, length, set, Option, Some, None, option_map, codes, nat_lt, unwrap_or, is_none, position, refl, ap, sym, subst, ◌∙◌, inl, inr, arith}
+use Rattle.std.specs.List.{list_any}
 use Rattle.std.specs.Cmp.Lexicographic.{pointwise, bytes_decides}
 use Rattle.std.specs.Str.{str_to_ascii_lowercase}
 use Rattle.std.proofs.lemmas.Bool.{false≢true, and_parts, and_from, cases_lt, cases_eq, eqb-true, eq-eqb, ltb-false, ltb-true}
@@ -18,11 +18,10 @@ use Rattle.sip_message.specs.declared.message.Parts.{Parts}
 use Rattle.sip_message.specs.declared.message.Request.{Request}
 use Rattle.sip_message.specs.declared.message.Response.{Response}
 use Rattle.sip_message.specs.declared.via.Via.{Via}
-use Rattle.sip_message.specs.Words.{top_branch, is_method, class_of}
+use Rattle.sip_message.specs.Words.{top_branch, is_method}
 use Rattle.sip_writing.specs.Writing.{message_text}
 use Rattle.transaction_machines.specs.declared.input.Input.{Input}
 use Rattle.transaction_machines.specs.declared.input.Input.TheVariants as inputs
-use Rattle.transaction_machines.specs.declared.state.State.{State}
 use Rattle.transaction_machines.specs.declared.state.State.TheVariants as machine
 use Rattle.transaction_machines.specs.declared.invite_client.InviteClient.TheVariants.{Calling}
 use Rattle.transaction_machines.specs.declared.other_client.OtherClient.TheVariants as other_client
@@ -37,11 +36,11 @@ use Rattle.transactions.specs.declared.outcome.Reception.{Reception}
 use Rattle.transactions.specs.declared.outcome.Verdict.TheVariants as verdicts
 use Rattle.transactions.specs.declared.transaction.Transaction.{Transaction}
 use Rattle.transactions.specs.Limits.{most_served}
-use Rattle.transactions.specs.Matching.{is_copy, served_method, same_top, same_sent_by, default_port}
+use Rattle.transactions.specs.Matching.{is_copy, same_top, same_sent_by, default_port}
 use Rattle.transactions.specs.Slots.{at, free_number, is_asked, is_answered, is_serving, serving}
-use Rattle.transactions.specs.Transactions.{served, asking, asking_state, asking_timers, went}
-use Rattle.transactions.specs.Contents.{Contents, stepped_by, table_at, opened, placed, reception_of, request_reception, begun, stray, ack_at, input_of, response_input, answer_input, IsNew}
-use Rattle.transactions.specs.Changes.{entered, request_change, response_change, change_of, after_message, start_with, start_of}
+use Rattle.transactions.specs.Transactions.{served, asking, asking_timers, went}
+use Rattle.transactions.specs.Contents.{Contents, stepped_by, table_at, opened, placed, reception_of, request_reception, stray, answer_input, IsNew}
+use Rattle.transactions.specs.Changes.{entered, request_change, response_change, change_of, after_message, start_of}
 use Rattle.transactions.specs.Calls.{Call, Receive, Start, Answer, Abandon, Fire, Leave, after, after_all, is_end}
 use Rattle.transactions.specs.Once.{IsLeftBy}
 use Rattle.transactions.specs.Servers.{same_key, KeysOnce, AreServers, IsFree, MayEnter, WasDone, WereDone}

@@ -1,5 +1,5 @@
 -- A call that tells a transaction nothing leaves it as it was, with its timers.
-use Rattle.std.proofs.Common.{◌≡◌, ◌≢◌, ℕ, Bool, true, false, cond, not, ◌&&◌, eqb, nat_lt, List, [], ◌∷◌, filter, Option, Some, None, option_map, codes, position, refl, ap, sym, ◌∙◌}
+use Rattle.std.proofs.Common.{◌≡◌, ◌≢◌, ℕ, Bool, true, false, cond, not, eqb, nat_lt, List, [], ◌∷◌, filter, Option, Some, None, option_map, codes, position, refl, ap, sym, ◌∙◌}
 use Rattle.std.proofs.lemmas.Bool.{false≢true, and_left, eq-eqb, eqb-true, ne_eqb}
 use Rattle.timers.specs.declared.timers.Timer.{Timer}
 use Rattle.timers.specs.Queue.{put, without}

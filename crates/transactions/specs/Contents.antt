@@ -3,7 +3,6 @@ use Rattle.std.specs.Prelude.{◌≡◌, ℕ, ◌≤◌, Bool, true, false, not,
 use Rattle.std.specs.List.{list_any}
 use Rattle.timers.specs.declared.timers.Timer.{Timer}
 use Rattle.timers.specs.Queue.{moment}
-use Rattle.sip_uri.specs.declared.uri.Addr.{Addr}
 use Rattle.sip_message.specs.declared.message.Message.{Message}
 use Rattle.sip_message.specs.declared.message.Message.TheVariants as Kinds
 use Rattle.sip_message.specs.declared.message.Parts.{Parts}
@@ -24,7 +23,6 @@ use Rattle.transactions.specs.declared.outcome.Verdict.TheVariants as verdicts
 use Rattle.transaction_machines.specs.declared.step.Sending.{Sending}
 use Rattle.transaction_machines.specs.declared.step.Sending.TheVariants.{Nothing, Again, Fresh}
 use Rattle.transaction_machines.specs.declared.step.Starts.{Starts}
-use Rattle.transaction_machines.specs.declared.step.Starts.TheVariants.{NoTimer}
 use Rattle.transaction_machines.specs.declared.step.Told.{Told}
 use Rattle.transaction_machines.specs.declared.step.Told.TheVariants.{Silent, Up, TimedOut, Ended}
 use Rattle.transaction_machines.specs.declared.step.Step.{Step}
@@ -37,7 +35,7 @@ use Rattle.transaction_machines.specs.Lines.{starts_none}
 use Rattle.transaction_machines.specs.Machines.{row_of}
 use Rattle.transactions.specs.Slots.{at, free_number, is_asked, is_answered, is_merged, is_serving, serving}
 use Rattle.transactions.specs.Timing.{same_timer, stopped_by, started}
-use Rattle.transactions.specs.Transactions.{served, asking, asking_timers, went, sent, outgoing}
+use Rattle.transactions.specs.Transactions.{went, sent, outgoing}
 
 -- Place i of the slots has the transaction with the number i. The timers stand in the order in which they are due, each key once: that
 -- is what `next`, `first_due` and `timer_count` say of every table.

@@ -6,6 +6,7 @@ pub mod Matching
 pub mod Replies
 pub mod Slots
 pub mod Prints
+pub mod Places
 pub mod Timing
 pub mod Transactions
 pub mod Calls

@@ -11,7 +11,6 @@ use Rattle.transaction_machines.specs.declared.other_server.OtherServer.TheVaria
 use Rattle.transaction_machines.specs.declared.state.State.{State}
 use Rattle.transaction_machines.specs.declared.state.State.TheVariants.{InviteClient, InviteServer, OtherClient, OtherServer}
 use Rattle.transactions.specs.declared.outcome.Fired.TheVariants as fires
-use Rattle.transactions.specs.declared.outcome.Reception.{Reception}
 use Rattle.transactions.specs.declared.outcome.Verdict.TheVariants as verdicts
 use Rattle.transactions.specs.declared.transaction.Transaction.{Transaction}
 use Rattle.transactions.specs.Slots.{at, is_asked}

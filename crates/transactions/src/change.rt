@@ -62,7 +62,7 @@ impl Change {
     }
 
     /// The same, with the request's bytes.
-    pub(crate) fn starts_with(
+    pub fn starts_with(
         alloc: Global,
         request: &Request,
         to: Addr,
@@ -88,8 +88,8 @@ impl Change {
         Ok(Change::answers_with(id, class_of(response.status), bytes))
     }
 
-    /// The same, with the answer's class and bytes.
-    pub(crate) fn answers_with(id: usize, class: Class, bytes: Text<'static>) -> Change
+    /// The same, with the answer's class and bytes. Takes no memory.
+    pub fn answers_with(id: usize, class: Class, bytes: Text<'static>) -> Change
         ensures { result ≡ Entry.Answers id class bytes.entry }
     {
         Change {

@@ -15,7 +15,7 @@ use crate::error::TableError;
 use crate::outcome::{Fired, Reception, Verdict};
 use crate::same_branch::ack_for;
 use crate::slot::Slot;
-use crate::slots::{answered, asked, free_number, serving, transaction_at};
+use crate::slots::{answered, asked, transaction_at};
 use crate::table::Table;
 use crate::transaction::{TimerId, sent};
 use crate::verdicts::{fired_by, input_of, verdict_by};
@@ -82,7 +82,7 @@ impl Table {
         if !self.is_due(timer, now) {
             return Err(TableError::Unknown);
         }
-        let Some(transaction) = transaction_at(&self.slots, timer.id) else {
+        let Some(transaction) = transaction_at(self.places.slots(), timer.id) else {
             unreachable!()
         };
         let Some(step) = advance(transaction.state, Input::Fires(timer.kind)) else {
@@ -103,10 +103,10 @@ impl Table {
         ensures room { IfOk result (λ f. IsNew f.reception.verdict → serving self.now.slots < most_served) }
         ensures refused { IfErr result (RefusesMessage self.now (Kinds.Request request.now)) }
     {
-        match asked(&self.slots, &request.parts) {
+        match asked(&self.places, &request.parts) {
             Some(id) => {
                 let input = input_of(&request.parts);
-                Ok(input_foreseen(&self.slots, id, input, None)?)
+                Ok(input_foreseen(self.places.slots(), id, input, None)?)
             }
             None => self.foresee_begin(request, source),
         }
@@ -120,11 +120,11 @@ impl Table {
         ensures old { IfOk result (λ f. IsNew f.reception.verdict → ⊥) }
         ensures needed { IfErr result (λ error. message_takes self.now (Kinds.Response response.now) ≡ true) }
     {
-        match answered(&self.slots, &response.parts) {
+        match answered(&self.places, &response.parts) {
             Some(id) => {
-                let ack = ack_at(self.alloc, &self.slots, id, response)?;
+                let ack = ack_at(self.alloc, self.places.slots(), id, response)?;
                 let input = Input::Response(class_of(response.status));
-                input_foreseen(&self.slots, id, input, ack)
+                input_foreseen(self.places.slots(), id, input, ack)
             }
             None => Ok(Foreseen::stray()),
         }
@@ -140,12 +140,12 @@ impl Table {
         if is_method(&request.parts, b"ACK") {
             return Ok(Foreseen::stray());
         }
-        if serving(&self.slots) >= MOST_SERVED {
+        if self.places.serving() >= MOST_SERVED {
             return Err(TableError::Full);
         }
         let change = Change::serves(self.alloc, request, source)?;
         let reception = Reception {
-            verdict: Verdict::New(free_number(&self.slots)),
+            verdict: Verdict::New(self.places.free_number()),
             before: None,
             send: None,
         };

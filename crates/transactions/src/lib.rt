@@ -10,6 +10,7 @@ mod foreseeing;
 mod laws;
 mod matching;
 mod outcome;
+mod places;
 mod print;
 mod same_branch;
 mod slot;

@@ -2,7 +2,7 @@
 
 ghost use Rattle.std.specs.Prelude.{◌≡◌};
 ghost use Rattle.std.specs.Option.{option_copied};
-ghost use Rattle.transactions.specs.Prints.{with_byte, print_of, print_by, branch_print, may_serve, may_ask, may_merge};
+ghost use Rattle.transactions.specs.Prints.{with_byte, print_of, print_by, branch_print};
 
 use sip_message::{Vias, top_branch};
 use text::Text;
@@ -21,29 +21,6 @@ pub(crate) struct Print {
     pub(crate) serves: bool,
     /// It is an INVITE of the server's own that has no final response.
     pub(crate) waits: bool,
-}
-
-impl Print {
-    /// Whether it may be of a server transaction with a branch of this print.
-    pub(crate) fn may_serve(&self, branch: u64) -> bool
-        ensures { result ≡ may_serve branch self.now }
-    {
-        self.serves && self.branch == branch
-    }
-
-    /// Whether it may be of a client transaction with a branch of this print.
-    pub(crate) fn may_ask(&self, branch: u64) -> bool
-        ensures { result ≡ may_ask branch self.now }
-    {
-        !self.serves && self.branch == branch
-    }
-
-    /// Whether it may be of a server transaction with a Call-ID of this print.
-    pub(crate) fn may_merge(&self, call: u64) -> bool
-        ensures { result ≡ may_merge call self.now }
-    {
-        self.serves && self.call == call
-    }
 }
 
 fn with_byte(print: u64, byte: u8) -> u64

@@ -1,52 +1,21 @@
 //! The transactions by their numbers, and by what they are looked up by.
 
-ghost use Rattle.std.specs.Prelude.{◌≡◌, ◌+◌, ◌<◌, ◌^◌, is_none, count_by, position, if◌then◌else◌};
-ghost use Rattle.std.specs.List.{list_any};
+ghost use Rattle.std.specs.Prelude.{◌≡◌, option_map, position};
+ghost use Rattle.std.specs.List.{find, list_any};
 ghost use Rattle.std.specs.Option.{option_copied};
-ghost use Rattle.transactions.specs.Slots.{at, is_asked, is_answered, is_named, is_named_invite, is_merged, is_serving, is_waiting_invite, free_number, named, waiting_invite};
+ghost use Rattle.transactions.specs.Slots.{at, is_asked, is_answered, is_named, is_named_invite, is_merged, is_waiting_invite, named, waiting_invite};
 ghost use Rattle.transactions.specs.Prints.{has_from_tag};
 
 use crate::matching::{is_copy, is_merged_with, is_reply, same_top};
+use crate::places::Places;
 use crate::print::{branch_print, print_of};
 use crate::slot::Slot;
 use crate::transaction::Transaction;
+use index::Entry;
 use sip_message::{Parts, is_method, tag_value};
 use sip_uri::same_text;
-use std::marker::Model;
 use text::Text;
 use transaction_machines::{State, is_server};
-
-/// The values of a message, with the prints that they are looked up by.
-#[derive(Drop)]
-pub(crate) struct Sought<'m, 'a> {
-    parts: &'m Parts<'a>,
-    branch: u64,
-    call: u64,
-}
-
-impl<'m, 'a> Model for Sought<'m, 'a> {
-    ghost use Rattle.std.specs.Prelude.{◌≡◌};
-    ghost use Rattle.sip_message.specs.declared.message.Parts.{Parts};
-    ghost use Rattle.transactions.specs.Prints.{branch_print, print_of};
-
-    ghost Value = { Parts };
-
-    ghost view = { λ s. s.parts.now };
-
-    ghost invariant = { λ s. (s.branch ≡ branch_print s.parts.now.vias) × (s.call ≡ print_of s.parts.now.call_id) };
-}
-
-impl<'m, 'a> Sought<'m, 'a> {
-    fn of(parts: &'m Parts<'a>) -> Sought<'m, 'a>
-        ensures { result ≡ parts.now }
-    {
-        Sought {
-            parts,
-            branch: branch_print(&parts.vias),
-            call: print_of(parts.call_id.as_bytes()),
-        }
-    }
-}
 
 /// The transaction of a number.
 pub(crate) fn transaction_at(slots: &[Slot], id: usize) -> Option<&Transaction>
@@ -58,72 +27,65 @@ pub(crate) fn transaction_at(slots: &[Slot], id: usize) -> Option<&Transaction>
     }
 }
 
-fn first_free(slots: &[Slot]) -> Option<usize>
-    ensures { result ≡ position is_none slots.now }
-{
-    slots.iter().position(|slot| slot.is_free())
-}
-
-/// The least number that no transaction has.
-pub(crate) fn free_number(slots: &[Slot]) -> usize
-    ensures { result ≡ free_number slots.now }
-{
-    first_free(slots).unwrap_or(slots.len())
-}
-
 #[tactic(auto, unfolding(crate::specs::Slots::is_asked))]
-fn asks_for(slot: &Slot, parts: &Parts) -> bool
-    ensures { result ≡ is_asked parts.now slot.now }
+fn is_asked(slots: &[Slot], number: usize, parts: &Parts) -> bool
+    ensures { result ≡ is_asked parts.now (at slots.now number) }
 {
-    match slot.transaction() {
+    match transaction_at(slots, number) {
         None => false,
         Some(transaction) => is_server(transaction.state) && is_copy(parts, &transaction.parts),
     }
 }
 
-fn is_asked(slot: &Slot, sought: &Sought) -> bool
-    ensures { result ≡ is_asked sought.now slot.now }
+fn first_asked(entries: &[Entry], slots: &[Slot], parts: &Parts) -> Option<usize>
+    ensures { result ≡ option_map (λ e. e.number) (find (λ e. is_asked parts.now (at slots.now e.number)) entries.now) }
 {
-    slot.print().may_serve(sought.branch) && asks_for(slot, sought.parts)
+    entries
+        .iter()
+        .find(|entry| is_asked(slots, entry.number, parts))
+        .map(|entry| entry.number)
 }
 
 /// The server transaction that a request belongs to.
-pub(crate) fn asked(slots: &[Slot], parts: &Parts) -> Option<usize>
-    ensures { result ≡ position (is_asked parts.now) slots.now }
+pub(crate) fn asked(places: &Places, parts: &Parts) -> Option<usize>
+    ensures { result ≡ position (is_asked parts.now) places.now.slots }
 {
-    let sought = Sought::of(parts);
-    slots.iter().position(|slot| is_asked(slot, &sought))
+    let entries = places.of_branch(branch_print(&parts.vias));
+    first_asked(entries, places.slots(), parts)
 }
 
 #[tactic(auto, unfolding(crate::specs::Slots::is_answered))]
-fn answers_to(slot: &Slot, parts: &Parts) -> bool
-    ensures { result ≡ is_answered parts.now slot.now }
+fn is_answered(slots: &[Slot], number: usize, parts: &Parts) -> bool
+    ensures { result ≡ is_answered parts.now (at slots.now number) }
 {
-    match slot.transaction() {
+    match transaction_at(slots, number) {
         None => false,
         Some(transaction) => !is_server(transaction.state) && is_reply(parts, &transaction.parts),
     }
 }
 
-fn is_answered(slot: &Slot, sought: &Sought) -> bool
-    ensures { result ≡ is_answered sought.now slot.now }
+fn first_answered(entries: &[Entry], slots: &[Slot], parts: &Parts) -> Option<usize>
+    ensures { result ≡ option_map (λ e. e.number) (find (λ e. is_answered parts.now (at slots.now e.number)) entries.now) }
 {
-    slot.print().may_ask(sought.branch) && answers_to(slot, sought.parts)
+    entries
+        .iter()
+        .find(|entry| is_answered(slots, entry.number, parts))
+        .map(|entry| entry.number)
 }
 
 /// The client transaction whose request an answer is one to.
-pub(crate) fn answered(slots: &[Slot], parts: &Parts) -> Option<usize>
-    ensures { result ≡ position (is_answered parts.now) slots.now }
+pub(crate) fn answered(places: &Places, parts: &Parts) -> Option<usize>
+    ensures { result ≡ position (is_answered parts.now) places.now.slots }
 {
-    let sought = Sought::of(parts);
-    slots.iter().position(|slot| is_answered(slot, &sought))
+    let entries = places.of_branch(branch_print(&parts.vias));
+    first_answered(entries, places.slots(), parts)
 }
 
 #[tactic(auto, unfolding(crate::specs::Slots::is_named_invite))]
-fn names_invite(slot: &Slot, parts: &Parts) -> bool
-    ensures { result ≡ is_named_invite parts.now slot.now }
+fn is_named_invite(slots: &[Slot], number: usize, parts: &Parts) -> bool
+    ensures { result ≡ is_named_invite parts.now (at slots.now number) }
 {
-    match slot.transaction() {
+    match transaction_at(slots, number) {
         None => false,
         Some(transaction) => {
             matches!(transaction.state, State::InviteServer(_))
@@ -132,23 +94,20 @@ fn names_invite(slot: &Slot, parts: &Parts) -> bool
     }
 }
 
-fn is_named_invite(slot: &Slot, sought: &Sought) -> bool
-    ensures { result ≡ is_named_invite sought.now slot.now }
+fn named_invite(entries: &[Entry], slots: &[Slot], parts: &Parts) -> Option<usize>
+    ensures { result ≡ option_map (λ e. e.number) (find (λ e. is_named_invite parts.now (at slots.now e.number)) entries.now) }
 {
-    slot.print().may_serve(sought.branch) && names_invite(slot, sought.parts)
-}
-
-fn named_invite(slots: &[Slot], sought: &Sought) -> Option<usize>
-    ensures { result ≡ position (is_named_invite sought.now) slots.now }
-{
-    slots.iter().position(|slot| is_named_invite(slot, sought))
+    entries
+        .iter()
+        .find(|entry| is_named_invite(slots, entry.number, parts))
+        .map(|entry| entry.number)
 }
 
 #[tactic(auto, unfolding(crate::specs::Slots::is_named))]
-fn names_other(slot: &Slot, parts: &Parts) -> bool
-    ensures { result ≡ is_named parts.now slot.now }
+fn is_named(slots: &[Slot], number: usize, parts: &Parts) -> bool
+    ensures { result ≡ is_named parts.now (at slots.now number) }
 {
-    match slot.transaction() {
+    match transaction_at(slots, number) {
         None => false,
         Some(transaction) => {
             is_server(transaction.state)
@@ -158,34 +117,31 @@ fn names_other(slot: &Slot, parts: &Parts) -> bool
     }
 }
 
-fn is_named(slot: &Slot, sought: &Sought) -> bool
-    ensures { result ≡ is_named sought.now slot.now }
+fn named_other(entries: &[Entry], slots: &[Slot], parts: &Parts) -> Option<usize>
+    ensures { result ≡ option_map (λ e. e.number) (find (λ e. is_named parts.now (at slots.now e.number)) entries.now) }
 {
-    slot.print().may_serve(sought.branch) && names_other(slot, sought.parts)
-}
-
-fn named_other(slots: &[Slot], sought: &Sought) -> Option<usize>
-    ensures { result ≡ position (is_named sought.now) slots.now }
-{
-    slots.iter().position(|slot| is_named(slot, sought))
+    entries
+        .iter()
+        .find(|entry| is_named(slots, entry.number, parts))
+        .map(|entry| entry.number)
 }
 
 /// The server transaction that a CANCEL names.
-pub(crate) fn named(slots: &[Slot], parts: &Parts) -> Option<usize>
-    ensures { result ≡ named slots.now parts.now }
+pub(crate) fn named(places: &Places, parts: &Parts) -> Option<usize>
+    ensures { result ≡ named places.now.slots parts.now }
 {
-    let sought = Sought::of(parts);
-    match named_invite(slots, &sought) {
+    let (entries, slots) = (places.of_branch(branch_print(&parts.vias)), places.slots());
+    match named_invite(entries, slots, parts) {
         Some(id) => Some(id),
-        None => named_other(slots, &sought),
+        None => named_other(entries, slots, parts),
     }
 }
 
 #[tactic(auto, unfolding(crate::specs::Slots::is_merged))]
-fn merges_with(slot: &Slot, parts: &Parts) -> bool
-    ensures { result ≡ is_merged parts.now slot.now }
+fn is_merged(slots: &[Slot], number: usize, parts: &Parts) -> bool
+    ensures { result ≡ is_merged parts.now (at slots.now number) }
 {
-    match slot.transaction() {
+    match transaction_at(slots, number) {
         None => false,
         Some(transaction) => {
             is_server(transaction.state) && is_merged_with(parts, &transaction.parts)
@@ -193,18 +149,20 @@ fn merges_with(slot: &Slot, parts: &Parts) -> bool
     }
 }
 
-fn is_merged(slot: &Slot, sought: &Sought) -> bool
-    ensures { result ≡ is_merged sought.now slot.now }
+fn merges_any(entries: &[Entry], slots: &[Slot], parts: &Parts) -> bool
+    ensures { result ≡ list_any (λ e. is_merged parts.now (at slots.now e.number)) entries.now }
 {
-    slot.print().may_merge(sought.call) && merges_with(slot, sought.parts)
+    entries
+        .iter()
+        .any(|entry| is_merged(slots, entry.number, parts))
 }
 
 /// Whether a server transaction has the request of another way.
-pub(crate) fn any_merged(slots: &[Slot], parts: &Parts) -> bool
-    ensures { result ≡ list_any (is_merged parts.now) slots.now }
+pub(crate) fn any_merged(places: &Places, parts: &Parts) -> bool
+    ensures { result ≡ list_any (is_merged parts.now) places.now.slots }
 {
-    let sought = Sought::of(parts);
-    slots.iter().any(|slot| is_merged(slot, &sought))
+    let entries = places.of_call(print_of(parts.call_id.as_bytes()));
+    merges_any(entries, places.slots(), parts)
 }
 
 fn has_from_tag(slot: &Slot, tag: &Text<'_>) -> bool
@@ -231,30 +189,4 @@ pub(crate) fn waiting_invite(slots: &[Slot], tag: &Text<'_>) -> Option<usize>
     ensures { result ≡ waiting_invite slots.now tag.now }
 {
     slots.iter().position(|slot| is_waiting_invite(slot, tag))
-}
-
-#[tactic(auto, unfolding(crate::specs::Slots::is_serving))]
-fn is_serving(slot: &Slot) -> bool
-    ensures { result ≡ is_serving slot.now }
-{
-    slot.print().serves
-}
-
-// One more for a server transaction.
-fn counted(count: usize, slot: &Slot) -> usize
-    requires { count + 1 < 2 ^ 64 }
-    ensures { result ≡ count + (if is_serving slot.now then 1 else 0) }
-{
-    if is_serving(slot) { count + 1 } else { count }
-}
-
-/// How many server transactions there are.
-pub(crate) fn serving(slots: &[Slot]) -> usize
-    ensures { result ≡ count_by is_serving slots.now }
-{
-    let mut count = 0;
-    for slot in slots {
-        count = counted(count, slot);
-    }
-    count
 }

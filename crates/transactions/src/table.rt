@@ -22,8 +22,8 @@ use crate::error::TableError;
 use crate::foreseeing::{Foreseen, ForeseenFire};
 use crate::matching::has_to_tag;
 use crate::outcome::{Fired, Outgoing, Reception, Started};
-use crate::slot::Slot;
-use crate::slots::{any_merged, free_number, named, transaction_at, waiting_invite};
+use crate::places::Places;
+use crate::slots::{any_merged, named, transaction_at, waiting_invite};
 use crate::stopping::{has_come, moment};
 use crate::transaction::{TimerId, Transaction};
 use sip_message::{Message, Request, Response, class_of, is_method};
@@ -39,7 +39,7 @@ use transaction_machines::{Input, advance, is_server};
 /// milliseconds.
 pub struct Table {
     pub(crate) alloc: Global,
-    pub(crate) slots: Vec<Slot>,
+    pub(crate) places: Places,
     pub(crate) timers: Timers<TimerId>,
 }
 
@@ -47,7 +47,7 @@ impl Drop for Table {
     fn drop(self) {
         let Table {
             alloc: _,
-            slots: _,
+            places: _,
             timers: _,
         } = self;
     }
@@ -59,10 +59,10 @@ impl Model for Table {
 
     ghost Value = { Contents };
 
-    ghost view = { λ t. record { slots = t.slots.items; timers = t.timers.timers } };
+    ghost view = { λ t. record { slots = t.places.slots; timers = t.timers.timers } };
 
     // So each timer that is due does something when it fires.
-    ghost invariant = { λ t. IsFireable t.slots.items t.timers.timers };
+    ghost invariant = { λ t. IsFireable t.places.slots t.timers.timers };
 }
 
 impl Table {
@@ -73,7 +73,7 @@ impl Table {
     {
         Table {
             alloc,
-            slots: Vec::new(alloc),
+            places: Places::new(alloc),
             timers: Timers::new(alloc),
         }
     }
@@ -137,7 +137,7 @@ impl Table {
         ensures refused { IfErr result (RefusesAnswer self.old id response.now) }
         ensures err { OnErr result (self.new ≡ self.old) }
     {
-        let Some(transaction) = transaction_at(&self.slots, id) else {
+        let Some(transaction) = transaction_at(self.places.slots(), id) else {
             return Err(TableError::Unknown);
         };
         if !is_server(transaction.state) {
@@ -162,7 +162,7 @@ impl Table {
         ensures refused { IfErr result (RefusesAbandon self.old id) }
         ensures err { OnErr result (self.new ≡ self.old) }
     {
-        let Some(transaction) = transaction_at(&self.slots, id) else {
+        let Some(transaction) = transaction_at(self.places.slots(), id) else {
             return Err(TableError::Unknown);
         };
         if advance(transaction.state, Input::Abandon).is_none() {
@@ -194,8 +194,8 @@ impl Table {
         ensures ok { OnOk result (self.new ≡ entered_all now self.old changes.items) }
         ensures err { OnErr result (self.new ≡ self.old) }
     {
-        make_room(&mut self.slots, &mut self.timers, changes.as_slice().len())?;
-        enter_all(&mut self.slots, &mut self.timers, changes, now);
+        make_room(&mut self.places, &mut self.timers, changes.as_slice().len())?;
+        enter_all(&mut self.places, &mut self.timers, changes, now);
         Ok(())
     }
 
@@ -203,14 +203,14 @@ impl Table {
     pub fn transaction(&self, id: usize) -> Option<&Transaction>
         ensures { option_copied result ≡ at self.now.slots id }
     {
-        transaction_at(&self.slots, id)
+        transaction_at(self.places.slots(), id)
     }
 
     /// Whether a server transaction takes an answer of the core with this status. Takes no memory.
     pub fn may_answer(&self, id: usize, status: u16) -> bool
         ensures { result ≡ is_some (line_at self.now id (Input.Answer (class_of status))) }
     {
-        match transaction_at(&self.slots, id) {
+        match transaction_at(self.places.slots(), id) {
             Some(transaction) => {
                 advance(transaction.state, Input::Answer(class_of(status))).is_some()
             }
@@ -250,7 +250,7 @@ impl Table {
     pub fn cancels(&self, request: &Request) -> Option<usize>
         ensures { result ≡ named self.now.slots request.now.parts }
     {
-        named(&self.slots, &request.parts)
+        named(&self.places, &request.parts)
     }
 
     /// The INVITE of the server's own with this tag in From that has no final response: the one that `cancel_of` and `abandons` are
@@ -258,7 +258,7 @@ impl Table {
     pub fn waiting_invite(&self, tag: &Text<'_>) -> Option<usize>
         ensures { result ≡ waiting_invite self.now.slots tag.now }
     {
-        waiting_invite(&self.slots, tag)
+        waiting_invite(self.places.slots(), tag)
     }
 
     /// Whether another server transaction has the tag of From, Call-ID, number and method of a request without tag in
@@ -266,7 +266,7 @@ impl Table {
     pub fn merged(&self, request: &Request) -> bool
         ensures { result ≡ merged self.now request.now.parts }
     {
-        !has_to_tag(&request.parts) && any_merged(&self.slots, &request.parts)
+        !has_to_tag(&request.parts) && any_merged(&self.places, &request.parts)
     }
 
     pub(crate) fn is_due(&self, timer: TimerId, now: u64) -> bool
@@ -282,7 +282,7 @@ impl Table {
         if is_method(&request.parts, b"ACK") {
             None
         } else {
-            Some(free_number(&self.slots))
+            Some(self.places.free_number())
         }
     }
 
@@ -293,8 +293,8 @@ impl Table {
         ensures err { OnErr result (self.new ≡ self.old) }
         ensures needed { OnErr result (needs_room self.old.slots change ≡ true) }
     {
-        make_room_for(&mut self.slots, &mut self.timers, &change)?;
-        enter(&mut self.slots, &mut self.timers, change, now);
+        make_room_for(&mut self.places, &mut self.timers, &change)?;
+        enter(&mut self.places, &mut self.timers, change, now);
         Ok(())
     }
 }

@@ -4,6 +4,6 @@ use Rattle.transactions.proofs.applying.carry_out.Goals as goal
 
 pub returns-clause-fireable : goal.returns-clause-fireable
 returns-clause-fireable c =
-    fireable_carried c.args.slots.now.items c.write.new.slots.items c.args.timers.now.timers c.args.timers.now.timers c.stop.new.timers.timers c.set_all.new.timers.timers
+    fireable_carried c.args.places.now.slots c.write.new.self.slots c.args.timers.now.timers c.args.timers.now.timers c.stop.new.timers.timers c.set_all.new.timers.timers
     c.args.id c.args.step c.args.fresh c.args.now c.requires.fireable c.requires.there c.requires.follows
-    c.write.ensures.items refl c.stop.ensures.timers c.set_all.ensures.timers
+    c.write.ensures.slots refl c.stop.ensures.timers c.set_all.ensures.timers

@@ -6,7 +6,7 @@ use Rattle.transactions.proofs.applying.tell.Goals as goal
 
 pub carry_out-requires-clause-follows : goal.carry_out-requires-clause-follows
 carry_out-requires-clause-follows c =
-    follows_by c.args.slots.now.items c.args.id c.in-Some.transaction.now (is_answer c.args.input) (is_some c.args.fresh) c.in-Some-advance.step
+    follows_by c.args.places.now.slots c.args.id c.in-Some.transaction.now (is_answer c.args.input) (is_some c.args.fresh) c.in-Some-advance.step
     c.requires.given
-    (c.in-Some.ensures ∙ ap (λ l. at l c.args.id) c.deref.ensures.value)
+    (c.in-Some.ensures ∙ ap (λ l. at l c.args.id) c.slots.ensures)
     c.in-Some-advance.ensures.follows

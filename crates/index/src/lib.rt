@@ -1,0 +1,7 @@
+//! Numbers under what they are looked up by: where those of a print are, is found by halving.
+#![tactic(auto)]
+
+mod entries;
+mod index;
+
+pub use index::{Entry, Index};

@@ -1,0 +1,264 @@
+-- The places of the table: what is found by the index, and the index behind a change.
+use Rattle.std.proofs.Common.{◌≡◌, ℕ, ◌+◌, ◌-◌, ◌<◌, ◌≤◌, Bool, true, false, ◌||◌, cond, ltb, eqb, List, [], ◌∷◌, ◌++◌, length, map, get_or, set, Option, Some, None, is_none, is_some, option_map, count_by, find, position, slice_get, refl, sym, ap, ◌∙◌, arith}
+use Prim.Native.Nat.{suc}
+use Rattle.std.specs.Prelude.{IsSome}
+use Rattle.std.specs.List.{list_any, position_or_len}
+use Rattle.std.proofs.lemmas.Bool.{false≢true, ne_eqb, eq-eqb, eqb-true, eqb-false}
+use Rattle.std.proofs.lemmas.List.{get_or_default}
+use Rattle.std.proofs.lemmas.List.Sums.{sum_by-set, get_or-le-sum_by}
+use Rattle.index.specs.declared.index.Entry.{Entry}
+use Rattle.index.specs.Entries.{numbers_of}
+use Rattle.index.specs.Numbers.{Indexed, put_number, remove_number}
+use Rattle.transaction_machines.specs.declared.state.State.{State}
+use Rattle.transaction_machines.specs.Machines.{is_server}
+use Rattle.transactions.specs.declared.transaction.Transaction.{Transaction}
+use Rattle.transactions.specs.Contents.{placed}
+use Rattle.transactions.specs.Places.{numbers_from, has_branch, has_call, IsIndexed, HasRoom}
+use Rattle.transactions.specs.Prints.{branch_print, print_of, print_at}
+use Rattle.transactions.specs.Slots.{at, free_number, is_serving}
+use Rattle.transactions.specs.Transactions.{went}
+use Rattle.transactions.proofs.LastingLaws.{within}
+use Rattle.transactions.proofs.NumberLaws as numbers
+
+abbrev Slots : Type 0
+Slots = List (Option Transaction)
+
+-- ---- what is found
+
+find_number : (g : ℕ → Bool) (es : List Entry) → option_map (λ e. e.number) (find (λ e. g e.number) es) ≡ find g (map (λ e. e.number) es)
+find_number g [] = refl
+find_number g (e ∷ es) =
+    elim (g e.number) as (λ b. option_map (λ x. x.number) (cond b (Some e) (find (λ x. g x.number) es)) ≡ cond b (Some e.number) (find g (map (λ x. x.number) es))) [
+      | true ↦ refl
+      | false ↦ find_number g es
+    ]
+
+any_number : (g : ℕ → Bool) (es : List Entry) → list_any (λ e. g e.number) es ≡ list_any g (map (λ e. e.number) es)
+any_number g [] = refl
+any_number g (e ∷ es) = ap (λ b. g e.number || b) (any_number g es)
+
+pub first_found : (f p : Option Transaction → Bool) → ((slot : Option Transaction) → f slot ≡ true → p slot ≡ true) → (slots seen : Slots) (es : List Entry)
+    → seen ≡ slots → map (λ e. e.number) es ≡ numbers_from p 0 slots → option_map (λ e. e.number) (find (λ e. f (at seen e.number)) es) ≡ position f slots
+first_found f p has slots seen es same is =
+    let g : ℕ → Bool = λ n. f (at seen n) in
+    find_number g es ∙ ap (find g) is ∙ numbers.found p f g has None slots 0 (λ i less. ap (λ l. f (at l (0 + i))) same ∙ ap (λ n. f (at slots n)) (omega arith))
+    ∙ ap (λ n. cond (ltb (position_or_len f slots) (length slots)) (Some n) None) (omega arith)
+
+pub any_found : (f p : Option Transaction → Bool) → ((slot : Option Transaction) → f slot ≡ true → p slot ≡ true) → (slots seen : Slots) (es : List Entry)
+    → seen ≡ slots → map (λ e. e.number) es ≡ numbers_from p 0 slots → list_any (λ e. f (at seen e.number)) es ≡ list_any f slots
+any_found f p has slots seen es same is =
+    let g : ℕ → Bool = λ n. f (at seen n) in
+    any_number g es ∙ ap (list_any g) is ∙ numbers.any_found p f g has None slots 0 (λ i less. ap (λ l. f (at l (0 + i))) same ∙ ap (λ n. f (at slots n)) (omega arith))
+
+-- ---- the least free number
+
+pub first_free : (slots : Slots) (es : List Entry) (e : Entry) → slice_get es 0 ≡ Some e → map (λ x. x.number) es ≡ numbers_from is_none 0 slots → e.number ≡ free_number slots
+first_free slots [] e at_first is = cc
+first_free slots (x ∷ es) e at_first is =
+    let same : x ≡ e = cc in
+    sym (ap (λ (y : Entry). y.number) same) ∙ numbers.first_is is_none slots 0 x.number (map (λ y. y.number) es) (sym is) ∙ omega arith
+
+pub none_free : (slots : Slots) (es : List Entry) → slice_get es 0 ≡ None → map (λ x. x.number) es ≡ numbers_from is_none 0 slots → length slots ≡ free_number slots
+none_free slots [] none is = numbers.none_is is_none slots 0 (sym is)
+none_free slots (x ∷ es) none is = cc
+
+-- ---- a transaction goes on
+
+pub serves_is : (slot : Option Transaction) → (print_at slot).serves ≡ is_serving slot
+unfolding is_serving
+serves_is None = refl
+serves_is (Some t) = refl
+
+pub server_is : (t : Transaction) → is_serving (Some t) ≡ is_server t.state
+unfolding is_serving
+server_is t = refl
+
+none_serves : is_serving None ≡ false
+unfolding is_serving
+none_serves = refl
+
+none_counts : cond {A = ℕ} (is_serving None) 1 0 ≡ 0
+unfolding is_serving
+none_counts = refl
+
+pub stands : (slots : Slots) (id : ℕ) → IsSome (at slots id) → (t : Transaction) × (at slots id ≡ Some t)
+stands slots id some =
+    elim (at slots id) as (λ o. is_some o ≡ true → (t : Transaction) × (o ≡ Some t)) [
+      | Some t ↦ λ _. (t, refl)
+      | None ↦ λ h. absurd (false≢true h)
+    ] some
+
+pub counted : (slots : Slots) (id n was : ℕ) (d : Option Transaction) → id < length slots → n ≡ count_by is_serving slots → was ≡ cond (is_serving (get_or slots id d)) 1 0 → was ≤ n
+counted slots id n was d less is e = (let le = get_or-le-sum_by (λ s. cond (is_serving s) 1 0) slots id d less in omega (arith, is, e, le))
+
+module _ (has : ℕ → Option Transaction → Bool) (key : Transaction → ℕ) (none : (p : ℕ) → has p None ≡ false) (some : (p : ℕ) (t : Transaction) → has p (Some t) ≡ eqb (key t) p) where
+  -- its numbers stay where a transaction goes on with the same key
+  pub kept : (slots : Slots) (id : ℕ) (d new : Option Transaction) (t u : Transaction) → get_or slots id d ≡ Some t → new ≡ Some u → key u ≡ key t
+      → (p : ℕ) → numbers_from (has p) 0 (set slots id new) ≡ numbers_from (has p) 0 slots
+  kept slots id d new t u was is same p = numbers.set_same (has p) slots id 0 new d (rw (was, is, some p u, same) (sym (some p t)))
+
+  -- at its end its number is removed
+  pub ended : (slots : Slots) (id k : ℕ) (d : Option Transaction) (t : Transaction) (es es' : List Entry) → id < length slots → get_or slots id d ≡ Some t → k ≡ key t
+      → ((p : ℕ) → numbers_of es p ≡ numbers_from (has p) 0 slots) → ((p : ℕ) → numbers_of es' p ≡ cond (eqb p k) (remove_number (numbers_of es k) id) (numbers_of es p))
+      → (p : ℕ) → numbers_of es' p ≡ numbers_from (has p) 0 (set slots id None)
+  ended slots id k d t es es' less was is before removed p =
+      elim (eqb p k) as (λ b. eqb p k ≡ b → cond b (remove_number (numbers_of es k) id) (numbers_of es p) ≡ numbers_from (has p) 0 (set slots id None) → numbers_of es' p ≡ numbers_from (has p) 0 (set slots id None)) [
+        | true ↦ λ e h. removed p ∙ rw e h
+        | false ↦ λ e h. removed p ∙ rw e h
+      ] refl (
+      elim (eqb p k) as (λ b. eqb p k ≡ b → cond b (remove_number (numbers_of es k) id) (numbers_of es p) ≡ numbers_from (has p) 0 (set slots id None)) [
+        | true ↦ λ e.
+            (let here : p ≡ k = eqb-true p k e in
+            let passes : has p (get_or slots id d) ≡ true = rw (was, some p t) (eq-eqb (key t) p (sym is ∙ sym here)) in
+            ap (λ ns. remove_number ns id) (ap (numbers_of es) (sym here) ∙ before p) ∙ sym (numbers.set_remove (has p) slots id 0 id None d (omega arith) less passes (none p)))
+        | false ↦ λ e.
+            (let fails : has p (get_or slots id d) ≡ false = rw (was, some p t) (ne_eqb (key t) p (λ same. eqb-false p k e (sym same ∙ sym is))) in
+            before p ∙ sym (numbers.set_same (has p) slots id 0 None d (none p ∙ sym fails)))
+      ] refl)
+
+  -- at its beginning its number is put
+  pub begun : (slots : Slots) (k : ℕ) (t : Transaction) (es es' : List Entry) → k ≡ key t
+      → ((p : ℕ) → numbers_of es p ≡ numbers_from (has p) 0 slots) → ((p : ℕ) → numbers_of es' p ≡ cond (eqb p k) (put_number (numbers_of es k) (free_number slots)) (numbers_of es p))
+      → (p : ℕ) → numbers_of es' p ≡ numbers_from (has p) 0 (placed slots (free_number slots) t)
+  begun slots k t es es' is before put p =
+      put p ∙ (elim (eqb p k) as (λ b. eqb p k ≡ b → cond b (put_number (numbers_of es k) (free_number slots)) (numbers_of es p) ≡ numbers_from (has p) 0 (placed slots (free_number slots) t)) [
+        | true ↦ λ e.
+            (let here : p ≡ k = eqb-true p k e in
+            let passes : has p (Some t) ≡ true = rw (some p t) (eq-eqb (key t) p (sym is ∙ sym here)) in
+            ap (λ ns. put_number ns (free_number slots)) (ap (numbers_of es) (sym here) ∙ before p) ∙ sym (numbers.placed_put (has p) t (none p) passes slots 0 (free_number slots) (omega arith)))
+        | false ↦ λ e.
+            (let fails : has p (Some t) ≡ false = rw (some p t) (ne_eqb (key t) p (λ same. eqb-false p k e (sym same ∙ sym is))) in
+            before p ∙ sym (numbers.placed_same (has p) t (none p) fails slots 0))
+      ] refl)
+
+branch_none : (p : ℕ) → has_branch p None ≡ false
+branch_none p = refl
+
+branch_some : (p : ℕ) (t : Transaction) → has_branch p (Some t) ≡ eqb (branch_print t.parts.vias) p
+branch_some p t = refl
+
+call_none : (p : ℕ) → has_call p None ≡ false
+call_none p = refl
+
+call_some : (p : ℕ) (t : Transaction) → has_call p (Some t) ≡ eqb (print_of t.parts.call_id) p
+call_some p t = refl
+
+pub advanced : (slots : Slots) (bs cs fs : List Entry) (n id was is : ℕ) (d new : Option Transaction) (fresh : Option (List ℕ)) (state : State)
+    → IsIndexed slots bs cs fs n → IsSome (at slots id) → new ≡ option_map (λ t. went t fresh state) (get_or slots id d) → was ≡ cond (is_serving (get_or slots id d)) 1 0 → is ≡ cond (is_server state) 1 0
+    → IsIndexed (set slots id new) bs cs fs (n - was + is)
+advanced slots bs cs fs n id was is d new fresh state h some e was_e is_e =
+    let one = stands slots id some in
+    let t = one.0 in
+    let less = within slots id t one.1 in
+    let there : get_or slots id d ≡ Some t = get_or_default slots id d None less ∙ one.1 in
+    let next : new ≡ Some (went t fresh state) = e ∙ ap (option_map (λ u. went u fresh state)) there in
+    let count = sum_by-set (λ s. cond (is_serving s) 1 0) slots id new d less in
+    let fewer = get_or-le-sum_by (λ s. cond (is_serving s) 1 0) slots id d less in
+    let counts : cond (is_serving new) 1 0 ≡ is = rw (next, server_is (went t fresh state)) (sym is_e) in
+    record {
+      by_branch = λ p. h.by_branch p ∙ sym (kept has_branch (λ u. branch_print u.parts.vias) branch_none branch_some slots id d new t (went t fresh state) there next refl p);
+      by_call = λ p. h.by_call p ∙ sym (kept has_call (λ u. print_of u.parts.call_id) call_none call_some slots id d new t (went t fresh state) there next refl p);
+      without = h.without ∙ sym (numbers.set_same is_none slots id 0 new d (rw (there, next) refl));
+      servers = omega (arith, h.servers, count, fewer, counts, was_e);
+    }
+
+pub ended_all : (slots : Slots) (bs cs fs bs' cs' fs' : List Entry) (n id was b c : ℕ) (d new : Option Transaction)
+    → IsIndexed slots bs cs fs n → IsSome (at slots id) → new ≡ None → was ≡ cond (is_serving (get_or slots id d)) 1 0
+    → b ≡ (print_at (get_or slots id d)).branch → c ≡ (print_at (get_or slots id d)).call
+    → ((p : ℕ) → numbers_of bs' p ≡ cond (eqb p b) (remove_number (numbers_of bs b) id) (numbers_of bs p))
+    → ((p : ℕ) → numbers_of cs' p ≡ cond (eqb p c) (remove_number (numbers_of cs c) id) (numbers_of cs p))
+    → ((p : ℕ) → numbers_of fs' p ≡ cond (eqb p 0) (put_number (numbers_of fs 0) id) (numbers_of fs p))
+    → IsIndexed (set slots id new) bs' cs' fs' (n - was)
+ended_all slots bs cs fs bs' cs' fs' n id was b c d new h some is was_e b_e c_e bs_e cs_e fs_e =
+    let one = stands slots id some in
+    let t = one.0 in
+    let less = within slots id t one.1 in
+    let there : get_or slots id d ≡ Some t = get_or_default slots id d None less ∙ one.1 in
+    let count = sum_by-set (λ s. cond (is_serving s) 1 0) slots id None d less in
+    let fewer = get_or-le-sum_by (λ s. cond (is_serving s) 1 0) slots id d less in
+    let put = numbers.set_put is_none slots id 0 id None d (omega arith) less (rw there refl) refl in
+    rw is (record {
+      by_branch = ended has_branch (λ u. branch_print u.parts.vias) branch_none branch_some slots id b d t bs bs' less there (b_e ∙ ap (λ s. (print_at s).branch) there) h.by_branch bs_e;
+      by_call = ended has_call (λ u. print_of u.parts.call_id) call_none call_some slots id c d t cs cs' less there (c_e ∙ ap (λ s. (print_at s).call) there) h.by_call cs_e;
+      without = fs_e 0 ∙ ap (λ ns. put_number ns id) h.without ∙ sym put;
+      servers = omega (arith, h.servers, count, fewer, none_counts, was_e);
+    })
+
+pub begun_all : (slots : Slots) (bs cs fs bs' cs' fs' : List Entry) (n is b c id : ℕ) (t : Transaction) (slot : Option Transaction) (after : Slots)
+    → IsIndexed slots bs cs fs n → id ≡ free_number slots → slot ≡ Some t → is ≡ cond (print_at slot).serves 1 0 → b ≡ (print_at slot).branch → c ≡ (print_at slot).call
+    → after ≡ cond (ltb id (length slots)) (set slots id slot) (slots ++ slot ∷ [])
+    → ((p : ℕ) → numbers_of bs' p ≡ cond (eqb p b) (put_number (numbers_of bs b) id) (numbers_of bs p))
+    → ((p : ℕ) → numbers_of cs' p ≡ cond (eqb p c) (put_number (numbers_of cs c) id) (numbers_of cs p))
+    → ((p : ℕ) → numbers_of fs' p ≡ cond (eqb p 0) (remove_number (numbers_of fs 0) id) (numbers_of fs p))
+    → IsIndexed after bs' cs' fs' (n + is)
+begun_all slots bs cs fs bs' cs' fs' n is b c id t slot after h id_e slot_e is_e b_e c_e after_e bs_e cs_e fs_e =
+    let then : after ≡ placed slots (free_number slots) t = after_e ∙ rw (slot_e, id_e) refl in
+    let counts : is ≡ cond (is_serving (Some t)) 1 0 = is_e ∙ rw slot_e (ap (λ b. cond b 1 0) (serves_is (Some t))) in
+    let count = numbers.count_placed is_serving none_serves t slots in
+    rw then (record {
+      by_branch = begun has_branch (λ u. branch_print u.parts.vias) branch_none branch_some slots b t bs bs' (b_e ∙ ap (λ s. (print_at s).branch) slot_e) h.by_branch (rw (← id_e) bs_e);
+      by_call = begun has_call (λ u. print_of u.parts.call_id) call_none call_some slots c t cs cs' (c_e ∙ ap (λ s. (print_at s).call) slot_e) h.by_call (rw (← id_e) cs_e);
+      without = fs_e 0 ∙ rw id_e (ap (λ ns. remove_number ns (free_number slots)) h.without ∙ sym (numbers.placed_remove t slots 0 (free_number slots) (omega arith)));
+      servers = omega (arith, h.servers, count, counts);
+    })
+
+-- ---- the room
+
+put_length : (ns : List ℕ) (n : ℕ) → length (put_number ns n) ≡ suc (length ns)
+put_length [] n = refl
+put_length (m ∷ ns) n =
+    elim (ltb m n) as (λ b. length (cond b (m ∷ put_number ns n) (n ∷ m ∷ ns)) ≡ suc (suc (length ns))) [
+      | true ↦ ap suc (put_length ns n)
+      | false ↦ refl
+    ]
+
+remove_length : (ns : List ℕ) (n : ℕ) → length (remove_number ns n) ≤ length ns
+remove_length [] n = omega arith
+remove_length (m ∷ ns) n =
+    elim (eqb m n) as (λ b. length (cond b ns (m ∷ remove_number ns n)) ≤ suc (length ns)) [
+      | true ↦ omega arith
+      | false ↦ (let rest = remove_length ns n in omega (arith, rest))
+    ]
+
+-- an end takes room that there is
+pub end_fits : (slots : Slots) (bs cs : List Entry) (free : Indexed) (n id used capacity room : ℕ) (branches calls : Indexed)
+    → IsIndexed slots bs cs free.entries n → HasRoom used capacity branches calls free room → used ≡ length slots → IsSome (at slots id) → 0 < free.room
+end_fits slots bs cs free n id used capacity room branches calls h fits is some =
+    let one = stands slots id some in
+    let less = within slots id one.0 one.1 in
+    let fewer = numbers.numbers_fewer is_none slots id 0 None less (rw one.1 refl) in
+    let same = ap length h.without in
+    omega (arith, fits.for_ends, is, fewer, same)
+
+pub room_ended : (used capacity room b c id : ℕ) (branches calls free branches' calls' free' : Indexed) → HasRoom used capacity branches calls free room
+    → ((p : ℕ) → numbers_of branches'.entries p ≡ cond (eqb p b) (remove_number (numbers_of branches.entries b) id) (numbers_of branches.entries p))
+    → ((p : ℕ) → numbers_of calls'.entries p ≡ cond (eqb p c) (remove_number (numbers_of calls.entries c) id) (numbers_of calls.entries p))
+    → ((p : ℕ) → numbers_of free'.entries p ≡ cond (eqb p 0) (put_number (numbers_of free.entries 0) id) (numbers_of free.entries p))
+    → length (numbers_of branches.entries b) + branches.room ≤ length (numbers_of branches'.entries b) + branches'.room
+    → length (numbers_of calls.entries c) + calls.room ≤ length (numbers_of calls'.entries c) + calls'.room
+    → free.room ≤ free'.room + 1
+    → HasRoom used capacity branches' calls' free' room
+room_ended used capacity room b c id branches calls free branches' calls' free' fits bs_e cs_e fs_e bs_r cs_r fs_r =
+    let bs_l : length (numbers_of branches'.entries b) ≡ length (remove_number (numbers_of branches.entries b) id) = rw (bs_e b, eq-eqb b b refl) refl in
+    let cs_l : length (numbers_of calls'.entries c) ≡ length (remove_number (numbers_of calls.entries c) id) = rw (cs_e c, eq-eqb c c refl) refl in
+    let fs_l = ap length (fs_e 0) ∙ put_length (numbers_of free.entries 0) id in
+    let bs_s = remove_length (numbers_of branches.entries b) id in
+    let cs_s = remove_length (numbers_of calls.entries c) id in
+    record {
+      for_slots = fits.for_slots;
+      for_branches = omega (arith, fits.for_branches, bs_l, bs_s, bs_r);
+      for_calls = omega (arith, fits.for_calls, cs_l, cs_s, cs_r);
+      for_ends = omega (arith, fits.for_ends, fs_l, fs_r);
+    }
+
+pub room_begun : (used used' capacity capacity' room : ℕ) (branches calls free branches' calls' free' : Indexed) → HasRoom used capacity branches calls free room → 0 < room
+    → used' ≤ used + 1 → capacity ≤ capacity' → branches.room ≤ branches'.room + 1 → calls.room ≤ calls'.room + 1
+    → length (numbers_of free.entries 0) + free.room ≤ length (numbers_of free'.entries 0) + free'.room
+    → HasRoom used' capacity' branches' calls' free' (room - 1)
+room_begun used used' capacity capacity' room branches calls free branches' calls' free' fits some more most bs_r cs_r fs_r =
+    record {
+      for_slots = omega (arith, fits.for_slots, some, more, most);
+      for_branches = omega (arith, fits.for_branches, bs_r);
+      for_calls = omega (arith, fits.for_calls, cs_r);
+      for_ends = omega (arith, fits.for_ends, some, more, fs_r);
+    }

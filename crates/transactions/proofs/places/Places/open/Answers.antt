@@ -1,0 +1,19 @@
+use Rattle.std.proofs.Common.{◌≡◌, ◌∙◌, ap, sym, subst, cond, ◌<◌}
+use Rattle.transactions.specs.Places.{Placed}
+use Rattle.transactions.specs.Slots.{free_number}
+use Rattle.transactions.proofs.PlaceLaws.{begun_all, room_begun}
+use Rattle.transactions.proofs.places.Places.open.Goals as goal
+
+pub invariant_of-self : goal.invariant_of-self
+invariant_of-self c =
+    let p = c.self.inside in
+    let number : c.free_number-number.result ≡ free_number p.slots.items = c.free_number-number.ensures ∙ ap (λ (v : Placed). free_number v.slots) (sym c.self.view_is) in
+    let some : 0 < p.room = subst (λ (v : Placed). 0 < v.room) (sym c.self.view_is) c.requires in
+    let slot = c.of-slot.result in (
+      begun_all p.slots.items p.branches.entries p.calls.entries p.free.entries c.put.new.self.entries c.put-2.new.self.entries c.remove.new.self.entries p.serving c.count_of.result
+          c.print-print.result.now.branch c.print-print.result.now.call c.free_number-number.result c.args.transaction slot c.place.new.slots.items c.self.invariant.0 number c.of-slot.ensures
+          (c.count_of.ensures ∙ ap (λ b. cond b 1 0) (ap (λ q. q.serves) c.print-print.ensures)) (ap (λ q. q.branch) c.print-print.ensures) (ap (λ q. q.call) c.print-print.ensures)
+          c.place.ensures.items c.put.ensures.numbers c.put-2.ensures.numbers c.remove.ensures.numbers,
+      room_begun p.slots.len c.place.new.slots.len p.slots.cap c.place.new.slots.cap p.room p.branches p.calls p.free c.put.new.self c.put-2.new.self c.remove.new.self
+          c.self.invariant.1 some c.place.ensures.len c.place.ensures.capacity c.put.ensures.room c.put-2.ensures.room c.remove.ensures.room,
+    )

@@ -1,0 +1,15 @@
+use Rattle.std.proofs.Common.{◌≡◌, ◌∙◌, map, ap, subst}
+use Rattle.transactions.specs.Places.{numbers_from, has_call}
+use Rattle.transactions.specs.Prints.{print_of}
+use Rattle.transactions.specs.Slots.{is_merged}
+use Rattle.transactions.proofs.PlaceLaws.{any_found}
+use Rattle.transactions.proofs.PrintLaws.{merged_has}
+use Rattle.transactions.proofs.slots.any_merged.Goals as goal
+
+pub returns : goal.returns
+returns c =
+    let slots = c.args.places.now.slots in
+    let print = c.print_of.ensures ∙ ap print_of c.as_bytes.ensures in
+    let entries = subst (λ n. map (λ e. e.number) c.of_call-entries.result.now ≡ numbers_from (has_call n) 0 slots) print c.of_call-entries.ensures in
+    c.merges_any.ensures
+    ∙ any_found (is_merged c.args.parts.now) (has_call (print_of c.args.parts.now.call_id)) (merged_has c.args.parts.now) slots c.slots.result.now c.of_call-entries.result.now c.slots.ensures entries

@@ -1,0 +1,42 @@
+-- The places of the table, and the index by which its transactions are looked up.
+use Rattle.std.specs.Prelude.{◌≡◌, ℕ, ◌+◌, ◌≤◌, Bool, false, List, [], ◌∷◌, length, Option, Some, None, is_none, nat_eq, count_by, if◌then◌else◌}
+use Rattle.index.specs.declared.index.Entry.{Entry}
+use Rattle.index.specs.Entries.{numbers_of}
+use Rattle.index.specs.Numbers.{Indexed}
+use Rattle.transactions.specs.declared.transaction.Transaction.{Transaction}
+use Rattle.transactions.specs.Prints.{branch_print, print_of}
+use Rattle.transactions.specs.Slots.{is_serving}
+
+-- The transactions by their numbers, and how many more can begin without memory.
+pub record Placed : Type 0 where
+  pub slots : List (Option Transaction)
+  pub room : ℕ
+
+-- the places of those that pass, the least first, where the first place has the number n
+abbrev pub numbers_from : {X : Type 0} → (X → Bool) → ℕ → List X → List ℕ
+numbers_from p n [] = []
+numbers_from p n (x ∷ xs) = if p x then n ∷ numbers_from p (1 + n) xs else numbers_from p (1 + n) xs
+
+-- a transaction whose top Via has a branch of this print
+abbrev pub has_branch : ℕ → Option Transaction → Bool
+has_branch print None = false
+has_branch print (Some t) = nat_eq (branch_print t.parts.vias) print
+
+-- a transaction with a Call-ID of this print
+abbrev pub has_call : ℕ → Option Transaction → Bool
+has_call print None = false
+has_call print (Some t) = nat_eq (print_of t.parts.call_id) print
+
+-- Under each print are the numbers of the transactions that have it, and of no other. The free numbers are all under 0.
+pub record IsIndexed (slots : List (Option Transaction)) (branches calls free : List Entry) (serving : ℕ) : Type 0 where
+  pub by_branch : (print : ℕ) → numbers_of branches print ≡ numbers_from (has_branch print) 0 slots
+  pub by_call : (print : ℕ) → numbers_of calls print ≡ numbers_from (has_call print) 0 slots
+  pub without : numbers_of free 0 ≡ numbers_from is_none 0 slots
+  pub servers : serving ≡ count_by is_serving slots
+
+-- So many transactions more can begin, and all can end, without memory.
+pub record HasRoom (used capacity : ℕ) (branches calls free : Indexed) (room : ℕ) : Type 0 where
+  pub for_slots : used + room ≤ capacity
+  pub for_branches : room ≤ branches.room
+  pub for_calls : room ≤ calls.room
+  pub for_ends : used + room ≤ length (numbers_of free.entries 0) + free.room

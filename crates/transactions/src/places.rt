@@ -1,0 +1,210 @@
+//! The places of the table: transactions by their numbers, and an index of what they are looked up by.
+
+ghost use Rattle.std.specs.Prelude.{◌≡◌, ◌+◌, ◌≤◌, ◌<◌, [], ◌∷◌, ◌++◌, length, map, vec_len, OnOk, OnErr, IsSome, Some, None, option_map, slice_set, nat_lt, if◌then◌else◌};
+ghost use Rattle.std.specs.Vec.{vec_capacity};
+ghost use Rattle.transactions.specs.declared.transaction.Transaction.{Transaction};
+ghost use Rattle.transactions.specs.Contents.{placed};
+ghost use Rattle.transactions.specs.Places.{numbers_from, has_branch, has_call};
+ghost use Rattle.transactions.specs.Slots.{at, free_number, serving};
+ghost use Rattle.transactions.specs.Transactions.{went};
+
+use crate::slot::Slot;
+use crate::transaction::Transaction;
+use boxed::Boxed;
+use index::{Entry, Index};
+use std::alloc::{AllocError, Global};
+use std::marker::Model;
+use text::Text;
+use transaction_machines::{State, is_server};
+
+/// The print that all free numbers are under.
+const FREE: u64 = 0;
+
+/// The places of the table.
+#[derive(Drop)]
+pub(crate) struct Places {
+    slots: Vec<Slot>,
+    /// Under the print of the branch of the top Via.
+    branches: Index,
+    /// Under the print of Call-ID.
+    calls: Index,
+    free: Index,
+    /// How many server transactions there are.
+    serving: usize,
+    /// How many transactions can begin without memory.
+    room: usize,
+}
+
+impl Model for Places {
+    ghost use Rattle.std.specs.Prelude.{vec_len};
+    ghost use Rattle.std.specs.Vec.{vec_capacity};
+    ghost use Rattle.transactions.specs.Places.{Placed, IsIndexed, HasRoom};
+
+    ghost Value = { Placed };
+
+    ghost view = { λ p. record { slots = p.slots.items; room = p.room } };
+
+    ghost invariant = { λ p. IsIndexed p.slots.items p.branches.entries p.calls.entries p.free.entries p.serving
+        × HasRoom (vec_len p.slots) (vec_capacity p.slots) p.branches p.calls p.free p.room };
+}
+
+impl Places {
+    /// No transactions. Takes no memory.
+    pub(crate) fn new(alloc: Global) -> Places
+        ensures { result.slots ≡ [] }
+    {
+        Places {
+            slots: Vec::new(alloc),
+            branches: Index::new(alloc),
+            calls: Index::new(alloc),
+            free: Index::new(alloc),
+            serving: 0,
+            room: 0,
+        }
+    }
+
+    pub(crate) fn slots(&self) -> &[Slot]
+        ensures { result.now ≡ self.now.slots }
+    {
+        &self.slots
+    }
+
+    /// The transactions whose top Via has a branch of this print.
+    pub(crate) fn of_branch(&self, print: u64) -> &[Entry]
+        ensures { map (λ e. e.number) result.now ≡ numbers_from (has_branch print) 0 self.now.slots }
+    {
+        self.branches.numbers(print)
+    }
+
+    /// The transactions with a Call-ID of this print.
+    pub(crate) fn of_call(&self, print: u64) -> &[Entry]
+        ensures { map (λ e. e.number) result.now ≡ numbers_from (has_call print) 0 self.now.slots }
+    {
+        self.calls.numbers(print)
+    }
+
+    /// The least number that no transaction has.
+    pub(crate) fn free_number(&self) -> usize
+        ensures { result ≡ free_number self.now.slots }
+    {
+        match self.free.numbers(FREE).first() {
+            Some(entry) => entry.number,
+            None => self.slots.len(),
+        }
+    }
+
+    /// How many server transactions there are.
+    pub(crate) fn serving(&self) -> usize
+        ensures { result ≡ serving self.now.slots }
+    {
+        self.serving
+    }
+
+    /// Makes room for `n` transactions more, and for the end of each that there is.
+    pub(crate) fn reserve(&mut self, n: usize) -> Result<(), AllocError>
+        ensures slots { self.new.slots ≡ self.old.slots }
+        ensures ok { OnOk result (n ≤ self.new.room) }
+        ensures room { self.old.room ≤ self.new.room }
+        // Nothing is refused that takes no room.
+        ensures needed { OnErr result (0 < n) }
+    {
+        if n > self.room {
+            self.make_room(n)?;
+        }
+        Ok(())
+    }
+
+    fn make_room(&mut self, n: usize) -> Result<(), AllocError>
+        requires { self.old.room < n }
+        ensures slots { self.new.slots ≡ self.old.slots }
+        ensures ok { OnOk result (n ≤ self.new.room) }
+        ensures room { self.old.room ≤ self.new.room }
+    {
+        self.slots.reserve(n)?;
+        self.branches.reserve(n)?;
+        self.calls.reserve(n)?;
+        let used = self.slots.len() - self.free.numbers(FREE).len();
+        self.free.reserve(used + n)?;
+        self.room = n;
+        Ok(())
+    }
+
+    /// A new transaction, under the least number that is free. There is room for it.
+    pub(crate) fn open(&mut self, transaction: Boxed<Transaction>) -> usize
+        requires { 0 < self.old.room }
+        ensures number { result ≡ free_number self.old.slots }
+        ensures slots { self.new.slots ≡ placed self.old.slots (free_number self.old.slots) transaction }
+        ensures room { self.old.room ≤ self.new.room + 1 }
+    {
+        let number = self.free_number();
+        let slot = Slot::of(transaction);
+        let print = slot.print();
+        self.branches.put(print.branch, number);
+        self.calls.put(print.call, number);
+        self.serving += count_of(print.serves);
+        self.free.remove(FREE, number);
+        place(&mut self.slots, number, slot);
+        self.room -= 1;
+        number
+    }
+
+    /// The next state of a transaction, or its end. Takes no memory.
+    pub(crate) fn write(&mut self, id: usize, next: Option<State>, fresh: Option<Text<'static>>)
+        requires { IsSome (at self.old.slots id) }
+        ensures slots { (t : Transaction) → at self.old.slots id ≡ Some t →
+            self.new.slots ≡ slice_set self.old.slots id (option_map (went t fresh.entry) next) }
+        ensures room { self.old.room ≤ self.new.room }
+    {
+        match next {
+            Some(state) => self.advance(id, state, fresh),
+            None => self.end(id),
+        }
+    }
+
+    // The next state of a transaction.
+    fn advance(&mut self, id: usize, state: State, fresh: Option<Text<'static>>)
+        requires { IsSome (at self.old.slots id) }
+        ensures slots { (t : Transaction) → at self.old.slots id ≡ Some t →
+            self.new.slots ≡ slice_set self.old.slots id (Some (went t fresh.entry state)) }
+        ensures room { self.old.room ≤ self.new.room }
+    {
+        self.serving -= count_of(self.slots[id].print().serves);
+        self.slots[id].advance(fresh, state);
+        self.serving += count_of(is_server(state));
+    }
+
+    // The end of a transaction: its number is free.
+    fn end(&mut self, id: usize)
+        requires { IsSome (at self.old.slots id) }
+        ensures slots { self.new.slots ≡ slice_set self.old.slots id None }
+        ensures room { self.old.room ≤ self.new.room }
+    {
+        let print = self.slots[id].print();
+        self.branches.remove(print.branch, id);
+        self.calls.remove(print.call, id);
+        self.serving -= count_of(print.serves);
+        self.slots[id] = Slot::free();
+        self.free.put(FREE, id);
+    }
+}
+
+// One for what is counted.
+fn count_of(is: bool) -> usize
+    ensures { result ≡ (if is then 1 else 0) }
+{
+    usize::from(is)
+}
+
+// A transaction at a place, which may be one past the last. There is room for it.
+fn place(slots: &mut Vec<Slot>, id: usize, slot: Slot)
+    requires { vec_len slots.old < vec_capacity slots.old }
+    ensures items { slots.new.items ≡ (if nat_lt id (length slots.old.items) then slice_set slots.old.items id slot else slots.old.items ++ slot ∷ []) }
+    ensures len { vec_len slots.new ≤ vec_len slots.old + 1 }
+    ensures capacity { vec_capacity slots.old ≤ vec_capacity slots.new }
+{
+    if id < slots.len() {
+        slots[id] = slot;
+        return;
+    }
+    let _ = slots.push(slot);
+}
