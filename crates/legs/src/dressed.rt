@@ -97,7 +97,7 @@ impl Dressed {
         let to = reply_address(asker.parts, asker.source);
         let sent = sent_response(alloc, to, response)?;
         let kept = sent.bytes.keep(alloc)?;
-        let change = Change::answers_with(asker.id, class_of(response.status), kept);
+        let change = Change::answers(asker.id, class_of(response.status), kept);
         Dressed::of_one(alloc, change, sent, 0)
     }
 

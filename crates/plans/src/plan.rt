@@ -139,7 +139,7 @@ impl Plan {
     {
         let sent = response_sent(alloc, to, response)?;
         let kept = sent.bytes.keep(alloc)?;
-        let change = Change::answers_with(id, class_of(response.status), kept);
+        let change = Change::answers(id, class_of(response.status), kept);
         let changes = with_change(begun, change)?;
         let sends = one_send(alloc, sent)?;
         Ok(Plan {
