@@ -74,19 +74,6 @@ impl Dressed {
         }
     }
 
-    // One change and one datagram, for which so many tokens are made.
-    fn of_one(alloc: Global, change: Change, sent: Sent, made: u64) -> Result<Dressed, AllocError>
-        ensures { IfOk result (λ d. d ≡ record { changes = change ∷ []; sends = sent ∷ []; made = made }) }
-    {
-        let changes = one_change(alloc, change)?;
-        let sends = one_send(alloc, sent)?;
-        Ok(Dressed {
-            changes,
-            sends,
-            made,
-        })
-    }
-
     fn response(
         alloc: Global,
         asker: &Asker<'_, '_>,
@@ -97,8 +84,14 @@ impl Dressed {
         let to = reply_address(asker.parts, asker.source);
         let sent = sent_response(alloc, to, response)?;
         let kept = sent.bytes.keep(alloc)?;
-        let change = Change::answers(asker.id, class_of(response.status), kept);
-        Dressed::of_one(alloc, change, sent, 0)
+        let change = Change::answers_with(asker.id, class_of(response.status), kept);
+        let changes = one_change(alloc, change)?;
+        let sends = one_send(alloc, sent)?;
+        Ok(Dressed {
+            changes,
+            sends,
+            made: 0,
+        })
     }
 
     /// A response through the transaction of the request, which is let go.
@@ -128,7 +121,13 @@ impl Dressed {
         let sent = sent_request(alloc, to, request)?;
         let kept = sent.bytes.keep(alloc)?;
         let change = Change::starts_with(alloc, request, to, kept)?;
-        Dressed::of_one(alloc, change, sent, made)
+        let changes = one_change(alloc, change)?;
+        let sends = one_send(alloc, sent)?;
+        Ok(Dressed {
+            changes,
+            sends,
+            made,
+        })
     }
 
     /// A request to the address of its Request-URI, for which so many tokens are made, and which is let go.

@@ -1,11 +1,12 @@
 //! What an event comes to.
 
 ghost use Rattle.std.specs.Prelude.{◌≡◌, ◌∷◌, ◌++◌, [], IfOk, None, Some};
+ghost use Rattle.transactions.specs.Changes.{answer_of};
 ghost use Rattle.plans.specs.Plan.{answers, goes, moves, nothing, replies, sent_response};
 
 use crate::taken::Taken;
 use events::Sent;
-use sip_message::{Response, class_of};
+use sip_message::Response;
 use sip_uri::Addr;
 use sip_writing::write_response;
 use std::alloc::{AllocError, Global};
@@ -72,11 +73,16 @@ fn response_sent(alloc: Global, to: Addr, response: &Response<'_>) -> Result<Sen
     Ok(Sent { to, bytes })
 }
 
-/// The changes so far, and one more.
-fn with_change(mut begun: Vec<Change>, change: Change) -> Result<Vec<Change>, AllocError>
-    ensures { IfOk result (λ changes. changes.items ≡ begun.items ++ change ∷ []) }
+/// The changes so far, and the response of transaction `id`.
+fn answered(
+    alloc: Global,
+    mut begun: Vec<Change>,
+    id: usize,
+    response: &Response<'_>,
+) -> Result<Vec<Change>, AllocError>
+    ensures { IfOk result (λ changes. changes.items ≡ begun.items ++ answer_of id response.now ∷ []) }
 {
-    begun.push(change)?;
+    begun.push(Change::answers(alloc, id, response)?)?;
     Ok(begun)
 }
 
@@ -137,11 +143,8 @@ impl Plan {
     ) -> Result<Plan, AllocError>
         ensures { IfOk result (λ p. p ≡ answers begun.items id to response.now None made) }
     {
-        let sent = response_sent(alloc, to, response)?;
-        let kept = sent.bytes.keep(alloc)?;
-        let change = Change::answers(id, class_of(response.status), kept);
-        let changes = with_change(begun, change)?;
-        let sends = one_send(alloc, sent)?;
+        let sends = one_send(alloc, response_sent(alloc, to, response)?)?;
+        let changes = answered(alloc, begun, id, response)?;
         Ok(Plan {
             taken: Taken::Done,
             changes,

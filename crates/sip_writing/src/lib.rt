@@ -8,6 +8,7 @@ mod reasons;
 mod received;
 mod reply;
 mod requests;
+mod room;
 mod write;
 
 pub use laws::written_is_read;

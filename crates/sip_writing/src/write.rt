@@ -6,14 +6,11 @@ ghost use Rattle.sip_message.specs.declared.message.Message.TheVariants as Kinds
 ghost use Rattle.sip_writing.specs.WritingMessage.{IsWrittenMessage};
 ghost use Rattle.sip_writing.specs.Writing.{request_line, status_line, header_text, headers_text, length_text, message_text};
 
+use crate::room::ROOM;
 use sip_message::{Header, Message, Request, Response};
 use sip_uri::write_uri;
 use std::alloc::{AllocError, Global};
 use text::{Text, put_number};
-
-/// Room that most messages fit in, in bytes: one allocation is enough for them, and it is small enough for the lists of free
-/// blocks that the C library keeps.
-const ROOM: usize = 1024;
 
 fn put_request_line(alloc: Global, out: &mut Vec<u8>, request: &Request) -> Result<(), AllocError>
     ensures { OnOk result (out.new.items ≡ out.old.items ++ request_line request.now) }

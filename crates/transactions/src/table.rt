@@ -150,7 +150,7 @@ impl Table {
         let to = transaction.place;
         let bytes = write_response(self.alloc, response)?;
         let kept = bytes.clone()?;
-        self.enter_alone(Change::answers(id, class, kept), now)?;
+        self.enter_alone(Change::answers_with(id, class, kept), now)?;
         Ok(Outgoing { to, bytes })
     }
 
