@@ -1,173 +1,41 @@
-//! What a message takes: a task is done so many rounds, so that counts of instructions and of allocations over two runs
-//! say what one round takes, whatever else the machine does.
+//! What messages and whole calls take: a task is done so many rounds, so that counts of instructions and of allocations over two
+//! runs say what one round takes, whatever else the machine does.
 //!
-//! Words: a task and a number of rounds; with no words each task is done once. A task is the name of a file without `.bin`,
-//! which is read, or `plain_call`, the seven messages that the server writes in a plain call; behind it `+description`, where
-//! the description in its body is read too, or `+written`, where what was read is written again. Prints how often the task
-//! was done.
+//! Words: a task of reading and a number of rounds; or a task of whole calls, how many calls stand, and a number of rounds. With
+//! no words each task is done, and each prints what it did.
 #![tactic(auto)]
 
-use sdp::{read_description, write_description};
-use sip_message::{Message, read_message};
-use sip_writing::write_message;
-use std::alloc::Global;
-use std::fs::Files;
-use std::hint::black_box;
-use std::{env, fs, io};
+mod filling;
+mod office;
+mod playing;
+mod reading;
+mod whole_calls;
 
-/// Every task.
-const TASKS: [&str; 12] = [
-    "invite",
-    "invite+description",
-    "invite+written",
-    "register",
-    "register+written",
-    "response",
-    "response+description",
-    "response+written",
-    "description",
-    "description+written",
-    "plain_call",
-    "plain_call+written",
-];
+use crate::office::Amount;
+use std::{env, io};
 
-/// The messages that the server writes in a plain call, in the order of sending.
-const PLAIN_CALL: [&str; 7] = [
-    "call_trying",
-    "call_invite",
-    "call_ringing",
-    "call_ack",
-    "call_answered",
-    "call_ended",
-    "call_bye",
-];
-
-/// What becomes of what was read.
-#[derive(Clone, Copy)]
-enum More {
-    Nothing,
-    Description,
-    Written,
+fn number(word: &str) -> u32 {
+    word.parse::<u32>().unwrap_or(0)
 }
 
-fn body_of<'m>(message: &'m Message<'_>) -> &'m [u8] {
-    match message {
-        Message::Request(request) => request.body.as_bytes(),
-        Message::Response(response) => response.body.as_bytes(),
+fn amount_of(standing: &str, rounds: &str) -> Amount {
+    Amount {
+        standing: number(standing),
+        rounds: number(rounds),
     }
-}
-
-fn is_description(alloc: Global, bytes: &[u8]) -> bool {
-    read_description(alloc, bytes).is_ok()
-}
-
-fn is_written(alloc: Global, message: &Message<'_>) -> bool {
-    write_message(alloc, message).is_ok()
-}
-
-fn is_more_done(alloc: Global, message: &Message<'_>, more: More) -> bool {
-    match more {
-        More::Nothing => true,
-        More::Description => is_description(alloc, body_of(message)),
-        More::Written => is_written(alloc, message),
-    }
-}
-
-/// What a task was about, behind it. In a function of every type the drop is one call, and that of a message is proved once.
-fn let_go<T: Drop>(_value: T) {}
-
-/// What there is to do with a message done; it is dropped behind it.
-fn is_whole_done(alloc: Global, message: Message<'_>, more: More) -> bool {
-    let is_done = is_more_done(alloc, &message, more);
-    let_go(message);
-    is_done
-}
-
-/// Whether a message is read, and what there is to do with it done.
-fn is_message_done(alloc: Global, bytes: &[u8], more: More) -> bool {
-    match read_message(alloc, bytes) {
-        Ok(message) => is_whole_done(alloc, message, more),
-        Err(_) => false,
-    }
-}
-
-fn description_is_written(alloc: Global, bytes: &[u8]) -> bool {
-    match read_description(alloc, bytes) {
-        Ok(description) => write_description(alloc, &description).is_ok(),
-        Err(_) => false,
-    }
-}
-
-/// Whether a round of the task is done.
-fn is_done(alloc: Global, name: &str, more: More, bytes: &[u8]) -> bool {
-    match (name, more) {
-        ("description", More::Written) => description_is_written(alloc, bytes),
-        ("description", _) => is_description(alloc, bytes),
-        _ => is_message_done(alloc, bytes, more),
-    }
-}
-
-/// The name of a task, and what becomes of what was read.
-fn parts_of(task: &str) -> (&str, More) {
-    match task.split_once('+') {
-        Some((name, "description")) => (name, More::Description),
-        Some((name, _)) => (name, More::Written),
-        None => (task, More::Nothing),
-    }
-}
-
-/// Whether a round of the task is done with each of these texts.
-fn are_done(alloc: Global, name: &str, more: More, texts: &[Vec<u8>]) -> bool {
-    texts
-        .iter()
-        .all(|bytes| is_done(alloc, name, more, black_box(bytes)))
-}
-
-/// Does a task so many rounds; how often it was done.
-fn times_done(alloc: Global, task: &str, texts: &[Vec<u8>], rounds: u32) -> u32 {
-    let (name, more) = parts_of(task);
-    let mut times = 0u32;
-    for _ in 0..rounds {
-        if are_done(alloc, name, more, texts) {
-            times = times.saturating_add(1);
-        }
-    }
-    times
-}
-
-fn read_file<R: Files + AllocGlobal>(rt: &R, name: &str) -> io::Result<Vec<u8>> {
-    fs::read(rt, format!(in rt.alloc(); "{name}.bin")?.as_str())
-}
-
-/// The files of a task.
-fn read_files<R: Files + AllocGlobal>(rt: &R, name: &str) -> io::Result<Vec<Vec<u8>>> {
-    let mut texts = Vec::new(rt.alloc());
-    if name != "plain_call" {
-        texts.push(read_file(rt, name)?)?;
-        return Ok(texts);
-    }
-    for file in PLAIN_CALL {
-        texts.push(read_file(rt, file)?)?;
-    }
-    Ok(texts)
-}
-
-fn perform<R: Files + Print + AllocGlobal>(rt: &R, task: &str, rounds: u32) -> io::Result<()> {
-    let (name, _) = parts_of(task);
-    let texts = read_files(rt, name)?;
-    let times = times_done(rt.alloc(), task, &texts, rounds);
-    println!(rt; "{task}: {times} of {rounds}")
 }
 
 fn main(rt: HostRuntime) -> io::Result<()> {
     let words: Vec<String> = env::args(&rt)?.skip(1).collect(rt.alloc())?;
     match words.as_slice() {
-        [task, rounds] => perform(&rt, task.as_str(), rounds.parse::<u32>().unwrap_or(0)),
+        [task, rounds] => reading::perform(&rt, task.as_str(), number(rounds.as_str())),
+        [task, standing, rounds] => {
+            let amount = amount_of(standing.as_str(), rounds.as_str());
+            whole_calls::perform(&rt, task.as_str(), amount)
+        }
         _ => {
-            for task in TASKS {
-                perform(&rt, task, 1)?;
-            }
-            Ok(())
+            reading::perform_each(&rt)?;
+            whole_calls::perform_each(&rt)
         }
     }
 }

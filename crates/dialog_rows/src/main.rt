@@ -1,10 +1,18 @@
-//! Rows of `dialogs`: histories of one dialog.
+//! Rows of dialogs, of what is said in them, and of what the server answers by itself: `dialogs`, `legs` and `responses`.
 #![tactic(auto)]
 
+mod actions;
 mod beginnings;
+mod bindings;
 mod calls;
+mod fields;
 mod messages;
+mod refusals;
+mod registers;
+mod request_calls;
 mod requests;
+mod response_calls;
+mod scenes;
 mod texts;
 
 use crate::beginnings::History;
@@ -22,6 +30,8 @@ impl Rows for History {
     ) -> Result<Option<String>, AllocError> {
         match crate_name {
             "dialogs" => self.answer_to(alloc, call, args),
+            "legs" => scenes::answer(alloc, call, args),
+            "responses" => response_calls::answer(alloc, call, args),
             _ => Ok(None),
         }
     }

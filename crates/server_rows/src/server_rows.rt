@@ -3,7 +3,7 @@
 use crate::replay_rows::replay_answer;
 use crate::serve_rows::{serve_asked_text, serve_text};
 use crate::streams::{EndlessReader, Hall, NarrowWriter, TwoFiles, slow};
-use rows::{Rows, number, said, shown, usize_of};
+use rows::{number, said, shown, usize_of};
 use server::{Asked, CommandError, Ending, Fault, command, once, read_datagram, run};
 use std::alloc::{AllocError, Global};
 
@@ -209,7 +209,11 @@ fn of_run(alloc: Global, text: &[u8], words: &[&[u8]]) -> Result<Option<String>,
 }
 
 /// What the row's call answers, if it is one of `server`.
-fn answer(alloc: Global, call: &str, args: &[&[u8]]) -> Result<Option<String>, AllocError> {
+pub(crate) fn answer(
+    alloc: Global,
+    call: &str,
+    args: &[&[u8]],
+) -> Result<Option<String>, AllocError> {
     let answer = match (call, args) {
         ("once", [text, given]) => once_text(alloc, text, usize_of(given)),
         ("once_failing", [text, failing]) => failing_text(alloc, text, number(failing)),
@@ -227,23 +231,4 @@ fn answer(alloc: Global, call: &str, args: &[&[u8]]) -> Result<Option<String>, A
         }
     };
     Ok(Some(answer?))
-}
-
-/// Calls of `server`, which leave nothing for the rows behind them.
-#[derive(Drop)]
-pub(crate) struct ServerRows;
-
-impl Rows for ServerRows {
-    fn answer(
-        &mut self,
-        alloc: Global,
-        crate_name: &str,
-        call: &str,
-        args: &[&[u8]],
-    ) -> Result<Option<String>, AllocError> {
-        match crate_name {
-            "server" => answer(alloc, call, args),
-            _ => Ok(None),
-        }
-    }
 }

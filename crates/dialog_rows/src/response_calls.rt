@@ -3,7 +3,7 @@
 use crate::bindings::contacts_text;
 use crate::fields::{fields_of, given_text};
 use crate::refusals::{refusal_text, status_text};
-use crate::requests::of_bytes;
+use crate::request_calls::of_bytes;
 use responses::{STATELESS, allow_header, token, unsupported_header};
 use rows::{answer_of, number, outcome_after, shown, u32_of};
 use std::alloc::{AllocError, Global};

@@ -226,8 +226,8 @@ fn answer_with_offer(
     outcome_after(offers, answer)
 }
 
-/// What the row's call answers: its words are the offer, the request that is answered, the description, and the rest.
-pub(crate) fn answer_to(alloc: Global, args: &[&[u8]]) -> Result<Option<String>, AllocError> {
+/// What the actions of a scene come to: the words are the offer, the request that is answered, the description, and the rest.
+fn dress(alloc: Global, args: &[&[u8]]) -> Result<Option<String>, AllocError> {
     let [
         offer,
         request,
@@ -248,4 +248,16 @@ pub(crate) fn answer_to(alloc: Global, args: &[&[u8]]) -> Result<Option<String>,
         words,
     };
     answer_with_offer(alloc, offer, request, description, &rest)
+}
+
+/// What the row's call answers.
+pub(crate) fn answer(
+    alloc: Global,
+    call: &str,
+    args: &[&[u8]],
+) -> Result<Option<String>, AllocError> {
+    match call {
+        "dress" => dress(alloc, args),
+        _ => Ok(None),
+    }
 }

@@ -1,23 +1,15 @@
-//! What a whole call takes, or a registration: a task is done so many rounds while so many calls stand, so that counts of
-//! instructions and of allocations over two runs say what one round takes, whatever else the machine does.
+//! What a whole call takes, or a registration: a task is done so many rounds while so many calls stand.
 //!
-//! Words: a task, how many calls stand, and a number of rounds; with no words each task is done three times beside two calls. A
-//! task is `plain`, a call of seven datagrams from its INVITE to the response to its BYE; `hold`, the same call, which is held and
+//! A task is `plain`, a call of seven datagrams from its INVITE to the response to its BYE; `hold`, the same call, which is held and
 //! resumed; or `register`, a registration that is refreshed. Each call is between two users of its own, and the users that are
-//! called are registered. Behind each round time passes until its transactions have ended. Prints how many datagrams the rounds
-//! took, how many timers fired in them, and how many datagrams they sent; and how many calls stand at the end.
-#![tactic(auto)]
-
-mod filling;
-mod office;
-mod playing;
+//! called are registered. Behind each round time passes until its transactions have ended.
 
 use crate::office::{Amount, Outcome, Scripts, play_task};
 use events::Event;
 use scripts::read_script;
 use std::alloc::{AllocError, Global};
 use std::fs::Files;
-use std::{env, fs, io};
+use std::{fs, io};
 
 /// Every task.
 const TASKS: [&str; 3] = ["plain", "hold", "register"];
@@ -61,7 +53,7 @@ fn print_outcome<R: Print>(rt: &R, task: &str, rounds: u32, outcome: Outcome) ->
     println!(rt; "{sent} sent, {} standing", outcome.standing)
 }
 
-fn perform<R: Print + AllocGlobal>(
+fn play<R: Print + AllocGlobal>(
     rt: &R,
     scripts: &Scripts,
     task: &str,
@@ -71,32 +63,21 @@ fn perform<R: Print + AllocGlobal>(
     print_outcome(rt, task, amount.rounds, outcome)
 }
 
-fn perform_each<R: Print + AllocGlobal>(rt: &R, scripts: &Scripts) -> io::Result<()> {
+/// Does a task, and prints how many datagrams its rounds took, how many timers fired in them, how many datagrams they sent, and
+/// how many calls stand at the end.
+pub(crate) fn perform<R: Files + Print + AllocGlobal>(
+    rt: &R,
+    task: &str,
+    amount: Amount,
+) -> io::Result<()> {
+    play(rt, &read_scripts(rt)?, task, amount)
+}
+
+/// Does each task three times beside two calls.
+pub(crate) fn perform_each<R: Files + Print + AllocGlobal>(rt: &R) -> io::Result<()> {
+    let scripts = read_scripts(rt)?;
     for task in TASKS {
-        perform(rt, scripts, task, USUAL)?;
+        play(rt, &scripts, task, USUAL)?;
     }
     Ok(())
-}
-
-fn number(word: &str) -> u32 {
-    word.parse::<u32>().unwrap_or(0)
-}
-
-fn amount_of(standing: &str, rounds: &str) -> Amount {
-    Amount {
-        standing: number(standing),
-        rounds: number(rounds),
-    }
-}
-
-fn main(rt: HostRuntime) -> io::Result<()> {
-    let words: Vec<String> = env::args(&rt)?.skip(1).collect(rt.alloc())?;
-    let scripts = read_scripts(&rt)?;
-    match words.as_slice() {
-        [task, standing, rounds] => {
-            let amount = amount_of(standing.as_str(), rounds.as_str());
-            perform(&rt, &scripts, task.as_str(), amount)
-        }
-        _ => perform_each(&rt, &scripts),
-    }
 }
