@@ -1,7 +1,7 @@
 //! Numbers, each under a print.
 
 ghost use Rattle.std.specs.Prelude.{ℕ, ◌≡◌, ◌+◌, ◌<◌, ◌≤◌, [], OnOk, IsOk, map, length, if◌then◌else◌, nat_eq};
-ghost use Rattle.index.specs.Entries.{numbers_of};
+ghost use Rattle.index.specs.Entries.{numbers_of, of_print};
 ghost use Rattle.index.specs.Numbers.{put_number, remove_number};
 
 use crate::entries;
@@ -47,9 +47,10 @@ impl Index {
         }
     }
 
-    /// The numbers of a print, the least first. Takes no memory.
+    /// The numbers of a print, the least first, with that print. Takes no memory.
     pub fn numbers(&self, print: u64) -> &[Entry]
-        ensures { map (λ e. e.number) result.now ≡ numbers_of self.now.entries print }
+        ensures entries { result.now ≡ of_print self.now.entries print }
+        ensures numbers { map (λ e. e.number) result.now ≡ numbers_of self.now.entries print }
     {
         entries::of_print(&self.entries, print)
     }

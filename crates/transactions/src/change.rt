@@ -57,7 +57,7 @@ impl Change {
     pub fn starts(alloc: Global, request: &Request, to: Addr) -> Result<Change, AllocError>
         ensures { IfOk result (λ c. c ≡ start_of request.now to) }
     {
-        let bytes = write_request(alloc, request)?;
+        let bytes = write_request(alloc, request)?.keep(alloc)?;
         Change::starts_with(alloc, request, to, bytes)
     }
 
@@ -84,7 +84,7 @@ impl Change {
     pub fn answers(alloc: Global, id: usize, response: &Response) -> Result<Change, AllocError>
         ensures { IfOk result (λ c. c ≡ answer_of id response.now) }
     {
-        let bytes = write_response(alloc, response)?;
+        let bytes = write_response(alloc, response)?.keep(alloc)?;
         Ok(Change::answers_with(id, class_of(response.status), bytes))
     }
 

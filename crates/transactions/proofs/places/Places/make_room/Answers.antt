@@ -8,5 +8,5 @@ pub overflow_sub-used : goal.overflow_sub-used
 overflow_sub-used c =
     let slots = c.self.inside.slots in
     let few = numbers_few is_none slots.items 0 in
-    let shown = ap length (c.numbers.ensures ∙ c.self.invariant.0.without) in
+    let shown = ap length (c.numbers.ensures.numbers ∙ c.self.invariant.0.without) in
     omega (arith, few, shown, length-map c.numbers.result.now (λ (e : Entry). e.number), c.len.ensures, c.reserve.ensures.len, slots.ok.0)
