@@ -1,18 +1,13 @@
-//! Rows of calls of `call_core`, and those of `call_media`.
+//! Rows of calls of `call_core`.
 
-use crate::call_media_rows;
 use crate::call_words::{end_of, signal_of, standing_of};
 use crate::whole_calls::call_words;
 use call_core::{
     Action, Clash, End, Row, Signal, Standing, clash_at, clash_without_offer, first_row, row_at,
     session_is_direct, session_is_of_its_exchange, spared_call_is_served, status_passed_on,
 };
-use rows::{Rows, answer_of, outcome_after, said, u16_of};
+use rows::{answer_of, outcome_after, said, u16_of};
 use std::alloc::{AllocError, Global};
-
-/// The rows: no call leaves anything for the rows behind it.
-#[derive(Drop)]
-pub(crate) struct CallCoreRows;
 
 /// Where the call stands, its phase first; or that it is gone.
 pub(crate) fn put_next(out: &mut String, next: Option<Standing>) -> Result<(), AllocError> {
@@ -152,25 +147,13 @@ fn answer_of_words(
 }
 
 /// What a call of `call_core` answers: a whole call has any number of words.
-fn answer_of_call(alloc: Global, call: &str, args: &[&[u8]]) -> Result<Option<String>, AllocError> {
+pub(crate) fn answer(
+    alloc: Global,
+    call: &str,
+    args: &[&[u8]],
+) -> Result<Option<String>, AllocError> {
     match call {
         "call" => answer_of(call_words(alloc, args)),
         _ => answer_of_words(alloc, call, args),
-    }
-}
-
-impl Rows for CallCoreRows {
-    fn answer(
-        &mut self,
-        alloc: Global,
-        crate_name: &str,
-        call: &str,
-        args: &[&[u8]],
-    ) -> Result<Option<String>, AllocError> {
-        match crate_name {
-            "call_core" => answer_of_call(alloc, call, args),
-            "call_media" => call_media_rows::answer(alloc, call, args),
-            _ => Ok(None),
-        }
     }
 }

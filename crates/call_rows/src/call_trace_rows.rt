@@ -8,7 +8,7 @@ use call_trace::{
     has_ended, is_call, is_exchange, is_last, is_live, is_named, is_open, is_passed_on,
     moves_are_promised, moves_keep, relayed_is_promised, replies, standing_is_promised,
 };
-use rows::{Rows, answer_by, outcome_after, put_shown, put_truth, replace, usize_of};
+use rows::{answer_by, outcome_after, put_shown, put_truth, replace, usize_of};
 use std::alloc::{AllocError, Global};
 use text::{Texts, both, cut};
 
@@ -430,10 +430,9 @@ impl CallTraceRows {
             _ => None,
         }
     }
-}
 
-impl Rows for CallTraceRows {
-    fn answer(
+    /// What a call answers, if there is one.
+    pub(crate) fn answer(
         &mut self,
         alloc: Global,
         crate_name: &str,

@@ -1,20 +1,12 @@
 //! Rows of the agent and of its live turns. `day` and the name of a script of data/: what a day of the example office comes to.
 //!
 //! Turns of the live server over a wire in memory: an office at 127.0.0.1, with SIP at port 15060 and four pairs of relay ports
-//! from 41000. Such a line names a script of data/, and which of its sends fails: `none`, the one at a place, counted from 1, or
+//! from 41000. Such a row names a script of data/, and which of its sends fails: `none`, the one at a place, counted from 1, or
 //! `each` in turn. Prints what was sent, how many sends failed, and behind each event how many lists were published, the calls
 //! that stand and the rows of the relay table; where each fails in turn, whether all of that is as in the run without a failure.
 //! `receives` and a script: what stands after each of its datagrams, and whether that is the same where its receive fails once.
-//! Other lines are `serve`, so many turns, and how many receives in a row fail before one doesn't: how the signalling ends, and
+//! Other rows are `serve`, so many turns, and how many receives in a row fail before one doesn't: how the signalling ends, and
 //! after how many receives and waits; `stopped`, the same with the stop flag set; and `salts`, the first two of a key of zeros.
-#![tactic(auto)]
-
-mod days;
-mod memory_wire;
-mod playing;
-mod receiving;
-mod serving;
-mod state_text;
 
 use crate::days::day_text;
 use crate::playing::{Played, play};
@@ -124,13 +116,12 @@ fn receives_row<R: Files + Wait + AllocGlobal, W: Write>(
     writer.write_all(&out)
 }
 
-/// The row of a line.
-fn row<R: Files + Wait + AllocGlobal, W: Write>(
+fn put_row<R: Files + Wait + AllocGlobal, W: Write>(
     rt: &R,
     writer: &mut W,
-    line: &str,
+    row: &str,
 ) -> io::Result<()> {
-    match line.split_once('|') {
+    match row.split_once('|') {
         Some(("day", name)) => day_row(rt, writer, name),
         Some(("receives", name)) => receives_row(rt, writer, name),
         Some(("serve", words)) => serve_row(rt, writer, words, false),
@@ -140,13 +131,13 @@ fn row<R: Files + Wait + AllocGlobal, W: Write>(
     }
 }
 
-fn main(rt: HostRuntime) -> io::Result<()> {
-    let mut writer = io::writer(&rt);
-    for line in rt.lines(rt.alloc()) {
-        let line = line?;
-        writer.write_all(line.as_bytes())?;
-        writer.write_all(b"\n")?;
-        row(&rt, &mut writer, line.as_str())?;
-    }
-    writer.flush()
+/// Prints a row, and behind it what it comes to.
+pub(crate) fn play_row<R: Files + Wait + AllocGlobal, W: Write>(
+    rt: &R,
+    writer: &mut W,
+    row: &str,
+) -> io::Result<()> {
+    writer.write_all(row.as_bytes())?;
+    writer.write_all(b"\n")?;
+    put_row(rt, writer, row)
 }

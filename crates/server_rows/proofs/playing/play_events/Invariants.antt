@@ -1,5 +1,5 @@
 use Rattle.live.specs.Turns.{HasTable}
-use Rattle.agent_rows.proofs.playing.play_events.Given as goal
+use Rattle.server_rows.proofs.playing.play_events.Given as goal
 
 -- the board's table is the agent's
 abbrev pub invariant-loop-event : goal.invariant-loop-event
