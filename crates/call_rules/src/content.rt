@@ -97,21 +97,12 @@ pub fn content_rule(
     coding_rule(alloc, headers)
 }
 
-fn kept(
-    alloc: Global,
-    description: &Description<'_>,
-) -> Result<Option<Description<'static>>, AllocError>
-    ensures { IfOk result (λ d. d ≡ Some description.now) }
-{
-    Ok(Some(description.keep(alloc)?))
-}
-
-/// The description that the body is, kept; none where it is none.
-fn description_read(alloc: Global, body: &[u8]) -> Result<Option<Description<'static>>, AllocError>
+/// The description that the body is; none where it is none.
+fn description_read(alloc: Global, body: &[u8]) -> Result<Option<Description<'_>>, AllocError>
     ensures { IfOk result (λ d. d ≡ if_read (description_of body.now)) }
 {
     match read_description(alloc, body) {
-        Ok(description) => kept(alloc, &description),
+        Ok(description) => Ok(Some(description)),
         Err(DescriptionError::OutOfMemory) => Err(AllocError),
         Err(_) => Ok(None),
     }
@@ -121,7 +112,7 @@ fn described_by(
     alloc: Global,
     rule: Option<ContentRule>,
     body: &[u8],
-) -> Result<Option<Description<'static>>, AllocError>
+) -> Result<Option<Description<'_>>, AllocError>
     ensures { IfOk result (λ d. d ≡ described_by rule body.now) }
 {
     match rule {
@@ -130,14 +121,14 @@ fn described_by(
     }
 }
 
-/// What the body of a message with these header fields describes, with bytes of its own; none where there is no body, where it is
-/// not taken, and where it can't be read.
+/// What the body of a message with these header fields describes; none where there is no body, where it is not taken, and where it
+/// can't be read.
 #[tactic(auto, unfolding(crate::specs::Content::described))]
-pub fn described(
+pub fn described<'d>(
     alloc: Global,
     headers: &[Header<'_>],
-    body: &[u8],
-) -> Result<Option<Description<'static>>, AllocError>
+    body: &'d [u8],
+) -> Result<Option<Description<'d>>, AllocError>
     ensures { IfOk result (λ d. d ≡ described headers.now body.now) }
 {
     let rule = content_rule(alloc, headers)?;

@@ -138,7 +138,7 @@ fn with_made(before: u64, dressed: Dressed) -> Dressed
 }
 
 /// This call begins, with these messages behind three tokens.
-fn step_of(call: Boxed<StandingCall>, plan: Plan, said: StepMessages) -> CallStep
+fn step_of(call: Boxed<StandingCall>, plan: Boxed<Plan>, said: StepMessages) -> CallStep
     requires few { 3 + said.dressed.made < 2 ^ 63 }
     ensures row { (calls : Standing) (o : Occasion) → effect calls o.now result ≡ begun calls o call (carried call.call calls.pool o.now plan) said }
     ensures change { result.change ≡ Begins call plan }
@@ -221,7 +221,8 @@ fn begins(
         answer: None,
     };
     let boxed = Boxed::new(alloc, call)?;
-    Ok(step_of(boxed, plan, said))
+    let kept = Boxed::new(alloc, plan)?;
+    Ok(step_of(boxed, kept, said))
 }
 
 /// No call begins; an offer that would be refused is refused here too.

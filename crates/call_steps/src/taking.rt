@@ -23,6 +23,7 @@ use crate::coming::Coming;
 use crate::messages::StepMessages;
 use crate::occasion::Occasion;
 use crate::scene::messages_of;
+use boxed::Boxed;
 use call_core::{CallRefusal, Input, Plan};
 use calls::{Beside, CallChange, Calls, LegDialog, StandingCall};
 use legs::Asker;
@@ -40,11 +41,16 @@ struct PlannedStep {
 }
 
 /// The call at this place does this, with the messages that it comes to, and with what comes with the event beside it.
-fn step_of(place: usize, coming: Coming<'_, '_>, planned: PlannedStep) -> CallStep
-    ensures row { (calls : Standing) (now : ℕ) → effect calls now result
-        ≡ with_messages (carries calls now place (put_with (coming_value coming.entry) planned.said) planned.plan (slice_get calls.calls place)) planned.said }
-    ensures change { result.change ≡ Carries place (put_with (coming_value coming.entry) planned.said) planned.plan }
-    ensures dressed { result.dressed ≡ planned.said.dressed }
+fn step_of(
+    alloc: Global,
+    place: usize,
+    coming: Coming<'_, '_>,
+    planned: PlannedStep,
+) -> Result<CallStep, AllocError>
+    ensures row { (calls : Standing) (now : ℕ) → IfOk result (λ step. effect calls now step
+        ≡ with_messages (carries calls now place (put_with (coming_value coming.entry) planned.said) planned.plan (slice_get calls.calls place)) planned.said) }
+    ensures change { IfOk result (λ step. step.change ≡ Carries place (put_with (coming_value coming.entry) planned.said) planned.plan) }
+    ensures dressed { IfOk result (λ step. step.dressed ≡ planned.said.dressed) }
 {
     let Coming { leg, taken, .. } = coming;
     let PlannedStep { plan, said } = planned;
@@ -53,15 +59,17 @@ fn step_of(place: usize, coming: Coming<'_, '_>, planned: PlannedStep) -> CallSt
         answer,
         ack,
     } = said;
-    CallStep {
+    let beside = Boxed::new(alloc, Beside { leg, taken, answer })?;
+    let plan = Boxed::new(alloc, plan)?;
+    Ok(CallStep {
         change: CallChange::Carries {
             place,
-            beside: Beside { leg, taken, answer },
+            beside,
             plan,
         },
         dressed,
         ack,
-    }
+    })
 }
 
 /// What a call does for an input.
@@ -156,7 +164,10 @@ pub(crate) fn takes_at(
     ensures refused { IfErr result (RefusesInput call.now.call calls.now.pool input.now o.now) }
 {
     match plan_step(alloc, calls.pool(), table, o, input, &coming, call) {
-        Ok(planned) => Ok(step_of(place, coming, planned)),
+        Ok(planned) => match step_of(alloc, place, coming, planned) {
+            Ok(step) => Ok(step),
+            Err(_) => Err(CallRefusal::OutOfMemory),
+        },
         Err(refusal) => {
             let_go(coming);
             Err(refusal)

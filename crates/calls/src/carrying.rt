@@ -15,6 +15,7 @@ use crate::change::Beside;
 use crate::standing_call::StandingCall;
 use crate::state::Calls;
 use crate::timing::take_plan;
+use boxed::Boxed;
 use call_core::{Done, Plan, spared_call_is_served};
 use port_pool::{Change, Pool};
 use std::alloc::Global;
@@ -25,7 +26,7 @@ fn let_go<T: Drop>(_value: T) {}
 fn carry_out_in(
     call: &mut StandingCall,
     alloc: Global,
-    plan: Plan,
+    plan: Boxed<Plan>,
     pool: &mut Pool,
     now: u64,
 ) -> Vec<Change>
@@ -38,7 +39,7 @@ fn carry_out_in(
     ensures serves { IsServed call.new.call pool.new }
     ensures spares { SparesOthers call.old.call.number pool.old pool.new }
 {
-    let Done { actions, changes } = call.call.carry_out(alloc, plan, pool, now);
+    let Done { actions, changes } = call.call.carry_out(alloc, plan.into_inner(), pool, now);
     let_go(actions);
     changes
 }
@@ -49,8 +50,8 @@ fn carry_out_there(
     pool: &mut Pool,
     alloc: Global,
     place: usize,
-    kept: Beside,
-    plan: Plan,
+    kept: Boxed<Beside>,
+    plan: Boxed<Plan>,
     now: u64,
 ) -> Vec<Change>
     requires there { place < vec_len calls.old }
@@ -65,7 +66,7 @@ fn carry_out_there(
 {
     let call = &mut calls[place];
     let changes = carry_out_in(call, alloc, plan, pool, now);
-    put_beside(call, kept);
+    put_beside(call, kept.into_inner());
     changes
 }
 
@@ -85,7 +86,7 @@ fn begin_in(
     pool: &mut Pool,
     alloc: Global,
     mut call: StandingCall,
-    plan: Plan,
+    plan: Boxed<Plan>,
     now: u64,
 ) -> Vec<Change>
     requires room { vec_len calls.old < vec_capacity calls.old }
@@ -112,12 +113,13 @@ fn begin_in(
 impl Calls {
     /// Carries out what was planned for the call at this place, with what comes beside it, and answers the changes of the relay
     /// table, by rising port; a call that is gone then is taken off the list. Where no call stands at the place, nothing is done.
+    #[inline(never)]
     pub(crate) fn carry_out(
         &mut self,
         alloc: Global,
         place: usize,
-        kept: Beside,
-        plan: Plan,
+        kept: Boxed<Beside>,
+        plan: Boxed<Plan>,
         now: u64,
     ) -> Vec<Change>
         requires planned { IsPlannedAt self.old.calls self.old.pool place now plan }
@@ -135,7 +137,7 @@ impl Calls {
             return Vec::new(alloc);
         }
         let number = self.calls[place].call.number();
-        take_plan(&mut self.timers, now, number, &plan);
+        take_plan(&mut self.timers, now, number, plan.get());
         let changes = carry_out_there(
             &mut self.calls,
             &mut self.pool,
@@ -150,11 +152,12 @@ impl Calls {
     }
 
     /// Begins a call, of the number that comes next, with its first plan carried out; answers the changes of the relay table.
+    #[inline(never)]
     pub(crate) fn begin(
         &mut self,
         alloc: Global,
         call: StandingCall,
-        plan: Plan,
+        plan: Boxed<Plan>,
         now: u64,
     ) -> Vec<Change>
         requires room { 0 < self.old.room }
@@ -169,7 +172,7 @@ impl Calls {
         ensures leads { LeadFrom self.old.pool.rows self.new.pool.rows result.items }
     {
         spared_call_is_served();
-        take_plan(&mut self.timers, now, call.call.number(), &plan);
+        take_plan(&mut self.timers, now, call.call.number(), plan.get());
         let changes = begin_in(&mut self.calls, &mut self.pool, alloc, call, plan, now);
         self.begun += 1;
         changes

@@ -30,12 +30,12 @@ pub enum CallChange {
     /// Nothing.
     Unchanged,
     /// This call begins, and does what was planned for it.
-    Begins(Boxed<StandingCall>, Plan),
+    Begins(Boxed<StandingCall>, Boxed<Plan>),
     /// The call at this place does what was planned for it. Where it still stands then, this is put beside it.
     Carries {
         place: usize,
-        beside: Beside,
-        plan: Plan,
+        beside: Boxed<Beside>,
+        plan: Boxed<Plan>,
     },
     /// This dialog is put in place of the one with its end.
     Puts {

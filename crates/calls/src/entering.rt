@@ -22,9 +22,11 @@ impl Calls {
             CallChange::Unchanged | CallChange::Puts { .. } => Ok(()),
             CallChange::Begins(_, plan) => {
                 self.calls.reserve(1)?;
-                self.timers.reserve(plan.actions.as_slice().len())
+                self.timers.reserve(plan.get().actions.as_slice().len())
             }
-            CallChange::Carries { plan, .. } => self.timers.reserve(plan.actions.as_slice().len()),
+            CallChange::Carries { plan, .. } => {
+                self.timers.reserve(plan.get().actions.as_slice().len())
+            }
         }
     }
 

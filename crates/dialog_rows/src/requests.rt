@@ -3,10 +3,11 @@
 use crate::texts::refusal_text;
 use dialogs::{Dialog, DialogError, Extras, Method, NextRequest};
 use rows::{number, outcome_after, shown};
-use sip_message::{Header, Request, Via};
+use sip_message::{Header, Via};
 use sip_uri::Addr;
-use sip_writing::{server_via, write_request};
+use sip_writing::server_via;
 use std::alloc::{AllocError, Global};
+use text::Text;
 
 /// The server of the rows.
 const SERVER: Addr = Addr {
@@ -33,11 +34,6 @@ fn further_of(alloc: Global, body: &[u8]) -> Result<Vec<Header<'static>>, AllocE
         return Ok(Vec::new(alloc));
     }
     fields_of_body(alloc)
-}
-
-fn request_text(alloc: Global, request: &Request<'_>) -> Result<String, AllocError> {
-    let text = write_request(alloc, request)?;
-    shown(alloc, text.as_bytes())
 }
 
 /// The next request by this Via, with so many hops and this body.
@@ -74,7 +70,7 @@ fn next(
 
 /// The request as it is sent, whose number is kept.
 fn kept_text(alloc: Global, dialog: &mut Dialog, next: &NextRequest) -> Result<String, AllocError> {
-    let text = request_text(alloc, &next.request)?;
+    let text = shown(alloc, next.bytes.as_bytes())?;
     dialog.keep_number(next.number);
     Ok(text)
 }
@@ -97,7 +93,7 @@ pub(crate) fn next_text(
 }
 
 /// The ACK of the INVITE with this number.
-fn ack(alloc: Global, dialog: &Dialog, number: u32) -> Result<Request<'static>, AllocError> {
+fn ack(alloc: Global, dialog: &Dialog, number: u32) -> Result<Text<'static>, AllocError> {
     let via = via_of_rows(alloc)?;
     let extras = Extras {
         via: &via,
@@ -105,13 +101,12 @@ fn ack(alloc: Global, dialog: &Dialog, number: u32) -> Result<Request<'static>, 
         further: &[],
         body: b"",
     };
-    let request = dialog.ack(alloc, number, &extras);
-    outcome_after(via, request)
+    let bytes = dialog.ack(alloc, number, &extras);
+    outcome_after(via, bytes)
 }
 
 /// The ACK of the INVITE with this number, as it is sent.
 pub(crate) fn ack_text(alloc: Global, dialog: &Dialog, number: u32) -> Result<String, AllocError> {
-    let request = ack(alloc, dialog, number)?;
-    let text = request_text(alloc, &request);
-    outcome_after(request, text)
+    let bytes = ack(alloc, dialog, number)?;
+    shown(alloc, bytes.as_bytes())
 }

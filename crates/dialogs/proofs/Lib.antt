@@ -2,3 +2,4 @@ pub mod TagLaws
 pub mod SoundLaws
 pub mod ContactLaws
 pub mod SendLaws
+pub mod DraftLaws

@@ -16,7 +16,9 @@ mod state;
 pub use contact::contact_uri;
 pub use error::DialogError;
 pub use identifiers::DialogId;
-pub use laws::{contacts_are_read, dialogs_are_sound, invites_name_a_contact};
+pub use laws::{
+    contacts_are_read, dialogs_are_sound, invites_name_a_contact, requests_are_written,
+};
 pub use method::Method;
 pub use requests::{Extras, NextRequest};
 pub use state::{Dialog, Party};

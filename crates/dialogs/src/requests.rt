@@ -1,20 +1,19 @@
 //! Requests in a dialog (RFC 3261 section 12.2.1.1).
 
-ghost use Rattle.std.specs.Prelude.{◌≡◌, ◌≤◌, OnOk, IfOk, IfErr, IsTrue};
-ghost use Rattle.text.specs.Class.{is_run_of, is_token_byte};
+ghost use Rattle.std.specs.Prelude.{◌≡◌, ◌≤◌, OnOk, IfOk, IfErr};
 ghost use Rattle.sip_message.specs.declared.message.Message.TheVariants as Kinds;
-ghost use Rattle.sip_writing.specs.WritingMessage.{IsWrittenMessage};
+ghost use Rattle.sip_writing.specs.Writing.{message_text};
 ghost use Rattle.dialogs.specs.Counting.{method_text, following, greatest_for, RefusesNext};
-ghost use Rattle.dialogs.specs.Requests.{ack_text, our_name, request_in, their_name, MayHave};
-ghost use Rattle.dialogs.specs.Sound.{IsSound};
+ghost use Rattle.dialogs.specs.Requests.{ack_text, parts_in, request_in};
 
 use crate::error::DialogError;
 use crate::method::Method;
 use crate::state::Dialog;
-use sip_message::{Header, Request, Via};
-use sip_uri::{NameAddr, Uri};
-use sip_writing::{Draft, build_request, name_with_tag};
+use sip_message::{Header, Parts, Via};
+use sip_uri::Uri;
+use sip_writing::{Outline, name_with_tag, parts_with_names, write_outline};
 use std::alloc::{AllocError, Global};
+use text::{Text, both};
 
 /// What a request in a dialog has besides what the dialog says.
 #[derive(Clone, Copy)]
@@ -28,70 +27,59 @@ pub struct Extras<'m, 'a> {
     pub body: &'m [u8],
 }
 
-/// A request, and its number.
+/// A request as it is sent, with its number and its parts.
 #[derive(Drop)]
 pub struct NextRequest {
     pub number: u32,
-    pub request: Request<'static>,
+    pub parts: Parts<'static>,
+    pub bytes: Text<'static>,
 }
 
-/// The request, with From and To of the dialog's ends.
-#[tactic(auto, unfolding(sip_writing::specs::Requests::request_of, sip_writing::specs::Requests::parts_of, crate::specs::Requests::request_in, crate::specs::Requests::parts_in))]
-fn request_between(
+/// The parts of a request: From and To are the dialog's ends, with their tags.
+#[tactic(auto, unfolding(crate::specs::Requests::parts_in))]
+fn parts_in(
     alloc: Global,
     dialog: &Dialog,
-    from: &NameAddr<'_>,
-    to: &NameAddr<'_>,
+    via: &Via<'_>,
+    method: &[u8],
+    number: u32,
+) -> Result<Parts<'static>, AllocError>
+    ensures { IfOk result (λ parts. parts ≡ parts_in dialog.now via.now method.now number) }
+{
+    let id = &dialog.id;
+    let ours = &dialog.ours;
+    let theirs = &dialog.theirs;
+    let from = name_with_tag(alloc, &ours.display, &ours.uri, id.ours.as_bytes());
+    let to = name_with_tag(alloc, &theirs.display, &theirs.uri, id.theirs.as_bytes());
+    let (from, to) = both(from, to)?;
+    let call_id = id.call_id.as_bytes();
+    parts_with_names(alloc, via, from, to, call_id, number, method)
+}
+
+/// The request with these parts, as it is sent.
+#[tactic(auto, unfolding(sip_writing::specs::Outlines::outlined, crate::specs::Requests::request_in))]
+fn text_in(
+    alloc: Global,
+    dialog: &Dialog,
+    parts: &Parts<'_>,
     method: &[u8],
     number: u32,
     extras: &Extras<'_, '_>,
-) -> Result<Request<'static>, AllocError>
-    requires from { from.now ≡ our_name dialog.now }
-    requires to { to.now ≡ their_name dialog.now }
-    ensures request { IfOk result (λ r. r ≡ request_in dialog.now extras.now.via.now method.now number extras.now.max_forwards
-        extras.now.further.now extras.now.body.now) }
-    ensures written { IfOk result (λ r. IsTrue (is_run_of is_token_byte method.now) → IsSound dialog.now →
-        MayHave dialog.now extras.now.via.now method.now number extras.now.further.now extras.now.body.now →
-        IsWrittenMessage (Kinds.Request r)) }
+) -> Result<Text<'static>, AllocError>
+    requires { parts.now ≡ parts_in dialog.now extras.now.via.now method.now number }
+    ensures { IfOk result (λ t. t ≡ message_text (Kinds.Request (request_in dialog.now extras.now.via.now method.now number
+        extras.now.max_forwards extras.now.further.now extras.now.body.now))) }
 {
-    let draft = Draft {
+    let _ = number;
+    let outline = Outline {
         method,
         uri: &dialog.target,
-        via: extras.via,
+        parts,
         max_forwards: extras.max_forwards,
-        from,
-        to,
-        call_id: dialog.id.call_id.as_bytes(),
-        number,
         further: extras.further,
         body: extras.body,
     };
-    build_request(alloc, &draft)
-}
-
-fn request_in(
-    alloc: Global,
-    dialog: &Dialog,
-    method: &[u8],
-    number: u32,
-    extras: &Extras<'_, '_>,
-) -> Result<Request<'static>, AllocError>
-    ensures request { IfOk result (λ r. r ≡ request_in dialog.now extras.now.via.now method.now number extras.now.max_forwards
-        extras.now.further.now extras.now.body.now) }
-    ensures written { IfOk result (λ r. IsTrue (is_run_of is_token_byte method.now) → IsSound dialog.now →
-        MayHave dialog.now extras.now.via.now method.now number extras.now.further.now extras.now.body.now →
-        IsWrittenMessage (Kinds.Request r)) }
-{
-    let id = &dialog.id;
-    let from = name_with_tag(
-        alloc,
-        &dialog.ours.display,
-        &dialog.ours.uri,
-        id.ours.as_bytes(),
-    )?;
-    let theirs = &dialog.theirs;
-    let to = name_with_tag(alloc, &theirs.display, &theirs.uri, id.theirs.as_bytes())?;
-    request_between(alloc, dialog, &from, &to, method, number, extras)
+    write_outline(alloc, &outline)
 }
 
 impl Dialog {
@@ -104,34 +92,33 @@ impl Dialog {
     ) -> Result<NextRequest, DialogError>
         ensures number { IfOk result (λ next. next.number ≡ following self.now) }
         ensures left { OnOk result (following self.now ≤ greatest_for method) }
-        ensures request { IfOk result (λ next. next.request ≡ request_in self.now extras.now.via.now (method_text method)
-            (following self.now) extras.now.max_forwards extras.now.further.now extras.now.body.now) }
-        // What is written for it is read as it, in a dialog of messages that were read.
-        ensures written { IfOk result (λ next. IsSound self.now →
-            MayHave self.now extras.now.via.now (method_text method) (following self.now) extras.now.further.now extras.now.body.now →
-            IsWrittenMessage (Kinds.Request next.request)) }
+        ensures parts { IfOk result (λ next. next.parts ≡ parts_in self.now extras.now.via.now (method_text method) (following self.now)) }
+        ensures bytes { IfOk result (λ next. next.bytes ≡ message_text (Kinds.Request (request_in self.now extras.now.via.now (method_text method)
+            (following self.now) extras.now.max_forwards extras.now.further.now extras.now.body.now))) }
         ensures refused { IfErr result (RefusesNext self.now method) }
     {
         let number = self.next_number(method)?;
-        let request = request_in(alloc, self, method.as_bytes(), number, extras)?;
-        Ok(NextRequest { number, request })
+        let parts = parts_in(alloc, self, extras.via, method.as_bytes(), number)?;
+        let bytes = text_in(alloc, self, &parts, method.as_bytes(), number, extras)?;
+        Ok(NextRequest {
+            number,
+            parts,
+            bytes,
+        })
     }
 
-    /// The ACK of a 2xx to the INVITE with this number (RFC 3261 section 13.2.2.4).
+    /// The ACK of a 2xx to the INVITE with this number, as it is sent (RFC 3261 section 13.2.2.4).
     pub fn ack(
         &self,
         alloc: Global,
         number: u32,
         extras: &Extras<'_, '_>,
-    ) -> Result<Request<'static>, AllocError>
-        ensures request { IfOk result (λ r. r ≡ request_in self.now extras.now.via.now ack_text number
-            extras.now.max_forwards extras.now.further.now extras.now.body.now) }
-        // What is written for it is read as it, in a dialog of messages that were read.
-        ensures written { IfOk result (λ r. IsSound self.now →
-            MayHave self.now extras.now.via.now ack_text number extras.now.further.now extras.now.body.now →
-            IsWrittenMessage (Kinds.Request r)) }
+    ) -> Result<Text<'static>, AllocError>
+        ensures bytes { IfOk result (λ t. t ≡ message_text (Kinds.Request (request_in self.now extras.now.via.now ack_text number
+            extras.now.max_forwards extras.now.further.now extras.now.body.now))) }
     {
-        request_in(alloc, self, b"ACK", number, extras)
+        let parts = parts_in(alloc, self, extras.via, b"ACK", number)?;
+        text_in(alloc, self, &parts, b"ACK", number, extras)
     }
 
     /// Sends the requests that follow to this URI (RFC 3261 section 12.2). Takes no memory.

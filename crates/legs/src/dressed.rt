@@ -1,16 +1,24 @@
 //! What actions come to.
 
-ghost use Rattle.std.specs.Prelude.{◌≡◌, ◌<◌, ◌+◌, ◌^◌, ◌∷◌, [], IfOk};
-ghost use Rattle.legs.specs.Dressed.{again, asks, asks_at, behind, no_message, responds_through, sent_request, sent_response};
+ghost use Rattle.std.specs.Prelude.{◌≡◌, ◌<◌, ◌+◌, ◌^◌, ◌∷◌, [], codes, true, IfOk};
+ghost use Rattle.sip_message.specs.declared.message.Message.TheVariants as Kinds;
+ghost use Rattle.sip_message.specs.declared.message.Request.{Request};
+ghost use Rattle.sip_message.specs.Words.{class_of, is_method};
+ghost use Rattle.sip_writing.specs.Reply.{answer_address};
+ghost use Rattle.sip_writing.specs.Writing.{message_text};
+ghost use Rattle.transactions.specs.declared.change.Entry.TheVariants.{Answers};
+ghost use Rattle.transactions.specs.OwnRequests.{own_of};
+ghost use Rattle.legs.specs.Dressed.{again, asks, behind, no_message};
 
 use crate::scene::Asker;
 use events::Sent;
-use sip_message::{Request, Response, class_of};
-use sip_uri::{Addr, address_of};
-use sip_writing::{reply_address, write_request, write_response};
+use sip_message::class_of;
+use sip_uri::{Uri, address_of};
+use sip_writing::reply_address;
 use std::alloc::{AllocError, Global};
 use std::marker::Model;
-use transactions::Change;
+use text::Text;
+use transactions::{Change, OwnRequest};
 
 /// What actions come to: the changes of the transactions and the datagrams that are sent, each in order, and how many tokens
 /// are made. All that takes memory has been done.
@@ -27,23 +35,6 @@ impl Model for Dressed {
     ghost Value = { words.Dressed };
 
     ghost view = { λ d. record { changes = d.changes.items; sends = d.sends.items; made = d.made } };
-}
-
-/// Lets a value go. As a function of every type it spares the proof what the value is made of.
-fn let_go<T: Drop>(_value: T) {}
-
-fn sent_response(alloc: Global, to: Addr, response: &Response<'_>) -> Result<Sent, AllocError>
-    ensures { IfOk result (λ sent. sent ≡ sent_response to response.now) }
-{
-    let bytes = write_response(alloc, response)?;
-    Ok(Sent { to, bytes })
-}
-
-fn sent_request(alloc: Global, to: Addr, request: &Request<'_>) -> Result<Sent, AllocError>
-    ensures { IfOk result (λ sent. sent ≡ sent_request to request.now) }
-{
-    let bytes = write_request(alloc, request)?;
-    Ok(Sent { to, bytes })
 }
 
 fn one_change(alloc: Global, change: Change) -> Result<Vec<Change>, AllocError>
@@ -74,19 +65,24 @@ impl Dressed {
         }
     }
 
-    fn response(
+    /// A response of this status through the transaction of the request.
+    pub(crate) fn responds_through(
         alloc: Global,
         asker: &Asker<'_, '_>,
-        response: &Response<'_>,
+        status: u16,
+        bytes: Text<'static>,
     ) -> Result<Dressed, AllocError>
-        ensures { IfOk result (λ d. d ≡ responds_through asker.now response.now) }
+        ensures { IfOk result (λ d. d ≡ record {
+          changes = Answers asker.now.id (class_of status) bytes.entry ∷ [];
+          sends = record { to = answer_address asker.now.parts.now.vias asker.now.source; bytes = bytes.entry } ∷ [];
+          made = 0;
+        }) }
     {
         let to = reply_address(asker.parts, asker.source);
-        let sent = sent_response(alloc, to, response)?;
-        let kept = sent.bytes.keep(alloc)?;
-        let change = Change::answers_with(asker.id, class_of(response.status), kept);
+        let kept = bytes.keep(alloc)?;
+        let change = Change::answers_with(asker.id, class_of(status), kept);
         let changes = one_change(alloc, change)?;
-        let sends = one_send(alloc, sent)?;
+        let sends = one_send(alloc, Sent { to, bytes })?;
         Ok(Dressed {
             changes,
             sends,
@@ -94,35 +90,21 @@ impl Dressed {
         })
     }
 
-    /// A response through the transaction of the request, which is let go.
-    pub(crate) fn responds_through(
-        alloc: Global,
-        asker: &Asker<'_, '_>,
-        response: Response<'static>,
-    ) -> Result<Dressed, AllocError>
-        ensures { IfOk result (λ d. d ≡ responds_through asker.now response.entry) }
+    /// A request to the address of its Request-URI, for which so many tokens are made.
+    pub(crate) fn asks(alloc: Global, request: OwnRequest, made: u64) -> Result<Dressed, AllocError>
+        ensures { (r : Request) → request ≡ own_of r → IfOk result (λ d. d ≡ asks r made) }
     {
-        let dressed = Dressed::response(alloc, asker, &response);
-        let_go(response);
-        dressed
-    }
-
-    fn request(
-        alloc: Global,
-        to: Option<Addr>,
-        request: &Request<'_>,
-        made: u64,
-    ) -> Result<Dressed, AllocError>
-        ensures { IfOk result (λ d. d ≡ asks_at to request.now made) }
-    {
-        let Some(to) = to else {
+        let Some(to) = address_of(&request.uri) else {
             return Ok(Dressed::no_message(alloc));
         };
-        let sent = sent_request(alloc, to, request)?;
-        let kept = sent.bytes.keep(alloc)?;
-        let change = Change::starts_with(alloc, request, to, kept)?;
-        let changes = one_change(alloc, change)?;
-        let sends = one_send(alloc, sent)?;
+        let OwnRequest { uri, parts, bytes } = request;
+        let kept = OwnRequest {
+            uri,
+            parts,
+            bytes: bytes.keep(alloc)?,
+        };
+        let changes = one_change(alloc, Change::asks(alloc, kept, to)?)?;
+        let sends = one_send(alloc, Sent { to, bytes })?;
         Ok(Dressed {
             changes,
             sends,
@@ -130,17 +112,25 @@ impl Dressed {
         })
     }
 
-    /// A request to the address of its Request-URI, for which so many tokens are made, and which is let go.
-    pub(crate) fn asks(
+    /// An ACK to the address of its Request-URI: it begins no transaction.
+    pub(crate) fn acknowledges(
         alloc: Global,
-        request: Request<'static>,
-        made: u64,
+        uri: &Uri<'_>,
+        bytes: Text<'static>,
     ) -> Result<Dressed, AllocError>
-        ensures { IfOk result (λ d. d ≡ asks request.entry made) }
+        ensures { (r : Request) → uri.now ≡ r.uri → is_method (codes "ACK") r.parts ≡ true →
+            bytes.entry ≡ message_text (Kinds.Request r) → IfOk result (λ d. d ≡ asks r 1) }
     {
-        let dressed = Dressed::request(alloc, address_of(&request.uri), &request, made);
-        let_go(request);
-        dressed
+        let Some(to) = address_of(uri) else {
+            return Ok(Dressed::no_message(alloc));
+        };
+        let changes = one_change(alloc, Change::leaves())?;
+        let sends = one_send(alloc, Sent { to, bytes })?;
+        Ok(Dressed {
+            changes,
+            sends,
+            made: 1,
+        })
     }
 
     /// A datagram goes again.

@@ -1,7 +1,10 @@
 //! The actions of a call as messages.
 
-ghost use Rattle.std.specs.Prelude.{◌≡◌, ◌≤◌, ◌<◌, ◌+◌, ◌^◌, IfOk, length};
+ghost use Rattle.std.specs.Prelude.{◌≡◌, ◌≤◌, ◌<◌, ◌+◌, ◌^◌, IfOk, Option, length, option_map};
 ghost use Rattle.std.specs.Option.{option_copied};
+ghost use Rattle.sip_message.specs.declared.message.Request.{Request};
+ghost use Rattle.transactions.specs.OwnRequests.{own_of};
+ghost use Rattle.transactions.specs.SameBranch.{cancel_of};
 ghost use Rattle.legs.specs.Dressing.{says_ack, says_answer, asks_if, branch, says_bye, says_cancel, dialog_with, dress_one, dressed, says_again, method_of, says_offer, says_okay, says_provisional, says_refusal, says_trying};
 
 use crate::dressed::Dressed;
@@ -13,11 +16,10 @@ use dialogs::{Dialog, Method};
 use events::Sent;
 use responses::token;
 use sdp::Description;
-use sip_message::Request;
 use sip_uri::Addr;
 use std::alloc::{AllocError, Global};
 use text::Text;
-use transactions::{Transaction, cancel_of};
+use transactions::{OwnRequest, Transaction, cancel_of};
 
 fn method_of(method: OfferMethod) -> Method
     ensures { result ≡ method_of method }
@@ -28,16 +30,18 @@ fn method_of(method: OfferMethod) -> Method
     }
 }
 
+#[tactic(auto, unfolding(responses::specs::Responding::responds, sip_writing::specs::Reply::reply_of))]
 fn says_trying(alloc: Global, asker: Option<Asker<'_, '_>>) -> Result<Dressed, AllocError>
     ensures { IfOk result (λ d. d ≡ says_trying asker.entry) }
 {
     let Some(asker) = asker else {
         return Ok(Dressed::no_message(alloc));
     };
-    let response = trying(alloc, &asker)?;
-    Dressed::responds_through(alloc, &asker, response)
+    let bytes = trying(alloc, &asker)?;
+    Dressed::responds_through(alloc, &asker, 100, bytes)
 }
 
+#[tactic(auto, unfolding(responses::specs::Responding::responds, sip_writing::specs::Reply::reply_of))]
 fn says_provisional(
     alloc: Global,
     server: Addr,
@@ -49,10 +53,11 @@ fn says_provisional(
     let Some(asker) = asker else {
         return Ok(Dressed::no_message(alloc));
     };
-    let response = provisional(alloc, server, &asker, status)?;
-    Dressed::responds_through(alloc, &asker, response)
+    let bytes = provisional(alloc, server, &asker, status)?;
+    Dressed::responds_through(alloc, &asker, status, bytes)
 }
 
+#[tactic(auto, unfolding(responses::specs::Responding::responds, sip_writing::specs::Reply::reply_of))]
 fn says_answer(
     alloc: Global,
     server: Addr,
@@ -67,10 +72,11 @@ fn says_answer(
     let Some(description) = description else {
         return Ok(Dressed::no_message(alloc));
     };
-    let response = answer(alloc, server, &asker, description)?;
-    Dressed::responds_through(alloc, &asker, response)
+    let bytes = answer(alloc, server, &asker, description)?;
+    Dressed::responds_through(alloc, &asker, 200, bytes)
 }
 
+#[tactic(auto, unfolding(responses::specs::Responding::responds, sip_writing::specs::Reply::reply_of))]
 fn says_refusal(
     alloc: Global,
     asker: Option<Asker<'_, '_>>,
@@ -81,10 +87,11 @@ fn says_refusal(
     let Some(asker) = asker else {
         return Ok(Dressed::no_message(alloc));
     };
-    let response = refusal(alloc, &asker, status)?;
-    Dressed::responds_through(alloc, &asker, response)
+    let bytes = refusal(alloc, &asker, status)?;
+    Dressed::responds_through(alloc, &asker, status, bytes)
 }
 
+#[tactic(auto, unfolding(responses::specs::Responding::responds, sip_writing::specs::Reply::reply_of))]
 fn says_okay(
     alloc: Global,
     server: Addr,
@@ -95,8 +102,8 @@ fn says_okay(
     let Some(asker) = asker else {
         return Ok(Dressed::no_message(alloc));
     };
-    let response = okay(alloc, server, &asker)?;
-    Dressed::responds_through(alloc, &asker, response)
+    let bytes = okay(alloc, server, &asker)?;
+    Dressed::responds_through(alloc, &asker, 200, bytes)
 }
 
 fn says_again(alloc: Global, sent: Option<&Sent>) -> Result<Dressed, AllocError>
@@ -108,16 +115,21 @@ fn says_again(alloc: Global, sent: Option<&Sent>) -> Result<Dressed, AllocError>
     }
 }
 
-fn asks_if(
-    alloc: Global,
-    request: Option<Request<'static>>,
-    made: u64,
-) -> Result<Dressed, AllocError>
-    ensures { IfOk result (λ d. d ≡ asks_if request.entry made) }
+fn asks_if(alloc: Global, request: Option<OwnRequest>, made: u64) -> Result<Dressed, AllocError>
+    ensures { (r : Option Request) → request ≡ option_map own_of r → IfOk result (λ d. d ≡ asks_if r made) }
 {
     match request {
         None => Ok(Dressed::no_message(alloc)),
         Some(request) => Dressed::asks(alloc, request, made),
+    }
+}
+
+fn cancel(alloc: Global, invite: &Transaction) -> Result<Option<OwnRequest>, AllocError>
+    ensures { IfOk result (λ own. own ≡ option_map own_of (cancel_of invite.now)) }
+{
+    match cancel_of(alloc, invite)? {
+        None => Ok(None),
+        Some(request) => Ok(Some(OwnRequest::of(alloc, &request)?)),
     }
 }
 
@@ -127,7 +139,7 @@ fn says_cancel(alloc: Global, invite: Option<&Transaction>) -> Result<Dressed, A
     let Some(invite) = invite else {
         return Ok(Dressed::no_message(alloc));
     };
-    asks_if(alloc, cancel_of(alloc, invite)?, 0)
+    asks_if(alloc, cancel(alloc, invite)?, 0)
 }
 
 impl Scene<'_, '_> {
@@ -190,8 +202,8 @@ impl Scene<'_, '_> {
             return Ok(Dressed::no_message(alloc));
         };
         let branch = self.branch(alloc, tokens)?;
-        let request = ack(alloc, self.server, dialog, branch.as_bytes())?;
-        Dressed::asks(alloc, request, 1)
+        let bytes = ack(alloc, self.server, dialog, branch.as_bytes())?;
+        Dressed::acknowledges(alloc, &dialog.target, bytes)
     }
 
     fn says_bye(
@@ -211,8 +223,15 @@ impl Scene<'_, '_> {
         asks_if(alloc, request, 1)
     }
 
+    /// What an action comes to, where so many tokens were made before it. An offer, an ACK and a BYE make a token each, that of
+    /// their branch. An action that sends nothing, or for which something is missing, comes to nothing.
     #[tactic(auto, unfolding(crate::specs::Dressing::dress_one))]
-    fn dress_one(&self, alloc: Global, tokens: u64, action: Action) -> Result<Dressed, AllocError>
+    pub fn dress_one(
+        &self,
+        alloc: Global,
+        tokens: u64,
+        action: Action,
+    ) -> Result<Dressed, AllocError>
         requires { tokens + 1 < 2 ^ 64 }
         ensures dressed { IfOk result (λ d. d ≡ dress_one self.now tokens action) }
         ensures few { IfOk result (λ d. d.made ≤ 1) }

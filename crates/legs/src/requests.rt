@@ -1,31 +1,45 @@
-//! Requests to an end.
+//! Requests to an end, as they are sent.
 
-ghost use Rattle.std.specs.Prelude.{◌≡◌, IfOk};
+ghost use Rattle.std.specs.Prelude.{◌≡◌, IfOk, option_map};
+ghost use Rattle.sip_message.specs.declared.message.Message.TheVariants as Kinds;
+ghost use Rattle.sip_writing.specs.Writing.{message_text};
+ghost use Rattle.transactions.specs.OwnRequests.{own_of};
 ghost use Rattle.legs.specs.Messages.{ack, bye, next_request, offer, one_hop_less};
 
 use crate::fields::description_headers;
-use dialogs::{Dialog, DialogError, Extras, Method};
+use dialogs::{Dialog, DialogError, Extras, Method, NextRequest};
 use sdp::{Description, write_description};
-use sip_message::Request;
 use sip_uri::Addr;
 use sip_writing::server_via;
 use std::alloc::{AllocError, Global};
+use text::Text;
+use transactions::OwnRequest;
 
 /// The hops of a request that is not passed on (RFC 3261 section 8.1.1.6).
 const MAX_FORWARDS: u8 = 70;
 
 /// The next request of this method, where a number is left for it.
+#[tactic(auto, unfolding(dialogs::specs::Requests::request_in))]
 fn next_request(
     alloc: Global,
     dialog: &Dialog,
     method: Method,
     extras: &Extras<'_, '_>,
-) -> Result<Option<Request<'static>>, AllocError>
-    ensures { IfOk result (λ r. r ≡ next_request dialog.now method extras.now.via.now extras.now.max_forwards
-        extras.now.further.now extras.now.body.now) }
+) -> Result<Option<OwnRequest>, AllocError>
+    ensures { IfOk result (λ own. own ≡ option_map own_of (next_request dialog.now method extras.now.via.now extras.now.max_forwards
+        extras.now.further.now extras.now.body.now)) }
 {
     match dialog.next_request(alloc, method, extras) {
-        Ok(next) => Ok(Some(next.request)),
+        Ok(
+            NextRequest {
+                number: _,
+                parts,
+                bytes,
+            },
+        ) => {
+            let uri = dialog.target.keep(alloc)?;
+            Ok(Some(OwnRequest { uri, parts, bytes }))
+        }
         Err(DialogError::OutOfMemory) => Err(AllocError),
         Err(DialogError::OldNumber) => Ok(None),
         Err(DialogError::NoNumberLeft) => Ok(None),
@@ -49,8 +63,8 @@ pub fn offer(
     hops: u8,
     description: &Description<'_>,
     token: &[u8],
-) -> Result<Option<Request<'static>>, AllocError>
-    ensures offer { IfOk result (λ r. r ≡ offer server dialog.now method hops description.now token.now) }
+) -> Result<Option<OwnRequest>, AllocError>
+    ensures offer { IfOk result (λ own. own ≡ option_map own_of (offer server dialog.now method hops description.now token.now)) }
 {
     let via = server_via(alloc, server, token)?;
     let further = description_headers(alloc, server)?;
@@ -70,8 +84,8 @@ pub fn ack(
     server: Addr,
     dialog: &Dialog,
     token: &[u8],
-) -> Result<Request<'static>, AllocError>
-    ensures ack { IfOk result (λ r. r ≡ ack server dialog.now token.now) }
+) -> Result<Text<'static>, AllocError>
+    ensures ack { IfOk result (λ t. t ≡ message_text (Kinds.Request (ack server dialog.now token.now))) }
 {
     let via = server_via(alloc, server, token)?;
     let extras = Extras {
@@ -89,8 +103,8 @@ pub fn bye(
     server: Addr,
     dialog: &Dialog,
     token: &[u8],
-) -> Result<Option<Request<'static>>, AllocError>
-    ensures bye { IfOk result (λ r. r ≡ bye server dialog.now token.now) }
+) -> Result<Option<OwnRequest>, AllocError>
+    ensures bye { IfOk result (λ own. own ≡ option_map own_of (bye server dialog.now token.now)) }
 {
     let via = server_via(alloc, server, token)?;
     let extras = Extras {

@@ -113,63 +113,42 @@ fn holding_of(holdings: &[Holding], even: u16) -> Option<&Holding>
     holdings.iter().find(|holding| holding.even == even)
 }
 
-/// The holding after these pairs were given to a call.
-fn holding_after_taking(holding: Holding, call: u64, pairs: &[Pair]) -> Holding
-    ensures { result ≡ holding_after_taking call pairs.now holding }
+/// Gives the pair to a call, if it is one of these.
+fn take_one(holding: &mut Holding, call: u64, pairs: &[Pair])
+    ensures { holding.new ≡ holding_after_taking call pairs.now holding.old }
 {
     if is_among(pairs, holding.even) {
-        Holding {
-            even: holding.even,
-            holder: Some(call),
-            freed: holding.freed,
-        }
-    } else {
-        holding
+        holding.holder = Some(call);
     }
 }
 
-/// The holding after this pair was freed.
-fn holding_after_release(holding: Holding, pair: Pair, now: u64) -> Holding
-    ensures { result ≡ holding_after_release pair now holding }
+/// Frees the pair, if it is this one.
+fn release_one(holding: &mut Holding, pair: Pair, now: u64)
+    ensures { holding.new ≡ holding_after_release pair now holding.old }
 {
     if holding.even == pair.even {
-        Holding {
-            even: holding.even,
-            holder: None,
-            freed: Some(now),
-        }
-    } else {
-        holding
+        holding.holder = None;
+        holding.freed = Some(now);
     }
 }
 
-/// The holding after all pairs of a call were freed.
-fn holding_after_drop(holding: Holding, call: u64, now: u64) -> Holding
-    ensures { result ≡ holding_after_drop call now holding }
+/// Frees the pair, if a call holds it.
+fn drop_one(holding: &mut Holding, call: u64, now: u64)
+    ensures { holding.new ≡ holding_after_drop call now holding.old }
 {
-    if holds(call, &holding) {
-        Holding {
-            even: holding.even,
-            holder: None,
-            freed: Some(now),
-        }
-    } else {
-        holding
+    if holds(call, holding) {
+        holding.holder = None;
+        holding.freed = Some(now);
     }
 }
 
-/// The holding after the pairs of a call but for these were freed.
-fn holding_after_freeing_others(holding: Holding, call: u64, kept: &[Pair], now: u64) -> Holding
-    ensures { result ≡ holding_after_freeing_others call kept.now now holding }
+/// Frees the pair, if a call holds it and it is none of these.
+fn free_other(holding: &mut Holding, call: u64, kept: &[Pair], now: u64)
+    ensures { holding.new ≡ holding_after_freeing_others call kept.now now holding.old }
 {
-    if holds(call, &holding) && !is_among(kept, holding.even) {
-        Holding {
-            even: holding.even,
-            holder: None,
-            freed: Some(now),
-        }
-    } else {
-        holding
+    if holds(call, holding) && !is_among(kept, holding.even) {
+        holding.holder = None;
+        holding.freed = Some(now);
     }
 }
 
@@ -178,7 +157,7 @@ pub(crate) fn take(holdings: &mut Vec<Holding>, call: u64, pairs: &[Pair])
     ensures { holdings.new.items ≡ taken call pairs.now holdings.old.items }
 {
     for holding in holdings.iter_mut() {
-        *holding = holding_after_taking(*holding, call, pairs);
+        take_one(holding, call, pairs);
     }
 }
 
@@ -187,7 +166,7 @@ pub(crate) fn release(holdings: &mut Vec<Holding>, pair: Pair, now: u64)
     ensures { holdings.new.items ≡ released pair now holdings.old.items }
 {
     for holding in holdings.iter_mut() {
-        *holding = holding_after_release(*holding, pair, now);
+        release_one(holding, pair, now);
     }
 }
 
@@ -196,7 +175,7 @@ pub(crate) fn drop_all(holdings: &mut Vec<Holding>, call: u64, now: u64)
     ensures { holdings.new.items ≡ dropped call now holdings.old.items }
 {
     for holding in holdings.iter_mut() {
-        *holding = holding_after_drop(*holding, call, now);
+        drop_one(holding, call, now);
     }
 }
 
@@ -205,6 +184,6 @@ pub(crate) fn free_others(holdings: &mut Vec<Holding>, call: u64, kept: &[Pair],
     ensures { holdings.new.items ≡ others_freed call kept.now now holdings.old.items }
 {
     for holding in holdings.iter_mut() {
-        *holding = holding_after_freeing_others(*holding, call, kept, now);
+        free_other(holding, call, kept, now);
     }
 }

@@ -23,13 +23,14 @@ use Rattle.dialogs.specs.declared.state.Dialog.{Dialog}
 use Rattle.dialogs.specs.Counting.{following, greatest_for, last_number, method_text}
 use Rattle.dialogs.specs.Requests.{ack_text, request_in, MayHave}
 use Rattle.dialogs.specs.Sound.{IsSound}
+use Rattle.dialogs.proofs.DraftLaws.{request_stands}
 use Rattle.transaction_machines.specs.declared.state.State.{State}
 use Rattle.transaction_machines.specs.declared.state.State.TheVariants.{InviteClient, InviteServer, OtherClient, OtherServer}
 use Rattle.transactions.specs.declared.transaction.Transaction.{Transaction}
 use Rattle.transactions.specs.SameBranch.{ack_of, ack_to, ack_with, cancel_by, cancel_of, cancel_with, request_like, HasReadVia, IsSoundInvite}
 use Rattle.legs.specs.Messages.{ack, bye, description_headers, next_request, offer}
 use Rattle.promise.specs.Addresses.{IsReached}
-use Rattle.promise.proofs.Drafts.{like_stands, request_stands, via_stands}
+use Rattle.promise.proofs.Drafts.{like_stands, via_stands}
 use Rattle.promise.proofs.Further.{description_follows}
 
 via_reads : (server : Addr) (token : List ℕ) → IsReached server → IsTrue (is_run_of is_token_byte token) → IsReadVia (server_via server token)

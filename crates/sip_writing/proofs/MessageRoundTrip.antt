@@ -87,7 +87,7 @@ without_last (x ∷ hs) h e k =
     let parts = and_parts (tells_no_length x) (list_all tells_no_length hs) e in
     rw (not_true (is_named (codes "Content-Length") x) parts.0) (ap (λ (xs : List Header). x ∷ xs) (without_last hs h parts.1 k))
 
-headers_joined : (hs : List Header) (h : Header) → headers_text (hs ++ h ∷ []) ≡ headers_text hs ++ header_text h
+pub headers_joined : (hs : List Header) (h : Header) → headers_text (hs ++ h ∷ []) ≡ headers_text hs ++ header_text h
 headers_joined [] h = append-nil (header_text h)
 headers_joined (x ∷ hs) h = ap (λ (t : List ℕ). header_text x ++ t) (headers_joined hs h) ∙ sym (append_assoc (header_text x) (headers_text hs) (header_text h))
 

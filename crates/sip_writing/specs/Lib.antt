@@ -5,3 +5,4 @@ pub mod Writing
 pub mod WritingMessage
 pub mod Further
 pub mod Requests
+pub mod Outlines

@@ -7,11 +7,15 @@ mod laws;
 mod reasons;
 mod received;
 mod reply;
+mod reply_text;
+mod request_text;
 mod requests;
 mod room;
 mod write;
 
 pub use laws::written_is_read;
 pub use reply::{reply_address, reply_to, tag_param, via_headers};
-pub use requests::{Draft, build_request, name_with_tag, server_via};
+pub use reply_text::{Reply, write_reply};
+pub use request_text::{Outline, write_outline};
+pub use requests::{Draft, build_request, name_with_tag, parts_with_names, server_via};
 pub use write::{write_message, write_request, write_response};

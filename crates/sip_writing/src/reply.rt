@@ -76,7 +76,7 @@ fn marked_top(alloc: Global, vias: &Vias<'_>, source: Addr) -> Result<Vias<'stat
     Ok(Vias::from_vec(vias))
 }
 
-fn puts_tag(status: u16, to: &NameAddr) -> bool
+pub(crate) fn puts_tag(status: u16, to: &NameAddr) -> bool
     ensures { result ≡ puts_tag status to.now }
 {
     !has_tag(to.params.as_slice()) && status != 100

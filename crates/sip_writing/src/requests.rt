@@ -7,6 +7,7 @@ ghost use Rattle.text.specs.Class.{is_run_of, is_token_byte};
 ghost use Rattle.sip_uri.specs.NameAddr.{name_addr_text};
 ghost use Rattle.sip_message.specs.declared.message.Message.TheVariants as Kinds;
 ghost use Rattle.sip_message.specs.Lookup.{named};
+ghost use Rattle.sip_writing.specs.Outlines.{parts_with_names};
 ghost use Rattle.sip_writing.specs.Requests.{branch_text, server_via, tag_params, name_with_tag, cseq_text, parts_of, headers_with, request_of, IsReadVia, IsSound};
 ghost use Rattle.sip_writing.specs.WritingMessage.{IsWrittenMessage};
 
@@ -120,21 +121,23 @@ pub fn name_with_tag(
     })
 }
 
-fn party_of(alloc: Global, name: &NameAddr<'_>) -> Result<Party<'static>, AllocError>
-    ensures name { IfOk result (λ party. party.name ≡ name.now) }
-    ensures text { IfOk result (λ party. party.text ≡ name_addr_text name.now) }
+fn party_of(alloc: Global, name: NameAddr<'static>) -> Result<Party<'static>, AllocError>
+    ensures name { IfOk result (λ party. party.name ≡ name.entry) }
+    ensures text { IfOk result (λ party. party.text ≡ name_addr_text name.entry) }
 {
-    let text = write_name_addr(alloc, name)?;
-    let name = name.keep(alloc)?;
+    let text = write_name_addr(alloc, &name)?;
     Ok(Party { text, name })
 }
 
-fn ends_of(alloc: Global, draft: &Draft<'_, '_>) -> Result<Ends<'static>, AllocError>
-    ensures from { IfOk result (λ ends. (ends.from.name ≡ draft.now.from.now) × (ends.from.text ≡ name_addr_text draft.now.from.now)) }
-    ensures to { IfOk result (λ ends. (ends.to.name ≡ draft.now.to.now) × (ends.to.text ≡ name_addr_text draft.now.to.now)) }
+fn ends_of(
+    alloc: Global,
+    from: NameAddr<'static>,
+    to: NameAddr<'static>,
+) -> Result<Ends<'static>, AllocError>
+    ensures from { IfOk result (λ ends. (ends.from.name ≡ from.entry) × (ends.from.text ≡ name_addr_text from.entry)) }
+    ensures to { IfOk result (λ ends. (ends.to.name ≡ to.entry) × (ends.to.text ≡ name_addr_text to.entry)) }
 {
-    let from = party_of(alloc, draft.from)?;
-    let to = party_of(alloc, draft.to)?;
+    let (from, to) = both(party_of(alloc, from), party_of(alloc, to))?;
     Ok(Ends { from, to })
 }
 
@@ -168,15 +171,39 @@ fn one_via(alloc: Global, via: &Via<'_>) -> Result<Vias<'static>, AllocError>
     Ok(Vias::from_vec(vias))
 }
 
+/// The parts of a request of the server's own, with these names in From and To.
+pub fn parts_with_names(
+    alloc: Global,
+    via: &Via<'_>,
+    from: NameAddr<'static>,
+    to: NameAddr<'static>,
+    call_id: &[u8],
+    number: u32,
+    method: &[u8],
+) -> Result<Parts<'static>, AllocError>
+    ensures parts { IfOk result (λ parts. parts ≡ parts_with_names via.now from.entry to.entry call_id.now number method.now) }
+{
+    let way = both(one_via(alloc, via), ends_of(alloc, from, to));
+    let call_id = Text::from_slice(alloc, call_id);
+    let sequence = sequence_of(alloc, number, method);
+    let ((vias, ends), (call_id, sequence)) = both(way, both(call_id, sequence))?;
+    Ok(parts_with(vias, ends, call_id, sequence))
+}
+
 #[tactic(auto, unfolding(crate::specs::Requests::parts_of))]
 fn parts_of(alloc: Global, draft: &Draft<'_, '_>) -> Result<Parts<'static>, AllocError>
     ensures { IfOk result (λ parts. parts ≡ parts_of draft.now) }
 {
-    let way = both(one_via(alloc, draft.via), ends_of(alloc, draft));
-    let call_id = Text::from_slice(alloc, draft.call_id);
-    let sequence = sequence_of(alloc, draft.number, draft.method);
-    let ((vias, ends), (call_id, sequence)) = both(way, both(call_id, sequence))?;
-    Ok(parts_with(vias, ends, call_id, sequence))
+    let (from, to) = both(draft.from.keep(alloc), draft.to.keep(alloc))?;
+    parts_with_names(
+        alloc,
+        draft.via,
+        from,
+        to,
+        draft.call_id,
+        draft.number,
+        draft.method,
+    )
 }
 
 fn add_hops(alloc: Global, headers: &mut Headers<'static>, hops: u8) -> Result<(), AllocError>

@@ -44,7 +44,7 @@ fn put_header(out: &mut Vec<u8>, header: &Header) -> Result<(), AllocError>
 }
 
 /// Writes the header fields behind what is there, each on a line of its own.
-fn put_headers(out: &mut Vec<u8>, headers: &[Header]) -> Result<(), AllocError>
+pub(crate) fn put_headers(out: &mut Vec<u8>, headers: &[Header]) -> Result<(), AllocError>
     ensures text { OnOk result (out.new.items ≡ out.old.items ++ headers_text headers.now) }
 {
     for header in headers {
@@ -53,15 +53,21 @@ fn put_headers(out: &mut Vec<u8>, headers: &[Header]) -> Result<(), AllocError>
     Ok(())
 }
 
+/// Content-Length, the empty line behind it, and the body.
+pub(crate) fn put_content(out: &mut Vec<u8>, body: &[u8]) -> Result<(), AllocError>
+    ensures { OnOk result (out.new.items ≡ out.old.items ++ length_text body.now ++ body.now) }
+{
+    out.extend_from_slice(b"Content-Length: ")?;
+    put_number(out, body.len() as u64)?;
+    out.extend_from_slice(b"\r\n\r\n")?;
+    out.extend_from_slice(body)?;
+    Ok(())
+}
+
 fn put_body(out: &mut Vec<u8>, body: &Text) -> Result<(), AllocError>
     ensures { OnOk result (out.new.items ≡ out.old.items ++ length_text body.now ++ body.now) }
 {
-    let bytes = body.as_bytes();
-    out.extend_from_slice(b"Content-Length: ")?;
-    put_number(out, bytes.len() as u64)?;
-    out.extend_from_slice(b"\r\n\r\n")?;
-    out.extend_from_slice(bytes)?;
-    Ok(())
+    put_content(out, body.as_bytes())
 }
 
 #[tactic(auto, unfolding(crate::specs::Writing::message_text))]

@@ -3,6 +3,7 @@ pub mod Changes
 pub mod Contents
 pub mod Limits
 pub mod Matching
+pub mod OwnRequests
 pub mod Replies
 pub mod Slots
 pub mod Prints

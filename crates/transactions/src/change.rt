@@ -3,18 +3,21 @@
 ghost use Rattle.std.specs.Prelude.{ℕ, ◌≡◌, ◌+◌, IfOk, IsTrue, Some, None, false};
 ghost use Rattle.sip_writing.specs.Writing.{message_text};
 ghost use Rattle.sip_message.specs.declared.message.Message.TheVariants as Kinds;
+ghost use Rattle.sip_message.specs.declared.message.Request.{Request};
 ghost use Rattle.transactions.specs.declared.change.Entry.TheVariants.{Opens, Tells};
 ghost use Rattle.transaction_machines.specs.declared.input.Input.TheVariants as inputs;
 ghost use Rattle.transaction_machines.specs.declared.step.Starts.TheVariants.{NoTimer};
-ghost use Rattle.transactions.specs.Changes.{start_with, start_of, answer_of, fire_of};
+ghost use Rattle.transactions.specs.Changes.{start_of, answer_of, fire_of};
 ghost use Rattle.transaction_machines.specs.Lines.{is_answer};
+ghost use Rattle.transactions.specs.OwnRequests.{own_of};
 ghost use Rattle.transactions.specs.Transactions.{served};
 
+use crate::own_request::OwnRequest;
 use crate::transaction::{TimerId, Transaction, asking, asking_timers, served};
 use boxed::Boxed;
 use sip_message::{Class, Request, Response, class_of, is_method};
 use sip_uri::Addr;
-use sip_writing::{write_request, write_response};
+use sip_writing::write_response;
 use std::alloc::{AllocError, Global};
 use std::marker::Model;
 use text::Text;
@@ -57,25 +60,20 @@ impl Change {
     pub fn starts(alloc: Global, request: &Request, to: Addr) -> Result<Change, AllocError>
         ensures { IfOk result (λ c. c ≡ start_of request.now to) }
     {
-        let bytes = write_request(alloc, request)?.keep(alloc)?;
-        Change::starts_with(alloc, request, to, bytes)
+        Change::asks(alloc, OwnRequest::of(alloc, request)?, to)
     }
 
-    /// The same, with the request's bytes.
-    pub fn starts_with(
-        alloc: Global,
-        request: &Request,
-        to: Addr,
-        bytes: Text<'static>,
-    ) -> Result<Change, AllocError>
-        ensures { IfOk result (λ c. c ≡ start_with request.now to bytes.entry) }
+    /// The same, with what is kept of the request.
+    pub fn asks(alloc: Global, request: OwnRequest, to: Addr) -> Result<Change, AllocError>
+        ensures { (r : Request) → request ≡ own_of r → IfOk result (λ c. c ≡ start_of r to) }
     {
         if is_method(&request.parts, b"ACK") {
             return Ok(Change::leaves());
         }
-        let transaction = Boxed::new(alloc, asking(alloc, request, to, bytes)?)?;
+        let timers = asking_timers(&request.parts);
+        let transaction = Boxed::new(alloc, asking(request, to))?;
         Ok(Change {
-            entry: Entry::Opens(transaction, asking_timers(&request.parts)),
+            entry: Entry::Opens(transaction, timers),
         })
     }
 
@@ -139,8 +137,8 @@ impl Change {
         })
     }
 
-    /// Nothing changes.
-    pub(crate) fn leaves() -> Change
+    /// Nothing changes. Takes no memory.
+    pub fn leaves() -> Change
         ensures { result ≡ Entry.Leaves }
     {
         Change {

@@ -22,13 +22,14 @@ use crate::error::TableError;
 use crate::foreseeing::{Foreseen, ForeseenFire};
 use crate::matching::has_to_tag;
 use crate::outcome::{Fired, Outgoing, Reception, Started};
+use crate::own_request::OwnRequest;
 use crate::places::Places;
 use crate::slots::{any_merged, named, transaction_at, waiting_invite};
 use crate::stopping::{has_come, moment};
 use crate::transaction::{TimerId, Transaction};
 use sip_message::{Message, Request, Response, class_of, is_method};
 use sip_uri::Addr;
-use sip_writing::{write_request, write_response};
+use sip_writing::write_response;
 use std::alloc::{AllocError, Global};
 use std::marker::Model;
 use text::Text;
@@ -111,10 +112,10 @@ impl Table {
         ensures table { OnOk result (self.new ≡ after_start self.old request.now to now) }
         ensures err { OnErr result (self.new ≡ self.old) }
     {
-        let bytes = write_request(self.alloc, request)?;
-        let kept = bytes.clone()?;
+        let own = OwnRequest::of(self.alloc, request)?;
+        let bytes = own.bytes.keep(self.alloc)?;
         let id = self.started_number(request);
-        let change = Change::starts_with(self.alloc, request, to, kept)?;
+        let change = Change::asks(self.alloc, own, to)?;
         self.enter_alone(change, now)?;
         Ok(Started {
             id,

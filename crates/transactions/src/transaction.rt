@@ -1,13 +1,18 @@
 //! A transaction.
 
 ghost use Rattle.std.specs.Prelude.{◌≡◌, ◌*◌, IfOk, IfErr, IsTrue, Some, true, false, option_map};
+ghost use Rattle.sip_message.specs.declared.message.Message.TheVariants as Kinds;
+ghost use Rattle.sip_message.specs.declared.message.Request.{Request};
+ghost use Rattle.sip_writing.specs.Writing.{message_text};
 ghost use Rattle.transaction_machines.specs.Lines.{repeats, starts_with_lines};
 ghost use Rattle.transactions.specs.Fireable.{has_sent};
 ghost use Rattle.transaction_machines.specs.Steps.{IsShort, timer, t1};
 ghost use Rattle.transactions.specs.Contents.{sends};
+ghost use Rattle.transactions.specs.OwnRequests.{own_of};
 ghost use Rattle.transactions.specs.Transactions.{served, served_state, asking, asking_state, asking_timers, went, outgoing, sent};
 
 use crate::outcome::Outgoing;
+use crate::own_request::OwnRequest;
 use sip_message::{Parts, Request, is_method};
 use sip_uri::{Addr, Uri};
 use sip_writing::reply_address;
@@ -80,25 +85,21 @@ fn served_state(parts: &Parts) -> State
     }
 }
 
-/// The transaction that a request of the server's own begins, with its bytes.
-pub(crate) fn asking(
-    alloc: Global,
-    request: &Request<'_>,
-    to: Addr,
-    bytes: Text<'static>,
-) -> Result<Transaction, AllocError>
-    ensures asking { IfOk result (λ t. t ≡ asking request.now to bytes.entry) }
-    ensures sent { IfOk result (λ t. IsTrue (has_sent (Some t))) }
+/// The transaction that a request of the server's own begins.
+pub(crate) fn asking(request: OwnRequest, to: Addr) -> Transaction
+    ensures asking { (r : Request) → request ≡ own_of r → result ≡ asking r to (message_text (Kinds.Request r)) }
+    ensures state { result.state ≡ asking_state request.parts }
+    ensures sent { IsTrue (has_sent (Some result)) }
 {
-    let uri = request.uri.keep(alloc)?;
-    let parts = request.parts.keep(alloc)?;
-    Ok(Transaction {
+    let OwnRequest { uri, parts, bytes } = request;
+    let state = asking_state(&parts);
+    Transaction {
         uri,
         parts,
-        state: asking_state(&request.parts),
+        state,
         place: to,
         last: Some(bytes),
-    })
+    }
 }
 
 fn asking_state(parts: &Parts) -> State

@@ -4,6 +4,7 @@ use Rattle.calls.specs.declared.standing_call.StandingCall.{StandingCall}
 use Rattle.dialogs.specs.Making.{callees_dialog}
 use Rattle.dialogs.specs.declared.state.Dialog.{Dialog}
 use Rattle.legs.specs.Messages.{new_leg}
+use Rattle.call_core.specs.declared.plan.Plan.{Plan}
 use Rattle.call_core.specs.Calls.{new_call}
 use Rattle.call_core.specs.Plans.{carried, description_sent}
 use Rattle.call_steps.specs.Messages.{messages}
@@ -37,6 +38,7 @@ returns-clause-row c =
     ∙ ap (λ (a : AskerValue). messages (first_scene o a hops c.in_ok-leg.leg sent) None plan.actions) asker
     ∙ ap (λ (l : Dialog). messages (first_scene o (asked_with request id source (fresh o 1)) hops l sent) None plan.actions) leg in
     c.step_of.ensures.row calls o
+    ∙ ap (λ (p : Plan). begun calls o c.in_ok-boxed.boxed (carried c.in_ok-boxed.boxed.call calls.pool o.now p) c.in_ok-said.said) c.in_ok-kept.ensures
     ∙ ap (λ (b : StandingCall). begun calls o b (carried b.call calls.pool o.now plan) c.in_ok-said.said) c.in_ok-boxed.ensures
     ∙ ap (λ (t : List ℕ). begun calls o (standing_with call t request id source) (carried call calls.pool o.now plan) c.in_ok-said.said) c.in_ok-callee_tag.ensures
     ∙ begins_as_planned calls o request id source target c.args.offer.now call plan c.in_ok-said.said c.in_ok-call.ensures.contact is row says

@@ -2,6 +2,7 @@ use Rattle.std.proofs.Common.{◌≡◌, ◌∙◌, ◌<◌, ap, arith, length, 
 use Rattle.std.specs.Prelude.{slice_get}
 use Rattle.call_core.specs.Calls.{IsServed}
 use Rattle.call_core.specs.Plans.{carried}
+use Rattle.calls.specs.declared.change.Beside.{Beside}
 use Rattle.calls.specs.declared.standing_call.StandingCall.{StandingCall}
 use Rattle.calls.specs.Carrying.{Did, with_step}
 use Rattle.calls.specs.Changes.{beside}
@@ -23,7 +24,8 @@ returns-clause-done c = λ d is.
     let within : c.args.place < length c.args.calls.now.items = omega (arith, c.requires.there, c.args.calls.now.ok.0) in
     let here = read_at c.args.calls.now.items c.args.place c.index_mut-call.result.now within c.index_mut-call.ensures.value in
     let same : c.index_mut-call.result.now ≡ d = same_read c.index_mut-call.result.now d (slice_get c.args.calls.now.items c.args.place) here is in
-    let stands = c.put_beside.ensures.call ∙ ap (λ (y : StandingCall). beside c.args.kept y) c.carry_out_in-changes.ensures.call in
+    let put = c.put_beside.ensures.call ∙ ap (λ (k : Beside). beside k c.carry_out_in-changes.new.call) c.into_inner.ensures in
+    let stands = put ∙ ap (λ (y : StandingCall). beside c.args.kept y) c.carry_out_in-changes.ensures.call in
     subst (λ (y : StandingCall). Did c.args.calls.now.items c.args.pool.now c.args.place c.args.now c.args.plan y
     (beside c.args.kept (with_step y (carried y.call c.args.pool.now c.args.now c.args.plan)))
     (set c.args.calls.now.items c.args.place c.put_beside.new.call) c.carry_out_in-changes.new.pool c.carry_out_in-changes.result.items) same

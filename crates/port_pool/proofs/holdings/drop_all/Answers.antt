@@ -10,4 +10,4 @@ loop-holding-preserved c =
     let holdings = c.loop-holding.holding-items in
     let i = c.loop-holding.holding-index in
     let within : i < length holdings = omega arith in
-    rw c.holding_after_drop.ensures (map_over_more (holding_after_drop c.args.call c.args.now) _ holdings i (get_or holdings i no_holding) c.loop-holding-test.true c.loop-holding.invariant (get_or_default holdings i no_holding (get_or holdings i no_holding) within))
+    rw c.drop_one.ensures (map_over_more (holding_after_drop c.args.call c.args.now) _ holdings i (get_or holdings i no_holding) c.loop-holding-test.true c.loop-holding.invariant (get_or_default holdings i no_holding (get_or holdings i no_holding) within))

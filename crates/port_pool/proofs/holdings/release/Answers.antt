@@ -10,4 +10,4 @@ loop-holding-preserved c =
     let holdings = c.loop-holding.holding-items in
     let i = c.loop-holding.holding-index in
     let within : i < length holdings = omega arith in
-    rw c.holding_after_release.ensures (map_over_more (holding_after_release c.args.pair c.args.now) _ holdings i (get_or holdings i no_holding) c.loop-holding-test.true c.loop-holding.invariant (get_or_default holdings i no_holding (get_or holdings i no_holding) within))
+    rw c.release_one.ensures (map_over_more (holding_after_release c.args.pair c.args.now) _ holdings i (get_or holdings i no_holding) c.loop-holding-test.true c.loop-holding.invariant (get_or_default holdings i no_holding (get_or holdings i no_holding) within))

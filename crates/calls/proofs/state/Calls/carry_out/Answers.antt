@@ -1,4 +1,5 @@
 use Rattle.std.proofs.Common.{◌∙◌, ◌<◌, List, ap, arith, length, subst, sym}
+use Rattle.call_core.specs.declared.plan.Plan.{Plan}
 use Rattle.calls.specs.declared.standing_call.StandingCall.{StandingCall}
 use Rattle.calls.specs.Changes.{with_calls}
 use Rattle.calls.specs.State.{AreKept, Standing}
@@ -38,7 +39,8 @@ returns-clause-standing c =
     let here = read_at cs c.args.place c.index.result.now within c.index.ensures in
     let did = c.carry_out_there-changes.ensures.done c.index.result.now here in
     let stood : Standing = record { calls = cs; pool = c.self.inside.pool; begun = c.self.inside.begun; timers = c.self.inside.timers.timers } in
-    let timed = c.take_plan.ensures ∙ ap (λ number. timers_planned c.args.now number c.args.plan c.self.inside.timers.timers) c.number-number.ensures in
+    let planned = c.take_plan.ensures ∙ ap (λ (p : Plan). timers_planned c.args.now c.number-number.result p c.self.inside.timers.timers) c.get.ensures in
+    let timed = planned ∙ ap (λ number. timers_planned c.args.now number c.args.plan c.self.inside.timers.timers) c.number-number.ensures in
     let after : Standing = record { calls = cs; pool = c.carry_out_there-changes.new.pool; begun = c.self.inside.begun; timers = c.take_plan.new.timers.timers } in
     rw (← c.self.view_is) (ap (λ (calls : List StandingCall). with_calls calls after) c.take_off.ensures
     ∙ standing_carried stood c.args.place c.args.now c.args.kept c.args.plan c.index.result.now _ _ _ _ within here did timed)

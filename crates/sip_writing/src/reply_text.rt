@@ -1,0 +1,143 @@
+//! Answers that are written at once: the same bytes, with no answer made for them.
+
+ghost use Rattle.std.specs.Prelude.{◌≡◌, ◌++◌, ◌∷◌, [], codes, decimal, IfOk, OnOk};
+ghost use Rattle.sip_message.specs.Lookup.{named};
+ghost use Rattle.sip_message.specs.declared.message.Message.TheVariants as Kinds;
+ghost use Rattle.sip_writing.specs.Further.{with_further};
+ghost use Rattle.sip_writing.specs.Reasons.{reason_of};
+ghost use Rattle.sip_writing.specs.Reply.{marked_top, replied, reply_headers, reply_of, tagged_text, via_headers, via_text};
+ghost use Rattle.sip_writing.specs.Writing.{header_text, headers_text, length_text, message_text};
+
+use crate::reasons::reason_of;
+use crate::received::marked;
+use crate::reply::puts_tag;
+use crate::room::ROOM;
+use crate::write::{put_content, put_headers};
+use sip_message::{Header, Parts, Via};
+use sip_uri::{Addr, put_params};
+use std::alloc::{AllocError, Global};
+use text::{Text, put_number};
+
+/// What an answer is made of: the request's parts and where it came from, the status, the tag that To is given where it has
+/// none, and what stands behind what each answer has.
+#[derive(Clone, Copy)]
+pub struct Reply<'m, 'a> {
+    pub parts: &'m Parts<'a>,
+    pub source: Addr,
+    pub status: u16,
+    pub tag: &'m [u8],
+    pub further: &'m [Header<'a>],
+    pub body: &'m [u8],
+}
+
+fn put_status(out: &mut Vec<u8>, status: u16) -> Result<(), AllocError>
+    ensures { OnOk result (out.new.items ≡ out.old.items ++ codes "SIP/2.0 " ++ decimal status ++ 32 ∷ [] ++ reason_of status ++ codes "\r\n") }
+{
+    out.extend_from_slice(b"SIP/2.0 ")?;
+    put_number(out, u64::from(status))?;
+    out.push(b' ')?;
+    out.extend_from_slice(reason_of(status))?;
+    out.extend_from_slice(b"\r\n")
+}
+
+/// A header field on a line of its own.
+pub(crate) fn put_named(out: &mut Vec<u8>, name: &[u8], value: &[u8]) -> Result<(), AllocError>
+    ensures { OnOk result (out.new.items ≡ out.old.items ++ header_text (named name.now value.now)) }
+{
+    out.extend_from_slice(name)?;
+    out.extend_from_slice(b": ")?;
+    out.extend_from_slice(value)?;
+    out.extend_from_slice(b"\r\n")
+}
+
+fn put_via_text(out: &mut Vec<u8>, via: &Via<'_>) -> Result<(), AllocError>
+    ensures { OnOk result (out.new.items ≡ out.old.items ++ via_text via.now) }
+{
+    out.extend_from_slice(b"SIP/2.0/UDP ")?;
+    out.extend_from_slice(via.sent_by.as_bytes())?;
+    put_params(out, via.params.as_slice(), b';', b';')?;
+    Ok(())
+}
+
+/// A Via on a line of its own.
+fn put_via(out: &mut Vec<u8>, via: &Via<'_>) -> Result<(), AllocError>
+    ensures { OnOk result (out.new.items ≡ out.old.items ++ header_text (named (codes "Via") (via_text via.now))) }
+{
+    out.extend_from_slice(b"Via")?;
+    out.extend_from_slice(b": ")?;
+    put_via_text(out, via)?;
+    out.extend_from_slice(b"\r\n")
+}
+
+/// Each Via on a line of its own.
+pub(crate) fn put_vias(out: &mut Vec<u8>, vias: &[Via<'_>]) -> Result<(), AllocError>
+    ensures { OnOk result (out.new.items ≡ out.old.items ++ headers_text (via_headers vias.now)) }
+{
+    for via in vias {
+        put_via(out, via)?;
+    }
+    Ok(())
+}
+
+// The request's Vias, of which the top one is marked.
+fn put_marked(
+    alloc: Global,
+    out: &mut Vec<u8>,
+    vias: &[Via<'_>],
+    source: Addr,
+) -> Result<(), AllocError>
+    ensures { OnOk result (out.new.items ≡ out.old.items ++ headers_text (via_headers (marked_top source vias.now))) }
+{
+    let [top, below @ ..] = vias else {
+        return Ok(());
+    };
+    let top = marked(alloc, top, source)?;
+    put_via(out, &top)?;
+    put_vias(out, below)
+}
+
+fn put_to(out: &mut Vec<u8>, parts: &Parts<'_>, status: u16, tag: &[u8]) -> Result<(), AllocError>
+    ensures { OnOk result (out.new.items ≡ out.old.items ++ header_text (named (codes "To") (tagged_text status parts.now.to parts.now.to_text tag.now))) }
+{
+    out.extend_from_slice(b"To: ")?;
+    out.extend_from_slice(parts.to_text.as_bytes())?;
+    if puts_tag(status, &parts.to) {
+        out.extend_from_slice(b";tag=")?;
+        out.extend_from_slice(tag)?;
+    }
+    out.extend_from_slice(b"\r\n")
+}
+
+#[tactic(auto, unfolding(crate::specs::Reply::reply_headers, crate::specs::Reply::replied))]
+fn put_repeated(alloc: Global, out: &mut Vec<u8>, reply: &Reply<'_, '_>) -> Result<(), AllocError>
+    ensures { OnOk result (out.new.items ≡ out.old.items
+        ++ headers_text (reply_headers (replied reply.now.parts.now reply.now.source reply.now.status reply.now.tag.now))) }
+{
+    let parts = reply.parts;
+    put_marked(alloc, out, parts.vias.as_slice(), reply.source)?;
+    put_named(out, b"From", parts.from_text.as_bytes())?;
+    put_to(out, parts, reply.status, reply.tag)?;
+    put_named(out, b"Call-ID", parts.call_id.as_bytes())?;
+    put_named(out, b"CSeq", parts.cseq_text.as_bytes())
+}
+
+#[tactic(auto, unfolding(crate::specs::Writing::message_text, crate::specs::Reply::reply_of))]
+fn put_reply(alloc: Global, out: &mut Vec<u8>, reply: &Reply<'_, '_>) -> Result<(), AllocError>
+    ensures { OnOk result (out.new.items ≡ out.old.items ++ message_text (Kinds.Response
+        (with_further (reply_of reply.now.parts.now reply.now.source reply.now.status reply.now.tag.now) reply.now.further.now reply.now.body.now))) }
+{
+    put_status(out, reply.status)?;
+    put_repeated(alloc, out, reply)?;
+    put_headers(out, reply.further)?;
+    put_content(out, reply.body)
+}
+
+/// The bytes of the answer that `reply_to` makes, with these further header fields behind its own, and this body.
+pub fn write_reply(alloc: Global, reply: &Reply<'_, '_>) -> Result<Text<'static>, AllocError>
+    ensures text { IfOk result (λ t. t ≡ message_text (Kinds.Response
+        (with_further (reply_of reply.now.parts.now reply.now.source reply.now.status reply.now.tag.now) reply.now.further.now reply.now.body.now))) }
+{
+    let mut out = Vec::with_capacity(alloc, ROOM)?;
+    put_reply(alloc, &mut out, reply)?;
+    Ok(Text::from_vec(out))
+}

@@ -1,0 +1,91 @@
+//! Requests that are written at once: the same bytes, with no request made for them.
+
+ghost use Rattle.std.specs.Prelude.{◌≡◌, ◌++◌, ◌∷◌, [], codes, decimal, IfOk, OnOk};
+ghost use Rattle.sip_uri.specs.Writing.{uri_text};
+ghost use Rattle.sip_message.specs.Lookup.{named};
+ghost use Rattle.sip_message.specs.declared.message.Message.TheVariants as Kinds;
+ghost use Rattle.sip_writing.specs.Outlines.{outlined};
+ghost use Rattle.sip_writing.specs.Requests.{headers_with};
+ghost use Rattle.sip_writing.specs.Writing.{header_text, headers_text, message_text};
+
+use crate::reply_text::{put_named, put_vias};
+use crate::room::ROOM;
+use crate::write::{put_content, put_headers};
+use sip_message::{Header, Parts};
+use sip_uri::{Uri, write_uri};
+use std::alloc::{AllocError, Global};
+use text::{Text, put_number};
+
+/// What a request is made of whose parts are at hand.
+#[derive(Clone, Copy)]
+pub struct Outline<'m, 'a> {
+    pub method: &'m [u8],
+    pub uri: &'m Uri<'a>,
+    pub parts: &'m Parts<'a>,
+    pub max_forwards: u8,
+    /// Header fields that stand behind those that each request has.
+    pub further: &'m [Header<'a>],
+    pub body: &'m [u8],
+}
+
+fn put_line(
+    alloc: Global,
+    out: &mut Vec<u8>,
+    method: &[u8],
+    uri: &Uri<'_>,
+) -> Result<(), AllocError>
+    ensures { OnOk result (out.new.items ≡ out.old.items ++ method.now ++ 32 ∷ [] ++ uri_text uri.now ++ codes " SIP/2.0\r\n") }
+{
+    let uri = write_uri(alloc, uri)?;
+    out.extend_from_slice(method)?;
+    out.push(b' ')?;
+    out.extend_from_slice(uri.as_bytes())?;
+    out.extend_from_slice(b" SIP/2.0\r\n")?;
+    Ok(())
+}
+
+fn put_hops(out: &mut Vec<u8>, hops: u8) -> Result<(), AllocError>
+    ensures { OnOk result (out.new.items ≡ out.old.items ++ header_text (named (codes "Max-Forwards") (decimal hops))) }
+{
+    out.extend_from_slice(b"Max-Forwards")?;
+    out.extend_from_slice(b": ")?;
+    put_number(out, u64::from(hops))?;
+    out.extend_from_slice(b"\r\n")?;
+    Ok(())
+}
+
+#[tactic(auto, unfolding(crate::specs::Requests::headers_with))]
+fn put_required(out: &mut Vec<u8>, parts: &Parts<'_>, hops: u8) -> Result<(), AllocError>
+    ensures { OnOk result (out.new.items ≡ out.old.items ++ headers_text (headers_with hops parts.now)) }
+{
+    put_vias(out, parts.vias.as_slice())?;
+    put_hops(out, hops)?;
+    put_named(out, b"From", parts.from_text.as_bytes())?;
+    put_named(out, b"To", parts.to_text.as_bytes())?;
+    put_named(out, b"Call-ID", parts.call_id.as_bytes())?;
+    put_named(out, b"CSeq", parts.cseq_text.as_bytes())?;
+    Ok(())
+}
+
+#[tactic(auto, unfolding(crate::specs::Writing::message_text, crate::specs::Outlines::outlined))]
+fn put_outline(
+    alloc: Global,
+    out: &mut Vec<u8>,
+    outline: &Outline<'_, '_>,
+) -> Result<(), AllocError>
+    ensures { OnOk result (out.new.items ≡ out.old.items ++ message_text (Kinds.Request (outlined outline.now))) }
+{
+    put_line(alloc, out, outline.method, outline.uri)?;
+    put_required(out, outline.parts, outline.max_forwards)?;
+    put_headers(out, outline.further)?;
+    put_content(out, outline.body)
+}
+
+/// The bytes of the request with these parts.
+pub fn write_outline(alloc: Global, outline: &Outline<'_, '_>) -> Result<Text<'static>, AllocError>
+    ensures text { IfOk result (λ t. t ≡ message_text (Kinds.Request (outlined outline.now))) }
+{
+    let mut out = Vec::with_capacity(alloc, ROOM)?;
+    put_outline(alloc, &mut out, outline)?;
+    Ok(Text::from_vec(out))
+}
