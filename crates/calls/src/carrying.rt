@@ -156,7 +156,7 @@ impl Calls {
     pub(crate) fn begin(
         &mut self,
         alloc: Global,
-        call: StandingCall,
+        call: Boxed<StandingCall>,
         plan: Boxed<Plan>,
         now: u64,
     ) -> Vec<Change>
@@ -172,8 +172,15 @@ impl Calls {
         ensures leads { LeadFrom self.old.pool.rows self.new.pool.rows result.items }
     {
         spared_call_is_served();
-        take_plan(&mut self.timers, now, call.call.number(), plan.get());
-        let changes = begin_in(&mut self.calls, &mut self.pool, alloc, call, plan, now);
+        take_plan(&mut self.timers, now, call.get().call.number(), plan.get());
+        let changes = begin_in(
+            &mut self.calls,
+            &mut self.pool,
+            alloc,
+            call.into_inner(),
+            plan,
+            now,
+        );
         self.begun += 1;
         changes
     }

@@ -42,7 +42,7 @@ impl Calls {
     {
         match change {
             CallChange::Unchanged => Vec::new(alloc),
-            CallChange::Begins(call, plan) => self.begin(alloc, call.into_inner(), plan, now),
+            CallChange::Begins(call, plan) => self.begin(alloc, call, plan, now),
             CallChange::Carries {
                 place,
                 beside,
