@@ -12,7 +12,7 @@ ghost use Rattle.responses.specs.Tags.{joined_tags, required_tags};
 use crate::tags::required;
 use registrar::{Binding, Refusal};
 use sip_message::{Header, Headers, Parts, Response};
-use sip_uri::{Addr, write_uri};
+use sip_uri::{Addr, put_uri};
 use sip_writing::reply_to;
 use std::alloc::{AllocError, Global};
 use text::put_number;
@@ -81,9 +81,8 @@ fn contact_header(alloc: Global, binding: &Binding, now: u64) -> Result<Header<'
     requires { nat_lt now binding.now.expires_at ≡ true }
     ensures { IfOk result (λ h. h ≡ contact_header now binding.now) }
 {
-    let uri = write_uri(alloc, &binding.uri)?;
     let mut out = Vec::from_slice(alloc, b"<")?;
-    out.extend_from_slice(uri.as_bytes())?;
+    put_uri(&mut out, &binding.uri)?;
     out.extend_from_slice(b">;expires=")?;
     put_number(&mut out, binding.seconds_left(now))?;
     Header::of(alloc, b"Contact", &out)

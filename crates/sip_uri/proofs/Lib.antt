@@ -1,3 +1,4 @@
+mod BeginLaws
 mod LabelLaws
 pub mod HostLaws
 mod RawLaws

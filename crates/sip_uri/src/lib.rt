@@ -14,6 +14,7 @@ mod name_parts;
 mod parts;
 mod quoted;
 mod read;
+mod room;
 mod uri;
 mod write;
 
@@ -24,8 +25,8 @@ pub use field_params::read_field_params;
 pub use hosts::{ip4, is_host};
 pub use keeping::keep_text;
 pub use laws::{binding_is_equivalence, one_value};
-pub use name_addr::{read_name_addr, write_name_addr};
+pub use name_addr::{put_name_addr, read_name_addr, write_name_addr};
 pub use quoted::is_quoted;
 pub use read::{read_host, read_uri};
 pub use uri::{Addr, Host, NameAddr, Param, Params, Uri};
-pub use write::{put_host, put_ip4, put_param, put_params, write_uri};
+pub use write::{put_host, put_ip4, put_param, put_params, put_uri, write_uri};

@@ -1,17 +1,19 @@
 //! Reading and writing of a name and an address, as in From, To and Contact (RFC 3261 sections 20.10 and 25.1).
 
-ghost use Rattle.std.specs.Prelude.{◌≡◌, ◌++◌, ℕ, List, OnOk, IfOk, IfErr, Ok};
+ghost use Rattle.std.specs.Prelude.{◌≡◌, ◌++◌, ℕ, List, OnErr, OnOk, IfOk, IfErr, Ok};
 ghost use Rattle.std.specs.Option.{option_copied};
 ghost use Rattle.sip_uri.specs.declared.uri.NameAddr.{NameAddr};
 ghost use Rattle.sip_uri.specs.NameAddr.{name_params, name_addr_of, ReadsNameAddr, RefusesName, display_part, name_addr_text};
 ghost use Rattle.sip_uri.specs.Reading.{Gives};
+ghost use Rattle.sip_uri.specs.Writing.{BeginsWith};
 
 use crate::error::UriError;
 use crate::field_params::read_field_params;
 use crate::name_parts::{NameParts, parts_of};
 use crate::read::read_uri;
+use crate::room::ROOM;
 use crate::uri::{NameAddr, Params};
-use crate::write::{put_params, write_uri};
+use crate::write::{put_params, put_uri};
 use std::alloc::{AllocError, Global};
 use text::{Text, lent};
 
@@ -69,7 +71,8 @@ pub fn read_name_addr(alloc: Global, bytes: &[u8]) -> Result<NameAddr<'_>, UriEr
 }
 
 fn put_display(out: &mut Vec<u8>, display: Option<&Text>) -> Result<(), AllocError>
-    ensures { OnOk result (out.new.items ≡ out.old.items ++ display_part (option_copied display.entry)) }
+    ensures ok { OnOk result (out.new.items ≡ out.old.items ++ display_part (option_copied display.entry)) }
+    ensures err { OnErr result (BeginsWith out.old.items out.new.items) }
 {
     if let Some(display) = display {
         out.push(b'"')?;
@@ -79,17 +82,26 @@ fn put_display(out: &mut Vec<u8>, display: Option<&Text>) -> Result<(), AllocErr
     Ok(())
 }
 
+/// Writes a name and an address behind what is there: `"display" <uri>;name=value`, without the display where there is none. Where
+/// memory runs out, a part may be written there.
 #[tactic(auto, unfolding(crate::specs::NameAddr::name_addr_text))]
+pub fn put_name_addr(out: &mut Vec<u8>, name: &NameAddr) -> Result<(), AllocError>
+    ensures ok { OnOk result (out.new.items ≡ out.old.items ++ name_addr_text name.now) }
+    ensures err { OnErr result (BeginsWith out.old.items out.new.items) }
+{
+    put_display(out, name.display.as_ref())?;
+    out.push(b'<')?;
+    put_uri(out, &name.uri)?;
+    out.push(b'>')?;
+    put_params(out, name.params.as_slice(), b';', b';')?;
+    Ok(())
+}
+
 fn write(alloc: Global, name: &NameAddr) -> Result<Text<'static>, AllocError>
     ensures { IfOk result (λ t. t ≡ name_addr_text name.now) }
 {
-    let uri = write_uri(alloc, &name.uri)?;
-    let mut out = Vec::new(alloc);
-    put_display(&mut out, name.display.as_ref())?;
-    out.push(b'<')?;
-    out.extend_from_slice(uri.as_bytes())?;
-    out.push(b'>')?;
-    put_params(&mut out, name.params.as_slice(), b';', b';')?;
+    let mut out = Vec::with_capacity(alloc, ROOM)?;
+    put_name_addr(&mut out, name)?;
     Ok(Text::from_vec(out))
 }
 

@@ -1,17 +1,20 @@
 //! Writing of URIs.
 
 ghost use Rattle.std.specs.Prelude.{◌≡◌, ◌++◌, ℕ, List, OnErr, OnOk, IfOk, decimal};
+ghost use Rattle.std.specs.Option.{option_copied};
 ghost use Rattle.sip_uri.specs.declared.uri.Uri.{Uri};
 ghost use Rattle.sip_uri.specs.Grammar.{ReadsUri};
 ghost use Rattle.sip_uri.specs.Writing.{BeginsWith, escaped_byte, escaped, ip4_text, host_text, param_text, params_text, user_part, port_part, uri_text};
 
 use crate::class::is_plain_user;
+use crate::room::ROOM;
 use crate::uri::{Host, Param, Uri};
 use std::alloc::{AllocError, Global};
 use text::{Text, put_number};
 
 fn put_user_byte(out: &mut Vec<u8>, b: u8) -> Result<(), AllocError>
-    ensures { OnOk result (out.new.items ≡ out.old.items ++ escaped_byte b) }
+    ensures ok { OnOk result (out.new.items ≡ out.old.items ++ escaped_byte b) }
+    ensures err { OnErr result (BeginsWith out.old.items out.new.items) }
 {
     if is_plain_user(b) {
         out.push(b)?;
@@ -23,7 +26,8 @@ fn put_user_byte(out: &mut Vec<u8>, b: u8) -> Result<(), AllocError>
 
 #[tactic(auto, unfolding(crate::specs::Writing::escaped))]
 fn put_escaped(out: &mut Vec<u8>, user: &[u8]) -> Result<(), AllocError>
-    ensures { OnOk result (out.new.items ≡ out.old.items ++ escaped user.now) }
+    ensures ok { OnOk result (out.new.items ≡ out.old.items ++ escaped user.now) }
+    ensures err { OnErr result (BeginsWith out.old.items out.new.items) }
 {
     for b in user {
         put_user_byte(out, *b)?;
@@ -92,22 +96,50 @@ pub fn put_params(
     Ok(())
 }
 
-#[tactic(auto, unfolding(crate::specs::Writing::uri_text, crate::specs::Writing::user_part))]
+#[tactic(auto, unfolding(crate::specs::Writing::user_part))]
+fn put_user(out: &mut Vec<u8>, user: Option<&Text>) -> Result<(), AllocError>
+    ensures ok { OnOk result (out.new.items ≡ out.old.items ++ user_part (option_copied user.entry)) }
+    ensures err { OnErr result (BeginsWith out.old.items out.new.items) }
+{
+    if let Some(user) = user {
+        put_escaped(out, user.as_bytes())?;
+        out.push(b'@')?;
+    }
+    Ok(())
+}
+
+fn put_port(out: &mut Vec<u8>, port: Option<u16>) -> Result<(), AllocError>
+    ensures ok { OnOk result (out.new.items ≡ out.old.items ++ port_part port) }
+    ensures err { OnErr result (BeginsWith out.old.items out.new.items) }
+{
+    if let Some(port) = port {
+        out.push(b':')?;
+        put_number(out, u64::from(port))?;
+    }
+    Ok(())
+}
+
+/// Writes a URI behind what is there. Bytes of its user that may not stand in one are written as `%` and two upper-case digits. Where
+/// memory runs out, a part may be written there.
+#[tactic(auto, unfolding(crate::specs::Writing::uri_text))]
+pub fn put_uri(out: &mut Vec<u8>, uri: &Uri) -> Result<(), AllocError>
+    ensures ok { OnOk result (out.new.items ≡ out.old.items ++ uri_text uri.now) }
+    ensures err { OnErr result (BeginsWith out.old.items out.new.items) }
+{
+    out.extend_from_slice(b"sip:")?;
+    put_user(out, uri.user.as_ref())?;
+    put_host(out, &uri.host)?;
+    put_port(out, uri.port)?;
+    put_params(out, uri.params.as_slice(), b';', b';')?;
+    put_params(out, uri.headers.as_slice(), b'?', b'&')?;
+    Ok(())
+}
+
 fn write(alloc: Global, uri: &Uri) -> Result<Text<'static>, AllocError>
     ensures { IfOk result (λ t. t ≡ uri_text uri.now) }
 {
-    let mut out = Vec::from_slice(alloc, b"sip:")?;
-    if let Some(user) = &uri.user {
-        put_escaped(&mut out, user.as_bytes())?;
-        out.push(b'@')?;
-    }
-    put_host(&mut out, &uri.host)?;
-    if let Some(port) = uri.port {
-        out.push(b':')?;
-        put_number(&mut out, u64::from(port))?;
-    }
-    put_params(&mut out, uri.params.as_slice(), b';', b';')?;
-    put_params(&mut out, uri.headers.as_slice(), b'?', b'&')?;
+    let mut out = Vec::with_capacity(alloc, ROOM)?;
+    put_uri(&mut out, uri)?;
     Ok(Text::from_vec(out))
 }
 

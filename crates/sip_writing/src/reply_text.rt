@@ -1,4 +1,4 @@
-//! Answers that are written at once: the same bytes, with no answer made for them.
+//! Responses that are written at once: the same bytes, with no response made for them.
 
 ghost use Rattle.std.specs.Prelude.{◌≡◌, ◌++◌, ◌∷◌, [], codes, decimal, IfOk, OnOk};
 ghost use Rattle.sip_message.specs.Lookup.{named};
@@ -18,8 +18,8 @@ use sip_uri::{Addr, put_params};
 use std::alloc::{AllocError, Global};
 use text::{Text, put_number};
 
-/// What an answer is made of: the request's parts and where it came from, the status, the tag that To is given where it has
-/// none, and what stands behind what each answer has.
+/// What a response is made of: the request's parts and where it came from, the status, the tag that To is given where it has
+/// none, and what stands behind what each response has.
 #[derive(Clone, Copy)]
 pub struct Reply<'m, 'a> {
     pub parts: &'m Parts<'a>,
@@ -132,7 +132,7 @@ fn put_reply(alloc: Global, out: &mut Vec<u8>, reply: &Reply<'_, '_>) -> Result<
     put_content(out, reply.body)
 }
 
-/// The bytes of the answer that `reply_to` makes, with these further header fields behind its own, and this body.
+/// The bytes of the response that `reply_to` makes, with these further header fields behind its own, and this body.
 pub fn write_reply(alloc: Global, reply: &Reply<'_, '_>) -> Result<Text<'static>, AllocError>
     ensures text { IfOk result (λ t. t ≡ message_text (Kinds.Response
         (with_further (reply_of reply.now.parts.now reply.now.source reply.now.status reply.now.tag.now) reply.now.further.now reply.now.body.now))) }

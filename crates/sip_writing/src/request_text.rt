@@ -12,7 +12,7 @@ use crate::reply_text::{put_named, put_vias};
 use crate::room::ROOM;
 use crate::write::{put_content, put_headers};
 use sip_message::{Header, Parts};
-use sip_uri::{Uri, write_uri};
+use sip_uri::{Uri, put_uri};
 use std::alloc::{AllocError, Global};
 use text::{Text, put_number};
 
@@ -28,18 +28,12 @@ pub struct Outline<'m, 'a> {
     pub body: &'m [u8],
 }
 
-fn put_line(
-    alloc: Global,
-    out: &mut Vec<u8>,
-    method: &[u8],
-    uri: &Uri<'_>,
-) -> Result<(), AllocError>
+fn put_line(out: &mut Vec<u8>, method: &[u8], uri: &Uri<'_>) -> Result<(), AllocError>
     ensures { OnOk result (out.new.items ≡ out.old.items ++ method.now ++ 32 ∷ [] ++ uri_text uri.now ++ codes " SIP/2.0\r\n") }
 {
-    let uri = write_uri(alloc, uri)?;
     out.extend_from_slice(method)?;
     out.push(b' ')?;
-    out.extend_from_slice(uri.as_bytes())?;
+    put_uri(out, uri)?;
     out.extend_from_slice(b" SIP/2.0\r\n")?;
     Ok(())
 }
@@ -68,14 +62,10 @@ fn put_required(out: &mut Vec<u8>, parts: &Parts<'_>, hops: u8) -> Result<(), Al
 }
 
 #[tactic(auto, unfolding(crate::specs::Writing::message_text, crate::specs::Outlines::outlined))]
-fn put_outline(
-    alloc: Global,
-    out: &mut Vec<u8>,
-    outline: &Outline<'_, '_>,
-) -> Result<(), AllocError>
+fn put_outline(out: &mut Vec<u8>, outline: &Outline<'_, '_>) -> Result<(), AllocError>
     ensures { OnOk result (out.new.items ≡ out.old.items ++ message_text (Kinds.Request (outlined outline.now))) }
 {
-    put_line(alloc, out, outline.method, outline.uri)?;
+    put_line(out, outline.method, outline.uri)?;
     put_required(out, outline.parts, outline.max_forwards)?;
     put_headers(out, outline.further)?;
     put_content(out, outline.body)
@@ -86,6 +76,6 @@ pub fn write_outline(alloc: Global, outline: &Outline<'_, '_>) -> Result<Text<'s
     ensures text { IfOk result (λ t. t ≡ message_text (Kinds.Request (outlined outline.now))) }
 {
     let mut out = Vec::with_capacity(alloc, ROOM)?;
-    put_outline(alloc, &mut out, outline)?;
+    put_outline(&mut out, outline)?;
     Ok(Text::from_vec(out))
 }

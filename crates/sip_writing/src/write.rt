@@ -8,17 +8,16 @@ ghost use Rattle.sip_writing.specs.Writing.{request_line, status_line, header_te
 
 use crate::room::ROOM;
 use sip_message::{Header, Message, Request, Response};
-use sip_uri::write_uri;
+use sip_uri::put_uri;
 use std::alloc::{AllocError, Global};
 use text::{Text, put_number};
 
-fn put_request_line(alloc: Global, out: &mut Vec<u8>, request: &Request) -> Result<(), AllocError>
+fn put_request_line(out: &mut Vec<u8>, request: &Request) -> Result<(), AllocError>
     ensures { OnOk result (out.new.items ≡ out.old.items ++ request_line request.now) }
 {
-    let uri = write_uri(alloc, &request.uri)?;
     out.extend_from_slice(request.method.as_bytes())?;
     out.push(b' ')?;
-    out.extend_from_slice(uri.as_bytes())?;
+    put_uri(out, &request.uri)?;
     out.extend_from_slice(b" SIP/2.0\r\n")?;
     Ok(())
 }
@@ -71,10 +70,10 @@ fn put_body(out: &mut Vec<u8>, body: &Text) -> Result<(), AllocError>
 }
 
 #[tactic(auto, unfolding(crate::specs::Writing::message_text))]
-fn put_request(alloc: Global, out: &mut Vec<u8>, request: &Request) -> Result<(), AllocError>
+fn put_request(out: &mut Vec<u8>, request: &Request) -> Result<(), AllocError>
     ensures { OnOk result (out.new.items ≡ out.old.items ++ message_text (Kinds.Request request.now)) }
 {
-    put_request_line(alloc, out, request)?;
+    put_request_line(out, request)?;
     put_headers(out, request.headers.as_slice())?;
     put_body(out, &request.body)?;
     Ok(())
@@ -97,14 +96,14 @@ pub fn write_request(alloc: Global, request: &Request) -> Result<Text<'static>, 
     ensures again { IsWrittenMessage (Kinds.Request request.now) → IfOk result (λ t. ReadsMessage t (Kinds.Request request.now)) }
 {
     let mut out = Vec::with_capacity(alloc, ROOM)?;
-    put_request(alloc, &mut out, request)?;
+    put_request(&mut out, request)?;
     Ok(Text::from_vec(out))
 }
 
-/// The bytes of an answer, in the same order.
+/// The bytes of a response, in the same order.
 pub fn write_response(alloc: Global, response: &Response) -> Result<Text<'static>, AllocError>
     ensures text { IfOk result (λ t. t ≡ message_text (Kinds.Response response.now)) }
-    // What is written for an answer of the written form is that answer, also past the limits of reading.
+    // What is written for a response of the written form is that response, also past the limits of reading.
     ensures again { IsWrittenMessage (Kinds.Response response.now) → IfOk result (λ t. ReadsMessage t (Kinds.Response response.now)) }
 {
     let mut out = Vec::with_capacity(alloc, ROOM)?;
@@ -112,7 +111,7 @@ pub fn write_response(alloc: Global, response: &Response) -> Result<Text<'static
     Ok(Text::from_vec(out))
 }
 
-/// The bytes of a message: of its request, or of its answer.
+/// The bytes of a message: of its request, or of its response.
 pub fn write_message(alloc: Global, message: &Message) -> Result<Text<'static>, AllocError>
     ensures text { IfOk result (λ t. t ≡ message_text message.now) }
     // What is written for a message of the written form is that message, also past the limits of reading.
