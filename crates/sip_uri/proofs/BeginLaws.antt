@@ -1,5 +1,5 @@
 -- What was written before is still there.
-use Rattle.std.proofs.Common.{◌≡◌, ◌++◌, ◌∙◌, ℕ, List, Result, Ok, Err, sym, append_assoc}
+use Rattle.std.proofs.Common.{◌++◌, ◌∙◌, ℕ, List, Result, Ok, Err, append_assoc}
 use Rattle.std.specs.Prelude.{OnErr}
 use Rattle.sip_uri.specs.Writing.{BeginsWith}
 

@@ -1,10 +1,6 @@
-use Rattle.std.proofs.Common.{◌≡◌, ◌++◌, ◌∙◌, ℕ, List, [], ◌∷◌, Result, Ok, Err, ap, append_assoc}
-use Rattle.std.specs.Prelude.{OnErr}
+use Rattle.std.proofs.Common.{◌≡◌, ◌++◌, ◌∙◌, ℕ, List, [], ◌∷◌, append_assoc}
+use Rattle.sip_uri.proofs.BeginLaws.{on_err}
 use Rattle.sip_uri.proofs.write.put_params.Goals as goal
-
-on_err : {X E : Type 0} (result : Result X E) (P : Type 0) → P → OnErr result P
-on_err (Ok x) P holds = tt
-on_err (Err e) P holds = holds
 
 -- a mark and a part behind what was written before
 behind : (old written part : List ℕ) (mark : ℕ) → ((old ++ written) ++ mark ∷ []) ++ part ≡ old ++ (written ++ mark ∷ part)
