@@ -1,0 +1,49 @@
+//! Short texts, whose bytes stand in place.
+
+ghost use Rattle.std.specs.Prelude.{◌≡◌, IfSome};
+
+use std::marker::Model;
+
+/// As many bytes stand in place, in the room that a text takes anyway.
+const MOST: usize = 23;
+
+/// The bytes of a short text.
+#[derive(Clone, Drop)]
+pub(crate) struct Short {
+    bytes: [u8; 23],
+    length: u8,
+}
+
+impl Model for Short {
+    ghost use Rattle.std.specs.Prelude.{ℕ, List, take, ◌≤◌};
+
+    ghost Value = { List ℕ };
+
+    ghost view = { λ s. take s.length s.bytes };
+
+    ghost invariant = { λ s. s.length ≤ 23 };
+}
+
+impl Short {
+    /// A copy of the bytes, where they are few.
+    pub(crate) fn of(bytes: &[u8]) -> Option<Short>
+        ensures { IfSome result (λ short. short ≡ bytes.now) }
+    {
+        if bytes.len() > MOST {
+            return None;
+        }
+        let mut place = [0; 23];
+        place[..bytes.len()].copy_from_slice(bytes);
+        Some(Short {
+            bytes: place,
+            length: bytes.len() as u8,
+        })
+    }
+
+    /// The bytes, lent.
+    pub(crate) fn as_bytes(&self) -> &[u8]
+        ensures { result.now ≡ self.now }
+    {
+        &self.bytes[..usize::from(self.length)]
+    }
+}
