@@ -4,24 +4,25 @@ ghost use Rattle.std.specs.Prelude.{◌≡◌, IfSome};
 
 use std::marker::Model;
 
-/// As many bytes stand in place, in the room that a text takes anyway.
+/// So many bytes stand in place at most: with their count they take the room that a list's handle takes.
 const MOST: usize = 23;
 
 /// The bytes of a short text.
 #[derive(Clone, Drop)]
 pub(crate) struct Short {
-    bytes: [u8; 23],
+    bytes: [u8; MOST],
     length: u8,
 }
 
 impl Model for Short {
     ghost use Rattle.std.specs.Prelude.{ℕ, List, take, ◌≤◌};
+    ghost use Rattle.text.specs.Limits.{most_in_place};
 
     ghost Value = { List ℕ };
 
     ghost view = { λ s. take s.length s.bytes };
 
-    ghost invariant = { λ s. s.length ≤ 23 };
+    ghost invariant = { λ s. s.length ≤ most_in_place };
 }
 
 impl Short {
@@ -32,7 +33,7 @@ impl Short {
         if bytes.len() > MOST {
             return None;
         }
-        let mut place = [0; 23];
+        let mut place = [0; MOST];
         place[..bytes.len()].copy_from_slice(bytes);
         Some(Short {
             bytes: place,
