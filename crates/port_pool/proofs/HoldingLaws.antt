@@ -11,10 +11,6 @@ use Rattle.port_pool.specs.declared.pair.Pair.{Pair}
 use Rattle.port_pool.specs.declared.holdings.Holding.{Holding}
 use Rattle.port_pool.specs.Holdings.{unheld, is_call, holds, is_free, pair_of, free_pairs, has_even, holder_of, is_among, is_resting, held_by, freed_at, holding_after_taking, holding_after_release, holding_after_drop, taken, released, dropped, HasOdd, LeadsPair, AreRising, PairsFrom, PairsRise, is_other, holding_after_freeing_others, others_freed}
 
--- a holding, where a list has none
-abbrev pub no_holding : Holding
-no_holding = record { even = 0; holder = None; freed = None }
-
 -- ---- the ports of the pairs
 
 pub PairsFrom-unheld : (first n k least : ℕ) → first % 2 ≡ 0 → least ≤ first + 2 * k → first + 2 * (k + n) ≤ last_port + 1

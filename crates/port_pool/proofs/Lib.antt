@@ -3,3 +3,5 @@ pub mod HoldingLaws
 pub mod PortLaws
 pub mod ChangeLaws
 pub mod PoolLaws
+pub mod PlaceLaws
+pub mod CallLaws

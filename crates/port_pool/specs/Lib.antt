@@ -3,3 +3,4 @@ pub mod RelayTable
 pub mod Changes
 pub mod Holdings
 pub mod Pool
+pub mod Places

@@ -1,14 +1,13 @@
 //! Changes of the relay table, and those that lead from a call's rows to other ones.
 
-ghost use Rattle.std.specs.Prelude.{◌≡◌, ◌==◌, ◌++◌, All, IfOk, OnOk, find};
+ghost use Rattle.std.specs.Prelude.{◌≡◌, ◌==◌, ◌++◌, IfOk, OnOk, find};
 ghost use Rattle.std.specs.List.{flat_map};
 ghost use Rattle.std.specs.Option.{option_copied};
 ghost use Rattle.port_pool.specs.Changes.{change_to};
-ghost use Rattle.port_pool.specs.Holdings.{HasOdd};
 ghost use Rattle.port_pool.specs.Pool.{hop_of, changes_of_port, ports_of};
 
-use crate::holdings::{Holding, holds};
 use crate::hop::Hop;
+use crate::places::Places;
 use crate::relay_line::RelayLine;
 use crate::relay_table::RelayTable;
 use std::alloc::{AllocError, Global};
@@ -35,21 +34,19 @@ fn change_to(port: u16, hop: Option<Hop>) -> Change
 /// What leads to the rows of these lines at each port of a call, by rising port.
 pub(crate) fn changes_of(
     alloc: Global,
-    holdings: &[Holding],
+    places: &Places,
     table: &RelayTable,
     call: u64,
     lines: &[RelayLine],
 ) -> Result<Vec<Change>, AllocError>
-    requires { All HasOdd holdings.now }
-    ensures { IfOk result (λ changes. changes.items ≡ flat_map (changes_of_port table.now lines.now) (ports_of call holdings.now)) }
+    ensures { IfOk result (λ changes. changes.items ≡ flat_map (changes_of_port table.now lines.now) (ports_of call places.now)) }
 {
     let mut changes = Vec::new(alloc);
-    for holding in holdings {
-        if !holds(call, holding) {
-            continue;
-        }
-        push_change(&mut changes, table, lines, holding.even)?;
-        push_change(&mut changes, table, lines, holding.even + 1)?;
+    let entries = places.of_call(call);
+    for entry in entries {
+        let even = places.even_at(entry.number);
+        push_change(&mut changes, table, lines, even)?;
+        push_change(&mut changes, table, lines, even + 1)?;
     }
     Ok(changes)
 }

@@ -1,9 +1,10 @@
 //! All pairs of a pool, by rising port, and the calls that hold them.
 
 ghost use Rattle.std.specs.Prelude.{◌≡◌, ◌+◌, ◌*◌, ◌≤◌, IfOk, find, take};
+ghost use Rattle.std.specs.List.{position};
 ghost use Rattle.std.specs.Option.{option_copied};
 ghost use Rattle.port_pool.specs.Limits.{last_port};
-ghost use Rattle.port_pool.specs.Holdings.{unheld_pairs, free_pairs, is_call, is_resting, is_free, holds, pair_of, is_among, has_even, holder_of, holding_after_taking, holding_after_release, holding_after_drop, taken, released, dropped, holding_after_freeing_others, others_freed};
+ghost use Rattle.port_pool.specs.Holdings.{unheld_pairs, free_pairs, is_call, is_resting, is_free, pair_of, is_among, has_even, holder_of};
 
 use crate::pair::Pair;
 use std::alloc::{AllocError, Global};
@@ -37,19 +38,13 @@ fn is_free(now: u64, holding: &Holding) -> bool
     holding.holder.is_none() && !is_resting(now, holding)
 }
 
-pub(crate) fn holds(call: u64, holding: &Holding) -> bool
-    ensures { result ≡ holds call holding.now }
-{
-    holding.holder == Some(call)
-}
-
 fn pair_of(holding: &Holding) -> Pair
     ensures { result ≡ pair_of holding.now }
 {
     Pair { even: holding.even }
 }
 
-fn is_among(pairs: &[Pair], even: u16) -> bool
+pub(crate) fn is_among(pairs: &[Pair], even: u16) -> bool
     ensures { result ≡ is_among pairs.now even }
 {
     pairs.iter().any(|pair| pair.even == even)
@@ -107,83 +102,15 @@ pub(crate) fn is_held_by(holdings: &[Holding], call: u64, even: u16) -> bool
     holder_of(holdings, even) == Some(call)
 }
 
+/// The place of the pair with this even port.
+pub(crate) fn place_of(holdings: &[Holding], even: u16) -> Option<usize>
+    ensures { result ≡ position (has_even even) holdings.now }
+{
+    holdings.iter().position(|holding| holding.even == even)
+}
+
 fn holding_of(holdings: &[Holding], even: u16) -> Option<&Holding>
     ensures { option_copied result ≡ find (has_even even) holdings.now }
 {
-    holdings.iter().find(|holding| holding.even == even)
-}
-
-/// Gives the pair to a call, if it is one of these.
-fn take_one(holding: &mut Holding, call: u64, pairs: &[Pair])
-    ensures { holding.new ≡ holding_after_taking call pairs.now holding.old }
-{
-    if is_among(pairs, holding.even) {
-        holding.holder = Some(call);
-    }
-}
-
-/// Frees the pair, if it is this one.
-fn release_one(holding: &mut Holding, pair: Pair, now: u64)
-    ensures { holding.new ≡ holding_after_release pair now holding.old }
-{
-    if holding.even == pair.even {
-        holding.holder = None;
-        holding.freed = Some(now);
-    }
-}
-
-/// Frees the pair, if a call holds it.
-fn drop_one(holding: &mut Holding, call: u64, now: u64)
-    ensures { holding.new ≡ holding_after_drop call now holding.old }
-{
-    if holds(call, holding) {
-        holding.holder = None;
-        holding.freed = Some(now);
-    }
-}
-
-/// Frees the pair, if a call holds it and it is none of these.
-fn free_other(holding: &mut Holding, call: u64, kept: &[Pair], now: u64)
-    ensures { holding.new ≡ holding_after_freeing_others call kept.now now holding.old }
-{
-    if holds(call, holding) && !is_among(kept, holding.even) {
-        holding.holder = None;
-        holding.freed = Some(now);
-    }
-}
-
-/// Gives pairs to a call.
-pub(crate) fn take(holdings: &mut Vec<Holding>, call: u64, pairs: &[Pair])
-    ensures { holdings.new.items ≡ taken call pairs.now holdings.old.items }
-{
-    for holding in holdings.iter_mut() {
-        take_one(holding, call, pairs);
-    }
-}
-
-/// Frees a pair.
-pub(crate) fn release(holdings: &mut Vec<Holding>, pair: Pair, now: u64)
-    ensures { holdings.new.items ≡ released pair now holdings.old.items }
-{
-    for holding in holdings.iter_mut() {
-        release_one(holding, pair, now);
-    }
-}
-
-/// Frees all pairs of a call.
-pub(crate) fn drop_all(holdings: &mut Vec<Holding>, call: u64, now: u64)
-    ensures { holdings.new.items ≡ dropped call now holdings.old.items }
-{
-    for holding in holdings.iter_mut() {
-        drop_one(holding, call, now);
-    }
-}
-
-/// Frees the pairs of a call but for these.
-pub(crate) fn free_others(holdings: &mut Vec<Holding>, call: u64, kept: &[Pair], now: u64)
-    ensures { holdings.new.items ≡ others_freed call kept.now now holdings.old.items }
-{
-    for holding in holdings.iter_mut() {
-        free_other(holding, call, kept, now);
-    }
+    Some(&holdings[place_of(holdings, even)?])
 }

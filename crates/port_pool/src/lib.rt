@@ -9,6 +9,7 @@ mod error;
 mod holdings;
 mod hop;
 mod pair;
+mod places;
 mod pool;
 mod relay_line;
 mod relay_table;

@@ -9,11 +9,10 @@ ghost use Rattle.port_pool.specs.Pool.{new_pool, lowest_free, AreLowestFree, Are
 
 use crate::changes::{Change, changes_of};
 use crate::error::PoolError;
-use crate::holdings::{
-    Holding, drop_all, free_others, holder_of, is_held_by, lowest_free, release, take, unheld_pairs,
-};
+use crate::holdings::{holder_of, is_held_by, lowest_free};
 use crate::hop::Hop;
 use crate::pair::Pair;
+use crate::places::Places;
 use crate::relay_line::RelayLine;
 use crate::relay_table::RelayTable;
 use std::alloc::{AllocError, Global};
@@ -22,7 +21,7 @@ use std::marker::Model;
 /// Pairs of ports, each of which one call may hold, and the rows of these calls.
 pub struct Pool {
     alloc: Global,
-    holdings: Vec<Holding>,
+    places: Places,
     table: RelayTable,
 }
 
@@ -30,7 +29,7 @@ impl Drop for Pool {
     fn drop(self) {
         let Pool {
             alloc: _,
-            holdings: _,
+            places: _,
             table: _,
         } = self;
     }
@@ -43,9 +42,9 @@ impl Model for Pool {
 
     ghost coded = { coded_contents };
 
-    ghost view = { λ p. record { holdings = p.holdings.items; rows = p.table } };
+    ghost view = { λ p. record { holdings = p.places; rows = p.table } };
 
-    ghost invariant = { λ p. IsPool (record { holdings = p.holdings.items; rows = p.table }) };
+    ghost invariant = { λ p. IsPool (record { holdings = p.places; rows = p.table }) };
 }
 
 impl Pool {
@@ -58,11 +57,11 @@ impl Pool {
         requires last { first + 2 * pairs ≤ last_port + 1 }
         ensures { IfOk result (λ pool. pool ≡ new_pool first pairs) }
     {
-        let holdings = unheld_pairs(alloc, first, pairs)?;
+        let places = Places::new(alloc, first, pairs)?;
         let table = RelayTable::new(alloc)?;
         Ok(Pool {
             alloc,
-            holdings,
+            places,
             table,
         })
     }
@@ -80,7 +79,7 @@ impl Pool {
         ensures rising { IfOk result (λ pairs. AreRising pairs.items) }
         ensures refused { IfErr result (RefusesReserve self.now n now) }
     {
-        let pairs = lowest_free(self.alloc, &self.holdings, n, now)?;
+        let pairs = lowest_free(self.alloc, self.places.holdings(), n, now)?;
         if pairs.len() < n {
             return Err(PoolError::TooFew);
         }
@@ -98,7 +97,7 @@ impl Pool {
     {
         // The moment is what the condition speaks of, and nothing is written at it.
         let _ = now;
-        take(&mut self.holdings, call, pairs);
+        self.places.take(call, pairs);
     }
 
     /// Gives a call the `n` lowest pairs that are free at the moment `now`, in milliseconds: nobody holds them, and they do
@@ -135,7 +134,7 @@ impl Pool {
             ≡ (if even_of port == pair.even then None else holder_at self.old.holdings port) }
         ensures rests { RestsFrom self.new pair.even now }
     {
-        release(&mut self.holdings, pair, now);
+        self.places.release(pair, now);
     }
 
     /// Frees a pair of a call, at whose ports the call has no row; from the moment `now` the pair rests. P2 comes where the
@@ -151,7 +150,7 @@ impl Pool {
         ensures refused { IfErr result (RefusesRelease self.old call pair) }
         ensures err { OnErr result (self.new ≡ self.old) }
     {
-        if !is_held_by(&self.holdings, call, pair.even) {
+        if !is_held_by(self.places.holdings(), call, pair.even) {
             return Err(PoolError::NotHeld);
         }
         self.free(pair, now);
@@ -169,7 +168,7 @@ impl Pool {
         ensures rests { (port : ℕ) → is_port_of self.old call port ≡ true → is_among kept.now (even_of port) ≡ false →
             RestsFrom self.new (even_of port) now }
     {
-        free_others(&mut self.holdings, call, kept, now);
+        self.places.free_others(call, kept, now);
     }
 
     /// What leads to these rows of a call in place of its former ones, by rising port: what `commit` answers.
@@ -185,7 +184,7 @@ impl Pool {
         ensures lines { IfOk result (λ changes.
             All (λ l. map.get (with_changes self.now changes.items).rows l.port ≡ l.hop) lines.now) }
     {
-        let changes = changes_of(self.alloc, &self.holdings, &self.table, call, lines)?;
+        let changes = changes_of(self.alloc, &self.places, &self.table, call, lines)?;
         Ok(changes)
     }
 
@@ -231,7 +230,7 @@ impl Pool {
         ensures leads { IfOk result (λ changes.
             LeadFrom self.now.rows (with_changes self.now changes.items).rows changes.items) }
     {
-        let removals = changes_of(self.alloc, &self.holdings, &self.table, call, &[])?;
+        let removals = changes_of(self.alloc, &self.places, &self.table, call, &[])?;
         Ok(removals)
     }
 
@@ -248,7 +247,7 @@ impl Pool {
         ensures rests { (port : ℕ) → is_port_of self.old call port ≡ true → RestsFrom self.new (even_of port) now }
     {
         self.table.change_all(removals);
-        drop_all(&mut self.holdings, call, now);
+        self.places.drop_all(call, now);
     }
 
     /// Frees all pairs of a call, which rest from the moment `now`, and removes all its rows, and answers these removals, by
@@ -279,14 +278,14 @@ impl Pool {
         ensures rising { PairsRise self.now.holdings }
         ensures rows { RowsAreHeld self.now }
     {
-        let _ = &self.holdings;
+        let _ = &self.places;
     }
 
     /// The call that holds the pair of a port, be it the even or the odd one. Takes no memory.
     pub fn holder(&self, port: u16) -> Option<u64>
         ensures { result ≡ holder_at self.now.holdings port }
     {
-        holder_of(&self.holdings, port - port % 2)
+        holder_of(self.places.holdings(), port - port % 2)
     }
 
     /// The relay table. Takes no memory.

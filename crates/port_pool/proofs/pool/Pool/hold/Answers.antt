@@ -6,9 +6,9 @@ use Rattle.port_pool.proofs.pool.Pool.hold.Goals as goal
 pub invariant_of-self : goal.invariant_of-self
 invariant_of-self c =
     let free = rw (← c.self.view_is) at c.requires in
-    rw c.take.ensures (IsPool-with_pairs (record { holdings = c.self.inside.holdings.items; rows = c.self.inside.table }) c.args.call c.args.pairs.now c.args.now c.self.invariant free)
+    rw c.take.ensures (IsPool-with_pairs (record { holdings = c.self.inside.places; rows = c.self.inside.table }) c.args.call c.args.pairs.now c.args.now c.self.invariant free)
 
 pub returns-clause-holder : goal.returns-clause-holder
 returns-clause-holder c = λ port.
     let free = rw (← c.self.view_is) at c.requires in
-    rw (c.take.ensures, ← c.self.view_is) (holder_of-held c.args.now c.args.call c.args.pairs.now c.self.inside.holdings.items (even_of port) free)
+    rw (c.take.ensures, ← c.self.view_is) (holder_of-held c.args.now c.args.call c.args.pairs.now c.self.inside.places (even_of port) free)

@@ -1,6 +1,0 @@
-use Rattle.std.proofs.Common.{◌≡◌, ◌++◌, map, take, drop}
-use Rattle.port_pool.specs.Holdings.{holding_after_release}
-use Rattle.port_pool.proofs.holdings.release.Given as goal
-
-abbrev pub invariant-loop-holding : goal.invariant-loop-holding
-invariant-loop-holding l = l.holding-items ≡ map (holding_after_release l.pair l.now) (take l.holding-index l.initial.holding-items) ++ drop l.holding-index l.initial.holding-items
