@@ -5,3 +5,4 @@ pub mod ChangeLaws
 pub mod PoolLaws
 pub mod PlaceLaws
 pub mod CallLaws
+pub mod OrderLaws

@@ -1,10 +1,11 @@
 //! All pairs of a pool, by rising port, and the calls that hold them.
 
-ghost use Rattle.std.specs.Prelude.{◌≡◌, ◌+◌, ◌*◌, ◌≤◌, IfOk, find, take};
+ghost use Rattle.std.specs.Prelude.{◌≡◌, ◌+◌, ◌*◌, ◌≤◌, IfOk, true, false, nat_lt, length, find, take};
 ghost use Rattle.std.specs.List.{position};
+ghost use Rattle.std.specs.List.Sorted.{IsPartitionPoint};
 ghost use Rattle.std.specs.Option.{option_copied};
 ghost use Rattle.port_pool.specs.Limits.{last_port};
-ghost use Rattle.port_pool.specs.Holdings.{unheld_pairs, free_pairs, is_call, is_resting, is_free, pair_of, is_among, has_even, holder_of};
+ghost use Rattle.port_pool.specs.Holdings.{unheld_pairs, free_pairs, is_call, is_resting, is_free, pair_of, is_among, has_even, holder_of, PairsRise};
 
 use crate::pair::Pair;
 use std::alloc::{AllocError, Global};
@@ -90,6 +91,7 @@ pub(crate) fn lowest_free(
 
 /// The call that holds the pair with this even port.
 pub(crate) fn holder_of(holdings: &[Holding], even: u16) -> Option<u64>
+    requires { PairsRise holdings.now }
     ensures { result ≡ holder_of holdings.now even }
 {
     holding_of(holdings, even)?.holder
@@ -97,19 +99,35 @@ pub(crate) fn holder_of(holdings: &[Holding], even: u16) -> Option<u64>
 
 /// Whether a call holds the pair with this even port.
 pub(crate) fn is_held_by(holdings: &[Holding], call: u64, even: u16) -> bool
+    requires { PairsRise holdings.now }
     ensures { result ≡ is_call call (holder_of holdings.now even) }
 {
     holder_of(holdings, even) == Some(call)
 }
 
+// How many pairs stand below a port.
+fn count_below(holdings: &[Holding], port: u16) -> usize
+    requires { PairsRise holdings.now }
+    ensures bound { result ≤ length holdings.now }
+    ensures point { IsPartitionPoint (λ s. nat_lt s.even port ≡ true) (λ s. nat_lt s.even port ≡ false) holdings.now result }
+{
+    holdings.partition_point(|holding| holding.even < port)
+}
+
 /// The place of the pair with this even port.
 pub(crate) fn place_of(holdings: &[Holding], even: u16) -> Option<usize>
+    requires { PairsRise holdings.now }
     ensures { result ≡ position (has_even even) holdings.now }
 {
-    holdings.iter().position(|holding| holding.even == even)
+    let place = count_below(holdings, even);
+    if place == holdings.len() || holdings[place].even != even {
+        return None;
+    }
+    Some(place)
 }
 
 fn holding_of(holdings: &[Holding], even: u16) -> Option<&Holding>
+    requires { PairsRise holdings.now }
     ensures { option_copied result ≡ find (has_even even) holdings.now }
 {
     Some(&holdings[place_of(holdings, even)?])

@@ -2,7 +2,7 @@
 
 ghost use Rattle.std.specs.Prelude.{◌≡◌, ◌+◌, ◌*◌, ◌%◌, ◌<◌, ◌≤◌, [], ◌∷◌, IfOk, length, map, slice_index_or, true};
 ghost use Rattle.port_pool.specs.Limits.{least_port, last_port};
-ghost use Rattle.port_pool.specs.Holdings.{unheld_pairs, held_by, freed_at, taken, released, dropped, others_freed};
+ghost use Rattle.port_pool.specs.Holdings.{unheld_pairs, held_by, freed_at, taken, released, dropped, others_freed, PairsRise};
 ghost use Rattle.port_pool.specs.Places.{no_holding, places_of, kept_from, at_place, vacated, resting_from};
 
 use crate::holdings::{Holding, is_among, place_of, unheld_pairs};
@@ -48,7 +48,8 @@ impl Places {
     }
 
     pub(crate) fn holdings(&self) -> &[Holding]
-        ensures { result.now ≡ self.now }
+        ensures same { result.now ≡ self.now }
+        ensures rise { PairsRise result.now }
     {
         &self.holdings
     }

@@ -3,8 +3,12 @@ use Rattle.std.specs.List.{position}
 use Rattle.port_pool.specs.Limits.{least_port}
 use Rattle.port_pool.specs.declared.holdings.Holding.{Holding}
 use Rattle.port_pool.specs.Holdings.{has_even, PairsFrom}
+use Rattle.port_pool.proofs.HoldingLaws.{PairsRise-pairs}
 use Rattle.port_pool.proofs.PlaceLaws.{released_at, released_none}
 use Rattle.port_pool.proofs.places.Places.release.Goals as goal
+
+pub place_of-requires : goal.place_of-requires
+place_of-requires c = rw c.deref.ensures.value (PairsRise-pairs least_port c.self.inside.holdings.items c.self.invariant.rising)
 
 pub returns-in-Some : goal.returns-in-Some
 returns-in-Some c =
