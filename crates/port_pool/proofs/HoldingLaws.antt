@@ -9,7 +9,7 @@ use Rattle.std.proofs.lemmas.List.Kept.{AllPairs-cons}
 use Rattle.port_pool.specs.Limits.{least_port, last_port, rest_time}
 use Rattle.port_pool.specs.declared.pair.Pair.{Pair}
 use Rattle.port_pool.specs.declared.holdings.Holding.{Holding}
-use Rattle.port_pool.specs.Holdings.{unheld, is_call, holds, is_free, pair_of, free_pairs, has_even, holder_of, is_among, is_resting, held_by, freed_at, holding_after_taking, holding_after_release, holding_after_drop, taken, released, dropped, HasOdd, LeadsPair, AreRising, PairsFrom, PairsRise, is_other, holding_after_freeing_others, others_freed}
+use Rattle.port_pool.specs.Holdings.{unheld, is_call, holds, is_free, pair_of, free_pairs, has_even, holder_of, is_among, is_resting, held_by, freed_at, holding_after_taking, holding_after_release, holding_after_drop, taken, released, dropped, LeadsPair, AreRising, PairsFrom, PairsRise, is_other, holding_after_freeing_others, others_freed}
 
 -- ---- the ports of the pairs
 
@@ -22,10 +22,6 @@ PairsFrom-unheld first (suc n) k least even from upto =
 pub PairsFrom-weaker : (m n : ℕ) (holdings : List Holding) → m ≤ n → PairsFrom n holdings → PairsFrom m holdings
 PairsFrom-weaker m n [] le h = tt
 PairsFrom-weaker m n (s ∷ ss) le h = (omega arith, h.1, h.2, h.3)
-
-pub HasOdd-pairs : (n : ℕ) (holdings : List Holding) → PairsFrom n holdings → All HasOdd holdings
-HasOdd-pairs n [] h = All-nil HasOdd
-HasOdd-pairs n (s ∷ ss) h = All-cons HasOdd s ss h.2 (HasOdd-pairs (s.even + 2) ss h.3)
 
 all_above : (m n : ℕ) (holdings : List Holding) → m < n → PairsFrom n holdings → All (λ t. m < t.even) holdings
 all_above m n [] below h = All-nil (λ t. m < t.even)

@@ -102,14 +102,6 @@ module _ (e : ℕ) (f g : Holding → Holding) (hit : (s : Holding) → (s.even 
         | inr most ↦ λ is. map_missing holdings most
       ]
 
-pub place_within : (e i : ℕ) (holdings : List Holding) → position (has_even e) holdings ≡ Some i → i < length holdings
-place_within e i holdings =
-    let place = position_or_len (has_even e) holdings in
-    elim (cases_lt place (length holdings)) [
-      | inl less ↦ rw (lt-ltb place (length holdings) less) (λ is. let same : i ≡ place = cc in omega (arith, same, less))
-      | inr most ↦ rw (le-ltb place (length holdings) most) (λ is. cc)
-    ]
-
 pub find_placed : (e i : ℕ) (holdings : List Holding) (d : Holding) → position (has_even e) holdings ≡ Some i → find (has_even e) holdings ≡ Some (get_or holdings i d)
 find_placed e i holdings d =
     let place = position_or_len (has_even e) holdings in

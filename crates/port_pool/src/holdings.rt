@@ -109,12 +109,13 @@ pub(crate) fn is_held_by(holdings: &[Holding], call: u64, even: u16) -> bool
 fn count_below(holdings: &[Holding], port: u16) -> usize
     requires { PairsRise holdings.now }
     ensures bound { result ≤ length holdings.now }
-    ensures point { IsPartitionPoint (λ s. nat_lt s.even port ≡ true) (λ s. nat_lt s.even port ≡ false) holdings.now result }
+    ensures point { IsPartitionPoint (λ s. nat_lt s.even port ≡ true) (λ s. nat_lt s.even port ≡ false)
+        holdings.now result }
 {
     holdings.partition_point(|holding| holding.even < port)
 }
 
-/// The place of the pair with this even port.
+/// The place of the pair with this even port, found by halving.
 pub(crate) fn place_of(holdings: &[Holding], even: u16) -> Option<usize>
     requires { PairsRise holdings.now }
     ensures { result ≡ position (has_even even) holdings.now }

@@ -117,6 +117,7 @@ impl Places {
         self.rest(place, now);
     }
 
+    // Gives a pair to a call.
     fn take_one(&mut self, call: u64, pair: Pair)
         ensures { self.new ≡ taken call (pair ∷ []) self.old }
     {
@@ -146,6 +147,7 @@ impl Places {
     // Frees the kth of the pairs of a call, unless it is one of these.
     fn free_unkept(&mut self, call: u64, k: usize, kept: &[Pair], now: u64)
         requires { k < length (places_of call 0 self.old) }
+        // Who frees the others first or last frees the same; where none behind the kth is left, it is not left either.
         ensures same { others_freed call kept.now now self.new ≡ others_freed call kept.now now self.old }
         ensures before { k ≤ length (places_of call 0 self.new) }
         ensures behind { kept_from call kept.now (k + 1) self.old ≡ true → kept_from call kept.now k self.new ≡ true }
