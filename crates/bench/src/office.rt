@@ -1,23 +1,23 @@
 //! The office, and a day of a task in it.
 
+use crate::filling::{Template, digits_of};
 use crate::playing::{Counts, Day, FIRST_USER, Round, play_round};
 use agent::Agent;
 use configuration::{Config, ConfigError};
-use events::Event;
 use std::alloc::{AllocError, Global};
-use text::{Text, Texts, put_number};
+use text::{Text, Texts};
 
 /// What the telephones send.
 #[derive(Drop)]
 pub(crate) struct Scripts {
     /// A registration.
-    pub register: Vec<Event>,
+    pub register: Vec<Template>,
     /// A call up to its ACK.
-    pub begin: Vec<Event>,
+    pub begin: Vec<Template>,
     /// The call's end.
-    pub end: Vec<Event>,
+    pub end: Vec<Template>,
     /// In place of it a hold, the call resumed, and its end.
-    pub hold: Vec<Event>,
+    pub hold: Vec<Template>,
 }
 
 impl Scripts {
@@ -79,16 +79,10 @@ pub(crate) struct Amount {
 /// A value that is done with. In a function of every type its drop is one call, which is proved once.
 fn let_go<T: Drop>(_value: T) {}
 
-fn name_of(alloc: Global, number: u64) -> Result<Text<'static>, AllocError> {
-    let mut name = Vec::new(alloc);
-    put_number(&mut name, number)?;
-    Ok(Text::from_vec(name))
-}
-
 fn put_names(alloc: Global, names: &mut Vec<Text<'static>>, pair: u32) -> Result<(), AllocError> {
     let caller = FIRST_USER + 2 * u64::from(pair);
-    names.push(name_of(alloc, caller)?)?;
-    names.push(name_of(alloc, caller + 1)?)?;
+    names.push(digits_of(alloc, caller)?)?;
+    names.push(digits_of(alloc, caller + 1)?)?;
     Ok(())
 }
 

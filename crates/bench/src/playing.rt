@@ -1,6 +1,6 @@
 //! Rounds that an agent plays.
 
-use crate::filling::{Filling, filled};
+use crate::filling::{Filling, Template, digits_of, filled};
 use agent::Agent;
 use events::{Event, What};
 use std::alloc::{AllocError, Global};
@@ -20,8 +20,8 @@ const SALT: u64 = 1;
 /// What the telephones send in a round, one script behind the other, and how many tokens the server makes meanwhile.
 #[derive(Clone, Copy)]
 pub(crate) struct Round<'s> {
-    pub first: &'s [Event],
-    pub then: &'s [Event],
+    pub first: &'s [Template],
+    pub then: &'s [Template],
     pub tokens: u64,
 }
 
@@ -66,16 +66,16 @@ impl Day {
     }
 
     /// What the holes of the next round are filled with, between the users of so many pairs behind the first.
-    fn next_filling(&mut self, pair: u32) -> Filling {
+    fn next_filling(&mut self, alloc: Global, pair: u32) -> Result<Filling, AllocError> {
         self.rounds = self.rounds.saturating_add(1);
         let caller = FIRST_USER + 2 * u64::from(pair);
-        Filling {
-            call: self.rounds,
-            caller,
-            callee: caller + 1,
+        Ok(Filling {
+            call: digits_of(alloc, self.rounds)?,
+            caller: digits_of(alloc, caller)?,
+            callee: digits_of(alloc, caller + 1)?,
             tokens: self.tokens,
             begin: self.moment,
-        }
+        })
     }
 
     fn pass(&mut self, tokens: u64) {
@@ -153,10 +153,10 @@ fn take_filled(
     alloc: Global,
     agent: &mut Agent,
     day: &mut Day,
-    event: &Event,
+    template: &Template,
     filling: &Filling,
 ) -> Result<(), AllocError> {
-    let event = filled(alloc, event, filling)?;
+    let event = filled(alloc, template, filling)?;
     let outcome = take(alloc, agent, day, &event);
     let_go(event);
     outcome
@@ -166,11 +166,11 @@ fn play_script(
     alloc: Global,
     agent: &mut Agent,
     day: &mut Day,
-    script: &[Event],
+    script: &[Template],
     filling: &Filling,
 ) -> Result<(), AllocError> {
-    for event in script {
-        take_filled(alloc, agent, day, event, filling)?;
+    for template in script {
+        take_filled(alloc, agent, day, template, filling)?;
     }
     Ok(())
 }
@@ -183,7 +183,7 @@ pub(crate) fn play_round(
     round: &Round<'_>,
     pair: u32,
 ) -> Result<(), AllocError> {
-    let filling = day.next_filling(pair);
+    let filling = day.next_filling(alloc, pair)?;
     play_script(alloc, agent, day, round.first, &filling)?;
     play_script(alloc, agent, day, round.then, &filling)?;
     day.pass(round.tokens);

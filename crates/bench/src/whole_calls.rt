@@ -4,6 +4,7 @@
 //! resumed; or `register`, a registration that is refreshed. Each call is between two users of its own, and the users that are
 //! called are registered. Behind each round time passes until its transactions have ended.
 
+use crate::filling::{Template, templates_of};
 use crate::office::{Amount, Outcome, Scripts, play_task};
 use events::Event;
 use scripts::read_script;
@@ -28,16 +29,17 @@ fn events_of(alloc: Global, script: &[u8]) -> Vec<Event> {
     }
 }
 
-fn read_events<R: Files + AllocGlobal>(rt: &R, name: &str) -> io::Result<Vec<Event>> {
+fn read_templates<R: Files + AllocGlobal>(rt: &R, name: &str) -> io::Result<Vec<Template>> {
     let script = fs::read(rt, format!(in rt.alloc(); "{name}.script")?.as_str())?;
-    Ok(events_of(rt.alloc(), &script))
+    let events = events_of(rt.alloc(), &script);
+    Ok(templates_of(rt.alloc(), &events)?)
 }
 
 fn read_scripts<R: Files + AllocGlobal>(rt: &R) -> io::Result<Scripts> {
-    let register = read_events(rt, "register")?;
-    let begin = read_events(rt, "begin")?;
-    let end = read_events(rt, "end")?;
-    let hold = read_events(rt, "hold")?;
+    let register = read_templates(rt, "register")?;
+    let begin = read_templates(rt, "begin")?;
+    let end = read_templates(rt, "end")?;
+    let hold = read_templates(rt, "hold")?;
     Ok(Scripts {
         register,
         begin,
