@@ -1,4 +1,4 @@
-//! Answers to requests (RFC 3261 section 8.2.6).
+//! Responses to requests (RFC 3261 section 8.2.6).
 
 ghost use Rattle.std.specs.Prelude.{◌≡◌, ◌≤◌, ◌++◌, ◌∷◌, [], map, codes, unwrap_or, IsTrue, IfOk, OnOk};
 ghost use Rattle.std.specs.List.{flat_map};
@@ -43,7 +43,7 @@ pub fn via_headers(alloc: Global, vias: &[Via<'_>]) -> Result<Headers<'static>, 
     Ok(Headers::from_vec(headers))
 }
 
-/// The header fields of an answer, but for those that one answer needs and another doesn't.
+/// The header fields of a response, but for those that one response needs and another doesn't.
 #[tactic(auto, unfolding(crate::specs::Reply::reply_headers))]
 fn reply_headers(alloc: Global, parts: &Parts<'_>) -> Result<Headers<'static>, AllocError>
     ensures { IfOk result (λ hs. hs ≡ reply_headers parts.now) }
@@ -217,7 +217,7 @@ fn reply(
     })
 }
 
-/// The answer to a request that came from `source`, with no body: each Via, From, To, Call-ID and CSeq as received, the
+/// The response to a request that came from `source`, with no body: each Via, From, To, Call-ID and CSeq as received, the
 /// top Via with the source, and To with the tag where it has none and the status is not 100.
 pub fn reply_to(
     alloc: Global,
@@ -227,7 +227,7 @@ pub fn reply_to(
     tag: &[u8],
 ) -> Result<Response<'static>, AllocError>
     ensures answer { IfOk result (λ r. r ≡ reply_of parts.now source status tag.now) }
-    // It is an answer to the request, by branch, Call-ID, tags, number and method.
+    // It is a response to the request, by branch, Call-ID, tags, number and method.
     ensures replies { IfOk result (λ r. Replies r.parts parts.now status tag.now) }
     // What is written for it is read as it, where the parts were read, the tag is a token and the status is one of a response.
     ensures again { IfOk result (λ r. CanBeRepeated parts.now → IsTrue (is_run_of is_token_byte tag.now) → 100 ≤ status → status ≤ 699 → IsReadAgain r) }
@@ -246,7 +246,7 @@ fn answer_port(via: &Via, source: Addr) -> u16
     }
 }
 
-/// Where an answer goes: to the source address, and there to the source port where the top `rport` was empty, else to
+/// Where a response goes: to the source address, and there to the source port where the top `rport` was empty, else to
 /// the port of sent-by, else to 5060 (RFC 3261 section 18.2.2, RFC 3581 section 4). Takes no memory.
 pub fn reply_address(parts: &Parts, source: Addr) -> Addr
     ensures address { result ≡ answer_address parts.now.vias source }

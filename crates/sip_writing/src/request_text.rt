@@ -1,7 +1,6 @@
 //! Requests that are written at once: the same bytes, with no request made for them.
 
-ghost use Rattle.std.specs.Prelude.{◌≡◌, ◌++◌, ◌∷◌, [], codes, decimal, IfOk, OnOk};
-ghost use Rattle.sip_uri.specs.Writing.{uri_text};
+ghost use Rattle.std.specs.Prelude.{◌≡◌, ◌++◌, codes, decimal, IfOk, OnOk};
 ghost use Rattle.sip_message.specs.Lookup.{named};
 ghost use Rattle.sip_message.specs.declared.message.Message.TheVariants as Kinds;
 ghost use Rattle.sip_writing.specs.Outlines.{outlined};
@@ -10,9 +9,9 @@ ghost use Rattle.sip_writing.specs.Writing.{header_text, headers_text, message_t
 
 use crate::reply_text::{put_named, put_vias};
 use crate::room::ROOM;
-use crate::write::{put_content, put_headers};
+use crate::write::{put_content, put_headers, put_request_line};
 use sip_message::{Header, Parts};
-use sip_uri::{Uri, put_uri};
+use sip_uri::Uri;
 use std::alloc::{AllocError, Global};
 use text::{Text, put_number};
 
@@ -26,16 +25,6 @@ pub struct Outline<'m, 'a> {
     /// Header fields that stand behind those that each request has.
     pub further: &'m [Header<'a>],
     pub body: &'m [u8],
-}
-
-fn put_line(out: &mut Vec<u8>, method: &[u8], uri: &Uri<'_>) -> Result<(), AllocError>
-    ensures { OnOk result (out.new.items ≡ out.old.items ++ method.now ++ 32 ∷ [] ++ uri_text uri.now ++ codes " SIP/2.0\r\n") }
-{
-    out.extend_from_slice(method)?;
-    out.push(b' ')?;
-    put_uri(out, uri)?;
-    out.extend_from_slice(b" SIP/2.0\r\n")?;
-    Ok(())
 }
 
 fn put_hops(out: &mut Vec<u8>, hops: u8) -> Result<(), AllocError>
@@ -65,7 +54,7 @@ fn put_required(out: &mut Vec<u8>, parts: &Parts<'_>, hops: u8) -> Result<(), Al
 fn put_outline(out: &mut Vec<u8>, outline: &Outline<'_, '_>) -> Result<(), AllocError>
     ensures { OnOk result (out.new.items ≡ out.old.items ++ message_text (Kinds.Request (outlined outline.now))) }
 {
-    put_line(out, outline.method, outline.uri)?;
+    put_request_line(out, outline.method, outline.uri)?;
     put_required(out, outline.parts, outline.max_forwards)?;
     put_headers(out, outline.further)?;
     put_content(out, outline.body)

@@ -1,23 +1,29 @@
 //! Writing of messages.
 
-ghost use Rattle.std.specs.Prelude.{◌≡◌, ◌++◌, ℕ, List, OnOk, IfOk, decimal};
+ghost use Rattle.std.specs.Prelude.{◌≡◌, ◌++◌, ◌∷◌, [], ℕ, List, codes, OnOk, IfOk, decimal};
+ghost use Rattle.sip_uri.specs.Writing.{uri_text};
 ghost use Rattle.sip_message.specs.Grammar.{ReadsMessage};
 ghost use Rattle.sip_message.specs.declared.message.Message.TheVariants as Kinds;
 ghost use Rattle.sip_writing.specs.WritingMessage.{IsWrittenMessage};
-ghost use Rattle.sip_writing.specs.Writing.{request_line, status_line, header_text, headers_text, length_text, message_text};
+ghost use Rattle.sip_writing.specs.Writing.{status_line, header_text, headers_text, length_text, message_text};
 
 use crate::room::ROOM;
 use sip_message::{Header, Message, Request, Response};
-use sip_uri::put_uri;
+use sip_uri::{Uri, put_uri};
 use std::alloc::{AllocError, Global};
 use text::{Text, put_number};
 
-fn put_request_line(out: &mut Vec<u8>, request: &Request) -> Result<(), AllocError>
-    ensures { OnOk result (out.new.items ≡ out.old.items ++ request_line request.now) }
+/// Writes the start line of a request behind what is there.
+pub(crate) fn put_request_line(
+    out: &mut Vec<u8>,
+    method: &[u8],
+    uri: &Uri<'_>,
+) -> Result<(), AllocError>
+    ensures line { OnOk result (out.new.items ≡ out.old.items ++ method.now ++ 32 ∷ [] ++ uri_text uri.now ++ codes " SIP/2.0\r\n") }
 {
-    out.extend_from_slice(request.method.as_bytes())?;
+    out.extend_from_slice(method)?;
     out.push(b' ')?;
-    put_uri(out, &request.uri)?;
+    put_uri(out, uri)?;
     out.extend_from_slice(b" SIP/2.0\r\n")?;
     Ok(())
 }
@@ -73,7 +79,7 @@ fn put_body(out: &mut Vec<u8>, body: &Text) -> Result<(), AllocError>
 fn put_request(out: &mut Vec<u8>, request: &Request) -> Result<(), AllocError>
     ensures { OnOk result (out.new.items ≡ out.old.items ++ message_text (Kinds.Request request.now)) }
 {
-    put_request_line(out, request)?;
+    put_request_line(out, request.method.as_bytes(), &request.uri)?;
     put_headers(out, request.headers.as_slice())?;
     put_body(out, &request.body)?;
     Ok(())
