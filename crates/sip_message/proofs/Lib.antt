@@ -21,3 +21,4 @@ pub mod MessageLaws
 pub mod CleanLaws
 pub mod RepeatableLaws
 mod NextLine
+pub mod NameLaws

@@ -79,3 +79,11 @@ endless (b ∷ bs) clean = let parts = and_parts (is_text_byte b) (is_clean bs) 
 
 pub line_missing : (text : List ℕ) → Nowhere (Passes (is_byte3 13 10 0) text) 0 (length text) → None ≡ line_of text
 line_missing text unmarked = let clean : is_clean text ≡ true = rw (← take_all (length text) text (omega arith)) (clean_upto text (length text) (omega arith) unmarked) in rw (endless text clean) refl
+
+-- what a clean line that was found is of the text
+pub first_line_is : (text : List ℕ) (x : List ℕ × List ℕ) → Some x ≡ line_of text → (x.0 ≡ before_line_end text) × (Some x.1 ≡ after_line_end text) × (true ≡ is_clean (before_line_end text))
+first_line_is text x h = step (after_line_end text) (is_clean (before_line_end text)) h where
+  step : (o : Option (List ℕ)) (e : Bool) → Some x ≡ option_and_then {U = List ℕ × List ℕ} (λ rest. cond e (Some (before_line_end text, rest)) None) o → (x.0 ≡ before_line_end text) × (Some x.1 ≡ o) × (true ≡ e)
+  step None e k = absurd cc
+  step (Some rest) true k = let same : x ≡ (before_line_end text, rest) = cc in rw same (refl, refl, refl)
+  step (Some rest) false k = absurd cc

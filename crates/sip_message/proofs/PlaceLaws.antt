@@ -1,5 +1,5 @@
 -- The header fields of a message that was read stand in its text, one behind the other.
-use Rattle.std.proofs.Common.{◌≡◌, ℕ, ◌+◌, List, [], ◌∷◌, ◌++◌, length, map, Result, Ok, Err, refl, sym, ap, ◌∙◌, append_assoc, length-append}
+use Rattle.std.proofs.Common.{◌≡◌, ℕ, ◌+◌, List, [], ◌∷◌, ◌++◌, length, Result, Ok, Err, refl, sym, ap, ◌∙◌, append_assoc, length-append}
 use Rattle.std.specs.Prelude.{IfOk}
 use Rattle.sip_message.specs.declared.error.MessageError.{MessageError}
 use Rattle.sip_message.specs.declared.headers.Header.{Header}
@@ -7,7 +7,7 @@ use Rattle.sip_message.specs.declared.message.Message.{Message}
 use Rattle.sip_message.specs.declared.message.Message.TheVariants as Kinds
 use Rattle.sip_message.specs.declared.start.Start.{Start}
 use Rattle.sip_message.specs.Contact.{headers_in}
-use Rattle.sip_message.specs.Fields.{RawField, field_lines, field_of}
+use Rattle.sip_message.specs.Fields.{RawField, field_lines}
 use Rattle.sip_message.specs.Grammar.{Opens, ReadsMessage, IsWithin}
 use Rattle.sip_message.specs.Head.{all_lines}
 use Rattle.sip_message.specs.Lines.{lines_text}

@@ -1,7 +1,6 @@
 -- Header fields that were read are of the written form.
 use Rattle.std.proofs.Common.{◌≡◌, ℕ, Bool, true, false, not, ◌&&◌, cond, eqb, List, [], ◌∷◌, length, map, Option, Some, None, refl, sym, ap, ◌∙◌}
-use Rattle.std.specs.Prelude.{nat_eq, is_some, unwrap_or, option_map, find, IfOk, Result, Ok, Err, slice_index}
-use Rattle.std.specs.Borrow.{Bor}
+use Rattle.std.specs.Prelude.{nat_eq, is_some, unwrap_or, option_map, find, slice_index}
 use Rattle.std.specs.Char.{to_ascii_lowercase}
 use Rattle.std.specs.List.{list_all}
 use Rattle.std.specs.Cmp.Lexicographic.{pointwise}
@@ -12,12 +11,10 @@ use Rattle.text.specs.Trim.{trimmed}
 use Rattle.sip_message.specs.Lines.{is_clean}
 use Rattle.sip_message.specs.HeaderNames.{compact_names, long_of, long_name}
 use Rattle.sip_message.specs.Fields.{RawField, name_of, begun_value, is_continuing, begins_blank, is_raw_field, value_of, field_of}
-use Rattle.sip_message.specs.Head.{ReadsHead, head_of, GivesHead}
+use Rattle.sip_message.specs.Head.{ReadsHead}
 use Rattle.sip_message.specs.Written.{is_written}
 use Rattle.sip_message.specs.declared.headers.Header.{Header}
-use Rattle.sip_message.specs.declared.head.HeadError.{HeadError}
 use Rattle.sip_message.proofs.FieldLaws.{field_is}
-use Rattle.sip_message.proofs.HeadLaws.{head_is}
 use Rattle.sip_message.proofs.ValueLaws.{text_same, trim_same, unfolded_trim, begun_clean, unfolded_clean}
 
 -- ---- long names

@@ -7,6 +7,7 @@ ghost use Rattle.sip_message.specs.Contact.{headers_in};
 ghost use Rattle.sip_message.specs.Faults.{Gives};
 ghost use Rattle.sip_message.specs.Places.{IsPlaced};
 ghost use Rattle.sip_message.specs.Grammar.{ReadsMessage, IsWithin, Refuses};
+ghost use Rattle.sip_message.specs.Lines.{is_clean, before_line_end, after_line_end};
 ghost use Rattle.sip_message.specs.Read.{contents_of, message_with, behind_start, message_of};
 ghost use Rattle.sip_message.specs.declared.message.Message.{Message};
 
@@ -14,7 +15,7 @@ use crate::content_length::{read_body, without_length};
 use crate::error::MessageError;
 use crate::head::{HeadError, read_head};
 use crate::headers::{Header, Headers};
-use crate::lines::{first_line, is_clean};
+use crate::lines::{first_line, is_clean, next_line};
 use crate::message::{Message, Request, Response};
 use crate::start::{Start, read_start};
 use crate::values::{Values, read_values};
@@ -92,6 +93,19 @@ fn behind_start<'a>(
     Ok(message(start, headers, contents))
 }
 
+/// The first line, what stands behind its end, and whether it is clean.
+fn start_line(bytes: &[u8]) -> (&[u8], Option<&[u8]>, bool)
+    ensures line { result.0.now ≡ before_line_end bytes.now }
+    ensures rest { option_copied result.1 ≡ after_line_end bytes.now }
+    ensures clean { result.2 ≡ is_clean (before_line_end bytes.now) }
+{
+    if let Some((line, after)) = next_line(bytes) {
+        return (line, Some(after), true);
+    }
+    let (line, rest) = first_line(bytes);
+    (line, rest, is_clean(line))
+}
+
 #[tactic(auto, unfolding(crate::specs::Read::message_of), using(crate::proofs::FaultLaws::failed_then))]
 fn read(alloc: Global, bytes: &[u8]) -> Result<Message<'_>, MessageError>
     ensures { Gives result (message_of bytes.now) }
@@ -99,9 +113,9 @@ fn read(alloc: Global, bytes: &[u8]) -> Result<Message<'_>, MessageError>
     if bytes.len() > GREATEST_DATAGRAM {
         return Err(MessageError::TooLong);
     }
-    let (line, rest) = first_line(bytes);
+    let (line, rest, clean) = start_line(bytes);
     let start = read_start(alloc, line)?;
-    if !is_clean(line) {
+    if !clean {
         return Err(MessageError::HeaderLine);
     }
     behind_start(alloc, start, rest)

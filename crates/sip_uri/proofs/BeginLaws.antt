@@ -7,9 +7,5 @@ pub on_err : {X E : Type 0} (result : Result X E) (P : Type 0) → P → OnErr r
 on_err (Ok x) P holds = tt
 on_err (Err e) P holds = holds
 
--- behind a part that was written
-pub begins_behind : (old part new : List ℕ) → BeginsWith (old ++ part) new → BeginsWith old new
-begins_behind old part new begins = (part ++ begins.0, begins.1 ∙ append_assoc old part begins.0)
-
 pub begins_on : (old middle new : List ℕ) → BeginsWith old middle → BeginsWith middle new → BeginsWith old new
 begins_on old middle new first then = (first.0 ++ then.0, then.1 ∙ rw (first.1) (append_assoc old first.0 then.0))

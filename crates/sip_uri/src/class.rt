@@ -14,6 +14,17 @@ static PLAIN_USER_BYTES: [u8; 256] = *b"\
     ||||||||||||||||||||||||||||||||\
     ||||||||||||||||||||||||||||||||";
 
+/// Each byte of a host name's label stands at its own place, and a bar at every other place.
+static LABEL_BYTES: [u8; 256] = *b"\
+    ||||||||||||||||||||||||||||||||\
+    |||||||||||||-||0123456789||||||\
+    |ABCDEFGHIJKLMNOPQRSTUVWXYZ|||||\
+    |abcdefghijklmnopqrstuvwxyz|||||\
+    ||||||||||||||||||||||||||||||||\
+    ||||||||||||||||||||||||||||||||\
+    ||||||||||||||||||||||||||||||||\
+    ||||||||||||||||||||||||||||||||";
+
 /// Each byte of a parameter stands at its own place, and a bar at every other place.
 static PARAM_BYTES: [u8; 256] = *b"\
     ||||||||||||||||||||||||||||||||\
@@ -52,7 +63,7 @@ pub fn is_user_byte(b: u8) -> bool
 pub fn is_label_byte(b: u8) -> bool
     ensures { result ≡ is_label_byte b }
 {
-    b.is_ascii_alphanumeric() || b == b'-'
+    LABEL_BYTES[usize::from(b)] != b'|'
 }
 
 pub fn is_param_byte(b: u8) -> bool

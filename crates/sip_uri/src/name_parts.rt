@@ -123,6 +123,9 @@ fn worded_name(text: &[u8]) -> Option<NameParts<'_>>
 fn has_angle(text: &[u8]) -> bool
     ensures { result ≡ is_some (after 60 (before 59 text.now)) }
 {
+    if let [b'<', ..] = text {
+        return true;
+    }
     let (front, _) = cut(text, b';');
     let (_, rest) = cut(front, b'<');
     rest.is_some()
