@@ -3,5 +3,7 @@
 
 mod entries;
 mod index;
+mod print;
 
 pub use index::{Entry, Index};
+pub use print::print_of;

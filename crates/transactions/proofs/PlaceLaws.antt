@@ -14,7 +14,8 @@ use Rattle.transaction_machines.specs.Machines.{is_server}
 use Rattle.transactions.specs.declared.transaction.Transaction.{Transaction}
 use Rattle.transactions.specs.Contents.{placed}
 use Rattle.transactions.specs.Places.{numbers_from, has_branch, has_call, IsIndexed, HasRoom}
-use Rattle.transactions.specs.Prints.{branch_print, print_of, print_at}
+use Rattle.index.specs.Print.{print_of}
+use Rattle.transactions.specs.Prints.{branch_print, print_at}
 use Rattle.transactions.specs.Slots.{at, free_number, is_serving}
 use Rattle.transactions.specs.Transactions.{went}
 use Rattle.transactions.proofs.LastingLaws.{within}

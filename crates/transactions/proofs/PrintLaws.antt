@@ -10,7 +10,8 @@ use Rattle.transaction_machines.specs.declared.state.State.TheVariants.{InviteCl
 use Rattle.transaction_machines.specs.Machines.{is_server}
 use Rattle.transactions.specs.declared.transaction.Transaction.{Transaction}
 use Rattle.transactions.specs.Matching.{is_copy, is_reply, is_merged_with, same_top}
-use Rattle.transactions.specs.Prints.{print_of, print_by, branch_print, print_at, may_serve, may_ask, may_merge}
+use Rattle.index.specs.Print.{print_of}
+use Rattle.transactions.specs.Prints.{print_by, branch_print, print_at, may_serve, may_ask, may_merge}
 use Rattle.transactions.specs.Places.{has_branch, has_call}
 use Rattle.transactions.specs.Slots.{is_asked, is_answered, is_invite_server, is_named_invite, is_named, is_merged}
 use Rattle.transactions.proofs.ReplyLaws.{text_is}

@@ -4,7 +4,8 @@ use Rattle.index.specs.declared.index.Entry.{Entry}
 use Rattle.index.specs.Entries.{numbers_of}
 use Rattle.index.specs.Numbers.{Indexed}
 use Rattle.transactions.specs.declared.transaction.Transaction.{Transaction}
-use Rattle.transactions.specs.Prints.{branch_print, print_of}
+use Rattle.index.specs.Print.{print_of}
+use Rattle.transactions.specs.Prints.{branch_print}
 use Rattle.transactions.specs.Slots.{is_serving}
 
 -- The transactions by their numbers, and how many more can begin without memory.

@@ -1,6 +1,7 @@
 -- Numbers for what a transaction is looked up by. Equal texts have equal prints, so one with another print is passed by without a look
 -- at its parts. No answer depends on them.
-use Rattle.std.specs.Prelude.{ℕ, ◌+◌, ◌*◌, ◌%◌, ◌^◌, Bool, false, not, ◌&&◌, nat_eq, List, fold, Option, Some, None}
+use Rattle.std.specs.Prelude.{ℕ, Bool, false, not, ◌&&◌, nat_eq, List, Option, Some, None}
+use Rattle.index.specs.Print.{print_of}
 use Rattle.sip_uri.specs.Binding.{same_text}
 use Rattle.sip_message.specs.declared.via.Via.{Via}
 use Rattle.sip_message.specs.Words.{top_branch, tag_value}
@@ -8,16 +9,6 @@ use Rattle.transaction_machines.specs.Machines.{is_server}
 use Rattle.transactions.specs.declared.print.Print.{Print}
 use Rattle.transactions.specs.declared.transaction.Transaction.{Transaction}
 use Rattle.transactions.specs.Slots.{awaits_final}
-
--- a prime between 2^40 and 2^41
-abbrev pub factor : ℕ
-factor = 1099511628211
-
-abbrev pub with_byte : ℕ → ℕ → ℕ
-with_byte print byte = (print * factor % 2 ^ 64 + byte) % 2 ^ 64
-
-abbrev pub print_of : List ℕ → ℕ
-print_of bytes = fold with_byte 0 bytes
 
 abbrev pub print_by : Option (List ℕ) → ℕ
 print_by None = 0

@@ -2,13 +2,11 @@
 
 ghost use Rattle.std.specs.Prelude.{◌≡◌};
 ghost use Rattle.std.specs.Option.{option_copied};
-ghost use Rattle.transactions.specs.Prints.{with_byte, print_of, print_by, branch_print};
+ghost use Rattle.transactions.specs.Prints.{print_by, branch_print};
 
+use index::print_of;
 use sip_message::{Vias, top_branch};
 use text::Text;
-
-/// A prime, so that few texts share a print.
-const FACTOR: u64 = 1_099_511_628_211;
 
 /// The prints of a place of the table, and what its transaction is.
 #[derive(Drop)]
@@ -21,19 +19,6 @@ pub(crate) struct Print {
     pub(crate) serves: bool,
     /// It is an INVITE of the server's own that has no final response.
     pub(crate) waits: bool,
-}
-
-fn with_byte(print: u64, byte: u8) -> u64
-    ensures { result ≡ with_byte print byte }
-{
-    print.wrapping_mul(FACTOR).wrapping_add(u64::from(byte))
-}
-
-/// The print of a text.
-pub(crate) fn print_of(bytes: &[u8]) -> u64
-    ensures { result ≡ print_of bytes.now }
-{
-    bytes.iter().fold(0, |print, byte| with_byte(print, *byte))
 }
 
 fn print_by(text: Option<&Text<'_>>) -> u64

@@ -6,9 +6,10 @@ ghost use Rattle.transactions.specs.Prints.{print_at};
 ghost use Rattle.transactions.specs.Slots.{awaits_final};
 ghost use Rattle.transactions.specs.Transactions.{went};
 
-use crate::print::{Print, branch_print, print_of};
+use crate::print::{Print, branch_print};
 use crate::transaction::Transaction;
 use boxed::Boxed;
+use index::print_of;
 use std::marker::Model;
 use text::Text;
 use transaction_machines::{InviteClient, State, is_server};

@@ -8,10 +8,10 @@ ghost use Rattle.transactions.specs.Prints.{has_from_tag};
 
 use crate::matching::{is_copy, is_merged_with, is_reply, same_top};
 use crate::places::Places;
-use crate::print::{branch_print, print_of};
+use crate::print::branch_print;
 use crate::slot::Slot;
 use crate::transaction::Transaction;
-use index::Entry;
+use index::{Entry, print_of};
 use sip_message::{Parts, is_method, tag_value};
 use sip_uri::same_text;
 use text::Text;
