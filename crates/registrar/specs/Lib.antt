@@ -2,3 +2,4 @@ pub mod Limits
 pub mod Registering
 pub mod Bound
 pub mod Registrar
+pub mod Entries

@@ -12,12 +12,12 @@ use crate::binding::Binding;
 use crate::contact_rules::{with_contacts, within_limit};
 use crate::copies::{copy_all, present};
 use crate::draft::{drafts_of, first_number};
+use crate::entries::Entries;
 use crate::plan::Plan;
 use crate::refusal::Refusal;
 use crate::register::Register;
 use crate::register_rules::{all_bindable, is_star_misused, is_star_stale};
 use crate::targets::target;
-use crate::user_bindings::{UserBindings, bindings_of, has_user, put_bindings, without_bindings};
 use sip_uri::{Host, Uri};
 use std::alloc::{AllocError, Global};
 use std::marker::Model;
@@ -26,7 +26,7 @@ use text::{Text, Texts};
 /// The bindings of each user of the office (RFC 3261 section 10.3).
 pub struct Registrar {
     alloc: Global,
-    entries: Vec<UserBindings>,
+    entries: Entries,
     ip: [u8; 4],
     sip_port: u16,
     domain: Text<'static>,
@@ -51,7 +51,7 @@ impl Model for Registrar {
 
     ghost Value = { Contents };
 
-    ghost view = { λ r. record { entries = r.entries.items; ip = r.ip; sip_port = r.sip_port; domain = r.domain; min_expires = r.min_expires } };
+    ghost view = { λ r. record { entries = r.entries; ip = r.ip; sip_port = r.sip_port; domain = r.domain; min_expires = r.min_expires } };
 }
 
 impl Registrar {
@@ -74,7 +74,7 @@ impl Registrar {
         requires bounded { min_expires ≤ max_min_expires }
         ensures { IfOk result (λ r. StandsAfter r (rules_given users.entry ip sip_port domain.entry min_expires) []) }
     {
-        let entries = without_bindings(alloc, users)?;
+        let entries = Entries::new(alloc, users)?;
         Ok(Registrar {
             alloc,
             entries,
@@ -102,7 +102,7 @@ impl Registrar {
     pub fn knows(&self, user: &Text<'_>) -> bool
         ensures { result ≡ is_known (rules_of self.now) user.now }
     {
-        has_user(&self.entries, user)
+        self.entries.has_user(user)
     }
 
     /// What `apply` answers to a REGISTER, and the change that it would make. Changes nothing.
@@ -122,7 +122,7 @@ impl Registrar {
         if !self.knows(user) {
             return Err(Refusal::UnknownUser);
         }
-        let after = self.after_one(bindings_of(&self.entries, user), register, now)?;
+        let after = self.after_one(self.entries.bindings_of(user), register, now)?;
         Ok(Plan::new(user.keep(self.alloc)?, after))
     }
 
@@ -132,7 +132,7 @@ impl Registrar {
         ensures { self.new ≡ after_plan self.old plan }
     {
         let (user, bindings) = plan.into_parts();
-        put_bindings(&mut self.entries, &user, bindings);
+        self.entries.put_bindings(&user, bindings);
     }
 
     /// Takes a REGISTER, and answers the bindings that its user then has, oldest first (RFC 3261 section 10.3): `plan` and
@@ -162,7 +162,7 @@ impl Registrar {
         ensures last { IfOk result (λ bindings. AllLast now bindings.items) }
         ensures exact { IfOk result (λ bindings. bindings.items ≡ bindings_at self.now user.now now) }
     {
-        present(self.alloc, bindings_of(&self.entries, user), now)
+        present(self.alloc, self.entries.bindings_of(user), now)
     }
 
     /// Where a call to a user goes: the URI of the binding that was refreshed last, of those that are not over (RFC 3261
@@ -173,7 +173,7 @@ impl Registrar {
             → option_copied result ≡ target_of (bound rules user.now history now) }
         ensures exact { option_copied result ≡ target_of (bindings_at self.now user.now now) }
     {
-        target(bindings_of(&self.entries, user), now)
+        target(self.entries.bindings_of(user), now)
     }
 
     fn is_own_host(&self, host: &Host<'_>) -> bool

@@ -1,0 +1,34 @@
+-- The entries of the users, and the index by which one is found.
+use Rattle.std.specs.Prelude.{◌≡◌, ℕ, ◌+◌, ◌*◌, ◌%◌, ◌^◌, Bool, false, List, [], ◌∷◌, fold, nat_eq, Option, Some, None, if◌then◌else◌}
+use Rattle.index.specs.declared.index.Entry.{Entry}
+use Rattle.index.specs.Entries.{numbers_of}
+use Rattle.registrar.specs.declared.user_bindings.UserBindings.{UserBindings}
+use Rattle.registrar.specs.Registrar.{is_for}
+
+-- a prime between 2^40 and 2^41
+abbrev pub factor : ℕ
+factor = 1099511628211
+
+abbrev pub with_byte : ℕ → ℕ → ℕ
+with_byte print byte = (print * factor % 2 ^ 64 + byte) % 2 ^ 64
+
+-- a number for a name: equal names have equal ones
+abbrev pub print_of : List ℕ → ℕ
+print_of bytes = fold with_byte 0 bytes
+
+abbrev pub has_print : ℕ → UserBindings → Bool
+has_print print entry = nat_eq (print_of entry.user) print
+
+-- the places of the entries with this print, the least first, where the first place has the number n
+abbrev pub places_of : ℕ → ℕ → List UserBindings → List ℕ
+places_of print n [] = []
+places_of print n (e ∷ es) = if has_print print e then n ∷ places_of print (1 + n) es else places_of print (1 + n) es
+
+-- under each print are the places of the users who have it, and no other
+abbrev pub IsIndexed : List UserBindings → List Entry → Type 0
+IsIndexed entries names = (print : ℕ) → numbers_of names print ≡ places_of print 0 entries
+
+-- what is at a place is the entry of this user
+abbrev pub is_at : List ℕ → Option UserBindings → Bool
+is_at user None = false
+is_at user (Some entry) = is_for user entry

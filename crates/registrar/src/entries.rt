@@ -1,0 +1,125 @@
+//! An entry for each user, and an index of them by the users' names.
+
+ghost use Rattle.std.specs.Prelude.{◌≡◌, ◌<◌, length, map, find, position, slice_get, option_map, Some, IfOk, IfSome};
+ghost use Rattle.std.specs.List.{list_any};
+ghost use Rattle.std.specs.Cmp.Lexicographic.{pointwise};
+ghost use Rattle.registrar.specs.Registrar.{is_for, bindings_of, entries_with, without_bindings};
+ghost use Rattle.registrar.specs.Entries.{IsIndexed, is_at};
+
+use crate::binding::{Binding, Bindings};
+use crate::print::print_of;
+use crate::user_bindings::{UserBindings, without_bindings};
+use index::{Entry, Index};
+use std::alloc::{AllocError, Global};
+use std::marker::Model;
+use text::{Text, Texts};
+
+/// An entry for each user, in the order in which the users were given.
+#[derive(Drop)]
+pub(crate) struct Entries {
+    users: Vec<UserBindings>,
+    /// Under the print of a user's name, its place.
+    names: Index,
+}
+
+impl Model for Entries {
+    ghost use Rattle.std.specs.Prelude.{List};
+    ghost use Rattle.registrar.specs.declared.user_bindings.UserBindings.{UserBindings};
+    ghost use Rattle.registrar.specs.Entries.{IsIndexed};
+
+    ghost Value = { List UserBindings };
+
+    ghost view = { λ e. e.users.items };
+
+    ghost invariant = { λ e. IsIndexed e.users.items e.names.entries };
+}
+
+impl Entries {
+    ghost use Rattle.std.specs.Prelude.{nat_eq};
+
+    /// These users, without bindings.
+    pub(crate) fn new(alloc: Global, users: Texts<'static>) -> Result<Entries, AllocError>
+        ensures { IfOk result (λ entries. entries ≡ map without_bindings users.entry) }
+    {
+        let users = without_bindings(alloc, users)?;
+        let names = index_of(alloc, &users)?;
+        Ok(Entries { users, names })
+    }
+
+    /// What a user is bound to; nothing for anyone unknown. Takes no memory.
+    pub(crate) fn bindings_of(&self, user: &Text<'_>) -> &[Binding]
+        ensures { result.now ≡ bindings_of self.now user.now }
+    {
+        match self.place_of(user) {
+            Some(place) => self.users[place].bindings.as_slice(),
+            None => &[],
+        }
+    }
+
+    /// Whether this is one of the users. Takes no memory.
+    pub(crate) fn has_user(&self, user: &Text<'_>) -> bool
+        ensures { result ≡ list_any (λ u. pointwise nat_eq u user.now) (map (λ e. e.user) self.now) }
+    {
+        self.place_of(user).is_some()
+    }
+
+    /// Puts what a user is bound to; changes nothing for anyone unknown. Takes no memory.
+    pub(crate) fn put_bindings(&mut self, user: &Text<'_>, bindings: Bindings)
+        ensures { self.new ≡ entries_with user.now bindings self.old }
+    {
+        if let Some(place) = self.place_of(user) {
+            self.put_at(user, place, bindings);
+        }
+    }
+
+    fn put_at(&mut self, user: &Text<'_>, place: usize, bindings: Bindings)
+        requires { position (is_for user.now) self.old ≡ Some place }
+        ensures { self.new ≡ entries_with user.now bindings self.old }
+    {
+        self.users[place].bindings = bindings;
+    }
+
+    // The place of a user, which is looked for among those with the print of its name alone.
+    fn place_of(&self, user: &Text<'_>) -> Option<usize>
+        ensures place { result ≡ position (is_for user.now) self.now }
+        ensures bound { IfSome result (λ place. place < length self.now) }
+    {
+        first_of(
+            self.names.numbers(print_of(user.as_bytes())),
+            &self.users,
+            user,
+        )
+    }
+}
+
+// The index of these entries: from the last one on, so that each goes before those that are there.
+fn index_of(alloc: Global, users: &[UserBindings]) -> Result<Index, AllocError>
+    ensures { IfOk result (λ names. IsIndexed users.now names.entries) }
+{
+    let mut names = Index::new(alloc);
+    names.reserve(users.len())?;
+    let mut left = users.len();
+    while left > 0 {
+        left -= 1;
+        names.put(print_of(users[left].user.as_bytes()), left);
+    }
+    Ok(names)
+}
+
+fn is_at(users: &[UserBindings], place: usize, user: &Text<'_>) -> bool
+    ensures { result ≡ is_at user.now (slice_get users.now place) }
+{
+    match users.get(place) {
+        Some(entry) => entry.user.as_bytes() == user.as_bytes(),
+        None => false,
+    }
+}
+
+fn first_of(named: &[Entry], users: &[UserBindings], user: &Text<'_>) -> Option<usize>
+    ensures { result ≡ option_map (λ e. e.number) (find (λ e. is_at user.now (slice_get users.now e.number)) named.now) }
+{
+    named
+        .iter()
+        .find(|entry| is_at(users, entry.number, user))
+        .map(|entry| entry.number)
+}
