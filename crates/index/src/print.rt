@@ -14,7 +14,7 @@ fn with_byte(print: u64, byte: u8) -> u64
 
 /// The print of a text. Takes no memory.
 pub fn print_of(bytes: &[u8]) -> u64
-    ensures print { result ≡ print_of bytes.now }
+    ensures { result ≡ print_of bytes.now }
 {
     bytes.iter().fold(0, |print, byte| with_byte(print, *byte))
 }

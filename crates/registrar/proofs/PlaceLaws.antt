@@ -13,7 +13,8 @@ use Rattle.index.specs.Numbers.{put_number}
 use Rattle.registrar.specs.declared.binding.Binding.{Binding}
 use Rattle.registrar.specs.declared.user_bindings.UserBindings.{UserBindings}
 use Rattle.registrar.specs.Registrar.{is_for, bindings_of, with_bindings}
-use Rattle.registrar.specs.Entries.{print_of, has_print, places_of, IsIndexed, is_at}
+use Rattle.index.specs.Print.{print_of}
+use Rattle.registrar.specs.Entries.{has_print, places_of, IsIndexed, is_at}
 
 -- ---- the index
 

@@ -1,20 +1,10 @@
 -- The entries of the users, and the index by which one is found.
-use Rattle.std.specs.Prelude.{◌≡◌, ℕ, ◌+◌, ◌*◌, ◌%◌, ◌^◌, Bool, false, List, [], ◌∷◌, fold, nat_eq, Option, Some, None, if◌then◌else◌}
+use Rattle.std.specs.Prelude.{◌≡◌, ℕ, ◌+◌, Bool, false, List, [], ◌∷◌, nat_eq, Option, Some, None, if◌then◌else◌}
 use Rattle.index.specs.declared.index.Entry.{Entry}
 use Rattle.index.specs.Entries.{numbers_of}
+use Rattle.index.specs.Print.{print_of}
 use Rattle.registrar.specs.declared.user_bindings.UserBindings.{UserBindings}
 use Rattle.registrar.specs.Registrar.{is_for}
-
--- a prime between 2^40 and 2^41
-abbrev pub factor : ℕ
-factor = 1099511628211
-
-abbrev pub with_byte : ℕ → ℕ → ℕ
-with_byte print byte = (print * factor % 2 ^ 64 + byte) % 2 ^ 64
-
--- a number for a name: equal names have equal ones
-abbrev pub print_of : List ℕ → ℕ
-print_of bytes = fold with_byte 0 bytes
 
 abbrev pub has_print : ℕ → UserBindings → Bool
 has_print print entry = nat_eq (print_of entry.user) print

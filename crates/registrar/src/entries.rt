@@ -7,9 +7,8 @@ ghost use Rattle.registrar.specs.Registrar.{is_for, bindings_of, entries_with, w
 ghost use Rattle.registrar.specs.Entries.{IsIndexed, is_at};
 
 use crate::binding::{Binding, Bindings};
-use crate::print::print_of;
 use crate::user_bindings::{UserBindings, without_bindings};
-use index::{Entry, Index};
+use index::{Entry, Index, print_of};
 use std::alloc::{AllocError, Global};
 use std::marker::Model;
 use text::{Text, Texts};
@@ -46,21 +45,15 @@ impl Entries {
         Ok(Entries { users, names })
     }
 
-    /// What a user is bound to; nothing for anyone unknown. Takes no memory.
-    pub(crate) fn bindings_of(&self, user: &Text<'_>) -> &[Binding]
-        ensures { result.now ≡ bindings_of self.now user.now }
+    /// Whether this is one of the users, and what the user is bound to; nothing for anyone unknown. Takes no memory.
+    pub(crate) fn look_up(&self, user: &Text<'_>) -> (bool, &[Binding])
+        ensures known { result.0 ≡ list_any (λ u. pointwise nat_eq u user.now) (map (λ e. e.user) self.now) }
+        ensures bindings { result.1.now ≡ bindings_of self.now user.now }
     {
         match self.place_of(user) {
-            Some(place) => self.users[place].bindings.as_slice(),
-            None => &[],
+            Some(place) => (true, self.users[place].bindings.as_slice()),
+            None => (false, &[]),
         }
-    }
-
-    /// Whether this is one of the users. Takes no memory.
-    pub(crate) fn has_user(&self, user: &Text<'_>) -> bool
-        ensures { result ≡ list_any (λ u. pointwise nat_eq u user.now) (map (λ e. e.user) self.now) }
-    {
-        self.place_of(user).is_some()
     }
 
     /// Puts what a user is bound to; changes nothing for anyone unknown. Takes no memory.

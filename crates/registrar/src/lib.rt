@@ -10,7 +10,6 @@ mod draft;
 mod entries;
 mod laws;
 mod plan;
-mod print;
 mod refusal;
 mod register;
 mod register_rules;

@@ -55,7 +55,7 @@ impl Model for Registrar {
 }
 
 impl Registrar {
-    ghost use Rattle.registrar.specs.Registrar.{StandsAfter, Contents, rules_of, answer_of, refusal_of, after_plan, bindings_at, event, registered, rules_given};
+    ghost use Rattle.registrar.specs.Registrar.{StandsAfter, Contents, rules_of, answer_of, refusal_of, after_plan, bindings_of, bindings_at, event, registered, rules_given};
 
     /// A registrar without bindings for these users of a server at this address, port and domain, which binds for
     /// this number of seconds at least.
@@ -102,7 +102,7 @@ impl Registrar {
     pub fn knows(&self, user: &Text<'_>) -> bool
         ensures { result ≡ is_known (rules_of self.now) user.now }
     {
-        self.entries.has_user(user)
+        self.look_up(user).0
     }
 
     /// What `apply` answers to a REGISTER, and the change that it would make. Changes nothing.
@@ -119,10 +119,11 @@ impl Registrar {
         let Some(user) = &register.user else {
             return Err(Refusal::UnknownUser);
         };
-        if !self.knows(user) {
+        let (is_known, bindings) = self.look_up(user);
+        if !is_known {
             return Err(Refusal::UnknownUser);
         }
-        let after = self.after_one(self.entries.bindings_of(user), register, now)?;
+        let after = self.after_one(bindings, register, now)?;
         Ok(Plan::new(user.keep(self.alloc)?, after))
     }
 
@@ -162,7 +163,7 @@ impl Registrar {
         ensures last { IfOk result (λ bindings. AllLast now bindings.items) }
         ensures exact { IfOk result (λ bindings. bindings.items ≡ bindings_at self.now user.now now) }
     {
-        present(self.alloc, self.entries.bindings_of(user), now)
+        present(self.alloc, self.look_up(user).1, now)
     }
 
     /// Where a call to a user goes: the URI of the binding that was refreshed last, of those that are not over (RFC 3261
@@ -173,7 +174,15 @@ impl Registrar {
             → option_copied result ≡ target_of (bound rules user.now history now) }
         ensures exact { option_copied result ≡ target_of (bindings_at self.now user.now now) }
     {
-        target(self.entries.bindings_of(user), now)
+        target(self.look_up(user).1, now)
+    }
+
+    // Whether this is one of the users, and what the user is bound to.
+    fn look_up(&self, user: &Text<'_>) -> (bool, &[Binding])
+        ensures known { result.0 ≡ is_known (rules_of self.now) user.now }
+        ensures bindings { result.1.now ≡ bindings_of self.now.entries user.now }
+    {
+        self.entries.look_up(user)
     }
 
     fn is_own_host(&self, host: &Host<'_>) -> bool

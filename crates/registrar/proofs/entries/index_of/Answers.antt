@@ -1,6 +1,6 @@
 use Rattle.std.proofs.Common.{◌≡◌, ◌∙◌, ◌-◌, ◌<◌, length, ap, arith}
 use Prim.Native.Nat.{suc}
-use Rattle.registrar.specs.Entries.{print_of}
+use Rattle.index.specs.Print.{print_of}
 use Rattle.registrar.proofs.PlaceLaws.{places_more}
 use Rattle.registrar.proofs.entries.index_of.Goals as goal
 

@@ -2,7 +2,8 @@ use Rattle.std.proofs.Common.{◌∙◌, List, find, position, slice_get, option
 use Rattle.index.specs.declared.index.Entry.{Entry}
 use Rattle.registrar.specs.declared.user_bindings.UserBindings.{UserBindings}
 use Rattle.registrar.specs.Registrar.{is_for}
-use Rattle.registrar.specs.Entries.{print_of, places_of, is_at}
+use Rattle.index.specs.Print.{print_of}
+use Rattle.registrar.specs.Entries.{places_of, is_at}
 use Rattle.registrar.proofs.PlaceLaws.{first_found, place_within}
 use Rattle.registrar.proofs.entries.Entries.place_of.Goals as goal
 
