@@ -1,3 +1,4 @@
 mod SceneLaws
+mod CopyLaws
 mod ContactLaws
 mod StepLaws

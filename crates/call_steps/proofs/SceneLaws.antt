@@ -17,7 +17,7 @@ use Rattle.legs.specs.Dressing.{dialog_with, dress_one, dressed, says_ack, says_
 use Rattle.call_steps.specs.Values.{asker_value, dressed_in, lent, lent_asker, lent_scene, scene_value}
 
 -- the scene of the same values
-abbrev same : Scene → Scene
+abbrev pub same : Scene → Scene
 same s = lent_scene (scene_value s)
 
 abbrev same_asker : Option Asker → Option Asker
@@ -65,7 +65,7 @@ bye_in : (s : Scene) (tokens : ℕ) (d : Option Dialog) → says_bye s tokens d 
 bye_in s tokens None = refl
 bye_in s tokens (Some d) = refl
 
-one_lent : (s : Scene) (tokens : ℕ) (action : Action) → dress_one s tokens action ≡ dress_one (same s) tokens action
+pub one_lent : (s : Scene) (tokens : ℕ) (action : Action) → dress_one s tokens action ≡ dress_one (same s) tokens action
 unfolding dress_one
 one_lent s tokens (Trying end) = trying s.offer
 one_lent s tokens (Offer end method) =

@@ -1,8 +1,9 @@
 //! The messages of a step, and those of them that are kept.
 
-ghost use Rattle.std.specs.Prelude.{◌≡◌, ◌≤◌, ◌+◌, ◌^◌, ◌++◌, IfOk, find, length};
+ghost use Rattle.std.specs.Prelude.{◌≡◌, ◌<◌, ◌≤◌, ◌+◌, ◌^◌, ◌++◌, IfOk, None, find, length};
 ghost use Rattle.std.specs.Option.{option_copied};
-ghost use Rattle.call_steps.specs.Messages.{ack_kept, answer_kept, first_sent, given_up, is_abandon, is_answer, messages, sent_alone, with_changes};
+ghost use Rattle.call_steps.specs.Messages.{ack_kept, answer_kept, first_sent, given_up, is_abandon, is_answer, messages, with_changes};
+ghost use Rattle.legs.specs.Dressing.{dressed};
 ghost use Rattle.call_steps.specs.Values.{dressed_in, scene_value};
 
 use call_core::Action;
@@ -10,8 +11,6 @@ use events::Sent;
 use legs::{Dressed, Scene};
 use std::alloc::{AllocError, Global};
 use transactions::Change;
-
-fn let_go<T: Drop>(_value: T) {}
 
 /// The messages of a step, with copies of those that go again.
 #[derive(Drop)]
@@ -41,30 +40,10 @@ fn is_abandon(action: Action) -> bool
     }
 }
 
-fn answer_among(actions: &[Action]) -> Option<&Action>
-    ensures { option_copied result ≡ find is_answer actions.now }
-{
-    actions.iter().find(|action| is_answer(**action))
-}
-
 fn abandon_among(actions: &[Action]) -> Option<&Action>
     ensures { option_copied result ≡ find is_abandon actions.now }
 {
     actions.iter().find(|action| is_abandon(**action))
-}
-
-/// These actions as messages.
-#[tactic(auto, using(crate::proofs::SceneLaws::dressed_lent))]
-fn dressed_in(
-    alloc: Global,
-    scene: &Scene<'_, '_>,
-    actions: &[Action],
-) -> Result<Dressed, AllocError>
-    requires few { scene.now.tokens ≤ 2 ^ 63 + 255 }
-    ensures dressed { IfOk result (λ d. d ≡ dressed_in (scene_value scene.now) actions.now) }
-    ensures few { IfOk result (λ d. d.made ≤ length actions.now) }
-{
-    scene.dress(alloc, actions)
 }
 
 // ---- what is kept
@@ -79,50 +58,61 @@ fn first_sent(alloc: Global, sends: &[Sent]) -> Result<Option<Sent>, AllocError>
     Ok(Some(Sent { to: sent.to, bytes }))
 }
 
-/// What this action sends, as the first of its step.
-fn sent_alone(
+/// The messages of these actions, where so many tokens were made before the first, and what the first answer among them sends.
+fn with_answer(
     alloc: Global,
     scene: &Scene<'_, '_>,
-    action: Action,
-) -> Result<Option<Sent>, AllocError>
-    requires few { scene.now.tokens ≤ 2 ^ 63 + 255 }
-    ensures { IfOk result (λ sent. sent ≡ sent_alone (scene_value scene.now) action) }
+    tokens: u64,
+    actions: &[Action],
+) -> Result<(Dressed, Option<Sent>), AllocError>
+    requires { tokens + length actions.now < 2 ^ 64 }
+    ensures dressed { IfOk result (λ said. said.0 ≡ dressed scene.now tokens actions.now) }
+    ensures answer { IfOk result (λ said. said.1 ≡ answer_kept (scene_value scene.now) (find is_answer actions.now)) }
+    ensures few { IfOk result (λ said. said.0.made ≤ length actions.now) }
 {
-    let dressed = dressed_in(alloc, scene, &[action])?;
-    let sent = first_sent(alloc, dressed.sends.as_slice());
-    let_go(dressed);
-    sent
-}
-
-fn answer_kept(
-    alloc: Global,
-    scene: &Scene<'_, '_>,
-    answer: Option<&Action>,
-) -> Result<Option<Sent>, AllocError>
-    requires few { scene.now.tokens ≤ 2 ^ 63 + 255 }
-    ensures { IfOk result (λ sent. sent ≡ answer_kept (scene_value scene.now) (option_copied answer.entry)) }
-{
-    match answer {
-        None => Ok(None),
-        Some(answer) => sent_alone(alloc, scene, *answer),
+    let [action, later @ ..] = actions else {
+        return Ok((Dressed::no_message(alloc), None));
+    };
+    let first = scene.dress_one(alloc, tokens, *action)?;
+    let tokens = tokens + first.made;
+    if is_answer(*action) {
+        let answer = first_sent(alloc, first.sends.as_slice())?;
+        let later = scene.dress(alloc, tokens, later)?;
+        return Ok((first.then(later)?, answer));
     }
+    let (later, answer) = with_answer(alloc, scene, tokens, later)?;
+    Ok((first.then(later)?, answer))
 }
 
-fn ack_kept(
+/// The messages of these actions, with copies of those that go again: the 200 with the answer, and an ACK that is the first.
+#[tactic(auto, using(crate::proofs::SceneLaws::dressed_lent))]
+fn with_copies(
     alloc: Global,
     scene: &Scene<'_, '_>,
     actions: &[Action],
-) -> Result<Option<Sent>, AllocError>
+) -> Result<StepMessages, AllocError>
     requires few { scene.now.tokens ≤ 2 ^ 63 + 255 }
-    ensures { IfOk result (λ sent. sent ≡ ack_kept (scene_value scene.now) actions.now) }
+    ensures dressed { IfOk result (λ m. m.dressed ≡ dressed_in (scene_value scene.now) actions.now) }
+    ensures answer { IfOk result (λ m. m.answer ≡ answer_kept (scene_value scene.now) (find is_answer actions.now)) }
+    ensures ack { IfOk result (λ m. m.ack ≡ ack_kept (scene_value scene.now) actions.now) }
+    ensures few { IfOk result (λ m. m.dressed.made ≤ length actions.now) }
 {
-    let [first, ..] = actions else {
-        return Ok(None);
+    let [Action::Ack(end), later @ ..] = actions else {
+        let (dressed, answer) = with_answer(alloc, scene, scene.tokens, actions)?;
+        return Ok(StepMessages {
+            dressed,
+            answer,
+            ack: None,
+        });
     };
-    match *first {
-        Action::Ack(end) => sent_alone(alloc, scene, Action::Ack(end)),
-        _ => Ok(None),
-    }
+    let first = scene.dress_one(alloc, scene.tokens, Action::Ack(*end))?;
+    let ack = first_sent(alloc, first.sends.as_slice())?;
+    let (later, answer) = with_answer(alloc, scene, scene.tokens + first.made, later)?;
+    Ok(StepMessages {
+        dressed: first.then(later)?,
+        answer,
+        ack,
+    })
 }
 
 // ---- transactions
@@ -176,12 +166,14 @@ pub(crate) fn messages(
     ensures messages { IfOk result (λ m. m ≡ messages (scene_value scene.now) passed actions.now) }
     ensures few { IfOk result (λ m. m.dressed.made ≤ length actions.now) }
 {
-    let answer = answer_kept(alloc, scene, answer_among(actions))?;
-    let ack = ack_kept(alloc, scene, actions)?;
-    let later = given_up(alloc, passed, abandon_among(actions))?;
-    let dressed = with_changes(later, dressed_in(alloc, scene, actions)?)?;
-    Ok(StepMessages {
+    let StepMessages {
         dressed,
+        answer,
+        ack,
+    } = with_copies(alloc, scene, actions)?;
+    let later = given_up(alloc, passed, abandon_among(actions))?;
+    Ok(StepMessages {
+        dressed: with_changes(later, dressed)?,
         answer,
         ack,
     })

@@ -161,7 +161,7 @@ fn dressed_words(
         return Ok(None);
     }
     let actions = actions_of(alloc, words)?;
-    let dressed = scene.dress(alloc, &actions)?;
+    let dressed = scene.dress(alloc, scene.tokens, &actions)?;
     let text = dressed_text(alloc, &dressed);
     answer_of(outcome_after(dressed, text))
 }

@@ -55,7 +55,7 @@ fn one_send(alloc: Global, sent: Sent) -> Result<Vec<Sent>, AllocError>
 
 impl Dressed {
     /// No message. Takes no memory.
-    pub(crate) fn no_message(alloc: Global) -> Dressed
+    pub fn no_message(alloc: Global) -> Dressed
         ensures { result ≡ no_message }
     {
         Dressed {
@@ -147,7 +147,7 @@ impl Dressed {
     }
 
     /// What actions come to, and behind it what later ones do.
-    pub(crate) fn then(self, later: Dressed) -> Result<Dressed, AllocError>
+    pub fn then(self, later: Dressed) -> Result<Dressed, AllocError>
         requires { self.made + later.made < 2 ^ 64 }
         ensures { IfOk result (λ d. d ≡ behind self later) }
     {

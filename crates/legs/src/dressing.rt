@@ -263,8 +263,9 @@ impl Scene<'_, '_> {
         }
     }
 
-    /// What these actions come to, where so many tokens were made before the first.
-    fn dress_from(
+    /// What these actions come to, in order, where so many tokens were made before the first. An offer, an ACK and a BYE make a token
+    /// each, that of their branch. An action that sends nothing, or for which something is missing, comes to nothing.
+    pub fn dress(
         &self,
         alloc: Global,
         tokens: u64,
@@ -278,17 +279,7 @@ impl Scene<'_, '_> {
             return Ok(Dressed::no_message(alloc));
         };
         let first = self.dress_one(alloc, tokens, *action)?;
-        let later = self.dress_from(alloc, tokens + first.made, later)?;
+        let later = self.dress(alloc, tokens + first.made, later)?;
         first.then(later)
-    }
-
-    /// What these actions come to, in order. An offer, an ACK and a BYE make a token each, that of their branch. An action that
-    /// sends nothing, or for which something is missing, comes to nothing.
-    pub fn dress(&self, alloc: Global, actions: &[Action]) -> Result<Dressed, AllocError>
-        requires { self.now.tokens ≤ 2 ^ 63 + 255 }
-        ensures dressed { IfOk result (λ d. d ≡ dressed self.now self.now.tokens actions.now) }
-        ensures few { IfOk result (λ d. d.made ≤ length actions.now) }
-    {
-        self.dress_from(alloc, self.tokens, actions)
     }
 }
