@@ -7,18 +7,12 @@ use responses::{
 };
 use row_messages::fault_text;
 use rows::{address_of, answer_of, outcome_after, shown, u16_of, yes_or_no};
-use sip_message::{Message, MessageError, Parts, Request, Response, read_message};
+use sip_message::{Message, MessageError, Parts, Request, read_message};
 use sip_uri::Addr;
-use sip_writing::write_response;
 use std::alloc::{AllocError, Global};
 
-fn written_text(alloc: Global, response: &Response<'_>) -> Result<String, AllocError> {
-    let text = write_response(alloc, response)?;
-    shown(alloc, text.as_bytes())
-}
-
 /// The response with this status and tag, and the header fields of the words behind the others, as it is sent.
-fn response_text(
+fn shown_response(
     alloc: Global,
     parts: &Parts<'_>,
     source: Addr,
@@ -27,9 +21,9 @@ fn response_text(
     words: &[&[u8]],
 ) -> Result<String, AllocError> {
     let further = fields_of(alloc, words)?;
-    let response = response_with(alloc, parts, source, status, tag, further)?;
-    let text = written_text(alloc, &response);
-    outcome_after(response, text)
+    let bytes = response_with(alloc, parts, source, status, tag, &further);
+    let bytes = outcome_after(further, bytes)?;
+    shown(alloc, bytes.as_bytes())
 }
 
 /// What a call on a request that was read answers.
@@ -42,7 +36,7 @@ fn of_request(
     match (call, more) {
         ("response_with", [source, status, tag, words @ ..]) => {
             let source = address_of(source);
-            answer_of(response_text(alloc, &request.parts, source, u16_of(status), tag, words))
+            answer_of(shown_response(alloc, &request.parts, source, u16_of(status), tag, words))
         }
         ("register_of", []) => answer_of(register_text(alloc, request)),
         ("has_fit_branch", []) => {

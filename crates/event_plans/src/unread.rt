@@ -12,27 +12,11 @@ ghost use Rattle.responses.specs.Responding.{responds, stateless};
 ghost use Rattle.checks.specs.Rows.{datagram_row, unfit_branch, unfit_request, unread_by};
 ghost use Rattle.plans.specs.Office.{Office};
 
-use crate::letting_go::let_go;
 use plans::{Plan, Setting, Taken, Why};
 use responses::{STATELESS, is_method, response_with};
-use sip_message::{Message, MessageError, Parts, Request, Response, answerable};
+use sip_message::{Message, MessageError, Parts, Request, answerable};
 use sip_writing::reply_address;
 use std::alloc::{AllocError, Global};
-
-/// The plan of a response that no transaction sends, which is let go.
-fn sent_alone(
-    alloc: Global,
-    e: Setting,
-    parts: &Parts<'_>,
-    response: Response<'static>,
-) -> Result<Plan, AllocError>
-    ensures { IfOk result (λ p. p ≡ replies (answer_address parts.now.vias e.source) response.entry) }
-{
-    let to = reply_address(parts, e.source);
-    let plan = Plan::replies(alloc, to, &response);
-    let_go(response);
-    plan
-}
 
 /// The tag of To in a response that no transaction sends.
 fn stateless() -> &'static [u8]
@@ -44,9 +28,8 @@ fn stateless() -> &'static [u8]
 fn replies(alloc: Global, e: Setting, parts: &Parts<'_>, status: u16) -> Result<Plan, AllocError>
     ensures { IfOk result (λ p. p ≡ replies (answer_address parts.now.vias e.source) (responds parts.now e.source status stateless [])) }
 {
-    let further = Vec::new(alloc);
-    let response = response_with(alloc, parts, e.source, status, stateless(), further)?;
-    sent_alone(alloc, e, parts, response)
+    let bytes = response_with(alloc, parts, e.source, status, stateless(), &[])?;
+    Plan::replies(alloc, reply_address(parts, e.source), bytes)
 }
 
 fn unread_by(

@@ -1,16 +1,18 @@
 //! What an event comes to.
 
 ghost use Rattle.std.specs.Prelude.{◌≡◌, ◌∷◌, ◌++◌, [], IfOk, None, Some};
-ghost use Rattle.transactions.specs.Changes.{answer_of};
-ghost use Rattle.plans.specs.Plan.{answers, goes, moves, nothing, replies, sent_response};
+ghost use Rattle.sip_message.specs.Words.{class_of};
+ghost use Rattle.transactions.specs.declared.change.Entry.TheVariants.{Answers};
+ghost use Rattle.plans.specs.declared.taken.Taken.TheVariants.{Done};
+ghost use Rattle.plans.specs.Plan.{goes, moves, nothing};
 
 use crate::taken::Taken;
 use events::Sent;
-use sip_message::Response;
+use sip_message::class_of;
 use sip_uri::Addr;
-use sip_writing::write_response;
 use std::alloc::{AllocError, Global};
 use std::marker::Model;
+use text::Text;
 use transactions::{Change, Outgoing};
 
 /// What an event comes to: its answer, the changes of the transactions, what is sent, and what changes in the registrar. All
@@ -65,24 +67,17 @@ fn one_send(alloc: Global, sent: Sent) -> Result<Vec<Sent>, AllocError>
     Ok(sends)
 }
 
-/// A response that is sent.
-fn response_sent(alloc: Global, to: Addr, response: &Response<'_>) -> Result<Sent, AllocError>
-    ensures { IfOk result (λ sent. sent ≡ sent_response to response.now) }
-{
-    let bytes = write_response(alloc, response)?;
-    Ok(Sent { to, bytes })
-}
-
-/// The changes so far, and the response of transaction `id`.
+/// The changes so far, and the response of transaction `id`, which has this status and these bytes.
 fn answered(
     alloc: Global,
     mut begun: Vec<Change>,
     id: usize,
-    response: &Response<'_>,
+    status: u16,
+    bytes: &Text<'_>,
 ) -> Result<Vec<Change>, AllocError>
-    ensures { IfOk result (λ changes. changes.items ≡ begun.items ++ answer_of id response.now ∷ []) }
+    ensures { IfOk result (λ changes. changes.items ≡ begun.items ++ Answers id (class_of status) bytes.now ∷ []) }
 {
-    begun.push(Change::answers(alloc, id, response)?)?;
+    begun.push(Change::answers_with(id, class_of(status), bytes.keep(alloc)?))?;
     Ok(begun)
 }
 
@@ -118,33 +113,45 @@ impl Plan {
         })
     }
 
-    /// A response that no transaction sends.
-    pub fn replies(alloc: Global, to: Addr, response: &Response<'_>) -> Result<Plan, AllocError>
-        ensures { IfOk result (λ p. p ≡ replies to response.now) }
+    /// A response that no transaction sends, of which these are the bytes.
+    pub fn replies(alloc: Global, to: Addr, bytes: Text<'static>) -> Result<Plan, AllocError>
+        ensures { IfOk result (λ p. p ≡ record {
+          taken = Done;
+          changes = [];
+          sends = record { to = to; bytes = bytes.entry } ∷ [];
+          registration = None;
+          made = 0;
+        }) }
     {
-        let sends = one_send(alloc, response_sent(alloc, to, response)?)?;
         Ok(Plan {
             taken: Taken::Done,
             changes: Vec::new(alloc),
-            sends,
+            sends: one_send(alloc, Sent { to, bytes })?,
             registration: None,
             made: 0,
         })
     }
 
-    /// A request began transaction `id`, and is answered there at once.
+    /// A request began transaction `id`, and is answered there at once, with a response of this status, of which these are the bytes.
     pub(crate) fn answers(
         alloc: Global,
         begun: Vec<Change>,
         id: usize,
         to: Addr,
-        response: &Response<'_>,
+        status: u16,
+        bytes: Text<'static>,
         made: u8,
     ) -> Result<Plan, AllocError>
-        ensures { IfOk result (λ p. p ≡ answers begun.items id to response.now None made) }
+        ensures { IfOk result (λ p. p ≡ record {
+          taken = Done;
+          changes = begun.items ++ Answers id (class_of status) bytes.entry ∷ [];
+          sends = record { to = to; bytes = bytes.entry } ∷ [];
+          registration = None;
+          made = made;
+        }) }
     {
-        let sends = one_send(alloc, response_sent(alloc, to, response)?)?;
-        let changes = answered(alloc, begun, id, response)?;
+        let changes = answered(alloc, begun, id, status, &bytes)?;
+        let sends = one_send(alloc, Sent { to, bytes })?;
         Ok(Plan {
             taken: Taken::Done,
             changes,

@@ -7,7 +7,7 @@ ghost use Rattle.sip_writing.specs.Reply.{answer_address};
 ghost use Rattle.registrar.specs.declared.binding.Binding.{Binding};
 ghost use Rattle.registrar.specs.Registering.{AllLast};
 ghost use Rattle.registrar.specs.Registrar.{Fails};
-ghost use Rattle.responses.specs.Responding.{allow, stateless};
+ghost use Rattle.responses.specs.Responding.{allow, responds, stateless};
 ghost use Rattle.sip_message.specs.Lookup.{named};
 ghost use Rattle.plans.specs.Replies.{cancels, fresh_tag, not_registered, registers, registers_by, reply_row, responds_in, tag_in, tag_of, tag_sent, tags_made, unsupported};
 ghost use Rattle.plans.specs.Plan.{answers};
@@ -23,9 +23,7 @@ use responses::{
     STATELESS, allow_header, contact_headers, refusal_headers, register_of, response_with,
     status_of, token, unsupported_header,
 };
-use sip_message::{
-    Header, Message, MessageError, Request, Response, has_tag, read_message, tag_value,
-};
+use sip_message::{Header, Message, MessageError, Request, has_tag, read_message, tag_value};
 use sip_writing::reply_address;
 use std::alloc::{AllocError, Global};
 use text::Text;
@@ -102,22 +100,27 @@ fn tags_made(request: &Request<'_>) -> u8
     }
 }
 
-/// The plan of a response, which is let go.
+/// The plan of a response to a request that began transaction `id`: its status, the tag that To is given where it has none, and further
+/// header fields.
+#[tactic(auto, unfolding(responses::specs::Responding::responds, sip_writing::specs::Reply::reply_of))]
 fn answers(
     alloc: Global,
     e: Setting,
     request: &Request<'_>,
     begun: Vec<Change>,
     id: usize,
-    response: Response<'static>,
+    status: u16,
+    tag: &[u8],
+    further: &[Header<'_>],
     made: u8,
 ) -> Result<Plan, AllocError>
-    ensures { IfOk result (λ p. p ≡ answers begun.items id (answer_address request.now.parts.vias e.source) response.entry None made) }
+    ensures { IfOk result (λ p. p ≡ answers begun.items id (answer_address request.now.parts.vias e.source)
+        (responds request.now.parts e.source status tag.now further.now) None made) }
 {
-    let to = reply_address(&request.parts, e.source);
-    let plan = Plan::answers(alloc, begun, id, to, &response, made);
-    let_go(response);
-    plan
+    let parts = &request.parts;
+    let to = reply_address(parts, e.source);
+    let bytes = response_with(alloc, parts, e.source, status, tag, further)?;
+    Plan::answers(alloc, begun, id, to, status, bytes, made)
 }
 
 impl<'o> Office<'o> {
@@ -152,17 +155,19 @@ impl<'o> Office<'o> {
         ensures { IfOk result (λ p. p ≡ responds_in self.now e request.now begun.items id status further.entry.items None) }
     {
         let tag = self.fresh_tag(e)?;
-        let parts = &request.parts;
-        let response = response_with(self.alloc, parts, e.source, status, tag.as_bytes(), further)?;
-        answers(
+        let planned = answers(
             self.alloc,
             e,
             request,
             begun,
             id,
-            response,
+            status,
+            tag.as_bytes(),
+            &further,
             tags_made(request),
-        )
+        );
+        let_go(further);
+        planned
     }
 
     #[inline(never)]
@@ -177,10 +182,8 @@ impl<'o> Office<'o> {
         ensures { IfOk result (λ p. p ≡ cancels self.now e request.now begun.items id other) }
     {
         let tag = self.tag_sent(other)?;
-        let further = Vec::new(self.alloc);
-        let parts = &request.parts;
-        let response = response_with(self.alloc, parts, e.source, 200, tag.as_bytes(), further)?;
-        answers(self.alloc, e, request, begun, id, response, 0)
+        let tag = tag.as_bytes();
+        answers(self.alloc, e, request, begun, id, 200, tag, &[], 0)
     }
 
     #[inline(never)]

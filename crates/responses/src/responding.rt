@@ -1,21 +1,20 @@
 //! The responses of the server's own.
 
-ghost use Rattle.std.specs.Prelude.{◌≡◌, ◌++◌, [], ◌∷◌, codes, map, nat_lt, IfOk, OnOk, true};
+ghost use Rattle.std.specs.Prelude.{◌≡◌, [], ◌∷◌, codes, map, nat_lt, IfOk, true};
 ghost use Rattle.sip_message.specs.Lookup.{named};
 ghost use Rattle.sip_message.specs.declared.message.Message.TheVariants as Kinds;
-ghost use Rattle.sip_writing.specs.Reply.{reply_of};
 ghost use Rattle.sip_writing.specs.Writing.{message_text};
 ghost use Rattle.registrar.specs.Registering.{AllLast};
-ghost use Rattle.responses.specs.Responding.{allow, contact_header, min_expires_header, refusal_headers, responds, status_of, with_headers};
+ghost use Rattle.responses.specs.Responding.{allow, contact_header, min_expires_header, refusal_headers, responds, status_of};
 ghost use Rattle.responses.specs.Tags.{joined_tags, required_tags};
 
 use crate::tags::required;
 use registrar::{Binding, Refusal};
-use sip_message::{Header, Headers, Parts, Response};
+use sip_message::{Header, Parts};
 use sip_uri::{Addr, put_uri};
-use sip_writing::reply_to;
+use sip_writing::{Reply, write_reply};
 use std::alloc::{AllocError, Global};
-use text::put_number;
+use text::{Text, put_number};
 
 /// The methods that are offered.
 const ALLOW: &[u8] = b"INVITE, ACK, CANCEL, BYE, REGISTER, OPTIONS, UPDATE";
@@ -23,30 +22,27 @@ const ALLOW: &[u8] = b"INVITE, ACK, CANCEL, BYE, REGISTER, OPTIONS, UPDATE";
 /// The tag of To in a response that no transaction sends.
 pub const STATELESS: &[u8] = b"stateless";
 
-fn push_all(headers: &mut Headers<'static>, further: Vec<Header<'static>>) -> Result<(), AllocError>
-    ensures { OnOk result (headers.new ≡ headers.old ++ further.entry.items) }
-{
-    for header in further {
-        headers.push(header)?;
-    }
-    Ok(())
-}
-
-/// A response without a body: what it repeats of the request, and further header fields.
-#[tactic(auto, unfolding(crate::specs::Responding::responds))]
+/// The bytes of a response without a body: what it repeats of the request, and further header fields.
+#[tactic(auto, unfolding(crate::specs::Responding::responds, sip_writing::specs::Reply::reply_of))]
 pub fn response_with(
     alloc: Global,
     parts: &Parts<'_>,
     source: Addr,
     status: u16,
     tag: &[u8],
-    further: Vec<Header<'static>>,
-) -> Result<Response<'static>, AllocError>
-    ensures { IfOk result (λ r. r ≡ responds parts.now source status tag.now further.entry.items) }
+    further: &[Header<'_>],
+) -> Result<Text<'static>, AllocError>
+    ensures { IfOk result (λ t. t ≡ message_text (Kinds.Response (responds parts.now source status tag.now further.now))) }
 {
-    let mut response = reply_to(alloc, parts, source, status, tag)?;
-    push_all(&mut response.headers, further)?;
-    Ok(response)
+    let reply = Reply {
+        parts,
+        source,
+        status,
+        tag,
+        further,
+        body: &[],
+    };
+    write_reply(alloc, &reply)
 }
 
 fn one_header(alloc: Global, header: Header<'static>) -> Result<Vec<Header<'static>>, AllocError>
