@@ -2,11 +2,21 @@
 use Rattle.std.specs.Prelude.{◌≡◌, ◌≢◌, ◌==◌, ℕ, true, false, cond, List, ◌∷◌, All, find, option_and_then, Some, None}
 use Rattle.std.proofs.Common.{refl, sym, ap, ◌∙◌, true≢false}
 use Rattle.std.proofs.lemmas.Bool.{eqb-true}
-use Rattle.port_pool.specs.Holdings.{even_of, is_among}
+use Rattle.port_pool.specs.Holdings.{even_of, holder_at, is_among}
 use Rattle.port_pool.specs.declared.pair.Pair.{Pair}
+use Rattle.std.proofs.lemmas.List.Elements.{All-cons}
 use Rattle.std.proofs.lemmas.List.Kept.{AllPairs-cons}
-use Rattle.port_pool.specs.Pool.{StandOnce, hop_of}
+use Rattle.port_pool.specs.Pool.{AreOwn, Contents, StandOnce, hop_of}
 use Rattle.port_pool.specs.declared.relay_line.RelayLine.{RelayLine}
+
+-- no line is of a port, where the first is not, and no other is
+pub others_cons : (port : ℕ) (l : RelayLine) (ls : List RelayLine) → port ≢ l.port → All (λ m. port ≢ m.port) ls → All (λ m. port ≢ m.port) (l ∷ ls)
+others_cons port l ls one others = All-cons (λ m. port ≢ m.port) l ls one others
+
+-- lines are all of ports of a call, where the first is, and the others are
+pub own_cons : (pool : Contents) (call : ℕ) (l : RelayLine) (ls : List RelayLine) → holder_at pool.holdings l.port ≡ Some call
+    → AreOwn pool call ls → AreOwn pool call (l ∷ ls)
+own_cons pool call l ls one others = All-cons (λ m. holder_at pool.holdings m.port ≡ Some call) l ls one others
 
 -- no port stands in two lines, where that of the first line stands in none of the others
 pub stand_once_cons : (l : RelayLine) (ls : List RelayLine) → All (λ m. l.port ≢ m.port) ls → StandOnce ls → StandOnce (l ∷ ls)

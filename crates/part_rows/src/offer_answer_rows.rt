@@ -4,14 +4,14 @@ use crate::readdress_rows::{put_sent_read, put_sent_text};
 use crate::sdp_rows::put_fault;
 use crate::session_rows::put_session;
 use crate::stream_words::put_streams;
+use crate::telling::word_or_none;
 use offer_answer::{
     OwnRange, alike_is_equivalence, check_answer, check_offer, destination, fewer_rows, held_call,
     hold_passes, joined_is_direct, meaning, plain_call, relayed_is_direct, rows_lead,
     rows_of_session_stand, sent_is_read,
 };
-use rows::{number, outcome_after, put_address};
-use sdp::{Description, DescriptionError, read_description};
-use std::alloc::{AllocError, Global};
+use rows::{Output, let_go, number};
+use sdp::{Description, read_description};
 use std::fmt::Display;
 
 const RANGE: OwnRange = OwnRange {
@@ -27,103 +27,56 @@ const HOLD_RANGE: OwnRange = OwnRange {
     last: 40015,
 };
 
-/// The text of a description of 192.0.2.10 with this connection line and these media lines.
-fn text_of(alloc: Global, connection: &[u8], media: &[u8]) -> Result<Vec<u8>, AllocError> {
-    let mut text = Vec::from_slice(alloc, b"v=0\no=x 1 1 IN IP4 192.0.2.10\ns=-\nc=IN ")?;
-    text.extend_from_slice(connection)?;
-    text.extend_from_slice(b"\nt=0 0\n")?;
-    text.extend_from_slice(media)?;
-    Ok(text)
-}
+/// The connection line of the offer that an answer is checked against.
+const OFFERER: &[u8] = b"IP4 192.0.2.10";
 
-fn push_description<'a>(
-    alloc: Global,
-    found: &mut Vec<Description<'a>>,
-    text: &'a [u8],
-) -> Result<(), DescriptionError> {
-    match read_description(alloc, text) {
-        Ok(description) => Ok(found.push(description)?),
-        Err(fault) => Err(fault),
-    }
-}
+/// The connection line of what the server sends on.
+const SERVER: &[u8] = b"IP4 192.0.2.1";
 
-fn push_descriptions<'a>(
-    alloc: Global,
-    found: &mut Vec<Description<'a>>,
-    texts: &'a [Vec<u8>],
-) -> Result<(), DescriptionError> {
-    for text in texts {
-        push_description(alloc, found, text)?;
-    }
-    Ok(())
-}
-
-/// The descriptions of these texts.
-fn descriptions(
-    alloc: Global,
-    texts: &[Vec<u8>],
-) -> Result<Vec<Description<'_>>, DescriptionError> {
-    let mut found = Vec::new(alloc);
-    match push_descriptions(alloc, &mut found, texts) {
-        Ok(()) => Ok(found),
-        Err(fault) => outcome_after(found, Err(fault)),
-    }
-}
+const NOWHERE: &[u8] = b"IP4 0.0.0.0";
 
 /// Writes that a description was taken, or the letter and the words of the fault.
-fn put_taken<E: Display + Drop>(
-    out: &mut String,
-    outcome: Result<(), E>,
-) -> Result<(), AllocError> {
+fn put_taken<E: Display + Drop>(out: &mut Output, outcome: Result<(), E>) {
     match outcome {
-        Ok(()) => out.push_str("taken"),
-        Err(fault) => write!(out, "{fault}"),
+        Ok(()) => out.put("taken"),
+        Err(fault) => out.put_fault(fault),
     }
 }
 
 /// What an offer and an answer mean, which have as many media.
-fn put_meaning(
-    alloc: Global,
-    out: &mut String,
-    offer: &Description<'_>,
-    answer: &Description<'_>,
-) -> Result<(), AllocError> {
+fn put_meaning(out: &mut Output, offer: &Description<'_>, answer: &Description<'_>) {
     if offer.media.as_slice().len() != answer.media.as_slice().len() {
-        return out.push_str("other number of media");
+        return out.put("other number of media");
     }
-    let streams = meaning(alloc, offer, answer)?;
-    let outcome = put_streams(out, &streams);
-    outcome_after(streams, outcome)
+    match meaning(out.alloc(), offer, answer) {
+        Ok(streams) => {
+            put_streams(out, &streams);
+            let_go(streams);
+        }
+        Err(_) => out.no_memory(),
+    }
 }
 
-fn put_hold_checks(
-    out: &mut String,
-    offer: &Description<'_>,
-    answer: &Description<'_>,
-) -> Result<(), AllocError> {
-    out.push_str("offer ")?;
-    put_taken(out, check_offer(offer, None, HOLD_RANGE))?;
-    out.push_str(", answer ")?;
-    put_taken(out, check_answer(offer, answer, HOLD_RANGE))
+fn put_hold_checks(out: &mut Output, offer: &Description<'_>, answer: &Description<'_>) {
+    out.put("offer ");
+    put_taken(out, check_offer(offer, None, HOLD_RANGE));
+    out.put(", answer ");
+    put_taken(out, check_answer(offer, answer, HOLD_RANGE));
 }
 
 /// Where media for the first medium are sent.
-fn put_destination(out: &mut String, description: &Description<'_>) -> Result<(), AllocError> {
+fn put_destination(out: &mut Output, description: &Description<'_>) {
     let Some(medium) = description.media.as_slice().first() else {
-        return out.push_str("no medium");
+        return out.put("no medium");
     };
     match destination(description, medium) {
-        Some(address) => put_address(out, address),
-        None => out.push_str("nowhere"),
+        Some(address) => out.put_address(address),
+        None => out.put("nowhere"),
     }
 }
 
 /// What a call on one description answers.
-fn put_of_one(
-    out: &mut String,
-    call: &str,
-    description: &Description<'_>,
-) -> Result<(), AllocError> {
+fn put_of_one(out: &mut Output, call: &str, description: &Description<'_>) {
     match call {
         "destination" => put_destination(out, description),
         _ => put_taken(out, check_offer(description, None, RANGE)),
@@ -131,34 +84,22 @@ fn put_of_one(
 }
 
 /// What a call on two descriptions answers: an offer and the one that its end gave before, or an offer and an answer.
-fn put_of_two(
-    alloc: Global,
-    out: &mut String,
-    call: &str,
-    offer: &Description<'_>,
-    other: &Description<'_>,
-) -> Result<(), AllocError> {
+fn put_of_two(out: &mut Output, call: &str, offer: &Description<'_>, other: &Description<'_>) {
     match call {
         "check_offer" => put_taken(out, check_offer(offer, Some(other), RANGE)),
         "check_answer" => put_taken(out, check_answer(offer, other, RANGE)),
-        "meaning" => put_meaning(alloc, out, offer, other),
+        "meaning" => put_meaning(out, offer, other),
         _ => put_hold_checks(out, offer, other),
     }
 }
 
 /// What a call on descriptions answers: one, two, or the four of a session.
-fn put_by(
-    alloc: Global,
-    out: &mut String,
-    call: &str,
-    descriptions: &[Description<'_>],
-) -> Result<(), AllocError> {
+fn put_by(out: &mut Output, call: &str, descriptions: &[Description<'_>]) {
     match descriptions {
         [one] => put_of_one(out, call, one),
-        [offer, other] => put_of_two(alloc, out, call, offer, other),
+        [offer, other] => put_of_two(out, call, offer, other),
         [offer_taken, answer_sent, offer_sent, answer_taken] => {
             put_session(
-                alloc,
                 out,
                 call,
                 offer_taken,
@@ -167,136 +108,86 @@ fn put_by(
                 answer_taken,
             )
         }
-        _ => out.push_str("no description"),
+        _ => out.put("no description"),
+    }
+}
+
+/// The same where each of so many was read.
+fn put_by_all(out: &mut Output, call: &str, descriptions: &[Description<'_>], all: usize) {
+    if descriptions.len() == all {
+        put_by(out, call, descriptions);
+    }
+}
+
+/// Reads descriptions up to the first that is none, whose fault is written.
+fn push_descriptions<'a>(out: &mut Output, found: &mut Vec<Description<'a>>, texts: &'a [Vec<u8>]) {
+    for text in texts {
+        match read_description(out.alloc(), text) {
+            Ok(description) => out.push(found, description),
+            Err(fault) => return put_fault(out, fault),
+        }
     }
 }
 
 /// What a call answers of the descriptions of these texts.
-fn put_told(
-    alloc: Global,
-    out: &mut String,
-    call: &str,
-    texts: &[Vec<u8>],
-) -> Result<(), AllocError> {
-    match descriptions(alloc, texts) {
-        Ok(found) => {
-            let outcome = put_by(alloc, out, call, &found);
-            outcome_after(found, outcome)
-        }
-        Err(fault) => put_fault(out, fault),
+fn put_told(out: &mut Output, call: &str, texts: &[Vec<u8>]) {
+    let mut found = out.list();
+    push_descriptions(out, &mut found, texts);
+    put_by_all(out, call, &found, texts.len());
+    let_go(found);
+}
+
+/// The text of a description of 192.0.2.10 with this connection line and these media lines.
+fn push_text(out: &mut Output, texts: &mut Vec<Vec<u8>>, connection: &[u8], media: &[u8]) {
+    let mut text = out.list();
+    out.extend(&mut text, b"v=0\no=x 1 1 IN IP4 192.0.2.10\ns=-\nc=IN ");
+    out.extend(&mut text, connection);
+    out.extend(&mut text, b"\nt=0 0\n");
+    out.extend(&mut text, media);
+    out.push(texts, text);
+}
+
+/// The text of the description that an end gave before, where the row has one.
+fn push_previous(out: &mut Output, texts: &mut Vec<Vec<u8>>, previous: Option<&[u8]>) {
+    if let Some(previous) = previous {
+        let mut text = out.list();
+        out.extend(&mut text, previous);
+        out.push(texts, text);
     }
 }
 
-/// The same of texts that are let go behind it, if memory was found for them.
-fn put_of_texts(
-    alloc: Global,
-    out: &mut String,
-    call: &str,
-    texts: Vec<Vec<u8>>,
-    outcome: Result<(), AllocError>,
-) -> Result<(), AllocError> {
-    match outcome {
-        Ok(()) => {
-            let told = put_told(alloc, out, call, &texts);
-            outcome_after(texts, told)
-        }
-        Err(fault) => outcome_after(texts, Err(fault)),
-    }
-}
-
-fn push_text(
-    alloc: Global,
-    texts: &mut Vec<Vec<u8>>,
-    connection: &[u8],
-    media: &[u8],
-) -> Result<(), AllocError> {
-    texts.push(text_of(alloc, connection, media)?)?;
-    Ok(())
-}
-
-/// The texts of an offer, and of the description that its end gave before where the row has one.
-fn push_offer(
-    alloc: Global,
-    texts: &mut Vec<Vec<u8>>,
-    connection: &[u8],
-    media: &[u8],
-    previous: &[u8],
-) -> Result<(), AllocError> {
-    push_text(alloc, texts, connection, media)?;
-    if previous != b"-".as_slice() {
-        texts.push(Vec::from_slice(alloc, previous)?)?;
-    }
-    Ok(())
-}
-
-/// What a call answers of a description of this connection and these media: behind the one that its end gave before, or as the
-/// first for `-`.
-fn put_offer(
-    alloc: Global,
-    out: &mut String,
-    call: &str,
-    connection: &[u8],
-    media: &[u8],
-    previous: &[u8],
-) -> Result<(), AllocError> {
-    let mut texts = Vec::new(alloc);
-    let outcome = push_offer(alloc, &mut texts, connection, media, previous);
-    put_of_texts(alloc, out, call, texts, outcome)
-}
-
-fn push_pair(
-    alloc: Global,
-    texts: &mut Vec<Vec<u8>>,
-    at: &[u8],
-    offer: &[u8],
-    from: &[u8],
-    answer: &[u8],
-) -> Result<(), AllocError> {
-    push_text(alloc, texts, at, offer)?;
-    push_text(alloc, texts, from, answer)
+/// What a call answers of an offer, behind the description that the same end gave before, or of the first for `-`.
+fn put_offer(out: &mut Output, call: &str, connection: &[u8], media: &[u8], previous: &[u8]) {
+    let mut texts = out.list();
+    push_text(out, &mut texts, connection, media);
+    push_previous(out, &mut texts, word_or_none(previous));
+    put_told(out, call, &texts);
 }
 
 /// What a call answers of an offer at a place and an answer from another.
-fn put_pair(
-    alloc: Global,
-    out: &mut String,
-    call: &str,
-    at: &[u8],
-    offer: &[u8],
-    from: &[u8],
-    answer: &[u8],
-) -> Result<(), AllocError> {
-    let mut texts = Vec::new(alloc);
-    let outcome = push_pair(alloc, &mut texts, at, offer, from, answer);
-    put_of_texts(alloc, out, call, texts, outcome)
-}
-
-/// The texts of a session: of the offer, of what was sent on in place of the answer and of the offer, and of the answer.
-fn push_session(alloc: Global, texts: &mut Vec<Vec<u8>>, args: &[&[u8]]) -> Result<(), AllocError> {
-    let [at, offer, for_answer, for_offer, from, answer] = args else {
-        return Ok(());
-    };
-    push_text(alloc, texts, at, offer)?;
-    push_text(alloc, texts, b"IP4 192.0.2.1", for_answer)?;
-    push_text(alloc, texts, b"IP4 192.0.2.1", for_offer)?;
-    push_text(alloc, texts, from, answer)
+fn put_pair(out: &mut Output, call: &str, at: &[u8], offer: &[u8], from: &[u8], answer: &[u8]) {
+    let mut texts = out.list();
+    push_text(out, &mut texts, at, offer);
+    push_text(out, &mut texts, from, answer);
+    put_told(out, call, &texts);
 }
 
 /// What a call on a session answers, of which the row has the connection and media of the offer, the media of what was sent
 /// on in place of the answer and of the offer, and connection and media of the answer.
-fn put_of_session(
-    alloc: Global,
-    out: &mut String,
-    call: &str,
-    args: &[&[u8]],
-) -> Result<(), AllocError> {
-    let mut texts = Vec::new(alloc);
-    let outcome = push_session(alloc, &mut texts, args);
-    put_of_texts(alloc, out, call, texts, outcome)
+fn put_of_session(out: &mut Output, call: &str, args: &[&[u8]]) {
+    let [at, offer, for_answer, for_offer, from, answer] = args else {
+        return out.no_such_row();
+    };
+    let mut texts = out.list();
+    push_text(out, &mut texts, at, offer);
+    push_text(out, &mut texts, SERVER, for_answer);
+    push_text(out, &mut texts, SERVER, for_offer);
+    push_text(out, &mut texts, from, answer);
+    put_told(out, call, &texts);
 }
 
 /// Calls what has a law for its contract.
-fn put_laws(out: &mut String) -> Result<(), AllocError> {
+fn put_laws(out: &mut Output) {
     alike_is_equivalence();
     joined_is_direct();
     rows_lead();
@@ -307,84 +198,68 @@ fn put_laws(out: &mut String) -> Result<(), AllocError> {
     plain_call();
     held_call();
     fewer_rows();
-    out.push_str("called")
+    out.put("called");
+}
+
+/// What a call without words answers, if it is one.
+fn put_plain(out: &mut Output, call: &str) {
+    match call {
+        "laws" => put_laws(out),
+        _ => out.no_such_row(),
+    }
+}
+
+/// What a call on media answers, if it is one: `hold_checks` is of an offer and an answer at 0.0.0.0, by a server there.
+fn put_of_media(out: &mut Output, call: &str, media: &[u8]) {
+    match call {
+        "hold_checks" => put_pair(out, call, NOWHERE, media, NOWHERE, media),
+        _ => out.no_such_row(),
+    }
+}
+
+/// What a call on media at a place answers, if it is one.
+fn put_of_place(out: &mut Output, call: &str, at: &[u8], media: &[u8]) {
+    match call {
+        "destination" => put_offer(out, call, at, media, b"-"),
+        _ => out.no_such_row(),
+    }
 }
 
 /// What a call on three words answers, if it is one: `check_answer` is of an answer from a place, to an offer at 192.0.2.10.
-fn put_of_three(
-    alloc: Global,
-    out: &mut String,
-    call: &str,
-    one: &[u8],
-    two: &[u8],
-    three: &[u8],
-) -> Option<Result<(), AllocError>> {
+fn put_of_three(out: &mut Output, call: &str, one: &[u8], two: &[u8], three: &[u8]) {
     match call {
-        "check_offer" => Some(put_offer(alloc, out, call, one, two, three)),
-        "check_answer" => Some(put_pair(alloc, out, call, b"IP4 192.0.2.10", one, two, three)),
-        "read_again" => Some(put_sent_read(alloc, out, one, two, three)),
-        _ => None,
+        "check_offer" => put_offer(out, call, one, two, three),
+        "check_answer" => put_pair(out, call, OFFERER, one, two, three),
+        "read_again" => put_sent_read(out, one, two, three),
+        _ => out.no_such_row(),
     }
 }
 
 /// What a call on four words answers, if it is one.
-fn put_of_four(
-    alloc: Global,
-    out: &mut String,
-    call: &str,
-    one: &[u8],
-    two: &[u8],
-    three: &[u8],
-    four: &[u8],
-) -> Option<Result<(), AllocError>> {
+fn put_of_four(out: &mut Output, call: &str, one: &[u8], two: &[u8], three: &[u8], four: &[u8]) {
     match call {
-        "meaning" => Some(put_pair(alloc, out, call, one, two, three, four)),
-        "readdress" => { Some(put_sent_text(alloc, out, one, number(two), number(three), four)) }
-        _ => None,
+        "meaning" => put_pair(out, call, one, two, three, four),
+        "readdress" => put_sent_text(out, one, number(two), number(three), four),
+        _ => out.no_such_row(),
     }
 }
 
-/// What a call on the words of a session answers, if it is one.
-fn put_of_six(
-    alloc: Global,
-    out: &mut String,
-    call: &str,
-    args: &[&[u8]],
-) -> Option<Result<(), AllocError>> {
-    match call {
-        "session_lines" => Some(put_of_session(alloc, out, call, args)),
-        "plan_session" => Some(put_of_session(alloc, out, call, args)),
-        _ => None,
-    }
-}
-
-/// Writes what the row's call answers, if it is one of `offer_answer`: `hold_checks` is of an offer and an answer at 0.0.0.0, by a
-/// server there.
-pub(crate) fn put_answer(
-    alloc: Global,
-    out: &mut String,
-    call: &str,
-    args: &[&[u8]],
-) -> Option<Result<(), AllocError>> {
+/// What a call on so many words answers, if it is one.
+fn put_of_words(out: &mut Output, call: &str, args: &[&[u8]]) {
     match args {
-        [] if call == "laws" => Some(put_laws(out)),
-        [media] if call == "hold_checks" => {
-            Some(put_pair(
-                alloc,
-                out,
-                call,
-                b"IP4 0.0.0.0",
-                media,
-                b"IP4 0.0.0.0",
-                media,
-            ))
-        }
-        [at, media] if call == "destination" => {
-            Some(put_offer(alloc, out, call, at, media, b"-"))
-        }
-        [one, two, three] => put_of_three(alloc, out, call, one, two, three),
-        [one, two, three, four] => put_of_four(alloc, out, call, one, two, three, four),
-        [_, _, _, _, _, _] => put_of_six(alloc, out, call, args),
-        _ => None,
+        [] => put_plain(out, call),
+        [media] => put_of_media(out, call, media),
+        [at, media] => put_of_place(out, call, at, media),
+        [one, two, three] => put_of_three(out, call, one, two, three),
+        [one, two, three, four] => put_of_four(out, call, one, two, three, four),
+        _ => out.no_such_row(),
+    }
+}
+
+/// Writes what the row's call answers, if it is one of `offer_answer`.
+pub(crate) fn put_answer(out: &mut Output, call: &str, args: &[&[u8]]) {
+    match call {
+        "session_lines" | "plan_session" => put_of_session(out, call, args),
+        _ => put_of_words(out, call, args),
     }
 }

@@ -1,16 +1,10 @@
 //! Rows of calls of `port_pool`.
 
 use crate::port_pool_words::{put_changes, put_fault, put_pairs, put_row};
-use crate::relay_line_rows::{put_changed, put_kept, put_lines};
+use crate::relay_line_rows::{put_changed, put_commit, put_kept, put_lines};
 use port_pool::{Pair, Pool};
-use rows::{number, outcome_after, put_number_or_none, replace, u16_of, usize_of};
+use rows::{Output, number, replace, u16_of, usize_of};
 use std::alloc::{AllocError, Global};
-
-/// The pool that earlier rows left, if any made one.
-#[derive(Drop)]
-pub(crate) struct PortPoolRows {
-    pool: Option<Pool>,
-}
 
 /// A pool as wide as the row says, where there can be one.
 fn pool_of(alloc: Global, first: u16, pairs: u16) -> Result<Option<Pool>, AllocError> {
@@ -22,207 +16,153 @@ fn pool_of(alloc: Global, first: u16, pairs: u16) -> Result<Option<Pool>, AllocE
 }
 
 /// Gives a pair back, where its ports have no row.
-fn release(
-    out: &mut String,
-    pool: &mut Pool,
-    call: u64,
-    even: u16,
-    now: u64,
-) -> Result<(), AllocError> {
+fn release(out: &mut Output, pool: &mut Pool, call: u64, even: u16, now: u64) {
     if even == u16::MAX || pool.hop(even).is_some() || pool.hop(even + 1).is_some() {
-        return out.push_str("the pair has a row");
+        return out.put("the pair has a row");
     }
     match pool.release(call, Pair { even }, now) {
-        Ok(()) => out.push_str("free"),
+        Ok(()) => out.put("free"),
         Err(fault) => put_fault(out, fault),
     }
 }
 
 /// Frees a pair that a call holds, where its ports have no row.
-fn free(out: &mut String, pool: &mut Pool, even: u16, now: u64) -> Result<(), AllocError> {
+fn free(out: &mut Output, pool: &mut Pool, even: u16, now: u64) {
     if even == u16::MAX || pool.hop(even).is_some() || pool.hop(even + 1).is_some() {
-        return out.push_str("the pair has a row");
+        return out.put("the pair has a row");
     }
     if even % 2 == 1 || pool.holder(even).is_none() {
-        return out.push_str("nobody's pair");
+        return out.put("nobody's pair");
     }
     pool.free(Pair { even }, now);
-    out.push_str("free")
+    out.put("free");
 }
 
 /// Ends a call by its plan.
-fn end_call(out: &mut String, pool: &mut Pool, call: u64, now: u64) -> Result<(), AllocError> {
-    let removals = pool.plan_drop(call)?;
-    pool.end_call(call, &removals, now);
-    outcome_after(removals, out.push_str("ended"))
+fn end_call(out: &mut Output, pool: &mut Pool, call: u64, now: u64) {
+    match pool.plan_drop(call) {
+        Ok(removals) => {
+            pool.end_call(call, &removals, now);
+            out.put("ended");
+        }
+        Err(_) => out.no_memory(),
+    }
 }
 
 /// Gives a call the pairs that it would get.
-fn hold(
-    out: &mut String,
-    pool: &mut Pool,
-    call: u64,
-    pairs: usize,
-    now: u64,
-) -> Result<(), AllocError> {
+fn hold(out: &mut Output, pool: &mut Pool, call: u64, pairs: usize, now: u64) {
     match pool.plan_reserve(pairs, now) {
         Ok(planned) => {
             pool.hold(call, &planned, now);
-            outcome_after(planned, out.push_str("held"))
+            out.put("held");
         }
         Err(fault) => put_fault(out, fault),
     }
 }
 
-/// What would end with a call.
-fn put_planned_drop(out: &mut String, pool: &Pool, call: u64) -> Result<(), AllocError> {
-    put_changes(out, pool.plan_drop(call)?)
-}
-
-/// What ends with a call.
-fn put_drop(out: &mut String, pool: &mut Pool, call: u64, now: u64) -> Result<(), AllocError> {
-    put_changes(out, pool.drop_call(call, now)?)
-}
-
 /// Calls what has a law for its contract.
-fn put_laws(out: &mut String, pool: &Pool) -> Result<(), AllocError> {
+fn put_laws(out: &mut Output, pool: &Pool) {
     pool.pairs_never_meet();
-    out.push_str("called")
+    out.put("called");
+}
+
+/// What a call without words answers, if it is one.
+fn put_plain(out: &mut Output, pool: &Pool, call: &str) {
+    match call {
+        "laws" => put_laws(out, pool),
+        _ => out.no_such_row(),
+    }
 }
 
 /// What a call on a port, or on a call's number, answers, if it is one.
-fn put_of_one(
-    out: &mut String,
-    pool: &Pool,
-    call: &str,
-    word: &[u8],
-) -> Option<Result<(), AllocError>> {
+fn put_of_one(out: &mut Output, pool: &Pool, call: &str, word: &[u8]) {
     match call {
-        "holder" => Some(put_number_or_none(out, pool.holder(u16_of(word)))),
-        "hop" => Some(put_row(out, pool.hop(u16_of(word)))),
-        "table" => Some(put_row(out, pool.table().hop(u16_of(word)))),
-        "plan_drop" => Some(put_planned_drop(out, pool, number(word))),
-        _ => None,
+        "holder" => out.put_number_or_none(pool.holder(u16_of(word))),
+        "hop" => put_row(out, pool.hop(u16_of(word))),
+        "table" => put_row(out, pool.table().hop(u16_of(word))),
+        "plan_drop" => put_changes(out, pool.plan_drop(number(word))),
+        _ => out.no_such_row(),
     }
 }
 
 /// What a call at a moment, on a pair or on a call, answers, if it is one.
-fn put_of_two(
-    out: &mut String,
-    pool: &mut Pool,
-    call: &str,
-    now: u64,
-    word: &[u8],
-) -> Option<Result<(), AllocError>> {
+fn put_of_two(out: &mut Output, pool: &mut Pool, call: &str, now: u64, word: &[u8]) {
     match call {
-        "plan_reserve" => Some(put_pairs(out, pool.plan_reserve(usize_of(word), now))),
-        "free" => Some(free(out, pool, u16_of(word), now)),
-        "end_call" => Some(end_call(out, pool, number(word), now)),
-        "drop_call" => Some(put_drop(out, pool, number(word), now)),
-        _ => None,
+        "plan_reserve" => put_pairs(out, pool.plan_reserve(usize_of(word), now)),
+        "free" => free(out, pool, u16_of(word), now),
+        "end_call" => end_call(out, pool, number(word), now),
+        "drop_call" => put_changes(out, pool.drop_call(number(word), now)),
+        _ => out.no_such_row(),
     }
 }
 
 /// What a call at a moment, on a call and its pairs, answers, if it is one.
-fn put_of_three(
-    out: &mut String,
-    pool: &mut Pool,
-    call: &str,
-    now: u64,
-    owner: u64,
-    word: &[u8],
-) -> Option<Result<(), AllocError>> {
+fn put_of_three(out: &mut Output, pool: &mut Pool, call: &str, now: u64, owner: u64, word: &[u8]) {
     match call {
-        "reserve" => Some(put_pairs(out, pool.reserve(owner, usize_of(word), now))),
-        "release" => Some(release(out, pool, owner, u16_of(word), now)),
-        "hold" => Some(hold(out, pool, owner, usize_of(word), now)),
-        _ => None,
+        "reserve" => put_pairs(out, pool.reserve(owner, usize_of(word), now)),
+        "release" => release(out, pool, owner, u16_of(word), now),
+        "hold" => hold(out, pool, owner, usize_of(word), now),
+        _ => out.no_such_row(),
     }
 }
 
 /// What a call of the pool answers that has so many words, if there is one.
-fn put_of_words(
-    out: &mut String,
-    pool: &mut Pool,
-    call: &str,
-    args: &[&[u8]],
-) -> Option<Result<(), AllocError>> {
+fn put_of_words(out: &mut Output, pool: &mut Pool, call: &str, args: &[&[u8]]) {
     match args {
-        [] if call == "laws" => Some(put_laws(out, pool)),
+        [] => put_plain(out, pool, call),
         [word] => put_of_one(out, pool, call, word),
         [now, word] => put_of_two(out, pool, call, number(now), word),
         [now, owner, word] => put_of_three(out, pool, call, number(now), number(owner), word),
-        _ => None,
+        _ => out.no_such_row(),
     }
 }
 
 /// What a call of the pool answers, if there is one: first those on lines of the relay table, which have any number of words.
-fn put_of_pool(
-    alloc: Global,
-    out: &mut String,
-    pool: &mut Pool,
-    call: &str,
-    args: &[&[u8]],
-) -> Option<Result<(), AllocError>> {
+fn put_of_pool(out: &mut Output, pool: &mut Pool, call: &str, args: &[&[u8]]) {
     match call {
-        "free_others" => put_kept(alloc, out, pool, args),
-        "plan_commit" => put_lines(alloc, out, pool, call, args),
-        "put" => put_lines(alloc, out, pool, call, args),
-        "commit" => put_lines(alloc, out, pool, call, args),
+        "free_others" => put_kept(out, pool, args),
+        "plan_commit" | "put" => put_lines(out, pool, call, 0, args),
+        "commit" => put_commit(out, pool, call, args),
         _ => put_of_words(out, pool, call, args),
     }
 }
 
-impl PortPoolRows {
-    pub(crate) fn new(_alloc: Global) -> PortPoolRows {
-        PortPoolRows { pool: None }
-    }
-
-    /// Makes a pool of so many pairs from this port on.
-    fn make(
-        &mut self,
-        alloc: Global,
-        out: &mut String,
-        first: u16,
-        pairs: u16,
-    ) -> Result<(), AllocError> {
-        replace(&mut self.pool, pool_of(alloc, first, pairs)?);
-        match self.pool {
-            Some(_) => out.push_str("made"),
-            None => out.push_str("no such pool"),
+/// Makes a pool of so many pairs from this port on.
+fn make(pool: &mut Option<Pool>, out: &mut Output, first: u16, pairs: u16) {
+    match pool_of(out.alloc(), first, pairs) {
+        Ok(made) => {
+            out.put(if made.is_some() {
+                "made"
+            } else {
+                "no such pool"
+            });
+            replace(pool, made);
         }
+        Err(_) => out.no_memory(),
     }
+}
 
-    /// Writes what a call answers on the pool that stands, if there is one.
-    fn put_standing(
-        &mut self,
-        alloc: Global,
-        out: &mut String,
-        call: &str,
-        args: &[&[u8]],
-    ) -> Option<Result<(), AllocError>> {
-        match &mut self.pool {
-            Some(pool) => put_of_pool(alloc, out, pool, call, args),
-            None => None,
-        }
+/// The same by the words of a row.
+fn put_new(pool: &mut Option<Pool>, out: &mut Output, args: &[&[u8]]) {
+    match args {
+        [first, pairs] => make(pool, out, u16_of(first), u16_of(pairs)),
+        _ => out.no_such_row(),
     }
+}
 
-    /// Writes what the row's call answers, if it is one of `port_pool`.
-    pub(crate) fn put_answer(
-        &mut self,
-        alloc: Global,
-        out: &mut String,
-        call: &str,
-        args: &[&[u8]],
-    ) -> Option<Result<(), AllocError>> {
-        match args {
-            [port, changes @ ..] if call == "changed" => {
-                Some(put_changed(alloc, out, u16_of(port), changes))
-            }
-            [first, pairs] if call == "new" => {
-                Some(self.make(alloc, out, u16_of(first), u16_of(pairs)))
-            }
-            _ => self.put_standing(alloc, out, call, args),
-        }
+/// Writes what a call answers on the pool that stands, if there is one.
+fn put_standing(pool: &mut Option<Pool>, out: &mut Output, call: &str, args: &[&[u8]]) {
+    match pool {
+        Some(pool) => put_of_pool(out, pool, call, args),
+        None => out.no_such_row(),
+    }
+}
+
+/// Writes what the row's call answers on the pool that earlier rows left, if it is one of `port_pool`.
+pub(crate) fn put_answer(pool: &mut Option<Pool>, out: &mut Output, call: &str, args: &[&[u8]]) {
+    match call {
+        "changed" => put_changed(out, args),
+        "new" => put_new(pool, out, args),
+        _ => put_standing(pool, out, call, args),
     }
 }

@@ -1,74 +1,72 @@
 //! How pairs, rows and changes of the pool are written.
 
 use port_pool::{Change, Hop, Pair, PoolError};
-use rows::{outcome_after, put_address};
+use rows::Output;
 use std::alloc::AllocError;
 
-/// The letter and the words of a refusal. Want of memory goes up.
-pub(crate) fn put_fault(out: &mut String, fault: PoolError) -> Result<(), AllocError> {
+/// The letter and the words of a refusal, or want of memory.
+pub(crate) fn put_fault(out: &mut Output, fault: PoolError) {
     match fault {
-        PoolError::OutOfMemory => Err(AllocError),
-        fault => write!(out, "{fault}"),
+        PoolError::OutOfMemory => out.no_memory(),
+        fault => out.put_fault(fault),
     }
 }
 
-fn put_hop(out: &mut String, hop: &Hop) -> Result<(), AllocError> {
-    put_address(out, hop.to)?;
-    let from = hop.from;
-    write!(out, " from {from}")
+fn put_port(out: &mut Output, before: &str, port: u16) {
+    out.put(before);
+    out.put_number(u64::from(port));
+}
+
+fn put_hop(out: &mut Output, hop: &Hop) {
+    out.put_address(hop.to);
+    put_port(out, " from ", hop.from);
 }
 
 /// Writes the row of a port, if it has one.
-pub(crate) fn put_row(out: &mut String, hop: Option<Hop>) -> Result<(), AllocError> {
+pub(crate) fn put_row(out: &mut Output, hop: Option<Hop>) {
     match hop {
         Some(hop) => put_hop(out, &hop),
-        None => out.push_str("none"),
+        None => out.put("none"),
     }
 }
 
-fn put_change(out: &mut String, change: &Change) -> Result<(), AllocError> {
+fn put_change(out: &mut Output, change: &Change) {
     match change {
         Change::Put(port, hop) => {
-            write!(out, "; put {port} to ")?;
-            put_hop(out, hop)
+            put_port(out, "; put ", *port);
+            out.put(" to ");
+            put_hop(out, hop);
         }
-        Change::Remove(port) => write!(out, "; remove {port}"),
+        Change::Remove(port) => put_port(out, "; remove ", *port),
     }
 }
 
-fn put_each_change(out: &mut String, changes: &[Change]) -> Result<(), AllocError> {
-    out.push_str("changes")?;
+fn put_each_change(out: &mut Output, changes: &[Change]) {
+    out.put("changes");
     for change in changes {
-        put_change(out, change)?;
+        put_change(out, change);
     }
-    Ok(())
 }
 
-/// The changes of the relay table, in order, which are let go behind it.
-pub(crate) fn put_changes(out: &mut String, changes: Vec<Change>) -> Result<(), AllocError> {
-    let outcome = put_each_change(out, &changes);
-    outcome_after(changes, outcome)
+/// The changes of the relay table, in order.
+pub(crate) fn put_changes(out: &mut Output, changes: Result<Vec<Change>, AllocError>) {
+    match changes {
+        Ok(changes) => put_each_change(out, &changes),
+        Err(_) => out.no_memory(),
+    }
 }
 
-fn put_each_pair(out: &mut String, pairs: &[Pair]) -> Result<(), AllocError> {
-    out.push_str("pairs")?;
+fn put_each_pair(out: &mut Output, pairs: &[Pair]) {
+    out.put("pairs");
     for pair in pairs {
-        let even = pair.even;
-        write!(out, " {even}")?;
+        put_port(out, " ", pair.even);
     }
-    Ok(())
 }
 
-/// Pairs by their even ports, which are let go behind it, or the refusal.
-pub(crate) fn put_pairs(
-    out: &mut String,
-    pairs: Result<Vec<Pair>, PoolError>,
-) -> Result<(), AllocError> {
+/// Pairs by their even ports, or the refusal.
+pub(crate) fn put_pairs(out: &mut Output, pairs: Result<Vec<Pair>, PoolError>) {
     match pairs {
-        Ok(pairs) => {
-            let outcome = put_each_pair(out, &pairs);
-            outcome_after(pairs, outcome)
-        }
+        Ok(pairs) => put_each_pair(out, &pairs),
         Err(fault) => put_fault(out, fault),
     }
 }

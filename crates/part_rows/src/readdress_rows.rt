@@ -3,11 +3,12 @@
 ghost use Rattle.std.specs.Prelude.{IsTrue, ◌≡◌, length};
 ghost use Rattle.offer_answer.specs.Readdressing.{has_ports};
 
-use crate::sdp_rows::{put_fault, put_last_description};
+use crate::sdp_rows::{put_description, put_fault};
 use offer_answer::{ServerOrigin, readdress};
-use rows::{outcome_after, u16_of};
+use rows::{Output, let_go, u16_of};
 use sdp::{Description, Media, read_description, write_description};
 use std::alloc::{AllocError, Global};
+use text::pieces;
 
 const SERVER: [u8; 4] = [192, 0, 2, 1];
 
@@ -37,15 +38,26 @@ fn are_ready(ports: &[u16], description: &Description<'_>) -> bool
     ports.len() == media.len() && have_ports(ports, media)
 }
 
-/// The ports of a row, with spaces between them: none where the word is empty.
-fn ports_of(alloc: Global, word: &[u8]) -> Result<Vec<u16>, AllocError> {
-    let mut ports = Vec::new(alloc);
-    for port in word.split(|byte| *byte == b' ') {
-        if !port.is_empty() {
-            ports.push(u16_of(port))?;
+/// The ports of these words: none for an empty one.
+fn ports_of(out: &mut Output, words: &[&[u8]]) -> Vec<u16> {
+    let mut ports = out.list();
+    for word in words {
+        if !word.is_empty() {
+            out.push(&mut ports, u16_of(word));
         }
     }
-    Ok(ports)
+    ports
+}
+
+/// The ports of a row, with spaces between them.
+fn ports_between(out: &mut Output, word: &[u8]) -> Vec<u16> {
+    match pieces(out.alloc(), word, b' ') {
+        Ok(words) => ports_of(out, &words),
+        Err(_) => {
+            out.no_memory();
+            out.list()
+        }
+    }
 }
 
 /// What the server sends in place of a description, with a port for each medium.
@@ -64,38 +76,26 @@ fn sent_for(
 }
 
 /// What the server sends in place of a description, where the row has a port for each medium.
-fn put_sent(
-    alloc: Global,
-    out: &mut String,
-    description: &Description<'_>,
-    ports: &[u16],
-    id: u64,
-    version: u64,
-) -> Result<(), AllocError> {
+fn put_sent(out: &mut Output, description: &Description<'_>, ports: &[u16], id: u64, version: u64) {
     if !are_ready(ports, description) {
-        return out.push_str("no port for each medium");
+        return out.put("no port for each medium");
     }
-    put_last_description(
-        alloc,
-        out,
-        sent_for(alloc, description, ports, id, version)?,
-    )
+    match sent_for(out.alloc(), description, ports, id, version) {
+        Ok(sent) => {
+            put_description(out, &sent);
+            let_go(sent);
+        }
+        Err(_) => out.no_memory(),
+    }
 }
 
-/// The text of what the server sends in place of a description.
-pub(crate) fn put_sent_text(
-    alloc: Global,
-    out: &mut String,
-    text: &[u8],
-    id: u64,
-    version: u64,
-    ports: &[u8],
-) -> Result<(), AllocError> {
-    let ports = ports_of(alloc, ports)?;
-    match read_description(alloc, text) {
+/// The text of what the server sends in place of a description, of this session.
+pub(crate) fn put_sent_text(out: &mut Output, text: &[u8], id: u64, version: u64, ports: &[u8]) {
+    let ports = ports_between(out, ports);
+    match read_description(out.alloc(), text) {
         Ok(description) => {
-            let outcome = put_sent(alloc, out, &description, &ports, id, version);
-            outcome_after(description, outcome)
+            put_sent(out, &description, &ports, id, version);
+            let_go(description);
         }
         Err(fault) => put_fault(out, fault),
     }
@@ -117,55 +117,54 @@ fn sent_at_edge(
 }
 
 /// A text, read and written again.
-fn put_again(alloc: Global, out: &mut String, text: &[u8]) -> Result<(), AllocError> {
-    match read_description(alloc, text) {
-        Ok(description) => put_last_description(alloc, out, description),
+fn put_again(out: &mut Output, text: &[u8]) {
+    match read_description(out.alloc(), text) {
+        Ok(description) => {
+            put_description(out, &description);
+            let_go(description);
+        }
         Err(fault) => put_fault(out, fault),
     }
 }
 
 /// A description, written, and what was written read and written again.
-fn put_written_again(
-    alloc: Global,
-    out: &mut String,
-    description: &Description<'_>,
-) -> Result<(), AllocError> {
-    let bytes = write_description(alloc, description)?;
-    let outcome = put_again(alloc, out, bytes.as_bytes());
-    outcome_after(bytes, outcome)
+fn put_written_again(out: &mut Output, description: &Description<'_>) {
+    match write_description(out.alloc(), description) {
+        Ok(text) => put_again(out, text.as_bytes()),
+        Err(_) => out.no_memory(),
+    }
 }
 
 /// What such a server sends, read and written again, where the row has a port for each medium.
-fn put_read(
-    alloc: Global,
-    out: &mut String,
-    description: &Description<'_>,
-    ports: &[u16],
-    is_group: bool,
-) -> Result<(), AllocError> {
+fn put_read(out: &mut Output, description: &Description<'_>, ports: &[u16], is_group: bool) {
     if !are_ready(ports, description) {
-        return out.push_str("no port for each medium");
+        return out.put("no port for each medium");
     }
-    let sent = sent_at_edge(alloc, description, ports, is_group)?;
-    let outcome = put_written_again(alloc, out, &sent);
-    outcome_after(sent, outcome)
+    match sent_at_edge(out.alloc(), description, ports, is_group) {
+        Ok(sent) => {
+            put_written_again(out, &sent);
+            let_go(sent);
+        }
+        Err(_) => out.no_memory(),
+    }
+}
+
+fn put_read_again(out: &mut Output, text: &[u8], is_group: bool, ports: &[u8]) {
+    let ports = ports_between(out, ports);
+    match read_description(out.alloc(), text) {
+        Ok(description) => {
+            put_read(out, &description, &ports, is_group);
+            let_go(description);
+        }
+        Err(fault) => put_fault(out, fault),
+    }
 }
 
 /// What a server at the edge of the unicast addresses sends in place of a description, read and written again.
-pub(crate) fn put_sent_read(
-    alloc: Global,
-    out: &mut String,
-    text: &[u8],
-    server: &[u8],
-    ports: &[u8],
-) -> Result<(), AllocError> {
-    let ports = ports_of(alloc, ports)?;
-    let is_group = server == b"224.0.0.0".as_slice();
-    match read_description(alloc, text) {
-        Ok(description) => {
-            let outcome = put_read(alloc, out, &description, &ports, is_group);
-            outcome_after(description, outcome)
-        }
-        Err(fault) => put_fault(out, fault),
+pub(crate) fn put_sent_read(out: &mut Output, text: &[u8], server: &[u8], ports: &[u8]) {
+    match server {
+        b"223.255.255.255" => put_read_again(out, text, false, ports),
+        b"224.0.0.0" => put_read_again(out, text, true, ports),
+        _ => out.no_such_row(),
     }
 }

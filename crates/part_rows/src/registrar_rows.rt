@@ -4,26 +4,21 @@ ghost use Rattle.std.specs.Prelude.{◌≡◌, ◌≤◌, ◌++◌, ◌∷◌, [
 
 use crate::registrar_words::put_bindings;
 use crate::sip_uri_words::put_uri;
+use crate::telling::word_or_none;
 use registrar::{Contact, Contacts, Refusal, Register, Registrar, laws_of_bindings};
-use rows::{number, outcome_after, put_shown, put_yes_or_no, replace, u32_of};
+use rows::{Output, let_go, number, outcome_after, replace, u32_of};
 use sip_uri::{Uri, UriError, read_uri};
 use std::alloc::{AllocError, Global};
-use text::{Text, Texts, cut_word};
+use text::{Text, Texts, cut_word, lent};
 
 /// The moments below which a REGISTER may come.
 const END_OF_TIME: u64 = 1 << 60;
 
-/// The registrar that earlier rows left, if any made one.
-#[derive(Drop)]
-pub(crate) struct RegistrarRows {
-    registrar: Option<Registrar>,
-}
-
-/// The letter and the words of a refusal. Want of memory goes up.
-fn put_refusal(out: &mut String, refusal: Refusal) -> Result<(), AllocError> {
+/// The letter and the words of a refusal, or want of memory.
+fn put_refusal(out: &mut Output, refusal: Refusal) {
     match refusal {
-        Refusal::OutOfMemory => Err(AllocError),
-        refusal => write!(out, "{refusal}"),
+        Refusal::OutOfMemory => out.no_memory(),
+        refusal => out.put_fault(refusal),
     }
 }
 
@@ -92,87 +87,55 @@ fn seconds_of(word: &[u8]) -> Option<u32> {
     }
 }
 
-fn push_contact<'a>(
-    alloc: Global,
-    contacts: &mut Vec<Contact<'a>>,
-    word: &'a [u8],
-) -> Result<(), AllocError> {
+fn push_contact<'a>(out: &mut Output, contacts: &mut Vec<Contact<'a>>, word: &'a [u8]) {
     let (uri, expires) = cut_word(word);
-    let uri = uri_of(alloc, uri)?;
     let expires = seconds_of(expires);
-    contacts.push(Contact { uri, expires })?;
-    Ok(())
+    match uri_of(out.alloc(), uri) {
+        Ok(uri) => out.push(contacts, Contact { uri, expires }),
+        Err(_) => out.no_memory(),
+    }
 }
 
 fn is_star(word: &[u8]) -> bool {
     matches!(cut_word(word), (b"*", _))
 }
 
-fn push_contacts<'a>(
-    alloc: Global,
-    contacts: &mut Vec<Contact<'a>>,
-    words: &[&'a [u8]],
-) -> Result<(), AllocError> {
+/// The contacts of a row, each a URI and perhaps its own seconds, without the first `*` among them; a further one has no URI.
+fn contacts_of<'a>(out: &mut Output, words: &[&'a [u8]]) -> Contacts<'a> {
+    let mut contacts = out.list();
     let mut starred = false;
     for word in words {
         if is_star(word) && !starred {
             starred = true;
-            continue;
+        } else {
+            push_contact(out, &mut contacts, word);
         }
-        push_contact(alloc, contacts, word)?;
     }
-    Ok(())
-}
-
-/// The contacts of a row, each a URI and perhaps its own seconds, without the first `*` among them; a further one has no URI.
-fn contacts_of<'a>(alloc: Global, words: &[&'a [u8]]) -> Result<Contacts<'a>, AllocError> {
-    let mut contacts = Vec::new(alloc);
-    match push_contacts(alloc, &mut contacts, words) {
-        Ok(()) => Ok(Contacts::from_vec(Contacts::from_vec(contacts).into_vec())),
-        Err(fault) => outcome_after(contacts, Err(fault)),
-    }
-}
-
-/// The text of a user; none for `-`.
-fn user_of(word: &[u8]) -> Option<Text<'_>> {
-    match word {
-        b"-" => None,
-        user => Some(Text::lent(user)),
-    }
+    Contacts::from_vec(Contacts::from_vec(contacts).into_vec())
 }
 
 /// A REGISTER: its user, or `-` for none, its Call-ID, number, and Expires, and its contacts.
-fn register_of<'a>(
-    alloc: Global,
-    head: &[&'a [u8]; 4],
-    contacts: &[&'a [u8]],
-) -> Result<Register<'a>, AllocError> {
-    let listed = contacts_of(alloc, contacts)?;
-    Ok(Register {
-        user: user_of(head[0]),
-        star: listed.as_slice().len() < contacts.len(),
-        contacts: listed,
+fn register_of<'a>(out: &mut Output, head: &[&'a [u8]; 4], words: &[&'a [u8]]) -> Register<'a> {
+    let contacts = contacts_of(out, words);
+    Register {
+        user: lent(word_or_none(head[0])),
+        star: contacts.as_slice().len() < words.len(),
+        contacts,
         expires: seconds_of(head[3]),
         call_id: Text::lent(head[1]),
         cseq: u32_of(head[2]),
-    })
+    }
 }
 
 /// What the registrar answers to a REGISTER.
-fn put_reply(
-    alloc: Global,
-    out: &mut String,
-    registrar: &mut Registrar,
-    register: &Register<'_>,
-    now: u64,
-) -> Result<(), AllocError> {
+fn put_reply(out: &mut Output, registrar: &mut Registrar, register: &Register<'_>, now: u64) {
     if now >= END_OF_TIME {
-        return out.push_str("no such moment");
+        return out.put("no such moment");
     }
     match registrar.apply(register, now) {
         Ok(bindings) => {
-            let outcome = put_bindings(alloc, out, &bindings, now);
-            outcome_after(bindings, outcome)
+            put_bindings(out, &bindings, now);
+            let_go(bindings);
         }
         Err(refusal) => put_refusal(out, refusal),
     }
@@ -180,170 +143,180 @@ fn put_reply(
 
 /// What the registrar answers to a REGISTER of these words.
 fn put_applied(
-    alloc: Global,
-    out: &mut String,
+    out: &mut Output,
     registrar: &mut Registrar,
     head: &[&[u8]; 4],
     contacts: &[&[u8]],
     now: u64,
-) -> Result<(), AllocError> {
-    let register = register_of(alloc, head, contacts)?;
-    let outcome = put_reply(alloc, out, registrar, &register, now);
-    outcome_after(register, outcome)
+) {
+    let register = register_of(out, head, contacts);
+    put_reply(out, registrar, &register, now);
+    let_go(register);
+}
+
+/// What `apply` answers: its words are a moment, those of the head, and the contacts.
+fn put_apply(out: &mut Output, registrar: &mut Registrar, args: &[&[u8]]) {
+    match args {
+        [now, user, call_id, cseq, expires, contacts @ ..] => {
+            let head = [*user, *call_id, *cseq, *expires];
+            put_applied(out, registrar, &head, contacts, number(now));
+        }
+        _ => out.no_such_row(),
+    }
 }
 
 /// The bindings of a user at a moment, as they are at another one.
 fn put_bindings_then(
-    alloc: Global,
-    out: &mut String,
+    out: &mut Output,
     registrar: &mut Registrar,
     user: &[u8],
     now: u64,
     then: u64,
-) -> Result<(), AllocError> {
-    let user = Text::lent(user);
-    let bindings = registrar.bindings(&user, now)?;
-    let outcome = put_bindings(alloc, out, &bindings, then);
-    outcome_after(bindings, outcome)
-}
-
-/// Whether there is such a user.
-fn put_is_known(out: &mut String, registrar: &Registrar, user: &[u8]) -> Result<(), AllocError> {
-    let user = Text::lent(user);
-    put_yes_or_no(out, registrar.knows(&user))
-}
-
-/// Where a call to a user goes.
-fn put_target(
-    alloc: Global,
-    out: &mut String,
-    registrar: &Registrar,
-    user: &[u8],
-    now: u64,
-) -> Result<(), AllocError> {
-    let user = Text::lent(user);
-    match registrar.target(&user, now) {
-        Some(uri) => put_uri(alloc, out, uri),
-        None => out.push_str("none"),
+) {
+    match registrar.bindings(&Text::lent(user), now) {
+        Ok(bindings) => {
+            put_bindings(out, &bindings, then);
+            let_go(bindings);
+        }
+        Err(_) => out.no_memory(),
     }
 }
 
-fn put_user(out: &mut String, user: Option<&Text<'_>>) -> Result<(), AllocError> {
+/// Where a call to a user goes.
+fn put_target(out: &mut Output, registrar: &Registrar, user: &[u8], now: u64) {
+    match registrar.target(&Text::lent(user), now) {
+        Some(uri) => put_uri(out, uri),
+        None => out.put("none"),
+    }
+}
+
+fn put_user(out: &mut Output, user: Option<&Text<'_>>) {
     match user {
         Some(user) => {
-            out.push_str("user ")?;
-            put_shown(out, user.as_bytes())
+            out.put("user ");
+            out.put_shown(user.as_bytes());
         }
-        None => out.push_str("nobody"),
+        None => out.put("nobody"),
     }
 }
 
 /// The user that a To names.
-fn put_user_of(
-    alloc: Global,
-    out: &mut String,
-    registrar: &Registrar,
-    to: &[u8],
-) -> Result<(), AllocError> {
-    match uri_of(alloc, to)? {
-        Some(to) => {
-            let outcome = put_user(out, registrar.user_of(&to));
-            outcome_after(to, outcome)
+fn put_user_of(out: &mut Output, registrar: &Registrar, to: &[u8]) {
+    match uri_of(out.alloc(), to) {
+        Ok(Some(to)) => {
+            put_user(out, registrar.user_of(&to));
+            let_go(to);
         }
-        None => out.push_str("no URI"),
+        Ok(None) => out.put("no URI"),
+        Err(_) => out.no_memory(),
     }
 }
 
 /// Calls what has a law for its contract.
-fn put_laws(out: &mut String) -> Result<(), AllocError> {
+fn put_laws(out: &mut Output) {
     laws_of_bindings();
-    out.push_str("called")
+    out.put("called");
+}
+
+/// What a call of the registrar without words answers, if it is one.
+fn put_plain(out: &mut Output, call: &str) {
+    match call {
+        "laws" => put_laws(out),
+        _ => out.no_such_row(),
+    }
 }
 
 /// What a call of the registrar on a word answers, if it is one.
-fn put_of_one(
-    alloc: Global,
-    out: &mut String,
-    registrar: &Registrar,
-    call: &str,
-    word: &[u8],
-) -> Option<Result<(), AllocError>> {
+fn put_of_one(out: &mut Output, registrar: &Registrar, call: &str, word: &[u8]) {
     match call {
-        "knows" => Some(put_is_known(out, registrar, word)),
-        "user_of" => Some(put_user_of(alloc, out, registrar, word)),
-        _ => None,
+        "knows" => out.put_yes_or_no(registrar.knows(&Text::lent(word))),
+        "user_of" => put_user_of(out, registrar, word),
+        _ => out.no_such_row(),
+    }
+}
+
+/// What a call of the registrar on a user at a moment answers, if it is one.
+fn put_of_two(out: &mut Output, registrar: &Registrar, call: &str, user: &[u8], now: u64) {
+    match call {
+        "target" => put_target(out, registrar, user, now),
+        _ => out.no_such_row(),
+    }
+}
+
+/// What a call of the registrar on a user, at a moment and as of another one, answers, if it is one.
+fn put_of_three(
+    out: &mut Output,
+    registrar: &mut Registrar,
+    call: &str,
+    user: &[u8],
+    now: u64,
+    then: u64,
+) {
+    match call {
+        "bindings" => put_bindings_then(out, registrar, user, now, then),
+        _ => out.no_such_row(),
+    }
+}
+
+/// What a call of the registrar on so many words answers, if it is one.
+fn put_of_words(out: &mut Output, registrar: &mut Registrar, call: &str, args: &[&[u8]]) {
+    match args {
+        [] => put_plain(out, call),
+        [word] => put_of_one(out, registrar, call, word),
+        [user, now] => put_of_two(out, registrar, call, user, number(now)),
+        [user, now, then] => put_of_three(out, registrar, call, user, number(now), number(then)),
+        _ => out.no_such_row(),
     }
 }
 
 /// What a call of the registrar answers, if there is one.
-fn put_of_words(
-    alloc: Global,
-    out: &mut String,
-    registrar: &mut Registrar,
-    call: &str,
-    args: &[&[u8]],
-) -> Option<Result<(), AllocError>> {
-    match args {
-        [] if call == "laws" => Some(put_laws(out)),
-        [word] => put_of_one(alloc, out, registrar, call, word),
-        [user, now] if call == "target" => {
-            Some(put_target(alloc, out, registrar, user, number(now)))
-        }
-        [user, now, then] if call == "bindings" => {
-            Some(put_bindings_then(alloc, out, registrar, user, number(now), number(then)))
-        }
-        [now, user, call_id, cseq, expires, contacts @ ..] if call == "apply" => {
-            let head = [*user, *call_id, *cseq, *expires];
-            Some(put_applied(alloc, out, registrar, &head, contacts, number(now)))
-        }
-        _ => None,
+fn put_of_registrar(out: &mut Output, registrar: &mut Registrar, call: &str, args: &[&[u8]]) {
+    match call {
+        "apply" => put_apply(out, registrar, args),
+        _ => put_of_words(out, registrar, call, args),
     }
 }
 
-impl RegistrarRows {
-    pub(crate) fn new(_alloc: Global) -> RegistrarRows {
-        RegistrarRows { registrar: None }
-    }
-
-    /// Opens an office that binds for this number of seconds at least.
-    fn open(
-        &mut self,
-        alloc: Global,
-        out: &mut String,
-        min_expires: u32,
-    ) -> Result<(), AllocError> {
-        replace(&mut self.registrar, office(alloc, min_expires)?);
-        match self.registrar {
-            Some(_) => out.push_str("made"),
-            None => out.push_str("no such office"),
+/// Opens an office that binds for this number of seconds at least.
+fn open(registrar: &mut Option<Registrar>, out: &mut Output, min_expires: u32) {
+    match office(out.alloc(), min_expires) {
+        Ok(opened) => {
+            out.put(if opened.is_some() {
+                "made"
+            } else {
+                "no such office"
+            });
+            replace(registrar, opened);
         }
+        Err(_) => out.no_memory(),
     }
+}
 
-    /// Writes what a call answers on the registrar that stands, if there is one.
-    fn put_standing(
-        &mut self,
-        alloc: Global,
-        out: &mut String,
-        call: &str,
-        args: &[&[u8]],
-    ) -> Option<Result<(), AllocError>> {
-        match &mut self.registrar {
-            Some(registrar) => put_of_words(alloc, out, registrar, call, args),
-            None => None,
-        }
+/// The same by the words of a row.
+fn put_new(registrar: &mut Option<Registrar>, out: &mut Output, args: &[&[u8]]) {
+    match args {
+        [min_expires] => open(registrar, out, u32_of(min_expires)),
+        _ => out.no_such_row(),
     }
+}
 
-    /// Writes what the row's call answers, if it is one of `registrar`.
-    pub(crate) fn put_answer(
-        &mut self,
-        alloc: Global,
-        out: &mut String,
-        call: &str,
-        args: &[&[u8]],
-    ) -> Option<Result<(), AllocError>> {
-        match args {
-            [min_expires] if call == "new" => Some(self.open(alloc, out, u32_of(min_expires))),
-            _ => self.put_standing(alloc, out, call, args),
-        }
+/// Writes what a call answers on the registrar that stands, if there is one.
+fn put_standing(registrar: &mut Option<Registrar>, out: &mut Output, call: &str, args: &[&[u8]]) {
+    match registrar {
+        Some(registrar) => put_of_registrar(out, registrar, call, args),
+        None => out.no_such_row(),
+    }
+}
+
+/// Writes what the row's call answers on the registrar that earlier rows left, if it is one of `registrar`.
+pub(crate) fn put_answer(
+    registrar: &mut Option<Registrar>,
+    out: &mut Output,
+    call: &str,
+    args: &[&[u8]],
+) {
+    match call {
+        "new" => put_new(registrar, out, args),
+        _ => put_standing(registrar, out, call, args),
     }
 }

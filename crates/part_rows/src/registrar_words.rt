@@ -2,51 +2,37 @@
 
 use crate::sip_uri_words::put_uri;
 use registrar::Binding;
-use rows::put_shown;
-use std::alloc::{AllocError, Global};
+use rows::Output;
 
 /// A binding's moment of expiry, and the rest of its life at a moment.
-fn put_rest(out: &mut String, binding: &Binding, now: u64) -> Result<(), AllocError> {
-    let until = binding.expires_at;
-    if binding.is_present(now) && now < until {
-        let left = binding.seconds_left(now);
-        write!(out, " until {until}, {left} s left")
+fn put_rest(out: &mut Output, binding: &Binding, now: u64) {
+    out.put(" until ");
+    out.put_number(binding.expires_at);
+    if binding.is_present(now) && now < binding.expires_at {
+        out.put(", ");
+        out.put_number(binding.seconds_left(now));
+        out.put(" s left");
     } else {
-        write!(out, " until {until}, over")
+        out.put(", over");
     }
 }
 
 /// The REGISTER that made or refreshed a binding.
-fn put_maker(out: &mut String, binding: &Binding) -> Result<(), AllocError> {
-    out.push_str(", by ")?;
-    put_shown(out, binding.call_id.as_bytes())?;
-    let cseq = binding.cseq;
-    write!(out, " {cseq}")
+fn put_maker(out: &mut Output, binding: &Binding) {
+    out.put(", by ");
+    out.put_shown(binding.call_id.as_bytes());
+    out.put(" ");
+    out.put_number(u64::from(binding.cseq));
 }
 
-/// A binding: its URI, its moment of expiry, the rest of its life at a moment, and the REGISTER that made or refreshed it.
-fn put_binding(
-    alloc: Global,
-    out: &mut String,
-    binding: &Binding,
-    now: u64,
-) -> Result<(), AllocError> {
-    out.push_str("; ")?;
-    put_uri(alloc, out, &binding.uri)?;
-    put_rest(out, binding, now)?;
-    put_maker(out, binding)
-}
-
-/// Writes bindings at a moment, in order.
-pub(crate) fn put_bindings(
-    alloc: Global,
-    out: &mut String,
-    bindings: &[Binding],
-    now: u64,
-) -> Result<(), AllocError> {
-    out.push_str("bindings")?;
+/// Writes bindings at a moment, in order: of each its URI, its moment of expiry, the rest of its life, and the REGISTER that made
+/// or refreshed it.
+pub(crate) fn put_bindings(out: &mut Output, bindings: &[Binding], now: u64) {
+    out.put("bindings");
     for binding in bindings {
-        put_binding(alloc, out, binding, now)?;
+        out.put("; ");
+        put_uri(out, &binding.uri);
+        put_rest(out, binding, now);
+        put_maker(out, binding);
     }
-    Ok(())
 }

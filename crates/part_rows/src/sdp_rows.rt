@@ -1,13 +1,12 @@
 //! Rows of calls of `sdp`.
 
 use crate::sdp_words::{put_connection, put_direction, put_medium, put_origin, put_session};
-use crate::telling::put_written;
-use rows::{outcome_after, usize_of};
+use rows::{Output, let_go, usize_of};
 use sdp::{
     Description, DescriptionError, Lines, MediaList, one_description, read_description,
     write_description,
 };
-use std::alloc::{AllocError, Global};
+use std::alloc::Global;
 use std::mem;
 
 /// The lines v, o and s, which stand before those of a row.
@@ -19,56 +18,34 @@ const FRONT_OF_CONNECTION: &[u8] = b"v=0\r\no=- 1 1 IN IP4 a\r\ns=-\r\nc=";
 /// The same with an address and a time, and the letter of an `m=` line.
 const FRONT_OF_MEDIUM: &[u8] = b"v=0\r\no=- 1 1 IN IP4 a\r\ns=-\r\nc=IN IP4 192.0.2.10\nt=0 0\nm=";
 
-/// The letter and the words of a fault. Want of memory goes up.
-pub(crate) fn put_fault(out: &mut String, fault: DescriptionError) -> Result<(), AllocError> {
+/// The letter and the words of a fault, or want of memory.
+pub(crate) fn put_fault(out: &mut Output, fault: DescriptionError) {
     match fault {
-        DescriptionError::OutOfMemory => Err(AllocError),
-        fault => write!(out, "{fault}"),
+        DescriptionError::OutOfMemory => out.no_memory(),
+        fault => out.put_fault(fault),
     }
 }
 
 /// A medium by its place from 0, and what stands under it.
-fn put_medium_at(
-    alloc: Global,
-    out: &mut String,
-    description: &Description<'_>,
-    at: usize,
-) -> Result<(), AllocError> {
+fn put_medium_at(out: &mut Output, description: &Description<'_>, at: usize) {
     match description.media.as_slice().get(at) {
-        Some(medium) => put_medium(alloc, out, medium),
-        None => out.push_str("no medium"),
+        Some(medium) => put_medium(out, medium),
+        None => out.put("no medium"),
     }
 }
 
 /// Where a medium is wanted, by its place from 0, and which way it goes.
-fn put_direction_at(
-    out: &mut String,
-    description: &Description<'_>,
-    at: usize,
-) -> Result<(), AllocError> {
+fn put_direction_at(out: &mut Output, description: &Description<'_>, at: usize) {
     match description.media.as_slice().get(at) {
         Some(medium) => put_direction(out, description, medium),
-        None => out.push_str("no medium"),
+        None => out.put("no medium"),
     }
 }
 
 /// A description as it is written.
-fn put_description(
-    alloc: Global,
-    out: &mut String,
-    description: &Description<'_>,
-) -> Result<(), AllocError> {
-    put_written(out, write_description(alloc, description)?)
-}
-
-/// The same of one that is let go behind it.
-pub(crate) fn put_last_description(
-    alloc: Global,
-    out: &mut String,
-    description: Description<'_>,
-) -> Result<(), AllocError> {
-    let outcome = put_description(alloc, out, &description);
-    outcome_after(description, outcome)
+pub(crate) fn put_description(out: &mut Output, description: &Description<'_>) {
+    let text = write_description(out.alloc(), description);
+    out.put_written(text);
 }
 
 /// A description whose lines and media are taken out and put in again.
@@ -84,133 +61,108 @@ fn remade(alloc: Global, mut description: Description<'_>) -> Description<'_> {
 }
 
 /// A description, read and remade, as it is written.
-fn put_remade(alloc: Global, out: &mut String, text: &[u8]) -> Result<(), AllocError> {
-    match read_description(alloc, text) {
-        Ok(description) => put_last_description(alloc, out, remade(alloc, description)),
+fn put_remade(out: &mut Output, text: &[u8]) {
+    match read_description(out.alloc(), text) {
+        Ok(description) => {
+            let description = remade(out.alloc(), description);
+            put_description(out, &description);
+            let_go(description);
+        }
         Err(fault) => put_fault(out, fault),
     }
 }
 
 /// A description as it is kept, written.
-fn put_kept(
-    alloc: Global,
-    out: &mut String,
-    description: &Description<'_>,
-) -> Result<(), AllocError> {
-    put_last_description(alloc, out, description.keep(alloc)?)
-}
-
-/// What a call answers of a description, or of its medium at a place from 0.
-fn put_by(
-    alloc: Global,
-    out: &mut String,
-    call: &str,
-    description: &Description<'_>,
-    at: usize,
-) -> Result<(), AllocError> {
-    match call {
-        "keep_description" => put_kept(alloc, out, description),
-        "origin" => put_origin(out, description),
-        "connection" => put_connection(out, description),
-        "medium_line" => put_medium_at(alloc, out, description, at),
-        "medium" => put_medium_at(alloc, out, description, at),
-        "place_and_way" => put_direction_at(out, description, at),
-        _ => put_session(alloc, out, description),
+fn put_kept(out: &mut Output, description: &Description<'_>) {
+    match description.keep(out.alloc()) {
+        Ok(kept) => {
+            put_description(out, &kept);
+            let_go(kept);
+        }
+        Err(_) => out.no_memory(),
     }
 }
 
-fn put_told(
-    alloc: Global,
-    out: &mut String,
-    call: &str,
-    text: &[u8],
-    at: usize,
-) -> Result<(), AllocError> {
-    match read_description(alloc, text) {
+/// What a call answers of a description, or of its medium at a place from 0.
+fn put_by(out: &mut Output, call: &str, description: &Description<'_>, at: usize) {
+    match call {
+        "keep_description" => put_kept(out, description),
+        "origin" => put_origin(out, description),
+        "connection" => put_connection(out, &description.connection),
+        "medium_line" | "medium" => put_medium_at(out, description, at),
+        "place_and_way" => put_direction_at(out, description, at),
+        _ => put_session(out, description),
+    }
+}
+
+fn put_told(out: &mut Output, call: &str, text: &[u8], at: usize) {
+    match read_description(out.alloc(), text) {
         Ok(description) => {
-            let outcome = put_by(alloc, out, call, &description, at);
-            outcome_after(description, outcome)
+            put_by(out, call, &description, at);
+            let_go(description);
         }
         Err(fault) => put_fault(out, fault),
     }
 }
 
-/// A text before and a text behind the value of a row.
-fn between(alloc: Global, front: &[u8], value: &[u8], end: &[u8]) -> Result<Vec<u8>, AllocError> {
-    let mut text = Vec::from_slice(alloc, front)?;
-    text.extend_from_slice(value)?;
-    text.extend_from_slice(end)?;
-    Ok(text)
-}
-
 /// What a call answers of a description that has the value of a row between these texts.
-fn put_between(
-    alloc: Global,
-    out: &mut String,
-    call: &str,
-    front: &[u8],
-    value: &[u8],
-    end: &[u8],
-) -> Result<(), AllocError> {
-    let text = between(alloc, front, value, end)?;
-    let outcome = put_told(alloc, out, call, &text, 0);
-    outcome_after(text, outcome)
+fn put_between(out: &mut Output, call: &str, front: &[u8], value: &[u8], end: &[u8]) {
+    let mut text = out.list();
+    out.extend(&mut text, front);
+    out.extend(&mut text, value);
+    out.extend(&mut text, end);
+    put_told(out, call, &text, 0);
 }
 
 /// Calls what has a law for its contract.
-fn put_laws(out: &mut String) -> Result<(), AllocError> {
+fn put_laws(out: &mut Output) {
     one_description();
-    out.push_str("called")
+    out.put("called");
 }
 
-/// What a call on a text or on the lines of a description answers, if it is one: `lines` behind v, o and s, and an `o=`, a `c=` or
-/// an `m=` line, the last of a description at 192.0.2.10.
-fn put_of_one(
-    alloc: Global,
-    out: &mut String,
-    call: &str,
-    text: &[u8],
-) -> Option<Result<(), AllocError>> {
+/// What a call without words answers, if it is one.
+fn put_plain(out: &mut Output, call: &str) {
     match call {
-        "read_description" => Some(put_told(alloc, out, call, text, 0)),
-        "write_description" => Some(put_remade(alloc, out, text)),
-        "keep_description" => Some(put_told(alloc, out, call, text, 0)),
-        "lines" => Some(put_between(alloc, out, call, FRONT, text, b"")),
-        "origin" => { Some(put_between(alloc, out, call, b"v=0\no=", text, b"\ns=-\nt=0 0\n")) }
-        "connection" => {
-            Some(put_between(alloc, out, call, FRONT_OF_CONNECTION, text, b"\nt=0 0\n"))
-        }
-        "medium_line" => Some(put_between(alloc, out, call, FRONT_OF_MEDIUM, text, b"")),
-        _ => None,
+        "laws" => put_laws(out),
+        _ => out.no_such_row(),
+    }
+}
+
+/// What a call on the lines of a description answers, if it is one: `lines` behind v, o and s, and an `o=`, a `c=` or an `m=` line, the
+/// last of a description at 192.0.2.10.
+fn put_of_lines(out: &mut Output, call: &str, text: &[u8]) {
+    match call {
+        "lines" => put_between(out, call, FRONT, text, b""),
+        "origin" => put_between(out, call, b"v=0\no=", text, b"\ns=-\nt=0 0\n"),
+        "connection" => put_between(out, call, FRONT_OF_CONNECTION, text, b"\nt=0 0\n"),
+        "medium_line" => put_between(out, call, FRONT_OF_MEDIUM, text, b""),
+        _ => out.no_such_row(),
+    }
+}
+
+/// What a call on a text, or on the lines of a description, answers, if it is one.
+fn put_of_one(out: &mut Output, call: &str, text: &[u8]) {
+    match call {
+        "read_description" | "keep_description" => put_told(out, call, text, 0),
+        "write_description" => put_remade(out, text),
+        _ => put_of_lines(out, call, text),
     }
 }
 
 /// What a call on a medium answers, if it is one.
-fn put_of_medium(
-    alloc: Global,
-    out: &mut String,
-    call: &str,
-    text: &[u8],
-    at: usize,
-) -> Option<Result<(), AllocError>> {
+fn put_of_medium(out: &mut Output, call: &str, text: &[u8], at: usize) {
     match call {
-        "medium" => Some(put_told(alloc, out, call, text, at)),
-        "place_and_way" => Some(put_told(alloc, out, call, text, at)),
-        _ => None,
+        "medium" | "place_and_way" => put_told(out, call, text, at),
+        _ => out.no_such_row(),
     }
 }
 
 /// Writes what the row's call answers, if it is one of `sdp`.
-pub(crate) fn put_answer(
-    alloc: Global,
-    out: &mut String,
-    call: &str,
-    args: &[&[u8]],
-) -> Option<Result<(), AllocError>> {
+pub(crate) fn put_answer(out: &mut Output, call: &str, args: &[&[u8]]) {
     match args {
-        [] if call == "laws" => Some(put_laws(out)),
-        [text] => put_of_one(alloc, out, call, text),
-        [text, at] => put_of_medium(alloc, out, call, text, usize_of(at)),
-        _ => None,
+        [] => put_plain(out, call),
+        [text] => put_of_one(out, call, text),
+        [text, at] => put_of_medium(out, call, text, usize_of(at)),
+        _ => out.no_such_row(),
     }
 }

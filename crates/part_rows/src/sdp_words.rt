@@ -1,71 +1,54 @@
 //! How the parts of a description are written.
 
 use crate::telling::put_texts;
-use rows::{put_boxed, put_boxes, put_octets, put_shown};
+use rows::Output;
 use sdp::{Address, Description, Line, Media, Way, place_of, way_of};
-use std::alloc::{AllocError, Global};
+use text::Text;
 
-fn put_named_text(out: &mut String, name: &str, text: &[u8]) -> Result<(), AllocError> {
-    out.push_str(name)?;
-    out.push(' ')?;
-    put_shown(out, text)
+fn put_named_text(out: &mut Output, name: &str, text: &[u8]) {
+    out.put(name);
+    out.put_shown(text);
 }
 
 /// An address and its kind.
-fn put_address(out: &mut String, address: &Address<'_>) -> Result<(), AllocError> {
+fn put_address(out: &mut Output, address: &Address<'_>) {
     match address {
         Address::Ip4(octets) => {
-            out.push_str("ip4 ")?;
-            put_octets(out, octets)
+            out.put("ip4 ");
+            out.put_octets(octets);
         }
-        Address::Multicast(text) => put_named_text(out, "multicast", text.as_bytes()),
-        Address::Ip6(text) => put_named_text(out, "ip6", text.as_bytes()),
-        Address::Name(text) => put_named_text(out, "name", text.as_bytes()),
+        Address::Multicast(text) => put_named_text(out, "multicast ", text.as_bytes()),
+        Address::Ip6(text) => put_named_text(out, "ip6 ", text.as_bytes()),
+        Address::Name(text) => put_named_text(out, "name ", text.as_bytes()),
     }
 }
 
 /// The address of a `c=` line, if there is one.
-fn put_connection_line(out: &mut String, address: &Option<Address<'_>>) -> Result<(), AllocError> {
+pub(crate) fn put_connection(out: &mut Output, address: &Option<Address<'_>>) {
     match address {
         Some(address) => put_address(out, address),
-        None => out.push_str("no address"),
+        None => out.put("no address"),
     }
 }
 
-/// The address of a description.
-pub(crate) fn put_connection(
-    out: &mut String,
-    description: &Description<'_>,
-) -> Result<(), AllocError> {
-    put_connection_line(out, &description.connection)
-}
-
-fn put_line(alloc: Global, out: &mut String, line: &Line<'_>) -> Result<(), AllocError> {
-    let mut text = vec![in alloc; line.letter, b'=']?;
-    text.extend_from_slice(line.value.as_bytes())?;
-    put_boxed(out, &text)
+fn put_line(out: &mut Output, line: &Line<'_>) {
+    let mut text = out.list();
+    out.extend(&mut text, &[line.letter, b'=']);
+    out.extend(&mut text, line.value.as_bytes());
+    out.put_boxed(&text);
 }
 
 /// A name, and each line behind it in brackets.
-fn put_lines(
-    alloc: Global,
-    out: &mut String,
-    name: &str,
-    lines: &[Line<'_>],
-) -> Result<(), AllocError> {
-    out.push_str(name)?;
+fn put_lines(out: &mut Output, name: &str, lines: &[Line<'_>]) {
+    out.put(name);
     for line in lines {
-        out.push(' ')?;
-        put_line(alloc, out, line)?;
+        out.put(" ");
+        put_line(out, line);
     }
-    Ok(())
 }
 
 /// The fields of the `o=` line.
-pub(crate) fn put_origin(
-    out: &mut String,
-    description: &Description<'_>,
-) -> Result<(), AllocError> {
+pub(crate) fn put_origin(out: &mut Output, description: &Description<'_>) {
     let origin = &description.origin;
     let fields = [
         origin.username.as_bytes(),
@@ -75,63 +58,57 @@ pub(crate) fn put_origin(
         origin.address_type.as_bytes(),
         origin.address.as_bytes(),
     ];
-    put_boxes(out, &fields)
+    out.put_boxes(&fields);
 }
 
 /// What stands in a description before its media.
-pub(crate) fn put_session(
-    alloc: Global,
-    out: &mut String,
-    description: &Description<'_>,
-) -> Result<(), AllocError> {
-    out.push_str("origin ")?;
-    put_origin(out, description)?;
-    put_lines(alloc, out, ", before", description.before.as_slice())?;
-    out.push_str(", ")?;
-    put_connection(out, description)?;
-    put_lines(alloc, out, ", after", description.after.as_slice())?;
-    let media = description.media.as_slice().len();
-    write!(out, ", media {media}")
+pub(crate) fn put_session(out: &mut Output, description: &Description<'_>) {
+    out.put("origin ");
+    put_origin(out, description);
+    put_lines(out, ", before", description.before.as_slice());
+    out.put(", ");
+    put_connection(out, &description.connection);
+    put_lines(out, ", after", description.after.as_slice());
+    out.put(", media ");
+    out.put_usize(description.media.as_slice().len());
 }
 
 /// The `i=` line of a medium, if it has one.
-fn put_info(out: &mut String, medium: &Media<'_>) -> Result<(), AllocError> {
-    match &medium.info {
-        Some(info) => put_boxed(out, info.as_bytes()),
-        None => out.push_str("none"),
+fn put_info(out: &mut Output, info: Option<&Text<'_>>) {
+    match info {
+        Some(info) => out.put_boxed(info.as_bytes()),
+        None => out.put("none"),
     }
 }
 
-/// The port of a medium, and how many there are where it says so.
-fn put_ports(out: &mut String, medium: &Media<'_>) -> Result<(), AllocError> {
-    let port = medium.port;
-    match medium.count {
-        Some(count) => write!(out, " {port}/{count} "),
-        None => write!(out, " {port} "),
+/// How many ports a medium has, where it says so.
+fn put_count(out: &mut Output, count: Option<u16>) {
+    if let Some(count) = count {
+        out.put("/");
+        out.put_number(u64::from(count));
     }
 }
 
 /// The fields of the `m=` line, its formats in brackets.
-fn put_medium_line(out: &mut String, medium: &Media<'_>) -> Result<(), AllocError> {
-    put_shown(out, medium.kind.as_bytes())?;
-    put_ports(out, medium)?;
-    put_shown(out, medium.proto.as_bytes())?;
-    out.push(' ')?;
-    put_texts(out, medium.formats.as_slice())
+fn put_medium_line(out: &mut Output, medium: &Media<'_>) {
+    out.put_shown(medium.kind.as_bytes());
+    out.put(" ");
+    out.put_number(u64::from(medium.port));
+    put_count(out, medium.count);
+    out.put(" ");
+    out.put_shown(medium.proto.as_bytes());
+    out.put(" ");
+    put_texts(out, medium.formats.as_slice());
 }
 
 /// A medium and what stands under it.
-pub(crate) fn put_medium(
-    alloc: Global,
-    out: &mut String,
-    medium: &Media<'_>,
-) -> Result<(), AllocError> {
-    put_medium_line(out, medium)?;
-    out.push_str(", info ")?;
-    put_info(out, medium)?;
-    out.push_str(", ")?;
-    put_connection_line(out, &medium.connection)?;
-    put_lines(alloc, out, ", after", medium.after.as_slice())
+pub(crate) fn put_medium(out: &mut Output, medium: &Media<'_>) {
+    put_medium_line(out, medium);
+    out.put(", info ");
+    put_info(out, medium.info.as_ref());
+    out.put(", ");
+    put_connection(out, &medium.connection);
+    put_lines(out, ", after", medium.after.as_slice());
 }
 
 fn name_of(way: Way) -> &'static str {
@@ -143,46 +120,27 @@ fn name_of(way: Way) -> &'static str {
     }
 }
 
-fn yes_or_no(holds: bool) -> &'static str {
-    if holds { "yes" } else { "no" }
-}
-
 /// A direction, and whether it sends and receives.
-fn put_way(out: &mut String, way: Way) -> Result<(), AllocError> {
-    let (name, sends, receives) = (
-        name_of(way),
-        yes_or_no(way.sends()),
-        yes_or_no(way.receives()),
-    );
-    write!(out, ", {name}, sends {sends}, receives {receives}")
+fn put_way(out: &mut Output, way: Way) {
+    out.put(", ");
+    out.put(name_of(way));
+    out.put(", sends ");
+    out.put_yes_or_no(way.sends());
+    out.put(", receives ");
+    out.put_yes_or_no(way.receives());
 }
 
-fn put_address_and_port(
-    out: &mut String,
-    address: &Address<'_>,
-    port: u16,
-) -> Result<(), AllocError> {
-    put_address(out, address)?;
-    write!(out, " port {port}")
-}
-
-fn put_place(
-    out: &mut String,
-    description: &Description<'_>,
-    medium: &Media<'_>,
-) -> Result<(), AllocError> {
-    match place_of(description, medium) {
-        Some(place) => put_address_and_port(out, place.address, place.port),
-        None => out.push_str("no place"),
-    }
+fn put_address_and_port(out: &mut Output, address: &Address<'_>, port: u16) {
+    put_address(out, address);
+    out.put(" port ");
+    out.put_number(u64::from(port));
 }
 
 /// Where a medium is wanted and which way it goes.
-pub(crate) fn put_direction(
-    out: &mut String,
-    description: &Description<'_>,
-    medium: &Media<'_>,
-) -> Result<(), AllocError> {
-    put_place(out, description, medium)?;
-    put_way(out, way_of(description, medium))
+pub(crate) fn put_direction(out: &mut Output, description: &Description<'_>, medium: &Media<'_>) {
+    match place_of(description, medium) {
+        Some(place) => put_address_and_port(out, place.address, place.port),
+        None => out.put("no place"),
+    }
+    put_way(out, way_of(description, medium));
 }

@@ -1,7 +1,6 @@
 //! Rows of the calls of `offer_answer` on a session: an offer and its answer, and what a server sent on in place of them.
 
-ghost use Rattle.std.specs.Prelude.{◌≡◌, ◌==◌, All, IsTrue, Some};
-ghost use Rattle.std.specs.List.{list_any};
+ghost use Rattle.std.specs.Prelude.{◌≡◌, All, IsTrue, Some};
 ghost use Rattle.port_pool.specs.Holdings.{holder_of};
 ghost use Rattle.offer_answer.specs.Rows.{are_distinct};
 ghost use Rattle.offer_answer.specs.Session.{HasAbove};
@@ -9,7 +8,7 @@ ghost use Rattle.offer_answer.specs.Session.{HasAbove};
 use crate::port_pool_words::{put_changes, put_fault, put_row};
 use offer_answer::{plan_session, session_lines, session_pairs};
 use port_pool::{Pool, PoolError, RelayLine};
-use rows::outcome_after;
+use rows::{Output, let_go, outcome_after};
 use sdp::Description;
 use std::alloc::{AllocError, Global};
 
@@ -17,10 +16,14 @@ use std::alloc::{AllocError, Global};
 const CALL: u64 = 1;
 
 /// Whether there is a port above each of these.
+#[tactic(auto, using(crate::proofs::Ports::above_cons))]
 fn have_above(ports: &[u16]) -> bool
     ensures { IsTrue result → All HasAbove ports.now }
 {
-    ports.iter().all(|port| *port < 65_535)
+    match ports.split_first() {
+        Some((port, rest)) => *port < 65_535 && have_above(rest),
+        None => true,
+    }
 }
 
 /// Whether the call holds the pair with this even port.
@@ -31,16 +34,14 @@ fn is_held(pool: &Pool, even: u16) -> bool
 }
 
 /// Whether the call holds each pair.
+#[tactic(auto, using(crate::proofs::Ports::held_cons))]
 fn are_held(pool: &Pool, pairs: &[u16]) -> bool
     ensures { IsTrue result → All (λ e. holder_of pool.now.holdings e ≡ Some 1) pairs.now }
 {
-    pairs.iter().all(|even| is_held(pool, *even))
-}
-
-fn is_among(port: u16, ports: &[u16]) -> bool
-    ensures { result ≡ list_any (λ q. q == port) ports.now }
-{
-    ports.iter().any(|other| *other == port)
+    match pairs.split_first() {
+        Some((even, rest)) => is_held(pool, *even) && are_held(pool, rest),
+        None => true,
+    }
 }
 
 /// Whether no port stands twice.
@@ -50,40 +51,41 @@ fn are_distinct(ports: &[u16]) -> bool
     let [port, rest @ ..] = ports else {
         return true;
     };
-    !is_among(*port, rest) && are_distinct(rest)
+    !rest.contains(port) && are_distinct(rest)
 }
 
-fn put_line(out: &mut String, line: &RelayLine) -> Result<(), AllocError> {
-    let port = line.port;
-    write!(out, "; {port} ")?;
-    put_row(out, line.hop)
+fn put_line(out: &mut Output, line: &RelayLine) {
+    out.put("; ");
+    out.put_number(u64::from(line.port));
+    out.put(" ");
+    put_row(out, line.hop);
 }
 
 /// The lines, in order.
-fn put_each_line(out: &mut String, lines: &[RelayLine]) -> Result<(), AllocError> {
-    out.push_str("lines")?;
+fn put_each_line(out: &mut Output, lines: &[RelayLine]) {
+    out.put("lines");
     for line in lines {
-        put_line(out, line)?;
+        put_line(out, line);
     }
-    Ok(())
 }
 
 /// The lines of a session.
 fn put_lines(
-    alloc: Global,
-    out: &mut String,
+    out: &mut Output,
     offer_taken: &Description<'_>,
     answer_sent: &Description<'_>,
     offer_sent: &Description<'_>,
     answer_taken: &Description<'_>,
 ) -> Result<(), AllocError> {
+    let alloc = out.alloc();
     let pairs = session_pairs(alloc, offer_taken, answer_sent, offer_sent, answer_taken)?;
     if !have_above(&pairs) {
-        return out.push_str("no port above");
+        out.put("no port above");
+        return Ok(());
     }
     let lines = session_lines(alloc, offer_taken, answer_sent, offer_sent, answer_taken)?;
-    let outcome = put_each_line(out, &lines);
-    outcome_after(lines, outcome)
+    put_each_line(out, &lines);
+    Ok(())
 }
 
 /// A pool of eight pairs from 40000, of which the call holds the first four.
@@ -97,43 +99,45 @@ fn held_pool(alloc: Global) -> Result<Pool, PoolError> {
 
 /// What the rows of a session change in a pool where the call holds four pairs.
 fn put_plan(
-    alloc: Global,
-    out: &mut String,
+    out: &mut Output,
     pool: &Pool,
     offer_taken: &Description<'_>,
     answer_sent: &Description<'_>,
     offer_sent: &Description<'_>,
     answer_taken: &Description<'_>,
 ) -> Result<(), AllocError> {
+    let alloc = out.alloc();
     let pairs = session_pairs(alloc, offer_taken, answer_sent, offer_sent, answer_taken)?;
     if !are_held(pool, &pairs) || !are_distinct(&pairs) {
-        return out.push_str("no pairs of the call");
+        out.put("no pairs of the call");
+        return Ok(());
     }
-    let changes = plan_session(
-        alloc,
-        pool,
-        CALL,
-        offer_taken,
-        answer_sent,
-        offer_sent,
-        answer_taken,
-    )?;
-    put_changes(out, changes)
+    put_changes(
+        out,
+        plan_session(
+            alloc,
+            pool,
+            CALL,
+            offer_taken,
+            answer_sent,
+            offer_sent,
+            answer_taken,
+        ),
+    );
+    Ok(())
 }
 
 /// The same in such a pool of its own.
 fn put_plan_in_new(
-    alloc: Global,
-    out: &mut String,
+    out: &mut Output,
     offer_taken: &Description<'_>,
     answer_sent: &Description<'_>,
     offer_sent: &Description<'_>,
     answer_taken: &Description<'_>,
-) -> Result<(), AllocError> {
-    match held_pool(alloc) {
+) {
+    match held_pool(out.alloc()) {
         Ok(pool) => {
-            let outcome = put_plan(
-                alloc,
+            let done = put_plan(
                 out,
                 &pool,
                 offer_taken,
@@ -141,7 +145,8 @@ fn put_plan_in_new(
                 offer_sent,
                 answer_taken,
             );
-            outcome_after(pool, outcome)
+            out.note(done);
+            let_go(pool);
         }
         Err(fault) => put_fault(out, fault),
     }
@@ -149,32 +154,18 @@ fn put_plan_in_new(
 
 /// What a call on a session answers, of the offer and the answer taken and what was sent on in place of them.
 pub(crate) fn put_session(
-    alloc: Global,
-    out: &mut String,
+    out: &mut Output,
     call: &str,
     offer_taken: &Description<'_>,
     answer_sent: &Description<'_>,
     offer_sent: &Description<'_>,
     answer_taken: &Description<'_>,
-) -> Result<(), AllocError> {
+) {
     match call {
         "session_lines" => {
-            put_lines(
-                alloc,
-                out,
-                offer_taken,
-                answer_sent,
-                offer_sent,
-                answer_taken,
-            )
+            let done = put_lines(out, offer_taken, answer_sent, offer_sent, answer_taken);
+            out.note(done);
         }
-        _ => put_plan_in_new(
-            alloc,
-            out,
-            offer_taken,
-            answer_sent,
-            offer_sent,
-            answer_taken,
-        ),
+        _ => put_plan_in_new(out, offer_taken, answer_sent, offer_sent, answer_taken),
     }
 }

@@ -3,327 +3,240 @@
 use crate::sip_uri_words::{
     put_host_words, put_name, put_name_parts, put_parameters, put_uri, put_uri_parts,
 };
-use rows::{byte_of, outcome_after, put_octets, put_shown, put_yes_or_no};
+use crate::telling::word_or_none;
+use rows::{Output, byte_of, let_go};
 use sip_uri::{
     Host, NameAddr, Param, Params, Uri, UriError, binding_is_equivalence, ip4, is_host, one_value,
     param_named, put_param, put_params, read_field_params, read_host, read_name_addr, read_uri,
     same_binding, same_host, same_text,
 };
-use std::alloc::{AllocError, Global};
-use text::Text;
+use text::lent;
 
-/// The letter and the words of a fault. Want of memory goes up.
-fn put_fault(out: &mut String, fault: UriError) -> Result<(), AllocError> {
+/// The letter and the words of a fault, or want of memory.
+fn put_fault(out: &mut Output, fault: UriError) {
     match fault {
-        UriError::OutOfMemory => Err(AllocError),
-        fault => write!(out, "{fault}"),
+        UriError::OutOfMemory => out.no_memory(),
+        fault => out.put_fault(fault),
     }
 }
 
 /// The parts of a URI as it is kept.
-fn put_kept_uri(alloc: Global, out: &mut String, uri: &Uri<'_>) -> Result<(), AllocError> {
-    let kept = uri.keep(alloc)?;
-    let outcome = put_uri_parts(alloc, out, &kept);
-    outcome_after(kept, outcome)
-}
-
-/// What a call answers of a URI: its parts, itself as it is written, or its parts as it is kept.
-fn put_uri_by(
-    alloc: Global,
-    out: &mut String,
-    call: &str,
-    uri: &Uri<'_>,
-) -> Result<(), AllocError> {
-    match call {
-        "read_uri" => put_uri_parts(alloc, out, uri),
-        "write_uri" => put_uri(alloc, out, uri),
-        _ => put_kept_uri(alloc, out, uri),
+fn put_kept_uri(out: &mut Output, uri: &Uri<'_>) {
+    match uri.keep(out.alloc()) {
+        Ok(kept) => {
+            put_uri_parts(out, &kept);
+            let_go(kept);
+        }
+        Err(_) => out.no_memory(),
     }
 }
 
-fn put_told_uri(
-    alloc: Global,
-    out: &mut String,
-    call: &str,
-    text: &[u8],
-) -> Result<(), AllocError> {
-    match read_uri(alloc, text) {
+/// What a call answers of a URI: its parts, itself as it is written, or its parts as it is kept.
+fn put_uri_by(out: &mut Output, call: &str, uri: &Uri<'_>) {
+    match call {
+        "read_uri" => put_uri_parts(out, uri),
+        "write_uri" => put_uri(out, uri),
+        _ => put_kept_uri(out, uri),
+    }
+}
+
+fn put_told_uri(out: &mut Output, call: &str, text: &[u8]) {
+    match read_uri(out.alloc(), text) {
         Ok(uri) => {
-            let outcome = put_uri_by(alloc, out, call, &uri);
-            outcome_after(uri, outcome)
+            put_uri_by(out, call, &uri);
+            let_go(uri);
         }
         Err(fault) => put_fault(out, fault),
     }
 }
 
 /// The parts of a name and an address as they are kept.
-fn put_kept_name(alloc: Global, out: &mut String, name: &NameAddr<'_>) -> Result<(), AllocError> {
-    let kept = name.keep(alloc)?;
-    let outcome = put_name_parts(alloc, out, &kept);
-    outcome_after(kept, outcome)
-}
-
-/// The same of a name and an address.
-fn put_name_by(
-    alloc: Global,
-    out: &mut String,
-    call: &str,
-    name: &NameAddr<'_>,
-) -> Result<(), AllocError> {
-    match call {
-        "read_name_addr" => put_name_parts(alloc, out, name),
-        "write_name_addr" => put_name(alloc, out, name),
-        _ => put_kept_name(alloc, out, name),
+fn put_kept_name(out: &mut Output, name: &NameAddr<'_>) {
+    match name.keep(out.alloc()) {
+        Ok(kept) => {
+            put_name_parts(out, &kept);
+            let_go(kept);
+        }
+        Err(_) => out.no_memory(),
     }
 }
 
-fn put_told_name(
-    alloc: Global,
-    out: &mut String,
-    call: &str,
-    text: &[u8],
-) -> Result<(), AllocError> {
-    match read_name_addr(alloc, text) {
+/// The same of a name and an address.
+fn put_name_by(out: &mut Output, call: &str, name: &NameAddr<'_>) {
+    match call {
+        "read_name_addr" => put_name_parts(out, name),
+        "write_name_addr" => put_name(out, name),
+        _ => put_kept_name(out, name),
+    }
+}
+
+fn put_told_name(out: &mut Output, call: &str, text: &[u8]) {
+    match read_name_addr(out.alloc(), text) {
         Ok(name) => {
-            let outcome = put_name_by(alloc, out, call, &name);
-            outcome_after(name, outcome)
+            put_name_by(out, call, &name);
+            let_go(name);
         }
         Err(fault) => put_fault(out, fault),
     }
 }
 
 /// Whether a URI and that of a text are one binding.
-fn put_is_bound(
-    alloc: Global,
-    out: &mut String,
-    one: &Uri<'_>,
-    other: &[u8],
-) -> Result<(), AllocError> {
-    match read_uri(alloc, other) {
+fn put_is_bound(out: &mut Output, one: &Uri<'_>, other: &[u8]) {
+    match read_uri(out.alloc(), other) {
         Ok(other) => {
-            let is_one = same_binding(one, &other);
-            put_yes_or_no(out, outcome_after(other, is_one))
+            out.put_yes_or_no(same_binding(one, &other));
+            let_go(other);
         }
         Err(fault) => put_fault(out, fault),
     }
 }
 
 /// Whether the URIs of two texts are one binding.
-fn put_same_binding(
-    alloc: Global,
-    out: &mut String,
-    one: &[u8],
-    other: &[u8],
-) -> Result<(), AllocError> {
-    match read_uri(alloc, one) {
+fn put_same_binding(out: &mut Output, one: &[u8], other: &[u8]) {
+    match read_uri(out.alloc(), one) {
         Ok(one) => {
-            let outcome = put_is_bound(alloc, out, &one, other);
-            outcome_after(one, outcome)
+            put_is_bound(out, &one, other);
+            let_go(one);
         }
         Err(fault) => put_fault(out, fault),
     }
 }
 
 /// Whether a host and that of a text are one.
-fn put_is_host_of(out: &mut String, host: &Host<'_>, text: &[u8]) -> Result<(), AllocError> {
+fn put_is_host_of(out: &mut Output, host: &Host<'_>, text: &[u8]) {
     match read_host(text) {
-        Some(other) => {
-            let is_one = same_host(host, &other);
-            put_yes_or_no(out, outcome_after(other, is_one))
-        }
-        None => out.push_str("no host"),
+        Some(other) => out.put_yes_or_no(same_host(host, &other)),
+        None => out.put("no host"),
     }
 }
 
 /// Whether the hosts of two texts are one.
-fn put_same_host(out: &mut String, a: &[u8], b: &[u8]) -> Result<(), AllocError> {
+fn put_same_host(out: &mut Output, a: &[u8], b: &[u8]) {
     match read_host(a) {
-        Some(host) => {
-            let outcome = put_is_host_of(out, &host, b);
-            outcome_after(host, outcome)
-        }
-        None => out.push_str("no host"),
+        Some(host) => put_is_host_of(out, &host, b),
+        None => out.put("no host"),
     }
 }
 
-/// The text of a word; none for `-`.
-fn text_or_none(word: &[u8]) -> Option<Text<'_>> {
-    match word {
-        b"-" => None,
-        _ => Some(Text::lent(word)),
-    }
+/// Whether two texts are one, or neither is there: none for `-`.
+fn put_same_text(out: &mut Output, a: &[u8], b: &[u8]) {
+    let (a, b) = (lent(word_or_none(a)), lent(word_or_none(b)));
+    out.put_yes_or_no(same_text(a.as_ref(), b.as_ref()));
 }
 
-/// Whether two texts are one, or neither is there.
-fn put_same_text(out: &mut String, a: &[u8], b: &[u8]) -> Result<(), AllocError> {
-    let texts = (text_or_none(a), text_or_none(b));
-    let are_one = same_text(texts.0.as_ref(), texts.1.as_ref());
-    put_yes_or_no(out, outcome_after(texts, are_one))
+/// Parameters written behind these marks.
+fn put_params_words(out: &mut Output, params: &[Param<'_>], first: &[u8], next: &[u8]) {
+    let mut text = out.list();
+    out.note(put_params(&mut text, params, byte_of(first), byte_of(next)));
+    out.put_shown(&text);
 }
 
-fn put_last_params(alloc: Global, out: &mut String, params: Params<'_>) -> Result<(), AllocError> {
-    let outcome = put_parameters(alloc, out, "parameters", params.as_slice());
-    outcome_after(params, outcome)
-}
-
-/// The parameters of a header field, which were taken apart and made a list again.
-fn put_field_params(
-    alloc: Global,
-    out: &mut String,
-    text: Option<&[u8]>,
-) -> Result<(), AllocError> {
-    match read_field_params(alloc, text)? {
-        Some(params) => put_last_params(alloc, out, Params::from_vec(params.into_vec())),
-        None => out.push_str("malformed"),
-    }
-}
-
-fn put_params_words(
-    alloc: Global,
-    out: &mut String,
-    params: &[Param<'_>],
-    first: u8,
-    next: u8,
-) -> Result<(), AllocError> {
-    let mut text = Vec::new(alloc);
-    put_params(&mut text, params, first, next)?;
-    put_shown(out, &text)
-}
-
-/// Parameters of a header field, written behind these marks.
-fn put_params_back(
-    alloc: Global,
-    out: &mut String,
-    text: &[u8],
-    first: u8,
-    next: u8,
-) -> Result<(), AllocError> {
-    match read_field_params(alloc, Some(text))? {
-        Some(params) => {
-            let outcome = put_params_words(alloc, out, params.as_slice(), first, next);
-            outcome_after(params, outcome)
-        }
-        None => out.push_str("malformed"),
-    }
-}
-
-fn put_one_param(alloc: Global, out: &mut String, param: &Param<'_>) -> Result<(), AllocError> {
-    let mut text = Vec::new(alloc);
-    put_param(&mut text, param)?;
-    put_shown(out, &text)
-}
-
-fn put_first_named(
-    alloc: Global,
-    out: &mut String,
-    params: &[Param<'_>],
-    name: &[u8],
-) -> Result<(), AllocError> {
-    match param_named(params, name) {
-        Some(param) => put_one_param(alloc, out, param),
-        None => out.push_str("none"),
-    }
+fn put_one_param(out: &mut Output, param: &Param<'_>) {
+    let mut text = out.list();
+    out.note(put_param(&mut text, param));
+    out.put_shown(&text);
 }
 
 /// The first parameter of this name.
-fn put_named(alloc: Global, out: &mut String, text: &[u8], name: &[u8]) -> Result<(), AllocError> {
-    match read_field_params(alloc, Some(text))? {
-        Some(params) => {
-            let outcome = put_first_named(alloc, out, params.as_slice(), name);
-            outcome_after(params, outcome)
+fn put_first_named(out: &mut Output, params: &[Param<'_>], name: &[u8]) {
+    match param_named(params, name) {
+        Some(param) => put_one_param(out, param),
+        None => out.put("none"),
+    }
+}
+
+/// What is told of the parameters of a header field: those that these marks stand before, the first of this name, or all.
+fn put_params_by(out: &mut Output, params: &[Param<'_>], words: &[&[u8]]) {
+    match words {
+        [first, next] => put_params_words(out, params, first, next),
+        [name] => put_first_named(out, params, name),
+        _ => put_parameters(out, "parameters", params),
+    }
+}
+
+/// The same of the parameters of a text, which were taken apart and made a list again.
+fn put_told_params(out: &mut Output, text: Option<&[u8]>, words: &[&[u8]]) {
+    match read_field_params(out.alloc(), text) {
+        Ok(Some(params)) => {
+            let params = Params::from_vec(params.into_vec());
+            put_params_by(out, params.as_slice(), words);
         }
-        None => out.push_str("malformed"),
+        Ok(None) => out.put("malformed"),
+        Err(_) => out.no_memory(),
     }
 }
 
 /// A host of a URI or of a Via.
-fn put_host_of(alloc: Global, out: &mut String, text: &[u8]) -> Result<(), AllocError> {
+fn put_host_of(out: &mut Output, text: &[u8]) {
     match read_host(text) {
-        Some(host) => {
-            let outcome = put_host_words(alloc, out, &host);
-            outcome_after(host, outcome)
-        }
-        None => out.push_str("none"),
+        Some(host) => put_host_words(out, &host),
+        None => out.put("none"),
     }
 }
 
 /// The four octets of a text.
-fn put_ip4(out: &mut String, text: &[u8]) -> Result<(), AllocError> {
+fn put_ip4(out: &mut Output, text: &[u8]) {
     match ip4(text) {
-        Some(octets) => put_octets(out, &octets),
-        None => out.push_str("none"),
+        Some(octets) => out.put_octets(&octets),
+        None => out.put("none"),
     }
 }
 
 /// Calls what has a law for its contract.
-fn put_laws(out: &mut String) -> Result<(), AllocError> {
+fn put_laws(out: &mut Output) {
     binding_is_equivalence();
     one_value();
-    out.push_str("called")
+    out.put("called");
 }
 
 /// What a call without words answers, if it is one.
-fn put_plain(alloc: Global, out: &mut String, call: &str) -> Option<Result<(), AllocError>> {
+fn put_plain(out: &mut Output, call: &str) {
     match call {
-        "read_field_params" => Some(put_field_params(alloc, out, None)),
-        "laws" => Some(put_laws(out)),
-        _ => None,
+        "read_field_params" => put_told_params(out, None, &[]),
+        "laws" => put_laws(out),
+        _ => out.no_such_row(),
     }
 }
 
 /// What a call on a text answers, if it is one.
-fn put_of_one(
-    alloc: Global,
-    out: &mut String,
-    call: &str,
-    text: &[u8],
-) -> Option<Result<(), AllocError>> {
+fn put_of_one(out: &mut Output, call: &str, text: &[u8]) {
     match call {
-        "read_uri" => Some(put_told_uri(alloc, out, call, text)),
-        "write_uri" => Some(put_told_uri(alloc, out, call, text)),
-        "keep_uri" => Some(put_told_uri(alloc, out, call, text)),
-        "read_name_addr" => Some(put_told_name(alloc, out, call, text)),
-        "write_name_addr" => Some(put_told_name(alloc, out, call, text)),
-        "keep_name_addr" => Some(put_told_name(alloc, out, call, text)),
-        "read_field_params" => Some(put_field_params(alloc, out, Some(text))),
-        "read_host" => Some(put_host_of(alloc, out, text)),
-        "is_host" => Some(put_yes_or_no(out, is_host(text))),
-        "ip4" => Some(put_ip4(out, text)),
-        _ => None,
+        "read_uri" | "write_uri" | "keep_uri" => put_told_uri(out, call, text),
+        "read_name_addr" | "write_name_addr" | "keep_name_addr" => put_told_name(out, call, text),
+        "read_field_params" => put_told_params(out, Some(text), &[]),
+        "read_host" => put_host_of(out, text),
+        "is_host" => out.put_yes_or_no(is_host(text)),
+        "ip4" => put_ip4(out, text),
+        _ => out.no_such_row(),
     }
 }
 
 /// What a call on two texts answers, if it is one.
-fn put_of_two(
-    alloc: Global,
-    out: &mut String,
-    call: &str,
-    a: &[u8],
-    b: &[u8],
-) -> Option<Result<(), AllocError>> {
+fn put_of_two(out: &mut Output, call: &str, a: &[u8], b: &[u8]) {
     match call {
-        "same_binding" => Some(put_same_binding(alloc, out, a, b)),
-        "same_text" => Some(put_same_text(out, a, b)),
-        "same_host" => Some(put_same_host(out, a, b)),
-        "param_named" => Some(put_named(alloc, out, a, b)),
-        _ => None,
+        "same_binding" => put_same_binding(out, a, b),
+        "same_text" => put_same_text(out, a, b),
+        "same_host" => put_same_host(out, a, b),
+        "param_named" => put_told_params(out, Some(a), &[b]),
+        _ => out.no_such_row(),
+    }
+}
+
+/// What a call on a text and two marks answers, if it is one.
+fn put_of_three(out: &mut Output, call: &str, text: &[u8], first: &[u8], next: &[u8]) {
+    match call {
+        "put_params" => put_told_params(out, Some(text), &[first, next]),
+        _ => out.no_such_row(),
     }
 }
 
 /// Writes what the row's call answers, if it is one of `sip_uri`.
-pub(crate) fn put_answer(
-    alloc: Global,
-    out: &mut String,
-    call: &str,
-    args: &[&[u8]],
-) -> Option<Result<(), AllocError>> {
+pub(crate) fn put_answer(out: &mut Output, call: &str, args: &[&[u8]]) {
     match args {
-        [] => put_plain(alloc, out, call),
-        [text] => put_of_one(alloc, out, call, text),
-        [a, b] => put_of_two(alloc, out, call, a, b),
-        [text, first, next] if call == "put_params" => {
-            Some(put_params_back(alloc, out, text, byte_of(first), byte_of(next)))
-        }
-        _ => None,
+        [] => put_plain(out, call),
+        [text] => put_of_one(out, call, text),
+        [a, b] => put_of_two(out, call, a, b),
+        [text, first, next] => put_of_three(out, call, text, first, next),
+        _ => out.no_such_row(),
     }
 }

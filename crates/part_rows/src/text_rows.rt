@@ -1,62 +1,54 @@
 //! Rows of calls of `text`.
 
-use crate::telling::put_texts;
-use rows::{
-    byte_of, number, outcome_after, put_boxed, put_boxes, put_number_or_none, put_shown,
-    put_yes_or_no,
-};
-use std::alloc::{AllocError, Global};
+use crate::telling::{put_texts, word_or_none};
+use rows::{Output, byte_of, number, u32_of};
 use text::{
     Text, Texts, Within, cut, cut_piece, cut_word, is_blank, is_run_of_digits, is_run_of_token,
     is_token_byte, lent, number_upto, pieces, put_number, put_pieces, same_without_case, trimmed,
     without_blanks,
 };
 
-fn put_two(out: &mut String, one: &[u8], other: &[u8]) -> Result<(), AllocError> {
-    put_boxed(out, one)?;
-    out.push(' ')?;
-    put_boxed(out, other)
-}
-
 /// What stands before a mark, and what stands behind it.
-fn put_parts(out: &mut String, parts: (&[u8], Option<&[u8]>)) -> Result<(), AllocError> {
+fn put_parts(out: &mut Output, parts: (&[u8], Option<&[u8]>)) {
     match parts.1 {
-        Some(behind) => put_two(out, parts.0, behind),
-        None => put_boxed(out, parts.0),
+        Some(behind) => out.put_boxes(&[parts.0, behind]),
+        None => out.put_boxed(parts.0),
     }
 }
 
 /// What stands between the marks.
-fn put_pieces_at(alloc: Global, out: &mut String, text: &[u8], mark: u8) -> Result<(), AllocError> {
-    put_boxes(out, &pieces(alloc, text, mark)?)
+fn put_pieces_at(out: &mut Output, text: &[u8], mark: u8) {
+    match pieces(out.alloc(), text, mark) {
+        Ok(found) => out.put_boxes(&found),
+        Err(_) => out.no_memory(),
+    }
 }
 
 /// The pieces of two texts, one behind the other.
-fn put_pieces_of_two(
-    alloc: Global,
-    out: &mut String,
-    one: &[u8],
-    other: &[u8],
-    mark: u8,
-) -> Result<(), AllocError> {
-    let mut found = pieces(alloc, one, mark)?;
-    put_pieces(&mut found, other, mark)?;
-    put_boxes(out, &found)
+fn put_pieces_of_two(out: &mut Output, one: &[u8], other: &[u8], mark: u8) {
+    match pieces(out.alloc(), one, mark) {
+        Ok(mut found) => {
+            out.note(put_pieces(&mut found, other, mark));
+            out.put_boxes(&found);
+        }
+        Err(_) => out.no_memory(),
+    }
 }
 
 /// A word, and what stands behind its blank.
-fn put_word(out: &mut String, text: &[u8]) -> Result<(), AllocError> {
+fn put_word(out: &mut Output, text: &[u8]) {
     let (word, rest) = cut_word(text);
-    put_two(out, word, rest)
+    out.put_boxes(&[word, rest]);
 }
 
-/// What stands in nothing, in angle brackets, in quotes, or behind a backslash in them.
-fn within_named(name: &[u8]) -> Within {
+/// What stands in nothing, in angle brackets, in quotes, or behind a backslash in them, if a word names it.
+fn within_named(name: &[u8]) -> Option<Within> {
     match name {
-        b"angles" => Within::Angles,
-        b"quotes" => Within::Quotes,
-        b"escape" => Within::Escape,
-        _ => Within::Nothing,
+        b"nothing" => Some(Within::Nothing),
+        b"angles" => Some(Within::Angles),
+        b"quotes" => Some(Within::Quotes),
+        b"escape" => Some(Within::Escape),
+        _ => None,
     }
 }
 
@@ -70,195 +62,164 @@ fn name_of(within: Within) -> &'static str {
     }
 }
 
+/// What a byte leads to.
+fn put_next(out: &mut Output, within: &[u8], byte: u8) {
+    match within_named(within) {
+        Some(within) => out.put(name_of(within.next(byte))),
+        None => out.no_such_row(),
+    }
+}
+
 /// The bytes that a token may have, by rising number.
-fn put_token_bytes(out: &mut String) -> Result<(), AllocError> {
+fn put_token_bytes(out: &mut Output) {
     for byte in 0..=u8::MAX {
         if is_token_byte(byte) {
-            put_shown(out, &[byte])?;
+            out.put_shown(&[byte]);
         }
     }
-    Ok(())
 }
 
 /// The bytes that are blanks, by rising number.
-fn put_blanks(out: &mut String) -> Result<(), AllocError> {
-    out.push('[')?;
+fn put_blanks(out: &mut Output) {
+    out.put("[");
     for byte in 0..=u8::MAX {
         if is_blank(byte) {
-            put_shown(out, &[byte])?;
+            out.put_shown(&[byte]);
         }
     }
-    out.push(']')
+    out.put("]");
 }
 
 /// The number of the digits, if it is not above the limit.
-fn put_read_number(out: &mut String, limit: u64, digits: &[u8]) -> Result<(), AllocError> {
-    match number_upto(u32::try_from(limit).unwrap_or(0), digits) {
-        Some(number) => put_number_or_none(out, Some(u64::from(number))),
-        None => out.push_str("none"),
+fn put_read_number(out: &mut Output, limit: u32, digits: &[u8]) {
+    match number_upto(limit, digits) {
+        Some(number) => out.put_number(u64::from(number)),
+        None => out.put("none"),
     }
 }
 
 /// A text with a number behind it.
-fn put_with_number(
-    alloc: Global,
-    out: &mut String,
-    front: &[u8],
-    number: u64,
-) -> Result<(), AllocError> {
-    let mut text = Vec::from_slice(alloc, front)?;
-    put_number(&mut text, number)?;
-    put_boxed(out, &text)
+fn put_with_number(out: &mut Output, front: &[u8], number: u64) {
+    let mut text = out.list();
+    out.extend(&mut text, front);
+    out.note(put_number(&mut text, number));
+    out.put_boxed(&text);
 }
 
 /// Whether two texts are one byte by byte: one of its own and one that is lent.
-fn put_sameness(alloc: Global, out: &mut String, a: &[u8], b: &[u8]) -> Result<(), AllocError> {
-    let own = Text::from_vec(Vec::from_slice(alloc, a)?);
-    let other = Text::lent(b);
-    let are_same = own == other;
-    put_yes_or_no(out, outcome_after((own, other), are_same))
+fn put_sameness(out: &mut Output, a: &[u8], b: &[u8]) {
+    let mut bytes = out.list();
+    out.extend(&mut bytes, a);
+    let own = Text::from_vec(bytes);
+    out.put_yes_or_no(own == Text::lent(b));
 }
 
 /// A text and what it borrows: the bytes where they stand, or nothing.
-fn put_place(out: &mut String, text: &Text<'_>) -> Result<(), AllocError> {
-    put_boxed(out, text.as_bytes())?;
+fn put_place(out: &mut Output, text: &Text<'_>) {
+    out.put_boxed(text.as_bytes());
     match text.in_place() {
         Some(bytes) => {
-            out.push_str(" at ")?;
-            put_boxed(out, bytes)
+            out.put(" at ");
+            out.put_boxed(bytes);
         }
-        None => out.push_str(" of its own"),
-    }
-}
-
-/// The same of a text that is let go behind it.
-fn put_last_place(out: &mut String, text: Text<'_>) -> Result<(), AllocError> {
-    let outcome = put_place(out, &text);
-    outcome_after(text, outcome)
-}
-
-/// The bytes of a word; none for `-`.
-fn bytes_or_none(word: &[u8]) -> Option<&[u8]> {
-    match word {
-        b"-" => None,
-        _ => Some(word),
+        None => out.put(" of its own"),
     }
 }
 
 /// A text of a word, none for `-`, that is lent.
-fn put_lent(out: &mut String, word: &[u8]) -> Result<(), AllocError> {
-    match lent(bytes_or_none(word)) {
-        Some(text) => put_last_place(out, text),
-        None => out.push_str("none"),
+fn put_lent(out: &mut Output, word: &[u8]) {
+    match lent(word_or_none(word)) {
+        Some(text) => put_place(out, &text),
+        None => out.put("none"),
     }
 }
 
 /// A text that was lent, as it is kept.
-fn put_kept(alloc: Global, out: &mut String, word: &[u8]) -> Result<(), AllocError> {
-    put_last_place(out, Text::lent(word).keep(alloc)?)
-}
-
-fn push_texts(
-    alloc: Global,
-    list: &mut Vec<Text<'static>>,
-    words: &[&[u8]],
-) -> Result<(), AllocError> {
-    for word in words {
-        list.push(Text::from_slice(alloc, word)?)?;
+fn put_kept(out: &mut Output, word: &[u8]) {
+    match Text::lent(word).keep(out.alloc()) {
+        Ok(text) => put_place(out, &text),
+        Err(_) => out.no_memory(),
     }
-    Ok(())
 }
 
-fn put_list(out: &mut String, texts: Texts<'_>) -> Result<(), AllocError> {
-    let outcome = put_texts(out, texts.as_slice());
-    outcome_after(texts, outcome)
+fn push_text(out: &mut Output, list: &mut Vec<Text<'static>>, word: &[u8]) {
+    match Text::from_slice(out.alloc(), word) {
+        Ok(text) => out.push(list, text),
+        Err(_) => out.no_memory(),
+    }
 }
 
 /// Texts, made a list, taken apart and made a list again.
-fn put_listed(alloc: Global, out: &mut String, words: &[&[u8]]) -> Result<(), AllocError> {
-    let mut list: Vec<Text<'static>> = Vec::new(alloc);
-    match push_texts(alloc, &mut list, words) {
-        Ok(()) => put_list(out, Texts::from_vec(Texts::from_vec(list).into_vec())),
-        Err(fault) => outcome_after(list, Err(fault)),
+fn put_listed(out: &mut Output, words: &[&[u8]]) {
+    let mut list: Vec<Text<'static>> = out.list();
+    for word in words {
+        push_text(out, &mut list, word);
     }
+    let texts = Texts::from_vec(Texts::from_vec(list).into_vec());
+    put_texts(out, texts.as_slice());
 }
 
 /// What a call without words answers, if it is one.
-fn put_plain(out: &mut String, call: &str) -> Option<Result<(), AllocError>> {
+fn put_plain(out: &mut Output, call: &str) {
     match call {
-        "is_token_byte" => Some(put_token_bytes(out)),
-        "is_blank" => Some(put_blanks(out)),
-        _ => None,
+        "is_token_byte" => put_token_bytes(out),
+        "is_blank" => put_blanks(out),
+        _ => out.no_such_row(),
     }
 }
 
 /// What a call on a text answers, if it is one.
-fn put_of_one(
-    alloc: Global,
-    out: &mut String,
-    call: &str,
-    text: &[u8],
-) -> Option<Result<(), AllocError>> {
+fn put_of_one(out: &mut Output, call: &str, text: &[u8]) {
     match call {
-        "cut_word" => Some(put_word(out, text)),
-        "trimmed" => Some(put_boxed(out, trimmed(text))),
-        "without_blanks" => Some(put_boxed(out, without_blanks(text))),
-        "is_run_of_digits" => Some(put_yes_or_no(out, is_run_of_digits(text))),
-        "is_run_of_token" => Some(put_yes_or_no(out, is_run_of_token(text))),
-        "lent" => Some(put_lent(out, text)),
-        "keep" => Some(put_kept(alloc, out, text)),
-        _ => None,
+        "cut_word" => put_word(out, text),
+        "trimmed" => out.put_boxed(trimmed(text)),
+        "without_blanks" => out.put_boxed(without_blanks(text)),
+        "is_run_of_digits" => out.put_yes_or_no(is_run_of_digits(text)),
+        "is_run_of_token" => out.put_yes_or_no(is_run_of_token(text)),
+        "lent" => put_lent(out, text),
+        "keep" => put_kept(out, text),
+        _ => out.no_such_row(),
     }
 }
 
 /// What a call on a text and a word answers, if it is one.
-fn put_of_two(
-    alloc: Global,
-    out: &mut String,
-    call: &str,
-    text: &[u8],
-    word: &[u8],
-) -> Option<Result<(), AllocError>> {
+fn put_of_two(out: &mut Output, call: &str, text: &[u8], word: &[u8]) {
     match call {
-        "cut" => Some(put_parts(out, cut(text, byte_of(word)))),
-        "cut_piece" => Some(put_parts(out, cut_piece(text, byte_of(word)))),
-        "pieces" => Some(put_pieces_at(alloc, out, text, byte_of(word))),
-        "put_number" => Some(put_with_number(alloc, out, text, number(word))),
-        "number_upto" => Some(put_read_number(out, number(text), word)),
-        "same_without_case" => Some(put_yes_or_no(out, same_without_case(text, word))),
-        "same" => Some(put_sameness(alloc, out, text, word)),
-        "next" => Some(out.push_str(name_of(within_named(text).next(byte_of(word))))),
-        _ => None,
+        "cut" => put_parts(out, cut(text, byte_of(word))),
+        "cut_piece" => put_parts(out, cut_piece(text, byte_of(word))),
+        "pieces" => put_pieces_at(out, text, byte_of(word)),
+        "put_number" => put_with_number(out, text, number(word)),
+        "number_upto" => put_read_number(out, u32_of(text), word),
+        "same_without_case" => out.put_yes_or_no(same_without_case(text, word)),
+        "same" => put_sameness(out, text, word),
+        "next" => put_next(out, text, byte_of(word)),
+        _ => out.no_such_row(),
     }
 }
 
-/// Writes what the row's call answers, if it is one of `text`.
-pub(crate) fn put_answer(
-    alloc: Global,
-    out: &mut String,
-    call: &str,
-    args: &[&[u8]],
-) -> Option<Result<(), AllocError>> {
+/// What a call on two texts and a mark answers, if it is one.
+fn put_of_three(out: &mut Output, call: &str, one: &[u8], other: &[u8], mark: u8) {
     match call {
-        "texts" => Some(put_listed(alloc, out, args)),
-        _ => put_of_words(alloc, out, call, args),
+        "put_pieces" => put_pieces_of_two(out, one, other, mark),
+        _ => out.no_such_row(),
     }
 }
 
 /// What a call on so many words answers, if it is one.
-fn put_of_words(
-    alloc: Global,
-    out: &mut String,
-    call: &str,
-    args: &[&[u8]],
-) -> Option<Result<(), AllocError>> {
+fn put_of_words(out: &mut Output, call: &str, args: &[&[u8]]) {
     match args {
         [] => put_plain(out, call),
-        [text] => put_of_one(alloc, out, call, text),
-        [text, word] => put_of_two(alloc, out, call, text, word),
-        [one, other, mark] if call == "put_pieces" => {
-            Some(put_pieces_of_two(alloc, out, one, other, byte_of(mark)))
-        }
-        _ => None,
+        [text] => put_of_one(out, call, text),
+        [text, word] => put_of_two(out, call, text, word),
+        [one, other, mark] => put_of_three(out, call, one, other, byte_of(mark)),
+        _ => out.no_such_row(),
+    }
+}
+
+/// Writes what the row's call answers, if it is one of `text`.
+pub(crate) fn put_answer(out: &mut Output, call: &str, args: &[&[u8]]) {
+    match call {
+        "texts" => put_listed(out, args),
+        _ => put_of_words(out, call, args),
     }
 }

@@ -1,27 +1,21 @@
 //! Rows of calls of `timers`: keys are single letters.
 
-use rows::{byte_of, number, outcome_after, put_number_or_none, put_yes_or_no, replace, usize_of};
-use std::alloc::{AllocError, Global};
+use rows::{Output, byte_of, number, replace, usize_of};
+use std::alloc::AllocError;
 use text::cut_word;
 use timers::{
     Answer, Call, DueTimers, Timer, Timers, due_by_settings, keys_stand_once, run, runs_by_settings,
 };
 
-/// The timers that earlier rows left.
-#[derive(Drop)]
-pub(crate) struct TimersRows {
-    timers: Timers<u8>,
-}
-
 /// Writes a key and its moment, or `none`.
-fn put_timer(out: &mut String, timer: Option<Timer<u8>>) -> Result<(), AllocError> {
+fn put_timer(out: &mut Output, timer: Option<Timer<u8>>) {
     match timer {
         Some(timer) => {
-            let key = char::from(timer.key);
-            let at = timer.at;
-            write!(out, "{key} at {at}")
+            out.put_shown(&[timer.key]);
+            out.put(" at ");
+            out.put_number(timer.at);
         }
-        None => out.push_str("none"),
+        None => out.put("none"),
     }
 }
 
@@ -50,54 +44,48 @@ fn call_of(word: &[u8]) -> Option<Call<u8>> {
 }
 
 /// Writes what a call of a run answered.
-fn put_answer(out: &mut String, answer: &Answer<u8>) -> Result<(), AllocError> {
+fn put_outcome(out: &mut Output, answer: &Answer<u8>) {
     match answer {
-        Answer::Done => out.push_str("done"),
+        Answer::Done => out.put("done"),
         Answer::Due(timer) => put_timer(out, *timer),
-        Answer::At(moment) => put_number_or_none(out, *moment),
-        Answer::Count(count) => write!(out, "{count}"),
+        Answer::At(moment) => out.put_number_or_none(*moment),
+        Answer::Count(count) => out.put_usize(*count),
     }
-}
-
-/// The calls of a run.
-fn calls_of(alloc: Global, words: &[&[u8]]) -> Result<Vec<Call<u8>>, AllocError> {
-    let mut calls = Vec::new(alloc);
-    for word in words {
-        if let Some(call) = call_of(word) {
-            calls.push(call)?;
-        }
-    }
-    Ok(calls)
 }
 
 /// The answers of a run.
-fn put_each_answer(out: &mut String, answers: &[Answer<u8>]) -> Result<(), AllocError> {
+fn put_each_answer(out: &mut Output, answers: &[Answer<u8>]) {
     for (at, answer) in answers.iter().enumerate() {
         if at > 0 {
-            out.push_str("; ")?;
+            out.put("; ");
         }
-        put_answer(out, answer)?;
+        put_outcome(out, answer);
     }
-    Ok(())
 }
 
-/// Makes calls in turn on timers, and tells what each answers.
-fn put_run_on(
-    alloc: Global,
-    out: &mut String,
-    timers: &mut Timers<u8>,
-    words: &[&[u8]],
-) -> Result<(), AllocError> {
-    let calls = calls_of(alloc, words)?;
-    let answers = run(alloc, timers, &calls)?;
-    put_each_answer(out, &answers)
+fn put_answers(out: &mut Output, answers: Result<Vec<Answer<u8>>, AllocError>) {
+    match answers {
+        Ok(answers) => put_each_answer(out, &answers),
+        Err(_) => out.no_memory(),
+    }
 }
 
-/// The same on new timers.
-fn put_run(alloc: Global, out: &mut String, words: &[&[u8]]) -> Result<(), AllocError> {
-    let mut timers = Timers::new(alloc);
-    let outcome = put_run_on(alloc, out, &mut timers, words);
-    outcome_after(timers, outcome)
+fn push_call(out: &mut Output, calls: &mut Vec<Call<u8>>, word: &[u8]) {
+    match call_of(word) {
+        Some(call) => out.push(calls, call),
+        None => out.no_such_row(),
+    }
+}
+
+/// Makes calls in turn on new timers, and tells what each answers.
+fn put_run(out: &mut Output, words: &[&[u8]]) {
+    let mut calls = out.list();
+    for word in words {
+        push_call(out, &mut calls, word);
+    }
+    let mut timers = Timers::new(out.alloc());
+    let answers = run(out.alloc(), &mut timers, &calls);
+    put_answers(out, answers);
 }
 
 /// Whether timers, in whatever form, have room for so many keys.
@@ -105,109 +93,71 @@ fn has_room<T: DueTimers<u8>>(timers: &T, keys: usize) -> bool {
     timers.room() >= keys
 }
 
+fn cancel(timers: &mut Timers<u8>, out: &mut Output, key: u8) {
+    timers.cancel(key);
+    out.put("done");
+}
+
+fn empty(timers: &mut Timers<u8>, out: &mut Output) {
+    replace(timers, Timers::new(out.alloc()));
+    out.put("done");
+}
+
 /// Calls what has a law for its contract.
-fn put_laws(out: &mut String) -> Result<(), AllocError> {
+fn put_laws(out: &mut Output) {
     due_by_settings::<u8>();
     keys_stand_once::<u8>();
     runs_by_settings::<u8>();
-    out.push_str("called")
+    out.put("called");
 }
 
-impl TimersRows {
-    pub(crate) fn new(alloc: Global) -> TimersRows {
-        TimersRows {
-            timers: Timers::new(alloc),
-        }
+/// What a call without words answers, if it is one.
+fn put_plain(timers: &mut Timers<u8>, out: &mut Output, call: &str) {
+    match call {
+        "new" => empty(timers, out),
+        "next" => out.put_number_or_none(timers.next()),
+        "len" => out.put_usize(timers.len()),
+        "laws" => put_laws(out),
+        _ => out.no_such_row(),
     }
+}
 
-    fn set(&mut self, out: &mut String, key: u8, at: u64) -> Result<(), AllocError> {
-        self.timers.set(key, at)?;
-        out.push_str("done")
+/// What a call on a key, a moment or a number of keys answers, if it is one.
+fn put_of_one(timers: &mut Timers<u8>, out: &mut Output, call: &str, word: &[u8]) {
+    match call {
+        "first_due" => put_timer(out, timers.first_due(number(word))),
+        "take_due" => put_timer(out, timers.take_due(number(word))),
+        "moment" => out.put_number_or_none(timers.moment(byte_of(word))),
+        "cancel" => cancel(timers, out, byte_of(word)),
+        "reserve" => out.put_done(timers.reserve(usize_of(word))),
+        "has_room" => out.put_yes_or_no(timers.room() >= usize_of(word)),
+        "has_room_in_any_form" => out.put_yes_or_no(has_room(timers, usize_of(word))),
+        _ => out.no_such_row(),
     }
+}
 
-    fn cancel(&mut self, out: &mut String, key: u8) -> Result<(), AllocError> {
-        self.timers.cancel(key);
-        out.push_str("done")
+/// What a call on a key and a moment answers, if it is one.
+fn put_of_two(timers: &mut Timers<u8>, out: &mut Output, call: &str, key: u8, at: u64) {
+    match call {
+        "set" => out.put_done(timers.set(key, at)),
+        _ => out.no_such_row(),
     }
+}
 
-    fn reserve(&mut self, out: &mut String, keys: usize) -> Result<(), AllocError> {
-        self.timers.reserve(keys)?;
-        out.push_str("done")
+/// What a call on so many words answers, if it is one.
+fn put_of_words(timers: &mut Timers<u8>, out: &mut Output, call: &str, args: &[&[u8]]) {
+    match args {
+        [] => put_plain(timers, out, call),
+        [word] => put_of_one(timers, out, call, word),
+        [key, at] => put_of_two(timers, out, call, byte_of(key), number(at)),
+        _ => out.no_such_row(),
     }
+}
 
-    fn empty(&mut self, alloc: Global, out: &mut String) -> Result<(), AllocError> {
-        replace(&mut self.timers, Timers::new(alloc));
-        out.push_str("done")
-    }
-
-    fn put_len(&self, out: &mut String) -> Result<(), AllocError> {
-        let len = self.timers.len();
-        write!(out, "{len}")
-    }
-
-    /// What a call without words answers, if it is one.
-    fn put_plain(
-        &mut self,
-        alloc: Global,
-        out: &mut String,
-        call: &str,
-    ) -> Option<Result<(), AllocError>> {
-        match call {
-            "new" => Some(self.empty(alloc, out)),
-            "next" => Some(put_number_or_none(out, self.timers.next())),
-            "len" => Some(self.put_len(out)),
-            "laws" => Some(put_laws(out)),
-            _ => None,
-        }
-    }
-
-    /// What a call on a key, a moment or a number of keys answers, if it is one.
-    fn put_of_one(
-        &mut self,
-        out: &mut String,
-        call: &str,
-        word: &[u8],
-    ) -> Option<Result<(), AllocError>> {
-        match call {
-            "first_due" => Some(put_timer(out, self.timers.first_due(number(word)))),
-            "take_due" => Some(put_timer(out, self.timers.take_due(number(word)))),
-            "moment" => Some(put_number_or_none(out, self.timers.moment(byte_of(word)))),
-            "cancel" => Some(self.cancel(out, byte_of(word))),
-            "reserve" => Some(self.reserve(out, usize_of(word))),
-            "has_room" => Some(put_yes_or_no(out, self.timers.room() >= usize_of(word))),
-            "has_room_in_any_form" => {
-                Some(put_yes_or_no(out, has_room(&self.timers, usize_of(word))))
-            }
-            _ => None,
-        }
-    }
-
-    fn put_of_words(
-        &mut self,
-        alloc: Global,
-        out: &mut String,
-        call: &str,
-        args: &[&[u8]],
-    ) -> Option<Result<(), AllocError>> {
-        match args {
-            [] => self.put_plain(alloc, out, call),
-            [word] => self.put_of_one(out, call, word),
-            [key, at] if call == "set" => Some(self.set(out, byte_of(key), number(at))),
-            _ => None,
-        }
-    }
-
-    /// Writes what the row's call answers, if it is one of `timers`.
-    pub(crate) fn put_answer(
-        &mut self,
-        alloc: Global,
-        out: &mut String,
-        call: &str,
-        args: &[&[u8]],
-    ) -> Option<Result<(), AllocError>> {
-        match call {
-            "run" => Some(put_run(alloc, out, args)),
-            _ => self.put_of_words(alloc, out, call, args),
-        }
+/// Writes what the row's call answers on the timers that earlier rows left, if it is one of `timers`.
+pub(crate) fn put_answer(timers: &mut Timers<u8>, out: &mut Output, call: &str, args: &[&[u8]]) {
+    match call {
+        "run" => put_run(out, args),
+        _ => put_of_words(timers, out, call, args),
     }
 }

@@ -15,7 +15,7 @@ pub fn address_of(word: &[u8]) -> Addr {
 }
 
 /// Writes four octets with dots between them.
-pub fn put_octets(out: &mut String, octets: &[u8; 4]) -> Result<(), AllocError> {
+pub(crate) fn put_octets(out: &mut String, octets: &[u8; 4]) -> Result<(), AllocError> {
     let [a, b, c, d] = octets;
     write!(out, "{a}.{b}.{c}.{d}")
 }

@@ -18,6 +18,9 @@ pub fn words_of<T: Drop, P: Fn(Global, &mut String, &T) -> Result<(), AllocError
     Ok(out)
 }
 
+/// Lets a value go.
+pub fn let_go<T: Drop>(_value: T) {}
+
 /// What was found out about a value, which is let go behind it.
 pub fn outcome_after<T: Drop, R>(_value: T, outcome: R) -> R
     ensures { result ≡ outcome }

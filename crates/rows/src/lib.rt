@@ -6,14 +6,13 @@
 mod addresses;
 mod answers;
 mod notation;
+mod output;
 mod playing;
 mod words;
 
-pub use crate::addresses::{address_of, address_words, put_address, put_octets};
-pub use crate::answers::{answer_by, answer_of, outcome_after, replace, words_of};
+pub use crate::addresses::{address_of, address_words, put_address};
+pub use crate::answers::{answer_by, answer_of, let_go, outcome_after, replace, words_of};
 pub use crate::notation::{Notation, number, put_shown, shown, u16_of, u32_of, usize_of};
-pub use crate::playing::{Rows, play};
-pub use crate::words::{
-    boxes, byte_of, put_boxed, put_boxes, put_number_or_none, put_truth, put_yes_or_no, said,
-    yes_or_no,
-};
+pub use crate::output::Output;
+pub use crate::playing::{Rows, play, play_lines};
+pub use crate::words::{boxes, byte_of, put_boxes, put_truth, said, yes_or_no};

@@ -14,9 +14,14 @@ struct Named {
 }
 
 /// The texts that were written down.
-#[derive(Drop)]
 pub struct Notation {
     texts: Vec<Named>,
+}
+
+impl Drop for Notation {
+    fn drop(self) {
+        let Notation { texts: _ } = self;
+    }
 }
 
 /// The value of a hexadecimal digit.

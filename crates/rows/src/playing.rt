@@ -50,3 +50,20 @@ pub fn play<R: Print + AllocGlobal, A: Rows>(
         None => println!(rt; "{line} = no such row"),
     }
 }
+
+fn play_each<R: Input + Print + AllocGlobal, A: Rows>(
+    rt: &R,
+    notation: &mut Notation,
+    rows: &mut A,
+) -> io::Result<()> {
+    for line in rt.lines(rt.alloc()) {
+        play(rt, notation, rows, line?.as_str())?;
+    }
+    Ok(())
+}
+
+/// Plays the lines of standard input.
+pub fn play_lines<R: Input + Print + AllocGlobal, A: Rows>(rt: &R, rows: &mut A) -> io::Result<()> {
+    let mut notation = Notation::new(rt.alloc());
+    play_each(rt, &mut notation, rows)
+}

@@ -9,11 +9,6 @@ pub fn said(alloc: Global, word: &str) -> Result<String, AllocError> {
     String::from_str(alloc, word)
 }
 
-/// Writes `yes` or `no`.
-pub fn put_yes_or_no(out: &mut String, holds: bool) -> Result<(), AllocError> {
-    out.push_str(if holds { "yes" } else { "no" })
-}
-
 /// `yes` or `no`.
 pub fn yes_or_no(alloc: Global, holds: bool) -> Result<String, AllocError> {
     said(alloc, if holds { "yes" } else { "no" })
@@ -24,16 +19,8 @@ pub fn put_truth(out: &mut String, truth: bool) -> Result<(), AllocError> {
     out.push_str(if truth { "true" } else { "false" })
 }
 
-/// Writes a number, or `none`.
-pub fn put_number_or_none(out: &mut String, number: Option<u64>) -> Result<(), AllocError> {
-    match number {
-        Some(number) => write!(out, "{number}"),
-        None => out.push_str("none"),
-    }
-}
-
 /// Writes a text in brackets.
-pub fn put_boxed(out: &mut String, text: &[u8]) -> Result<(), AllocError> {
+pub(crate) fn put_boxed(out: &mut String, text: &[u8]) -> Result<(), AllocError> {
     out.push('[')?;
     put_shown(out, text)?;
     out.push(']')
