@@ -1,6 +1,6 @@
 //! Rows of calls of `index`.
 
-use index::{Entry, Index};
+use index::{Entry, Index, print_of};
 use rows::{Output, number, replace, usize_of};
 
 /// Writes numbers with spaces between them, or `none`.
@@ -44,11 +44,12 @@ fn put_plain(index: &mut Index, out: &mut Output, call: &str) {
     }
 }
 
-/// What a call on a print, or on how many numbers, answers, if it is one.
+/// What a call on a print, on how many numbers, or on a text, answers, if it is one.
 fn put_of_one(index: &mut Index, out: &mut Output, call: &str, word: &[u8]) {
     match call {
         "numbers" => put_numbers(out, index.numbers(number(word))),
         "reserve" => out.put_done(index.reserve(usize_of(word))),
+        "print_of" => out.put_number(print_of(word)),
         _ => out.no_such_row(),
     }
 }

@@ -1,107 +1,127 @@
 //! Rows over a board with two viewers, each of which has a worker over sockets in memory. Behind the row `close` the board is ended.
 //! A list that is refused for want of memory is published once more.
 
-use crate::answers::answer;
+use crate::answers::put_answer;
 use crate::boards::open_board;
 use crate::sockets::Sockets;
 use relay::{Board, Viewer, Worker};
-use rows::Notation;
+use rows::{Notation, Output, outcome_after};
 use std::alloc::{AllocError, Global};
 use std::io;
 use std::sync::Wait;
 
-fn let_go<T: Drop>(_value: T) {}
+/// Writes what the row of these words answers.
+fn put_words<R: Wait>(
+    rt: &R,
+    out: &mut Output,
+    notation: &Notation,
+    board: &mut Option<Board>,
+    workers: &mut Vec<Worker<Sockets>>,
+    words: &[&str],
+) {
+    let ["relay", call, words @ ..] = words else {
+        return out.no_such_row();
+    };
+    match notation.texts_of(out.alloc(), words) {
+        Ok(texts) => put_answer(rt, out, board, workers, call, texts.as_slice()),
+        Err(_) => out.no_memory(),
+    }
+}
 
-/// Makes the row of a line, and prints the line and what it answers.
+fn put_line<R: Wait>(
+    rt: &R,
+    out: &mut Output,
+    notation: &Notation,
+    board: &mut Option<Board>,
+    workers: &mut Vec<Worker<Sockets>>,
+    line: &str,
+) {
+    let words: Result<Vec<&str>, AllocError> = line.split('|').collect(out.alloc());
+    match words {
+        Ok(words) => put_words(rt, out, notation, board, workers, &words),
+        Err(_) => out.no_memory(),
+    }
+}
+
+/// Ends the board, if it is open.
+fn close<R: Wait>(rt: &R, board: Option<Board>) {
+    match board {
+        Some(board) => board.close(rt),
+        None => {}
+    }
+}
+
+/// Makes the row of a line, and prints the line and what it answers. The row `close` is not printed.
 fn play<R: Print + AllocGlobal + Wait>(
     rt: &R,
     notation: &mut Notation,
-    board: Option<&mut Board>,
+    board: &mut Option<Board>,
     workers: &mut Vec<Worker<Sockets>>,
     line: &str,
 ) -> io::Result<()> {
     if notation.takes(rt.alloc(), line)? {
         return Ok(());
     }
-    let words: Vec<&str> = line.split('|').collect(rt.alloc())?;
-    let texts = notation.texts_of(rt.alloc(), &words)?;
-    match answer(rt, board, workers, texts.as_slice())? {
-        Some(answer) => println!(rt; "{line} = {answer}"),
-        None => println!(rt; "{line} = no such row"),
+    if line == "relay|close" {
+        close(rt, board.take());
+        return Ok(());
     }
+    let mut out = Output::new(rt.alloc());
+    put_line(rt, &mut out, notation, board, workers, line);
+    out.print(rt, line)
 }
 
-fn play_all<R: Print + AllocGlobal + Wait>(
+fn play_lines<R: Input + Print + AllocGlobal + Wait>(
     rt: &R,
     notation: &mut Notation,
-    board: &mut Board,
+    board: &mut Option<Board>,
     workers: &mut Vec<Worker<Sockets>>,
-    lines: &[String],
 ) -> io::Result<()> {
-    for line in lines {
-        play(rt, notation, Some(&mut *board), workers, line.as_str())?;
-    }
-    Ok(())
-}
-
-fn play_closed<R: Print + AllocGlobal + Wait>(
-    rt: &R,
-    notation: &mut Notation,
-    workers: &mut Vec<Worker<Sockets>>,
-    lines: &[String],
-) -> io::Result<()> {
-    for line in lines {
-        play(rt, notation, None, workers, line.as_str())?;
-    }
-    Ok(())
-}
-
-fn workers_of(alloc: Global, viewers: Vec<Viewer>) -> Result<Vec<Worker<Sockets>>, AllocError> {
-    let mut workers = Vec::new(alloc);
-    for viewer in viewers {
-        match Worker::new(alloc, viewer, Sockets::new(alloc)) {
-            Ok(worker) => workers.push(worker)?,
-            Err(refused) => {
-                let_go(refused);
-                return Err(AllocError);
-            }
-        }
-    }
-    Ok(workers)
-}
-
-/// All lines up to the row `close`, and those behind it.
-fn lines_of<R: Input + AllocGlobal>(rt: &R) -> io::Result<(Vec<String>, Vec<String>)> {
-    let mut open = Vec::new(rt.alloc());
-    let mut closed = Vec::new(rt.alloc());
-    let mut is_open = true;
     for line in rt.lines(rt.alloc()) {
-        let line = line?;
-        if line.as_str() == "relay|close" {
-            is_open = false;
-        } else if is_open {
-            open.push(line)?;
-        } else {
-            closed.push(line)?;
-        }
+        play(rt, notation, board, workers, line?.as_str())?;
     }
-    Ok((open, closed))
+    Ok(())
+}
+
+fn push_worker(
+    alloc: Global,
+    workers: &mut Vec<Worker<Sockets>>,
+    viewer: Viewer,
+) -> Result<(), AllocError> {
+    match Worker::new(alloc, viewer, Sockets::new(alloc)) {
+        Ok(worker) => Ok(workers.push(worker)?),
+        Err(refused) => outcome_after(refused, Err(AllocError)),
+    }
+}
+
+fn push_workers(
+    alloc: Global,
+    workers: &mut Vec<Worker<Sockets>>,
+    viewers: Vec<Viewer>,
+) -> Result<(), AllocError> {
+    for viewer in viewers {
+        push_worker(alloc, workers, viewer)?;
+    }
+    Ok(())
+}
+
+/// Plays the lines of standard input where there is a worker for each viewer.
+fn play_by<R: Input + Print + AllocGlobal + Wait>(
+    rt: &R,
+    board: &mut Option<Board>,
+    viewers: Vec<Viewer>,
+) -> io::Result<()> {
+    let mut workers = Vec::new(rt.alloc());
+    push_workers(rt.alloc(), &mut workers, viewers)?;
+    let mut notation = Notation::new(rt.alloc());
+    play_lines(rt, &mut notation, board, &mut workers)
 }
 
 /// Plays the lines of standard input.
 pub(crate) fn play_rows<R: Input + Print + AllocGlobal + Wait>(rt: &R) -> io::Result<()> {
-    let (open, closed) = lines_of(rt)?;
-    let (mut board, viewers) = open_board(rt)?;
-    let mut notation = Notation::new(rt.alloc());
-    let mut workers = match workers_of(rt.alloc(), viewers) {
-        Ok(workers) => workers,
-        Err(error) => {
-            board.close(rt);
-            return Err(io::Error::from(error));
-        }
-    };
-    let played = play_all(rt, &mut notation, &mut board, &mut workers, &open);
-    board.close(rt);
-    played?;
-    play_closed(rt, &mut notation, &mut workers, &closed)
+    let (board, viewers) = open_board(rt)?;
+    let mut board = Some(board);
+    let played = play_by(rt, &mut board, viewers);
+    close(rt, board);
+    played
 }

@@ -59,12 +59,8 @@ impl Sockets {
         Ok(())
     }
 
-    pub(crate) fn last(&self) -> Option<&Outgoing> {
-        self.outbox.last()
-    }
-
-    pub(crate) fn count(&self) -> usize {
-        self.outbox.len()
+    pub(crate) fn sent(&self) -> &[Outgoing] {
+        self.outbox.as_slice()
     }
 }
 

@@ -6,9 +6,9 @@ use crate::boards::open_board;
 use crate::gate::{Failing, Flags, Gate, Outgoing};
 use port_pool::{Change, Hop};
 use relay::{Board, TurnFault, Viewer, Worker, serve_media};
-use rows::{put_address, put_shown};
+use rows::{Output, outcome_after};
 use sip_uri::Addr;
-use std::alloc::AllocError;
+use std::alloc::{AllocError, Global};
 use std::io;
 use std::rt::Clock;
 use std::sync::atomic::AtomicBool;
@@ -39,14 +39,6 @@ struct Case {
 }
 
 impl Case {
-    fn new(words: &'static str, port: u16, failing: Failing) -> Case {
-        Case {
-            words,
-            port,
-            failing,
-        }
-    }
-
     /// What fails at the worker of this port.
     fn at(&self, port: u16) -> Failing {
         if port == self.port {
@@ -57,43 +49,38 @@ impl Case {
     }
 }
 
-fn let_go<T: Drop>(_value: T) {}
-
 fn put(port: u16, to: Addr, from: u16) -> Change {
     Change::Put(port, Hop { to, from })
 }
 
-fn put_sent(out: &mut String, sent: &Outgoing) -> Result<(), AllocError> {
-    let from = sent.from;
-    put_address(out, sent.to)?;
-    write!(out, " from {from} ")?;
-    put_shown(out, &sent.bytes)?;
-    out.push_str("\n")
+fn put_sent(out: &mut Output, sent: &Outgoing) {
+    out.put_address(sent.to);
+    out.put(" from ");
+    out.put_number(u64::from(sent.from));
+    out.put(" ");
+    out.put_shown(&sent.bytes);
+    out.put("\n");
 }
 
 /// What a worker sent, a line each.
-fn put_worker<R: Clock>(out: &mut String, worker: &Worker<Gate<R>>) -> Result<(), AllocError> {
+fn put_worker<R: Clock>(out: &mut Output, worker: &Worker<Gate<R>>) {
     for sent in worker.socket.sent() {
-        put_sent(out, sent)?;
+        put_sent(out, sent);
     }
-    Ok(())
 }
 
 fn worker_of<R: Clock + AllocGlobal + Clone + Drop>(
     rt: &R,
     viewer: Viewer,
-    flags: Flags,
+    flags: Result<Flags, AllocError>,
     port: u16,
     case: Case,
 ) -> Result<Worker<Gate<R>>, AllocError> {
-    let mut gate = Gate::new(rt.clone()?, rt.alloc(), flags, case.at(port));
+    let mut gate = Gate::new(rt.clone()?, rt.alloc(), flags?, case.at(port));
     gate.put(port, b"abc")?;
     match Worker::new(rt.alloc(), viewer, gate) {
         Ok(worker) => Ok(worker),
-        Err(refused) => {
-            let_go(refused);
-            Err(AllocError)
-        }
+        Err(refused) => outcome_after(refused, Err(AllocError)),
     }
 }
 
@@ -109,77 +96,110 @@ fn flags_of(
     })
 }
 
-fn workers_of<R: Clock + AllocGlobal + Clone + Drop>(
+/// The first worker is of port 40000, the second of port 40002; each waits for the other's flag.
+fn push_worker<R: Clock + AllocGlobal + Clone + Drop>(
     rt: &R,
-    viewers: Vec<Viewer>,
-    stop: &Arc<AtomicBool>,
-    case: Case,
-) -> Result<Vec<Worker<Gate<R>>>, AllocError> {
-    let left = Arc::new(rt.alloc(), AtomicBool::new(false))?;
-    let right = Arc::new(rt.alloc(), AtomicBool::new(false))?;
-    let mut workers = Vec::new(rt.alloc());
-    for viewer in viewers {
-        let worker = if workers.is_empty() {
-            worker_of(rt, viewer, flags_of(&left, &right, stop)?, 40_000, case)?
-        } else {
-            worker_of(rt, viewer, flags_of(&right, &left, stop)?, 40_002, case)?
-        };
-        workers.push(worker)?;
-    }
-    Ok(workers)
-}
-
-fn publish<R: Wait + AllocGlobal>(
-    rt: &R,
-    board: &mut Board,
-    changes: &[Change],
-) -> Result<(), AllocError> {
-    match board.publish(rt, rt.alloc(), changes) {
-        Ok(()) => Ok(()),
-        Err(_) => Err(AllocError),
-    }
-}
-
-/// The last worker learns what is published, and takes one more datagram, in its next turn where it can't receive.
-fn put_later<R: Clock>(
-    board: &mut Board,
     workers: &mut Vec<Worker<Gate<R>>>,
+    viewer: Viewer,
+    flags: &Flags,
+    case: Case,
 ) -> Result<(), AllocError> {
-    let Some(worker) = workers.last_mut() else {
-        return Ok(());
+    let Flags { mine, other, stop } = flags;
+    let worker = if workers.is_empty() {
+        worker_of(rt, viewer, flags_of(mine, other, stop), 40_000, case)
+    } else {
+        worker_of(rt, viewer, flags_of(other, mine, stop), 40_002, case)
     };
-    let Some(stamp) = board.stamp() else {
-        return Ok(());
-    };
-    worker.learn(stamp);
-    worker.socket.put(40_002, b"de")?;
-    if worker.turn() == Err(TurnFault::Receive) {
-        let _ = worker.turn();
+    Ok(workers.push(worker?)?)
+}
+
+fn push_workers<R: Clock + AllocGlobal + Clone + Drop>(
+    rt: &R,
+    workers: &mut Vec<Worker<Gate<R>>>,
+    viewers: Vec<Viewer>,
+    flags: &Flags,
+    case: Case,
+) -> Result<(), AllocError> {
+    for viewer in viewers {
+        push_worker(rt, workers, viewer, flags, case)?;
     }
     Ok(())
 }
 
+/// Flags that nobody has set.
+fn new_flags(alloc: Global) -> Result<Flags, AllocError> {
+    Ok(Flags {
+        mine: Arc::new(alloc, AtomicBool::new(false))?,
+        other: Arc::new(alloc, AtomicBool::new(false))?,
+        stop: Arc::new(alloc, AtomicBool::new(false))?,
+    })
+}
+
+/// The workers of the viewers, behind what they served until both had sent.
+fn served<R: Threads + Wait + Clock + AllocGlobal + Sync + Send + Clone + Drop>(
+    rt: &R,
+    viewers: Vec<Viewer>,
+    case: Case,
+) -> Result<Vec<Worker<Gate<R>>>, AllocError> {
+    let flags = new_flags(rt.alloc())?;
+    let mut workers = Vec::new(rt.alloc());
+    push_workers(rt, &mut workers, viewers, &flags, case)?;
+    serve_media(rt, workers, &flags.stop)
+}
+
+fn publish<R: Wait>(rt: &R, out: &mut Output, board: &mut Board, changes: &[Change]) {
+    if board.publish(rt, out.alloc(), changes).is_err() {
+        out.no_memory();
+    }
+}
+
+/// A worker takes one more datagram, in its next turn where it can't receive.
+fn take_more<R: Clock>(out: &mut Output, worker: &mut Worker<Gate<R>>) {
+    out.note(worker.socket.put(40_002, b"de"));
+    if matches!(worker.turn(), Err(TurnFault::Receive)) {
+        let _ = worker.turn();
+    }
+}
+
+/// The last worker learns what is published, and takes one more datagram.
+fn put_later<R: Clock>(out: &mut Output, board: &mut Board, workers: &mut Vec<Worker<Gate<R>>>) {
+    let Some(worker) = workers.last_mut() else {
+        return;
+    };
+    let Some(stamp) = board.stamp() else {
+        return;
+    };
+    worker.learn(stamp);
+    take_more(out, worker);
+}
+
+/// What the workers send when a row changes behind what they served.
+fn put_all<R: Clock + Wait + Drop>(
+    rt: &R,
+    out: &mut Output,
+    board: &mut Board,
+    mut workers: Vec<Worker<Gate<R>>>,
+) {
+    publish(rt, out, board, &[put(40_002, CALLER_AGAIN, 40_000)]);
+    put_later(out, board, &mut workers);
+    for worker in &workers {
+        put_worker(out, worker);
+    }
+}
+
 fn drive<R: Threads + Wait + Clock + AllocGlobal + Sync + Send + Clone + Drop>(
     rt: &R,
+    out: &mut Output,
     board: &mut Board,
     viewers: Vec<Viewer>,
     case: Case,
-) -> Result<String, AllocError> {
-    publish(
-        rt,
-        board,
-        &[put(40_000, CALLEE, 40_002), put(40_002, CALLER, 40_000)],
-    )?;
-    let stop = Arc::new(rt.alloc(), AtomicBool::new(false))?;
-    let workers = workers_of(rt, viewers, &stop, case)?;
-    let mut workers = serve_media(rt, workers, &stop)?;
-    publish(rt, board, &[put(40_002, CALLER_AGAIN, 40_000)])?;
-    let mut out = String::new(rt.alloc());
-    put_later(board, &mut workers)?;
-    for worker in &workers {
-        put_worker(&mut out, worker)?;
+) {
+    let changes = [put(40_000, CALLEE, 40_002), put(40_002, CALLER, 40_000)];
+    publish(rt, out, board, &changes);
+    match served(rt, viewers, case) {
+        Ok(workers) => put_all(rt, out, board, workers),
+        Err(_) => out.no_memory(),
     }
-    Ok(out)
 }
 
 fn tell_case<R: Print + Threads + Wait + Clock + AllocGlobal + Sync + Send + Clone + Drop>(
@@ -187,28 +207,61 @@ fn tell_case<R: Print + Threads + Wait + Clock + AllocGlobal + Sync + Send + Clo
     case: Case,
 ) -> io::Result<()> {
     let (mut board, viewers) = open_board(rt)?;
-    let sent = drive(rt, &mut board, viewers, case);
+    let mut out = Output::new(rt.alloc());
+    out.put(case.words);
+    out.put("\n");
+    drive(rt, &mut out, &mut board, viewers, case);
     board.close(rt);
-    let sent = sent?;
-    let words = case.words;
-    print!(rt; "{words}\n{sent}")
+    match out.end()? {
+        Some(sent) => print!(rt; "{sent}"),
+        None => Ok(()),
+    }
 }
+
+const CASES: [Case; 7] = [
+    Case {
+        words: "nothing fails",
+        port: 40_000,
+        failing: Failing::Nothing,
+    },
+    Case {
+        words: "40000: receive 1 fails",
+        port: 40_000,
+        failing: Failing::Receive(1),
+    },
+    Case {
+        words: "40000: send 1 fails",
+        port: 40_000,
+        failing: Failing::Send(1),
+    },
+    Case {
+        words: "40002: receive 1 fails",
+        port: 40_002,
+        failing: Failing::Receive(1),
+    },
+    Case {
+        words: "40002: send 1 fails",
+        port: 40_002,
+        failing: Failing::Send(1),
+    },
+    Case {
+        words: "40002: receive 2 fails",
+        port: 40_002,
+        failing: Failing::Receive(2),
+    },
+    Case {
+        words: "40002: send 2 fails",
+        port: 40_002,
+        failing: Failing::Send(2),
+    },
+];
 
 /// Prints what the two workers sent, a line each datagram, in each case.
 pub(crate) fn tell_sent<
     R: Print + Threads + Wait + Clock + AllocGlobal + Sync + Send + Clone + Drop,
 >(rt: &R) -> io::Result<()> {
-    let cases = [
-        Case::new("nothing fails", 40_000, Failing::Nothing),
-        Case::new("40000: receive 1 fails", 40_000, Failing::Receive(1)),
-        Case::new("40000: send 1 fails", 40_000, Failing::Send(1)),
-        Case::new("40002: receive 1 fails", 40_002, Failing::Receive(1)),
-        Case::new("40002: send 1 fails", 40_002, Failing::Send(1)),
-        Case::new("40002: receive 2 fails", 40_002, Failing::Receive(2)),
-        Case::new("40002: send 2 fails", 40_002, Failing::Send(2)),
-    ];
-    for case in cases {
-        tell_case(rt, case)?;
+    for case in &CASES {
+        tell_case(rt, *case)?;
     }
     Ok(())
 }
