@@ -6,13 +6,17 @@ ghost use Rattle.responses.specs.Tokens.{token};
 use std::alloc::{AllocError, Global};
 use text::{Text, put_number};
 
+/// Room for a token, in bytes: sixteen digits, a full stop, and a number of 64 bits.
+const ROOM: usize = 37;
+
 /// The token of this salt that is so many-th of the agent: sixteen hexadecimal digits, a full stop and the number.
 #[tactic(auto, unfolding(crate::specs::Tokens::token))]
 pub fn token(alloc: Global, salt: u64, count: u64) -> Result<Text<'static>, AllocError>
     ensures { IfOk result (λ t. t ≡ token salt count) }
 {
     let digits = hex::encode(alloc, salt.to_be_bytes())?;
-    let mut out = Vec::from_slice(alloc, digits.as_bytes())?;
+    let mut out = Vec::with_capacity(alloc, ROOM)?;
+    out.extend_from_slice(digits.as_bytes())?;
     out.extend_from_slice(b".")?;
     put_number(&mut out, count)?;
     Ok(Text::from_vec(out))
