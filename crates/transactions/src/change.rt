@@ -7,7 +7,7 @@ ghost use Rattle.sip_message.specs.declared.message.Request.{Request};
 ghost use Rattle.transactions.specs.declared.change.Entry.TheVariants.{Opens, Tells};
 ghost use Rattle.transaction_machines.specs.declared.input.Input.TheVariants as inputs;
 ghost use Rattle.transaction_machines.specs.declared.step.Starts.TheVariants.{NoTimer};
-ghost use Rattle.transactions.specs.Changes.{start_of, answer_of, fire_of};
+ghost use Rattle.transactions.specs.Changes.{start_of, fire_of};
 ghost use Rattle.transaction_machines.specs.Lines.{is_answer};
 ghost use Rattle.transactions.specs.OwnRequests.{own_of};
 ghost use Rattle.transactions.specs.Transactions.{served};
@@ -15,9 +15,8 @@ ghost use Rattle.transactions.specs.Transactions.{served};
 use crate::own_request::OwnRequest;
 use crate::transaction::{TimerId, Transaction, asking, asking_timers, served};
 use boxed::Boxed;
-use sip_message::{Class, Request, Response, class_of, is_method};
+use sip_message::{Class, Request, is_method};
 use sip_uri::Addr;
-use sip_writing::write_response;
 use std::alloc::{AllocError, Global};
 use std::marker::Model;
 use text::Text;
@@ -77,16 +76,8 @@ impl Change {
         })
     }
 
-    /// An answer of the core to the request of server transaction `id`. Where that takes none (`may_answer`), the change
-    /// changes nothing.
-    pub fn answers(alloc: Global, id: usize, response: &Response) -> Result<Change, AllocError>
-        ensures { IfOk result (λ c. c ≡ answer_of id response.now) }
-    {
-        let bytes = write_response(alloc, response)?.keep(alloc)?;
-        Ok(Change::answers_with(id, class_of(response.status), bytes))
-    }
-
-    /// The same, with the answer's class and bytes. Takes no memory.
+    /// A response of the core to the request of server transaction `id`, of this class and with these bytes. Where that takes none
+    /// (`may_answer`), the change changes nothing. Takes no memory.
     pub fn answers_with(id: usize, class: Class, bytes: Text<'static>) -> Change
         ensures { result ≡ Entry.Answers id class bytes.entry }
     {
