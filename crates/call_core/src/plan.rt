@@ -33,8 +33,8 @@ impl MediaPlan {
         ensures { option_copied result ≡ description_sent self.now }
     {
         match self {
-            MediaPlan::Holds(planned) => Some(&planned.offer.offer_sent),
-            MediaPlan::Puts(planned) => Some(&planned.sent),
+            MediaPlan::Holds(planned) => Some(planned.offer.offer_sent.get()),
+            MediaPlan::Puts(planned) => Some(planned.sent.get()),
             MediaPlan::Keeps | MediaPlan::Withdraws | MediaPlan::Ends(_) => None,
         }
     }

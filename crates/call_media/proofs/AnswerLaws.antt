@@ -21,8 +21,10 @@ use Rattle.offer_answer.specs.Rows.{are_distinct, is_even, pairs_named}
 use Rattle.offer_answer.specs.Session.{HoldsPairs, session_lines}
 use Rattle.call_media.specs.declared.seat.Seat.{Seat}
 use Rattle.call_media.specs.declared.session.OpenOffer.{OpenOffer}
+use Rattle.call_media.specs.declared.session.SessionRows.{SessionRows}
 use Rattle.call_media.specs.Seats.{are_seated, evens, media_in_use, pairs_at, pairs_of, pairs_of_seat, port_to_answerer, port_to_offerer, stands_in}
 use Rattle.call_media.specs.Offers.{is_port}
+use Rattle.call_media.specs.Answers.{FitsRows, session_over}
 use Rattle.call_media.specs.Serving.{are_held, is_held}
 use Rattle.call_media.proofs.SeatLaws.{both, imply, joined, kept_is, none_left, rest_distinct, seat_joins}
 use Rattle.call_media.proofs.KeptLaws.{named}
@@ -234,3 +236,12 @@ no_hop own OX SX OY SY port evens out =
     no_line (λ q. holder_at (map (holding 0) ns) q ≡ Some 0) port (session_lines OX SX OY SY)
     (own (held_alone 0 ns) 0 OX SX OY SY evens (all_alone 0 ns ns (stand ns)))
     (λ h. let none : holder_of (map (holding 0) ns) (even_of port) ≡ None = alone 0 ns (even_of port) ∙ ap (λ b. cond b (Some 0) None) out in absurd (cc (sym h ∙ none)))
+
+-- ---- descriptions that are kept apart
+
+-- the rows of a session fit it, whichever equal descriptions they were made of
+pub fits_as_kept : (number : ℕ) (pool : Contents) (o : OpenOffer) (sent answer : Description) (rows : SessionRows) (taken given : Description) → taken ≡ o.offer_taken → given ≡ o.offer_sent
+    → FitsRows number pool (session_over (record o { offer_taken = taken; offer_sent = given }) sent answer) rows → FitsRows number pool (session_over o sent answer) rows
+fits_as_kept number pool o sent answer rows taken given same_taken same_given fits =
+    subst (λ (g : Description). FitsRows number pool (session_over (record o { offer_sent = g }) sent answer) rows) same_given
+    (subst (λ (t : Description). FitsRows number pool (session_over (record o { offer_taken = t; offer_sent = given }) sent answer) rows) same_taken fits)

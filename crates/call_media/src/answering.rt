@@ -20,6 +20,7 @@ use crate::refusal::AnswerRefusal;
 use crate::seating::ports_to_offerer;
 use crate::session::{OpenOffer, Pairs, SessionRows};
 use crate::state::CallMedia;
+use boxed::Boxed;
 use offer_answer::{check_answer, plan_session, readdress, session_pairs};
 use port_pool::{Change, Pair, Pool};
 use sdp::Description;
@@ -29,9 +30,9 @@ use std::alloc::{AllocError, Global};
 #[derive(Drop)]
 pub struct PlannedAnswer {
     /// As the answerer gave it.
-    pub taken: Description<'static>,
+    pub taken: Boxed<Description<'static>>,
     /// As the offerer gets it.
-    pub sent: Description<'static>,
+    pub sent: Boxed<Description<'static>>,
     pub rows: SessionRows,
 }
 
@@ -52,7 +53,13 @@ fn pairs_used(
     ensures { IfOk result (λ pairs. pairs
         ≡ pairs_at (pairs_named offer.now.offer_taken sent.now offer.now.offer_sent answer.now)) }
 {
-    let ports = session_pairs(alloc, &offer.offer_taken, sent, &offer.offer_sent, answer)?;
+    let ports = session_pairs(
+        alloc,
+        offer.offer_taken.get(),
+        sent,
+        offer.offer_sent.get(),
+        answer,
+    )?;
     let pairs = pairs_at(alloc, &ports)?;
     Ok(Pairs::from_vec(pairs))
 }
@@ -76,9 +83,9 @@ fn session_rows(
         alloc,
         pool,
         number,
-        &offer.offer_taken,
+        offer.offer_taken.get(),
         sent,
-        &offer.offer_sent,
+        offer.offer_sent.get(),
         answer,
     )?;
     let pairs = pairs_used(alloc, offer, sent, answer)?;
@@ -94,7 +101,8 @@ fn with_taken(
 ) -> Result<PlannedAnswer, AllocError>
     ensures { IfOk result (λ p. p ≡ record { taken = answer.now; sent = sent.entry; rows = rows }) }
 {
-    let taken = answer.keep(alloc)?;
+    let sent = Boxed::new(alloc, sent)?;
+    let taken = Boxed::new(alloc, answer.keep(alloc)?)?;
     Ok(PlannedAnswer { taken, sent, rows })
 }
 
@@ -135,7 +143,7 @@ impl CallMedia {
         ensures ready { IfOk result (IsFit self.now pool.now offer.now) }
         ensures refused { IfErr result (RefusesAnswer self.now offer.now answer.now) }
     {
-        check_answer(&offer.offer_sent, answer, self.range)?;
+        check_answer(offer.offer_sent.get(), answer, self.range)?;
         pool.pairs_never_meet();
         let sent = self.answer_sent(alloc, offer, answer)?;
         let planned = self.planned_answer(alloc, pool, offer, answer, sent)?;

@@ -19,6 +19,7 @@ use crate::seat::Seat;
 use crate::seating::{pairs_needed, ports_to_answerer, seated};
 use crate::session::{OpenOffer, Seats};
 use crate::state::CallMedia;
+use boxed::Boxed;
 use offer_answer::{check_offer, readdress};
 use port_pool::{Pair, Pool, PoolError};
 use sdp::Description;
@@ -103,11 +104,14 @@ impl CallMedia {
         let origin = self
             .versions
             .origin(self.number, self.range.ip, end.other());
-        let offer_sent = readdress(alloc, offer, &ports, origin)?;
+        let sent = readdress(alloc, offer, &ports, origin)?;
+        let offer_sent = Boxed::new(alloc, sent)?;
+        let taken = offer.keep(alloc)?;
+        let offer_taken = Boxed::new(alloc, taken)?;
         Ok(OpenOffer {
             offerer: end,
             seats: Seats::from_vec(seats),
-            offer_taken: offer.keep(alloc)?,
+            offer_taken,
             offer_sent,
         })
     }

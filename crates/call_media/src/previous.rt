@@ -19,9 +19,9 @@ pub(crate) fn previous(session: Option<&Session>, end: End) -> Option<&Descripti
 {
     let session = session?;
     if end == session.offerer {
-        Some(&session.offer_taken)
+        Some(session.offer_taken.get())
     } else {
-        Some(&session.answer_taken)
+        Some(session.answer_taken.get())
     }
 }
 
@@ -30,10 +30,10 @@ fn seats_of(alloc: Global, session: &Session) -> Result<Vec<Option<Seat>>, Alloc
 {
     let seats = seats_in_use(
         alloc,
-        &session.offer_taken,
-        &session.answer_sent,
-        &session.offer_sent,
-        &session.answer_taken,
+        session.offer_taken.get(),
+        session.answer_sent.get(),
+        session.offer_sent.get(),
+        session.answer_taken.get(),
     )?;
     Ok(seats)
 }

@@ -2,6 +2,7 @@
 
 use crate::end::End;
 use crate::seat::Seat;
+use boxed::Boxed;
 use port_pool::{Change, Pair};
 use sdp::Description;
 use std::marker::Model;
@@ -88,21 +89,21 @@ pub struct OpenOffer {
     /// The pairs of its media, medium by medium.
     pub seats: Seats,
     /// As the offerer gave it.
-    pub offer_taken: Description<'static>,
+    pub offer_taken: Boxed<Description<'static>>,
     /// As the end across got it.
-    pub offer_sent: Description<'static>,
+    pub offer_sent: Boxed<Description<'static>>,
 }
 
 /// The descriptions of the last exchange, which both ends go by.
 pub struct Session {
     /// The end that offered.
     pub offerer: End,
-    pub offer_taken: Description<'static>,
+    pub offer_taken: Boxed<Description<'static>>,
     /// The answer, as the offerer got it.
-    pub answer_sent: Description<'static>,
+    pub answer_sent: Boxed<Description<'static>>,
     /// The offer, as the answerer got it.
-    pub offer_sent: Description<'static>,
-    pub answer_taken: Description<'static>,
+    pub offer_sent: Boxed<Description<'static>>,
+    pub answer_taken: Boxed<Description<'static>>,
     /// The pairs that its media use.
     pub pairs: Pairs,
 }

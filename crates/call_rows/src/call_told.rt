@@ -37,10 +37,10 @@ fn put_session(out: &mut String, session: Option<&Session>) -> Result<(), AllocE
     };
     let offerer = session.offerer;
     write!(out, "; session {offerer:?}")?;
-    put_description(out, &session.offer_taken)?;
-    put_description(out, &session.answer_sent)?;
-    put_description(out, &session.offer_sent)?;
-    put_description(out, &session.answer_taken)
+    put_description(out, session.offer_taken.get())?;
+    put_description(out, session.answer_sent.get())?;
+    put_description(out, session.offer_sent.get())?;
+    put_description(out, session.answer_taken.get())
 }
 
 /// The offer as it was taken and as it was sent.
@@ -50,8 +50,8 @@ fn put_offer(out: &mut String, offer: Option<&OpenOffer>) -> Result<(), AllocErr
     };
     let offerer = offer.offerer;
     write!(out, "; offer {offerer:?}")?;
-    put_description(out, &offer.offer_taken)?;
-    put_description(out, &offer.offer_sent)
+    put_description(out, offer.offer_taken.get())?;
+    put_description(out, offer.offer_sent.get())
 }
 
 /// The pairs that are free.

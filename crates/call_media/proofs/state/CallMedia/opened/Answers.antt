@@ -22,17 +22,17 @@ readdress-requires-clause-not_zero c =
 
 pub returns-clause-offer : goal.returns-clause-offer
 returns-clause-offer c =
-    rw (c.from_vec.ensures, c.in_ok-keep.ensures, c.in_ok-offer_sent.ensures.exact, c.deref-2.ensures.value, c.in_ok-ports.ensures, c.deref.ensures.value, c.in_ok-seats.ensures, c.is_caller.ensures, c.as_slice-media.ensures, c.origin-origin.ensures, c.other.ensures)
+    rw (c.from_vec.ensures, c.in_ok-offer_taken.ensures, c.in_ok-taken.ensures, c.in_ok-offer_sent.ensures, c.in_ok-sent.ensures.exact, c.deref-2.ensures.value, c.in_ok-ports.ensures, c.deref.ensures.value, c.in_ok-seats.ensures, c.is_caller.ensures, c.as_slice-media.ensures, c.origin-origin.ensures, c.other.ensures)
     refl
 
 pub returns-clause-passed_on : goal.returns-clause-passed_on
 returns-clause-passed_on c =
     let media = c.args.offer.now.media in
-    let told = rw (c.deref-2.ensures.value, c.in_ok-ports.ensures, c.deref.ensures.value, c.in_ok-seats.ensures, c.is_caller.ensures, c.as_slice-media.ensures) at c.in_ok-offer_sent.ensures.ports in
-    let at_server = rw c.origin-origin.ensures at c.in_ok-offer_sent.ensures.addresses in
-    rw (c.from_vec.ensures, c.in_ok-keep.ensures, c.in_ok-seats.ensures, c.is_caller.ensures, c.as_slice-media.ensures)
+    let told = rw (c.deref-2.ensures.value, c.in_ok-ports.ensures, c.deref.ensures.value, c.in_ok-seats.ensures, c.is_caller.ensures, c.as_slice-media.ensures) at c.in_ok-sent.ensures.ports in
+    let at_server = rw c.origin-origin.ensures at c.in_ok-sent.ensures.addresses in
+    rw (c.from_vec.ensures, c.in_ok-offer_taken.ensures, c.in_ok-taken.ensures, c.in_ok-offer_sent.ensures, c.in_ok-seats.ensures, c.is_caller.ensures, c.as_slice-media.ensures)
     (record {
-      alike = c.in_ok-offer_sent.ensures.alike;
+      alike = c.in_ok-sent.ensures.alike;
       at_server = at_server;
       told = told;
       each_seated = each_seated (is_same c.args.end Caller) media c.args.kept.now c.args.fresh.now c.requires.pairs.enough;

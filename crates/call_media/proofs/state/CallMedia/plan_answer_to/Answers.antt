@@ -3,8 +3,8 @@ use Rattle.call_media.proofs.state.CallMedia.plan_answer_to.Goals as goal
 
 pub answer_sent-requires-clause-one_each : goal.answer_sent-requires-clause-one_each
 answer_sent-requires-clause-one_each c =
-    answer_ports_there c.args.self.now c.args.pool.now c.args.offer.now c.args.answer.now c.requires.asked c.in_ok-check_answer.ensures.ok
+    answer_ports_there c.args.self.now c.args.pool.now c.args.offer.now c.args.answer.now c.requires.asked (rw c.get.ensures at c.in_ok-check_answer.ensures.ok)
 
 pub answer_sent-requires-clause-not_zero : goal.answer_sent-requires-clause-not_zero
 answer_sent-requires-clause-not_zero c =
-    answer_ports c.args.self.now c.args.pool.now c.args.offer.now c.args.answer.now c.requires.asked c.in_ok-check_answer.ensures.ok c.pairs_never_meet.ensures.ports
+    answer_ports c.args.self.now c.args.pool.now c.args.offer.now c.args.answer.now c.requires.asked (rw c.get.ensures at c.in_ok-check_answer.ensures.ok) c.pairs_never_meet.ensures.ports
