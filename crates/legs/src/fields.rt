@@ -12,7 +12,8 @@ use text::put_number;
 pub fn contact_header(alloc: Global, server: Addr) -> Result<Header<'static>, AllocError>
     ensures contact { IfOk result (λ h. h ≡ contact server) }
 {
-    let mut out = Vec::from_slice(alloc, b"<sip:")?;
+    let mut out = Vec::with_capacity(alloc, 64)?;
+    out.extend_from_slice(b"<sip:")?;
     put_ip4(&mut out, &server.ip)?;
     out.extend_from_slice(b":")?;
     put_number(&mut out, u64::from(server.port))?;

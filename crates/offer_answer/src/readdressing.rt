@@ -28,7 +28,7 @@ pub struct ServerOrigin {
 fn number_text(alloc: Global, number: u64) -> Result<Text<'static>, AllocError>
     ensures { IfOk result (λ t. t ≡ decimal number) }
 {
-    let mut out = Vec::new(alloc);
+    let mut out = Vec::with_capacity(alloc, 20)?;
     put_number(&mut out, number)?;
     Ok(Text::from_vec(out))
 }
@@ -36,7 +36,7 @@ fn number_text(alloc: Global, number: u64) -> Result<Text<'static>, AllocError>
 fn address_text(alloc: Global, ip: [u8; 4]) -> Result<Text<'static>, AllocError>
     ensures { IfOk result (λ t. t ≡ ip4_text ip) }
 {
-    let mut out = Vec::new(alloc);
+    let mut out = Vec::with_capacity(alloc, 15)?;
     put_ip4(&mut out, &ip)?;
     Ok(Text::from_vec(out))
 }

@@ -200,7 +200,7 @@ fn put_description(out: &mut Vec<u8>, description: &Description<'_>) -> Result<(
 fn write(alloc: Global, description: &Description<'_>) -> Result<Text<'static>, AllocError>
     ensures { IfOk result (λ t. t ≡ description_text description.now) }
 {
-    let mut out = Vec::new(alloc);
+    let mut out = Vec::with_capacity(alloc, 512)?;
     put_description(&mut out, description)?;
     Ok(Text::from_vec(out))
 }

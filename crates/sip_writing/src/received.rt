@@ -75,7 +75,7 @@ fn is_address(host: &Host, ip: &[u8; 4]) -> bool
 fn number_text(alloc: Global, number: u16) -> Result<Text<'static>, AllocError>
     ensures { IfOk result (λ t. t ≡ decimal number) }
 {
-    let mut out = Vec::new(alloc);
+    let mut out = Vec::with_capacity(alloc, 5)?;
     put_number(&mut out, u64::from(number))?;
     Ok(Text::from_vec(out))
 }
@@ -91,7 +91,7 @@ fn received(alloc: Global, source: Addr) -> Result<Param<'static>, AllocError>
     ensures { IfOk result (λ p. p ≡ received source) }
 {
     let name = Text::from_slice(alloc, b"received")?;
-    let mut out = Vec::new(alloc);
+    let mut out = Vec::with_capacity(alloc, 15)?;
     put_ip4(&mut out, &source.ip)?;
     Ok(Param {
         name,

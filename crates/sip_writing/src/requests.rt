@@ -41,7 +41,8 @@ fn branch_param(alloc: Global, token: &[u8]) -> Result<Param<'static>, AllocErro
     ensures { IfOk result (λ p. p ≡ record { name = codes "branch"; value = Some (branch_text token.now) }) }
 {
     let name = Text::from_slice(alloc, b"branch")?;
-    let mut branch = Vec::from_slice(alloc, b"z9hG4bK")?;
+    let mut branch = Vec::with_capacity(alloc, 7 + token.len())?;
+    branch.extend_from_slice(b"z9hG4bK")?;
     branch.extend_from_slice(token)?;
     Ok(Param {
         name,
@@ -63,7 +64,7 @@ fn made_via(alloc: Global, server: Addr, token: &[u8]) -> Result<Via<'static>, A
 {
     let mut params = Vec::new(alloc);
     params.push(branch_param(alloc, token)?)?;
-    let mut sent_by = Vec::new(alloc);
+    let mut sent_by = Vec::with_capacity(alloc, 21)?;
     put_address(&mut sent_by, server)?;
     Ok(Via {
         sent_by: Text::from_vec(sent_by),
@@ -144,7 +145,7 @@ fn ends_of(
 fn cseq_text(alloc: Global, number: u32, method: &[u8]) -> Result<Text<'static>, AllocError>
     ensures { IfOk result (λ text. text ≡ cseq_text number method.now) }
 {
-    let mut out = Vec::new(alloc);
+    let mut out = Vec::with_capacity(alloc, 11 + method.len())?;
     put_number(&mut out, u64::from(number))?;
     out.push(b' ')?;
     out.extend_from_slice(method)?;
