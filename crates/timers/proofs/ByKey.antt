@@ -1,5 +1,5 @@
 -- Timers in the order of their keys: places in them, and what calls leave.
-use Rattle.std.proofs.Common.{◌≡◌, ◌+◌, ◌<◌, Bool, true, false, not, cond, List, [], ◌∷◌, ◌||◌, filter, length, Option, Some, None, option_map, refl, sym, ap, ◌∙◌, true≢false, arith}
+use Rattle.std.proofs.Common.{◌≡◌, ℕ, ◌+◌, ◌<◌, Bool, true, false, not, cond, List, [], ◌∷◌, ◌||◌, filter, length, Option, Some, None, option_map, refl, sym, ap, ◌∙◌, true≢false, arith}
 use Prim.Native.Nat.{suc}
 use Rattle.std.specs.Cmp.{IsEquivalence, IsTotalOrder}
 use Rattle.std.specs.Ordering.{is_lt, is_eq, is_some_and, partial_lt, ordering_reverse}
@@ -81,6 +81,10 @@ module _ {K : Type 0} (eq : K → K → Bool) (cmp : K → K → Ordering) (orde
 
   pub stands_is : (ts : List (Timer K)) (k : K) → KeysRise cmp ts → is_some (moment_of eq (slice_get ts (place_by_key cmp ts k)) k) ≡ stands eq ts k
   stands_is ts k h = ap is_some (moment_is ts k h) ∙ moment_stands eq ts k
+
+  -- as what was found there says
+  pub stood_by : (ts : List (Timer K)) (k : K) (o : Option ℕ) → KeysRise cmp ts → o ≡ moment_of eq (slice_get ts (place_by_key cmp ts k)) k → stands eq ts k ≡ is_some o
+  stood_by ts k o h e = sym (stands_is ts k h) ∙ ap is_some (sym e)
 
   pub place_is : (ts : List (Timer K)) (k : K) → KeysRise cmp ts → stands eq ts k ≡ true → place_by_key cmp ts k ≡ position_or_len (λ t. eq t.key k) ts
   place_is [] k h stood = refl

@@ -70,15 +70,16 @@ pub(crate) fn put<K: Ord + Copy>(keys: &mut Vec<Timer<K>>, timer: Timer<K>)
     }
 }
 
-// Removes the timer of a key.
-pub(crate) fn remove<K: Ord + Copy>(keys: &mut Vec<Timer<K>>, key: K)
+// Takes the timer of a key, and gives its moment, where it was set.
+pub(crate) fn take<K: Ord + Copy>(keys: &mut Vec<Timer<K>>, key: K) -> Option<u64>
     requires { KeysRise K.cmp keys.old.items }
+    ensures moment { result ≡ moment K.eq keys.old.items key }
     ensures others { keys.new.items ≡ without K.eq keys.old.items key }
     ensures len { vec_len keys.new ≤ vec_len keys.old }
     ensures capacity { vec_capacity keys.new ≡ vec_capacity keys.old }
 {
     let place = place_of(keys, key);
-    if stands_at(keys, place, key) {
-        keys.remove(place);
-    }
+    let at = moment_at(keys, place, key)?;
+    keys.remove(place);
+    Some(at)
 }
