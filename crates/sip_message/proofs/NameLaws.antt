@@ -1,10 +1,11 @@
 -- A field's name right before its colon.
-use Rattle.std.proofs.Common.{◌≡◌, ℕ, zero, suc, ◌+◌, ◌-◌, ◌<◌, ◌≤◌, Bool, true, false, not, ◌&&◌, cond, eqb, ltb, List, [], ◌∷◌, ◌++◌, length, get_or, take, drop, Some, None, refl, ap, ◌∙◌, arith}
+use Rattle.std.proofs.Common.{◌≡◌, ℕ, zero, suc, ◌+◌, ◌-◌, ◌<◌, ◌≤◌, Bool, true, false, not, ◌&&◌, cond, eqb, ltb, List, [], ◌∷◌, ◌++◌, length, get_or, take, drop, Some, None, refl, sym, ap, ◌∙◌, arith}
 use Rattle.std.specs.List.{list_all, position, position_or_len}
 use Rattle.std.proofs.lemmas.Bool.{ltb-true, ne_eqb}
-use Rattle.std.proofs.lemmas.List.{take_rest}
+use Rattle.std.proofs.lemmas.List.{take_rest, take-append-drop, drop_more}
 use Rattle.text.specs.Class.{is_token_byte}
 use Rattle.text.specs.Cut.{before, after}
+use Rattle.text.proofs.CutSteps.{at_place}
 use Rattle.text.proofs.CutLaws.{Lacks-from_class, before_at, after_at}
 use Rattle.sip_message.specs.Fields.{name_and_value}
 use Rattle.sip_message.proofs.ValueLaws.{token_trimmed}
@@ -21,17 +22,6 @@ tokens_before (suc n) (b ∷ bs) le = step (is_token_byte b) le (λ k. tokens_be
   step true h more = more (omega (arith, h))
   step false h more = absurd (omega (arith, h))
 
-split_at : (at : ℕ) (line : List ℕ) → at < length line → line ≡ take at line ++ get_or line at 0 ∷ drop (at + 1) line
-split_at n [] lt = absurd (omega arith)
-split_at zero (b ∷ bs) lt = refl
-split_at (suc n) (b ∷ bs) lt = let next : suc n + 1 ≡ suc (n + 1) = omega arith in rw next (ap (λ (t : List ℕ). b ∷ t) (split_at n bs (omega arith)))
-
-place_is : (n at len : ℕ) → cond (ltb n len) (Some n) None ≡ Some at → (n ≡ at) × (n < len)
-place_is n at len h = step (ltb n len) (λ e. ltb-true n len e) h where
-  step : (e : Bool) → (e ≡ true → n < len) → cond e (Some n) None ≡ Some at → (n ≡ at) × (n < len)
-  step true lt k = (cc, lt refl)
-  step false lt k = absurd cc
-
 front_is_some : (at : ℕ) (line : List ℕ) → 0 < at → at < length line → eqb (length (take at line)) 0 ≡ false
 front_is_some zero line some lt = absurd (omega arith)
 front_is_some (suc n) [] some lt = absurd (omega arith)
@@ -40,12 +30,13 @@ front_is_some (suc n) (b ∷ bs) some lt = ne_eqb (suc (length (take n bs))) 0 (
 -- a colon behind one token byte or more, where the line begins
 pub name_there : (line : List ℕ) (at : ℕ) → position is_out line ≡ Some at → 0 < at → get_or line at 0 ≡ 58 → name_and_value line ≡ Some (take at line, take (length line - (at + 1)) (drop (at + 1) line))
 name_there line at h some colon =
-    let p = place_is (position_or_len is_out line) at (length line) h in
-    let lt : at < length line = omega (arith, p.0, p.1) in
+    let place : ℕ = position_or_len is_out line in
+    let p = at_place place at (ltb place (length line)) h in
+    let lt : at < length line = omega (arith, p.1, ltb-true place (length line) p.0) in
     let rest : List ℕ = drop (at + 1) line in
-    let tokens : list_all is_token_byte (take at line) ≡ true = tokens_before at line (omega (arith, p.0)) in
+    let tokens : list_all is_token_byte (take at line) ≡ true = tokens_before at line (omega (arith, p.1)) in
     let lacks = Lacks-from_class is_token_byte 58 refl (take at line) tokens in
-    let whole : line ≡ take at line ++ 58 ∷ rest = split_at at line lt ∙ ap (λ (b : ℕ). take at line ++ b ∷ rest) colon in
+    let whole : line ≡ take at line ++ 58 ∷ rest = sym (take-append-drop at line) ∙ ap (λ (t : List ℕ). take at line ++ t) (drop_more line at 0 lt) ∙ ap (λ (b : ℕ). take at line ++ b ∷ rest) colon in
     let front : before 58 line ≡ take at line = ap (before 58) whole ∙ before_at 58 (take at line) (Some rest) lacks in
     let behind : after 58 line ≡ Some rest = ap (after 58) whole ∙ after_at 58 (take at line) (Some rest) lacks in
     rw (front, behind, token_trimmed (take at line) tokens, front_is_some at line some lt, tokens, take_rest line (at + 1)) refl
