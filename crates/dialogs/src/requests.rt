@@ -4,14 +4,17 @@ ghost use Rattle.std.specs.Prelude.{◌≡◌, ◌≤◌, OnOk, IfOk, IfErr};
 ghost use Rattle.sip_message.specs.declared.message.Message.TheVariants as Kinds;
 ghost use Rattle.sip_writing.specs.Writing.{message_text};
 ghost use Rattle.dialogs.specs.Counting.{method_text, following, greatest_for, RefusesNext};
-ghost use Rattle.dialogs.specs.Requests.{ack_text, parts_in, request_in};
+ghost use Rattle.sip_writing.specs.Unkept.{end_name};
+ghost use Rattle.dialogs.specs.Requests.{ack_text, our_name, parts_in, request_in, their_name};
 
 use crate::error::DialogError;
 use crate::method::Method;
 use crate::state::Dialog;
 use sip_message::{Header, Parts, Via};
 use sip_uri::Uri;
-use sip_writing::{Outline, name_with_tag, parts_with_names, write_outline};
+use sip_writing::{
+    EndName, Outline, Unkept, name_with_tag, parts_with_names, write_outline, write_unkept,
+};
 use std::alloc::{AllocError, Global};
 use text::{Text, both};
 
@@ -107,7 +110,28 @@ impl Dialog {
         })
     }
 
+    fn our_name(&self) -> EndName<'_, 'static>
+        ensures { end_name result ≡ our_name self.now }
+    {
+        EndName {
+            display: &self.ours.display,
+            uri: &self.ours.uri,
+            tag: self.id.ours.as_bytes(),
+        }
+    }
+
+    fn their_name(&self) -> EndName<'_, 'static>
+        ensures { end_name result ≡ their_name self.now }
+    {
+        EndName {
+            display: &self.theirs.display,
+            uri: &self.theirs.uri,
+            tag: self.id.theirs.as_bytes(),
+        }
+    }
+
     /// The ACK of a 2xx to the INVITE with this number, as it is sent (RFC 3261 section 13.2.2.4).
+    #[tactic(auto, unfolding(sip_writing::specs::Unkept::unkept_request, crate::specs::Requests::request_in, crate::specs::Requests::parts_in))]
     pub fn ack(
         &self,
         alloc: Global,
@@ -117,8 +141,19 @@ impl Dialog {
         ensures bytes { IfOk result (λ t. t ≡ message_text (Kinds.Request (request_in self.now extras.now.via.now ack_text number
             extras.now.max_forwards extras.now.further.now extras.now.body.now))) }
     {
-        let parts = parts_in(alloc, self, extras.via, b"ACK", number)?;
-        text_in(alloc, self, &parts, b"ACK", number, extras)
+        let request = Unkept {
+            method: b"ACK",
+            uri: &self.target,
+            via: extras.via,
+            max_forwards: extras.max_forwards,
+            from: self.our_name(),
+            to: self.their_name(),
+            call_id: self.id.call_id.as_bytes(),
+            number,
+            further: extras.further,
+            body: extras.body,
+        };
+        write_unkept(alloc, &request)
     }
 
     /// Sends the requests that follow to this URI (RFC 3261 section 12.2). Takes no memory.

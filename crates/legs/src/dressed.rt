@@ -97,13 +97,8 @@ impl Dressed {
         let Some(to) = address_of(&request.uri) else {
             return Ok(Dressed::no_message(alloc));
         };
-        let OwnRequest { uri, parts, bytes } = request;
-        let kept = OwnRequest {
-            uri,
-            parts,
-            bytes: bytes.keep(alloc)?,
-        };
-        let changes = one_change(alloc, Change::asks(alloc, kept, to)?)?;
+        let bytes = request.bytes.keep(alloc)?;
+        let changes = one_change(alloc, Change::asks(alloc, request, to)?)?;
         let sends = one_send(alloc, Sent { to, bytes })?;
         Ok(Dressed {
             changes,

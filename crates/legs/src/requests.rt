@@ -7,7 +7,7 @@ ghost use Rattle.transactions.specs.OwnRequests.{own_of};
 ghost use Rattle.legs.specs.Messages.{ack, bye, next_request, offer, one_hop_less};
 
 use crate::fields::description_headers;
-use dialogs::{Dialog, DialogError, Extras, Method, NextRequest};
+use dialogs::{Dialog, DialogError, Extras, Method};
 use sdp::{Description, write_description};
 use sip_uri::Addr;
 use sip_writing::server_via;
@@ -30,15 +30,13 @@ fn next_request(
         extras.now.further.now extras.now.body.now)) }
 {
     match dialog.next_request(alloc, method, extras) {
-        Ok(
-            NextRequest {
-                number: _,
-                parts,
-                bytes,
-            },
-        ) => {
+        Ok(next) => {
             let uri = dialog.target.keep(alloc)?;
-            Ok(Some(OwnRequest { uri, parts, bytes }))
+            Ok(Some(OwnRequest {
+                uri,
+                parts: next.parts,
+                bytes: next.bytes,
+            }))
         }
         Err(DialogError::OutOfMemory) => Err(AllocError),
         Err(DialogError::OldNumber) => Ok(None),

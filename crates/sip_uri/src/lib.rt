@@ -25,7 +25,7 @@ pub use field_params::read_field_params;
 pub use hosts::{ip4, is_host};
 pub use keeping::keep_text;
 pub use laws::{binding_is_equivalence, one_value};
-pub use name_addr::{put_name_addr, read_name_addr, write_name_addr};
+pub use name_addr::{put_display_and_uri, put_name_addr, read_name_addr, write_name_addr};
 pub use quoted::is_quoted;
 pub use read::{read_host, read_uri};
 pub use uri::{Addr, Host, NameAddr, Param, Params, Uri};

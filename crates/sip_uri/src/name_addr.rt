@@ -1,18 +1,18 @@
 //! Reading and writing of a name and an address, as in From, To and Contact (RFC 3261 sections 20.10 and 25.1).
 
-ghost use Rattle.std.specs.Prelude.{◌≡◌, ◌++◌, ℕ, List, OnErr, OnOk, IfOk, IfErr, Ok};
+ghost use Rattle.std.specs.Prelude.{◌≡◌, ◌++◌, ◌∷◌, [], ℕ, List, OnErr, OnOk, IfOk, IfErr, Ok};
 ghost use Rattle.std.specs.Option.{option_copied};
 ghost use Rattle.sip_uri.specs.declared.uri.NameAddr.{NameAddr};
 ghost use Rattle.sip_uri.specs.NameAddr.{name_params, name_addr_of, ReadsNameAddr, RefusesName, display_part, name_addr_text};
 ghost use Rattle.sip_uri.specs.Reading.{Gives};
-ghost use Rattle.sip_uri.specs.Writing.{BeginsWith};
+ghost use Rattle.sip_uri.specs.Writing.{BeginsWith, uri_text};
 
 use crate::error::UriError;
 use crate::field_params::read_field_params;
 use crate::name_parts::{NameParts, parts_of};
 use crate::read::read_uri;
 use crate::room::ROOM;
-use crate::uri::{NameAddr, Params};
+use crate::uri::{NameAddr, Params, Uri};
 use crate::write::{put_params, put_uri};
 use std::alloc::{AllocError, Global};
 use text::{Text, lent};
@@ -82,6 +82,23 @@ fn put_display(out: &mut Vec<u8>, display: Option<&Text>) -> Result<(), AllocErr
     Ok(())
 }
 
+/// Writes a display and a URI behind what is there: `"display" <uri>`, without the display where there is none. Where memory runs
+/// out, a part may be written there.
+pub fn put_display_and_uri(
+    out: &mut Vec<u8>,
+    display: Option<&Text>,
+    uri: &Uri,
+) -> Result<(), AllocError>
+    ensures ok { OnOk result (out.new.items ≡ out.old.items ++ display_part (option_copied display.entry) ++ 60 ∷ (uri_text uri.now ++ 62 ∷ [])) }
+    ensures err { OnErr result (BeginsWith out.old.items out.new.items) }
+{
+    put_display(out, display)?;
+    out.push(b'<')?;
+    put_uri(out, uri)?;
+    out.push(b'>')?;
+    Ok(())
+}
+
 /// Writes a name and an address behind what is there: `"display" <uri>;name=value`, without the display where there is none. Where
 /// memory runs out, a part may be written there.
 #[tactic(auto, unfolding(crate::specs::NameAddr::name_addr_text))]
@@ -89,12 +106,8 @@ pub fn put_name_addr(out: &mut Vec<u8>, name: &NameAddr) -> Result<(), AllocErro
     ensures ok { OnOk result (out.new.items ≡ out.old.items ++ name_addr_text name.now) }
     ensures err { OnErr result (BeginsWith out.old.items out.new.items) }
 {
-    put_display(out, name.display.as_ref())?;
-    out.push(b'<')?;
-    put_uri(out, &name.uri)?;
-    out.push(b'>')?;
-    put_params(out, name.params.as_slice(), b';', b';')?;
-    Ok(())
+    put_display_and_uri(out, name.display.as_ref(), &name.uri)?;
+    put_params(out, name.params.as_slice(), b';', b';')
 }
 
 fn write(alloc: Global, name: &NameAddr) -> Result<Text<'static>, AllocError>

@@ -6,3 +6,4 @@ pub mod WritingMessage
 pub mod Further
 pub mod Requests
 pub mod Outlines
+pub mod Unkept

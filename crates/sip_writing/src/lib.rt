@@ -11,6 +11,7 @@ mod reply_text;
 mod request_text;
 mod requests;
 mod room;
+mod unkept;
 mod write;
 
 pub use laws::written_is_read;
@@ -18,4 +19,5 @@ pub use reply::{reply_address, reply_to, tag_param, via_headers};
 pub use reply_text::{Reply, write_reply};
 pub use request_text::{Outline, write_outline};
 pub use requests::{Draft, build_request, name_with_tag, parts_with_names, server_via};
+pub use unkept::{EndName, Unkept, write_unkept};
 pub use write::{write_message, write_request, write_response};

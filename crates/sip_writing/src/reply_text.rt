@@ -60,7 +60,7 @@ fn put_via_text(out: &mut Vec<u8>, via: &Via<'_>) -> Result<(), AllocError>
 }
 
 /// A Via on a line of its own.
-fn put_via(out: &mut Vec<u8>, via: &Via<'_>) -> Result<(), AllocError>
+pub(crate) fn put_via(out: &mut Vec<u8>, via: &Via<'_>) -> Result<(), AllocError>
     ensures { OnOk result (out.new.items ≡ out.old.items ++ header_text (named (codes "Via") (via_text via.now))) }
 {
     out.extend_from_slice(b"Via")?;

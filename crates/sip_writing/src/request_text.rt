@@ -27,7 +27,8 @@ pub struct Outline<'m, 'a> {
     pub body: &'m [u8],
 }
 
-fn put_hops(out: &mut Vec<u8>, hops: u8) -> Result<(), AllocError>
+/// Max-Forwards on a line of its own.
+pub(crate) fn put_hops(out: &mut Vec<u8>, hops: u8) -> Result<(), AllocError>
     ensures { OnOk result (out.new.items ≡ out.old.items ++ header_text (named (codes "Max-Forwards") (decimal hops))) }
 {
     out.extend_from_slice(b"Max-Forwards")?;
