@@ -1,13 +1,15 @@
 -- Lemmas on the places of the pairs that a call holds, and on the index of them.
-use Rattle.std.proofs.Common.{◌≡◌, ◌&&◌, not, ◌+◌, ◌<◌, ◌≤◌, ◌∙◌, ℕ, Bool, true, false, cond, eqb, List, [], ◌∷◌, length, map, filter, get_or, ◌++◌, ◌*◌, ◌%◌, Option, Some, None, is_none, refl, sym, ap, arith}
+use Rattle.std.proofs.Common.{◌≡◌, ◌&&◌, not, ◌+◌, ◌<◌, ◌≤◌, ◌∙◌, ℕ, true, false, cond, eqb, List, [], ◌∷◌, length, map, filter, get_or, set, ◌++◌, ◌*◌, ◌%◌, Option, Some, None, is_none, count_by, refl, sym, ap, arith}
 use Prim.Native.Nat.{zero, suc}
-use Rattle.std.proofs.lemmas.Bool.{eqb-true, eqb-false, eq-eqb, lt-ltb, le-ltb, ne_eqb}
+use Rattle.std.proofs.lemmas.Bool.{eqb-true, eqb-false, eq-eqb, ne_eqb}
 use Rattle.std.specs.List.{flat_map, range_with_len}
 use Rattle.std.proofs.lemmas.List.{length-map, get_or-map}
 use Rattle.std.proofs.lemmas.List.Folds.{flat_map-map}
+use Rattle.std.proofs.lemmas.List.Sums.{sum_by-set, length-filter}
 use Rattle.index.specs.declared.index.Entry.{Entry}
 use Rattle.index.specs.Entries.{numbers_of}
 use Rattle.index.specs.Numbers.{Indexed, put_number, remove_number}
+use Rattle.index.proofs.NumberLaws.{set_same, set_put, set_remove, set_fewer}
 use Rattle.port_pool.specs.Limits.{least_port, last_port}
 use Rattle.port_pool.specs.declared.pair.Pair.{Pair}
 use Rattle.port_pool.specs.declared.holdings.Holding.{Holding}
@@ -15,89 +17,42 @@ use Rattle.port_pool.specs.Holdings.{unheld, unheld_pairs, is_call, holds, held_
 use Rattle.port_pool.specs.Pool.{ports_of}
 use Rattle.port_pool.specs.Places.{no_holding, is_unheld, places_of, kept_from, at_place, vacated, IsIndexed}
 use Rattle.port_pool.proofs.HoldingLaws.{PairsFrom-unheld}
-use Rattle.port_pool.proofs.PlaceLaws.{PairsFrom-at, ports_of_place, ports_at}
+use Rattle.port_pool.proofs.PlaceLaws.{set_at, PairsFrom-at, ports_of_place, ports_at}
 
--- ---- the places from one on
+-- ---- a change of one holding
 
--- a lower number goes before them all, and is none of them
-put_lower : (call : ℕ) (holdings : List Holding) (k n : ℕ) → k < n → put_number (places_of call n holdings) k ≡ k ∷ places_of call n holdings
-put_lower call [] k n less = refl
-put_lower call (s ∷ ss) k n less =
-    elim (holds call s) as (λ b. put_number (cond b (n ∷ places_of call (1 + n) ss) (places_of call (1 + n) ss)) k ≡ k ∷ cond b (n ∷ places_of call (1 + n) ss) (places_of call (1 + n) ss)) [
-      | true ↦ rw (le-ltb n k (omega arith)) refl
-      | false ↦ put_lower call ss k (1 + n) (omega arith)
-    ]
+-- the places of a call, before and behind it
+module _ (call : ℕ) (f : Holding → Holding) (d : Holding) (holdings : List Holding) (i : ℕ) where
+  places_at : places_of call 0 (at_place i f holdings) ≡ places_of call 0 (set holdings i (f (get_or holdings i d)))
+  places_at = ap (places_of call 0) (sym (set_at f holdings i d))
 
--- the places of a call, before and behind a change of one holding
-module _ (call : ℕ) (f : Holding → Holding) (d : Holding) where
-  pub places_same : (holdings : List Holding) (i n : ℕ) → holds call (f (get_or holdings i d)) ≡ holds call (get_or holdings i d) → places_of call n (at_place i f holdings) ≡ places_of call n holdings
-  places_same [] i n e = refl
-  places_same (s ∷ ss) zero n e = rw e refl
-  places_same (s ∷ ss) (suc i) n e =
-      let rest = places_same ss i (1 + n) e in
-      elim (holds call s) as (λ b. cond b (n ∷ places_of call (1 + n) (at_place i f ss)) (places_of call (1 + n) (at_place i f ss)) ≡ cond b (n ∷ places_of call (1 + n) ss) (places_of call (1 + n) ss)) [
-        | true ↦ ap (λ ns. n ∷ ns) rest
-        | false ↦ rest
-      ]
+  places_same : holds call (f (get_or holdings i d)) ≡ holds call (get_or holdings i d) → places_of call 0 (at_place i f holdings) ≡ places_of call 0 holdings
+  places_same e = places_at ∙ set_same (holds call) holdings i 0 (f (get_or holdings i d)) d e
 
-  pub places_put : (holdings : List Holding) (i n k : ℕ) → k ≡ n + i → i < length holdings → holds call (get_or holdings i d) ≡ false → holds call (f (get_or holdings i d)) ≡ true
-      → places_of call n (at_place i f holdings) ≡ put_number (places_of call n holdings) k
-  places_put [] i n k e less was is = absurd (omega arith)
-  places_put (s ∷ ss) zero n k e less was is =
-      let here : k ≡ n = omega (arith, e) in
-      rw (is, was, here) (sym (put_lower call ss n (1 + n) (omega arith)))
-  places_put (s ∷ ss) (suc i) n k e less was is =
-      let rest = places_put ss i (1 + n) k (omega (arith, e)) (omega arith) was is in
-      elim (holds call s) as (λ b. cond b (n ∷ places_of call (1 + n) (at_place i f ss)) (places_of call (1 + n) (at_place i f ss)) ≡ put_number (cond b (n ∷ places_of call (1 + n) ss) (places_of call (1 + n) ss)) k) [
-        | true ↦ rw (lt-ltb n k (omega (arith, e))) (ap (λ ns. n ∷ ns) rest)
-        | false ↦ rest
-      ]
+  places_put : i < length holdings → holds call (get_or holdings i d) ≡ false → holds call (f (get_or holdings i d)) ≡ true
+      → places_of call 0 (at_place i f holdings) ≡ put_number (places_of call 0 holdings) i
+  places_put less was is = places_at ∙ set_put (holds call) holdings i 0 i (f (get_or holdings i d)) d (omega arith) less was is
 
-  pub places_remove : (holdings : List Holding) (i n k : ℕ) → k ≡ n + i → i < length holdings → holds call (get_or holdings i d) ≡ true → holds call (f (get_or holdings i d)) ≡ false
-      → places_of call n (at_place i f holdings) ≡ remove_number (places_of call n holdings) k
-  places_remove [] i n k e less was is = absurd (omega arith)
-  places_remove (s ∷ ss) zero n k e less was is =
-      let here : k ≡ n = omega (arith, e) in
-      rw (is, was, here, eq-eqb n n refl) refl
-  places_remove (s ∷ ss) (suc i) n k e less was is =
-      let rest = places_remove ss i (1 + n) k (omega (arith, e)) (omega arith) was is in
-      elim (holds call s) as (λ b. cond b (n ∷ places_of call (1 + n) (at_place i f ss)) (places_of call (1 + n) (at_place i f ss)) ≡ remove_number (cond b (n ∷ places_of call (1 + n) ss) (places_of call (1 + n) ss)) k) [
-        | true ↦ rw (ne_eqb n k (λ same. omega (arith, e, same))) (ap (λ ns. n ∷ ns) rest)
-        | false ↦ rest
-      ]
+  places_remove : i < length holdings → holds call (get_or holdings i d) ≡ true → holds call (f (get_or holdings i d)) ≡ false
+      → places_of call 0 (at_place i f holdings) ≡ remove_number (places_of call 0 holdings) i
+  places_remove less was is = places_at ∙ set_remove (holds call) holdings i 0 i (f (get_or holdings i d)) d (omega arith) less was is
 
-  pub places_fewer : (holdings : List Holding) (i n : ℕ) → i < length holdings → holds call (get_or holdings i d) ≡ true → holds call (f (get_or holdings i d)) ≡ false
-      → length (places_of call n holdings) ≡ suc (length (places_of call n (at_place i f holdings)))
-  places_fewer [] i n less was is = absurd (omega arith)
-  places_fewer (s ∷ ss) zero n less was is = rw (is, was) refl
-  places_fewer (s ∷ ss) (suc i) n less was is =
-      let rest = places_fewer ss i (1 + n) (omega arith) was is in
-      elim (holds call s) as (λ b. length (cond b (n ∷ places_of call (1 + n) ss) (places_of call (1 + n) ss)) ≡ suc (length (cond b (n ∷ places_of call (1 + n) (at_place i f ss)) (places_of call (1 + n) (at_place i f ss))))) [
-        | true ↦ ap suc rest
-        | false ↦ rest
-      ]
+  pub places_fewer : i < length holdings → holds call (get_or holdings i d) ≡ true → holds call (f (get_or holdings i d)) ≡ false
+      → length (places_of call 0 holdings) ≡ suc (length (places_of call 0 (at_place i f holdings)))
+  places_fewer less was is = set_fewer (holds call) holdings i 0 (f (get_or holdings i d)) d less was is ∙ ap (λ ns. suc (length ns)) (sym places_at)
 
 -- ---- pairs that nobody holds
 
 abbrev unheld_in : List Holding → ℕ
 unheld_in holdings = length (filter is_unheld holdings)
 
-one_more : (b : Bool) (s : Holding) (ss : List Holding) → length (cond b (s ∷ ss) ss) ≡ length ss + cond b 1 0
-one_more true s ss = omega arith
-one_more false s ss = omega arith
-
 unheld_at : (f : Holding → Holding) (holdings : List Holding) (i : ℕ) (d : Holding) → i < length holdings
     → unheld_in (at_place i f holdings) + cond (is_unheld (get_or holdings i d)) 1 0 ≡ unheld_in holdings + cond (is_unheld (f (get_or holdings i d))) 1 0
-unheld_at f [] i d less = absurd (omega arith)
-unheld_at f (s ∷ ss) zero d less =
-    let after = one_more (is_unheld (f s)) (f s) (filter is_unheld ss) in
-    let before = one_more (is_unheld s) s (filter is_unheld ss) in
-    omega (arith, after, before)
-unheld_at f (s ∷ ss) (suc i) d less =
-    let after = one_more (is_unheld s) s (filter is_unheld (at_place i f ss)) in
-    let before = one_more (is_unheld s) s (filter is_unheld ss) in
-    let rest = unheld_at f ss i d (omega arith) in
-    omega (arith, after, before, rest)
+unheld_at f holdings i d less =
+    let count = sum_by-set (λ s. cond (is_unheld s) 1 0) holdings i (f (get_or holdings i d)) d less in
+    let after = length-filter is_unheld (at_place i f holdings) ∙ ap (count_by is_unheld) (sym (set_at f holdings i d)) in
+    let before = length-filter is_unheld holdings in
+    omega (arith, after, before, count)
 
 -- ---- the index behind a change
 
@@ -115,7 +70,7 @@ pub IsIndexed-kept : (f : Holding → Holding) (holdings : List Holding) (calls 
     → i < length holdings → IsIndexed holdings calls → IsIndexed (at_place i f holdings) calls
 IsIndexed-kept f holdings calls i d even holder less h = record {
   rising = PairsFrom-at f even least_port holdings i h.rising;
-  by_call = λ q. h.by_call q ∙ sym (places_same q f d holdings i 0 (ap (is_call q) (holder (get_or holdings i d))));
+  by_call = λ q. h.by_call q ∙ sym (places_same q f d holdings i (ap (is_call q) (holder (get_or holdings i d))));
   room =
       let count = unheld_at f holdings i d less in
       let same = ap (λ o. cond {A = ℕ} (is_none o) 1 0) (holder (get_or holdings i d)) in
@@ -130,12 +85,12 @@ IsIndexed-vacated holdings calls calls' i call d h less was removed more =
     let mine = own_call call (get_or holdings i d).holder was in
     let by : (q : ℕ) → numbers_of calls'.entries q ≡ places_of q 0 (at_place i vacated holdings) = λ q. removed q ∙
     elim (eqb q call) as (λ b. eqb q call ≡ b → cond b (remove_number (numbers_of calls.entries call) i) (numbers_of calls.entries q) ≡ places_of q 0 (at_place i vacated holdings)) [
-      | true ↦ λ e. rw (eqb-true q call e) (ap (λ ns. remove_number ns i) (h.by_call call) ∙ sym (places_remove call vacated d holdings i 0 i (omega arith) less mine refl))
-      | false ↦ λ e. h.by_call q ∙ sym (places_same q vacated d holdings i 0 (sym (other_call call q (get_or holdings i d).holder was e)))
+      | true ↦ λ e. rw (eqb-true q call e) (ap (λ ns. remove_number ns i) (h.by_call call) ∙ sym (places_remove call vacated d holdings i less mine refl))
+      | false ↦ λ e. h.by_call q ∙ sym (places_same q vacated d holdings i (sym (other_call call q (get_or holdings i d).holder was e)))
     ] refl in
     let count = unheld_at vacated holdings i d less in
     let held = ap (λ o. cond {A = ℕ} (is_none o) 1 0) was in
-    let fewer = places_fewer call vacated d holdings i 0 less mine refl in
+    let fewer = places_fewer call vacated d holdings i less mine refl in
     let old = ap length (h.by_call call) in
     let new = ap length (by call) in
     record {
@@ -152,8 +107,8 @@ IsIndexed-occupied holdings calls calls' i call d h less was put more =
     let by : (q : ℕ) → numbers_of calls'.entries q ≡ places_of q 0 (at_place i (held_by call) holdings) = λ q. put q ∙
     elim (eqb q call) as (λ b. eqb q call ≡ b → cond b (put_number (numbers_of calls.entries call) i) (numbers_of calls.entries q) ≡ places_of q 0 (at_place i (held_by call) holdings)) [
       | true ↦ λ e. rw (eqb-true q call e) (ap (λ ns. put_number ns i) (h.by_call call)
-          ∙ sym (places_put call (held_by call) d holdings i 0 i (omega arith) less (none_call call (get_or holdings i d).holder was) (eq-eqb call call refl)))
-      | false ↦ λ e. h.by_call q ∙ sym (places_same q (held_by call) d holdings i 0 (other_call call q (Some call) refl e ∙ sym (none_call q (get_or holdings i d).holder was)))
+          ∙ sym (places_put call (held_by call) d holdings i less (none_call call (get_or holdings i d).holder was) (eq-eqb call call refl)))
+      | false ↦ λ e. h.by_call q ∙ sym (places_same q (held_by call) d holdings i (other_call call q (Some call) refl e ∙ sym (none_call q (get_or holdings i d).holder was)))
     ] refl in
     let count = unheld_at (held_by call) holdings i d less in
     let free = ap (λ o. cond {A = ℕ} (is_none o) 1 0) was in

@@ -1,11 +1,9 @@
 -- Lemmas on what is done at one place.
-use Rattle.std.proofs.Common.{◌≡◌, ◌==◌, ◌||◌, not, ◌+◌, ◌<◌, ◌≤◌, ◌∙◌, ℕ, true, false, cond, List, [], ◌∷◌, length, map, get_or, set, find, slice_get, Some, None, inl, inr, refl, sym, ap, arith}
+use Rattle.std.proofs.Common.{◌≡◌, ◌==◌, ◌||◌, not, ◌+◌, ◌<◌, ◌≤◌, ◌∙◌, ℕ, true, false, cond, List, [], ◌∷◌, length, map, get_or, set, Some, None, inl, inr, refl, sym, ap, arith}
 use Prim.Native.Nat.{zero, suc}
 use Rattle.std.specs.List.{position, position_or_len}
 use Rattle.std.proofs.lemmas.Bool.Decides.{nat_tests}
 use Rattle.std.proofs.lemmas.Bool.{eqb-true, lt-ltb, le-ltb, ne_eqb, cases_lt}
-use Rattle.std.proofs.lemmas.List.Folds.{find_at}
-use Rattle.std.proofs.lemmas.Option.{slice_get-get_or}
 use Rattle.index.specs.declared.index.Entry.{Entry}
 use Rattle.port_pool.specs.Limits.{last_port}
 use Rattle.port_pool.specs.declared.pair.Pair.{Pair}
@@ -16,14 +14,14 @@ use Rattle.port_pool.specs.Places.{no_holding, at_place, vacated}
 -- ---- a change at a place
 
 -- a write at a place
-set_at : (f : Holding → Holding) (holdings : List Holding) (i : ℕ) (d : Holding) → i < length holdings → set holdings i (f (get_or holdings i d)) ≡ at_place i f holdings
-set_at f [] i d less = refl
-set_at f (s ∷ ss) zero d less = refl
-set_at f (s ∷ ss) (suc i) d less = ap (λ rest. s ∷ rest) (set_at f ss i d (omega arith))
+pub set_at : (f : Holding → Holding) (holdings : List Holding) (i : ℕ) (d : Holding) → set holdings i (f (get_or holdings i d)) ≡ at_place i f holdings
+set_at f [] i d = refl
+set_at f (s ∷ ss) zero d = refl
+set_at f (s ∷ ss) (suc i) d = ap (λ rest. s ∷ rest) (set_at f ss i d)
 
 -- so it is for an element that was read there
 pub written_at : (f : Holding → Holding) (holdings : List Holding) (i : ℕ) (s d : Holding) → i < length holdings → s ≡ get_or holdings i d → set holdings i (f s) ≡ at_place i f holdings
-written_at f holdings i s d less is = ap (λ t. set holdings i (f t)) is ∙ set_at f holdings i d less
+written_at f holdings i s d less is = ap (λ t. set holdings i (f t)) is ∙ set_at f holdings i d
 
 -- who is nobody's already
 pub vacated_same : (s : Holding) → s.holder ≡ None → vacated s ≡ s
@@ -101,27 +99,6 @@ module _ (e : ℕ) (f g : Holding → Holding) (hit : (s : Holding) → (s.even 
         | inl less ↦ rw (lt-ltb place (length holdings) less) (λ is. cc)
         | inr most ↦ λ is. map_missing holdings most
       ]
-
-pub find_placed : (e i : ℕ) (holdings : List Holding) (d : Holding) → position (has_even e) holdings ≡ Some i → find (has_even e) holdings ≡ Some (get_or holdings i d)
-find_placed e i holdings d =
-    let place = position_or_len (has_even e) holdings in
-    elim (cases_lt place (length holdings)) [
-      | inl less ↦ rw (lt-ltb place (length holdings) less) (λ is. let same : i ≡ place = cc in find_at (has_even e) holdings ∙ ap (slice_get holdings) (sym same) ∙ slice_get-get_or holdings i d (omega (arith, same, less)))
-      | inr most ↦ rw (le-ltb place (length holdings) most) (λ is. cc)
-    ]
-
-pub find_none : (e : ℕ) (holdings : List Holding) → position (has_even e) holdings ≡ None → find (has_even e) holdings ≡ None
-find_none e holdings =
-    let place = position_or_len (has_even e) holdings in
-    elim (cases_lt place (length holdings)) [
-      | inl less ↦ rw (lt-ltb place (length holdings) less) (λ is. cc)
-      | inr most ↦ λ is. find_at (has_even e) holdings ∙ slice_get_past holdings place most
-    ]
-  where
-    slice_get_past : (holdings : List Holding) (i : ℕ) → length holdings ≤ i → slice_get holdings i ≡ None
-    slice_get_past [] i most = refl
-    slice_get_past (s ∷ ss) zero most = absurd (omega arith)
-    slice_get_past (s ∷ ss) (suc i) most = slice_get_past ss i (omega arith)
 
 flipped : (a b : ℕ) → (a == b) ≡ (b == a)
 flipped a b = grind (arith, nat_tests)

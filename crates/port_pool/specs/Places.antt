@@ -1,9 +1,10 @@
 -- The places of the pool: which pairs each call holds.
-use Rattle.std.specs.Prelude.{◌≡◌, ℕ, ◌+◌, ◌≤◌, Bool, true, not, ◌&&◌, List, [], ◌∷◌, length, filter, Some, None, is_none, if◌then◌else◌}
+use Rattle.std.specs.Prelude.{◌≡◌, ℕ, ◌≤◌, Bool, true, not, ◌&&◌, List, [], ◌∷◌, length, filter, Some, None, is_none, if◌then◌else◌}
 use Prim.Native.Nat.{zero, suc}
 use Rattle.std.specs.Coded.{Coded, coded_list}
 use Rattle.index.specs.Entries.{numbers_of}
 use Rattle.index.specs.Numbers.{Indexed}
+use Rattle.index.specs.Passing.{numbers_from}
 use Rattle.port_pool.specs.declared.pair.Pair.{Pair}
 use Rattle.port_pool.specs.declared.holdings.Holding.{Holding}
 use Rattle.port_pool.specs.Limits.{least_port}
@@ -22,8 +23,7 @@ is_unheld holding = is_none holding.holder
 
 -- the places of the pairs that a call holds, the least first, where the first place has the number n
 abbrev pub places_of : ℕ → ℕ → List Holding → List ℕ
-places_of call n [] = []
-places_of call n (s ∷ ss) = if holds call s then n ∷ places_of call (1 + n) ss else places_of call (1 + n) ss
+places_of call n holdings = numbers_from (holds call) n holdings
 
 -- from the kth pair of a call on, all are kept
 abbrev pub kept_from : ℕ → List Pair → ℕ → List Holding → Bool

@@ -1,7 +1,8 @@
 -- The entries of the users, and the index by which one is found.
-use Rattle.std.specs.Prelude.{◌≡◌, ℕ, ◌+◌, Bool, false, List, [], ◌∷◌, nat_eq, Option, Some, None, if◌then◌else◌}
+use Rattle.std.specs.Prelude.{◌≡◌, ℕ, Bool, false, List, nat_eq, Option, Some, None}
 use Rattle.index.specs.declared.index.Entry.{Entry}
 use Rattle.index.specs.Entries.{numbers_of}
+use Rattle.index.specs.Passing.{numbers_from}
 use Rattle.index.specs.Print.{print_of}
 use Rattle.registrar.specs.declared.user_bindings.UserBindings.{UserBindings}
 use Rattle.registrar.specs.Registrar.{is_for}
@@ -11,8 +12,7 @@ has_print print entry = nat_eq (print_of entry.user) print
 
 -- the places of the entries with this print, the least first, where the first place has the number n
 abbrev pub places_of : ℕ → ℕ → List UserBindings → List ℕ
-places_of print n [] = []
-places_of print n (e ∷ es) = if has_print print e then n ∷ places_of print (1 + n) es else places_of print (1 + n) es
+places_of print n es = numbers_from (has_print print) n es
 
 -- under each print are the places of the users who have it, and no other
 abbrev pub IsIndexed : List UserBindings → List Entry → Type 0

@@ -38,7 +38,7 @@ returns-then-not-is_among-clause-before c =
     let less : c.args.k < length c.of_call.result.now = (let many = entries_many c.args.self.now c.args.call c.of_call.result.now c.of_call.ensures in omega (arith, many, c.requires)) in
     let kth = entry_within c.args.self.now c.args.call c.of_call.result.now c.args.k no_entry c.of_call.ensures less in
     let held = kth_held c.args.call c.args.self.now 0 c.args.k place no_holding kth in
-    let fewer = places_fewer c.args.call (freed_at c.args.now) no_holding c.args.self.now place 0 held.0 held.1 refl in
+    let fewer = places_fewer c.args.call (freed_at c.args.now) no_holding c.args.self.now place held.0 held.1 refl in
     rw c.free.ensures (omega (arith, fewer, c.requires))
 
 pub returns-then-not-is_among-clause-behind : goal.returns-then-not-is_among-clause-behind
