@@ -1,7 +1,7 @@
 -- The contact that was bound last is where calls go.
-use Rattle.std.proofs.Common.{◌≡◌, ◌==◌, ◌≢◌, ◌&&◌, ◌∙◌, ℕ, ◌+◌, ◌<◌, ◌≤◌, ◌^◌, Bool, true, false, cond, not, List, [], ◌∷◌, ◌++◌, length, length-append, set, filter, find, map, position, Option, Some, None, option_map, Result, Ok, Err, nat_lt, nat_le, refl, sym, ap, subst, arith}
+use Rattle.std.proofs.Common.{◌≡◌, ◌==◌, ◌≢◌, ◌&&◌, ◌∙◌, ℕ, ◌+◌, ◌<◌, ◌≤◌, Bool, true, false, cond, not, List, [], ◌∷◌, ◌++◌, length, set, filter, find, map, position, Option, Some, None, option_map, Result, Ok, Err, nat_lt, nat_le, refl, sym, ap, subst, arith}
 use Prim.Native.Nat.{zero, suc}
-use Rattle.std.specs.List.{list_all, list_any}
+use Rattle.std.specs.List.{list_all}
 use Rattle.std.proofs.lemmas.Bool.{lt-leb, le-leb, ltb-false}
 use Rattle.std.proofs.lemmas.List.Sums.{count_by-le-length}
 use Rattle.std.proofs.lemmas.List.Sums.{length-filter}
@@ -14,7 +14,7 @@ use Rattle.registrar.specs.declared.register.Contact.{Contact}
 use Rattle.registrar.specs.declared.register.Register.{Register}
 use Rattle.registrar.specs.declared.refusal.Refusal.{Refusal}
 use Rattle.registrar.specs.declared.refusal.Refusal.TheVariants.{UnknownUser, StarMisused, TooBrief, OutOfOrder, TooManyBindings, BadContact}
-use Rattle.registrar.specs.Registering.{Rules, bindings_after_one, bindings_by, whole_refusal, unless_refused, present, first_number, rank, with_number, with_ranks, lifetime, is_of, is_too_brief, is_stale, binding_by, put, put_at, without, uri_refusal, with_uri, with_contact, with_contact_at, with_contacts, and_then, within_limit, is_star_misused, is_star_stale, is_bindable, is_zero, is_known, answer_for, answer_by}
+use Rattle.registrar.specs.Registering.{Rules, bindings_after_one, whole_refusal, unless_refused, present, first_number, rank, with_number, with_ranks, lifetime, is_of, is_too_brief, is_stale, binding_by, put, put_at, without, with_contact, with_contact_at, with_contacts, and_then, within_limit, is_star_misused, is_star_stale, is_bindable, is_zero, is_known, answer_for, answer_by}
 use Rattle.registrar.specs.Bound.{Event, is_latest, latest, target_of, names, or_as_before, step, fold_from, bindings_after, bound, answer_after, LastContactIsTarget, QueryKeepsTarget, FewBound}
 use Rattle.registrar.proofs.OrderLaws.{target-with_ranks}
 

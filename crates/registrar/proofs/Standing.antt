@@ -1,5 +1,5 @@
 -- A registrar that stands after some REGISTERs stands after one more.
-use Rattle.std.proofs.Common.{◌≡◌, ◌&&◌, ◌∙◌, ℕ, Bool, true, false, cond, List, [], ◌∷◌, ◌++◌, filter, position, Option, Some, None, is_some, Result, Ok, Err, IfOk, All, nat_eq, nat_lt, refl, sym, ap, subst, rules}
+use Rattle.std.proofs.Common.{◌≡◌, ◌&&◌, ◌∙◌, ℕ, Bool, true, false, cond, List, [], ◌∷◌, ◌++◌, filter, Option, Some, None, Result, Ok, Err, IfOk, All, nat_eq, nat_lt, refl, sym, ap, subst, rules}
 use Rattle.std.specs.Cmp.Lexicographic.{pointwise, bytes_decides}
 use Rattle.std.specs.List.{list_any}
 use Rattle.std.specs.declared.vec.Vec.{Vec}

@@ -1,6 +1,6 @@
 -- Which contacts a user is bound to (RFC 3261 section 10.3), from the plain list of all REGISTERs so far.
 use Rattle.std.specs.Prelude.{◌&&◌, ℕ, Bool, false, List, [], ◌∷◌, find, nat_eq, nat_le, Option, Some, None, option_map, Result, Ok, Err, if◌then◌else◌, ◌≡◌, ◌≢◌, ◌≤◌, length, ◌++◌}
-use Rattle.std.specs.List.{list_any, list_all}
+use Rattle.std.specs.List.{list_all}
 use Rattle.std.specs.Cmp.Lexicographic.{pointwise}
 use Rattle.sip_uri.specs.declared.uri.Uri.{Uri}
 use Rattle.registrar.specs.Registering.{Rules, is_known, bindings_after_one, answer_by, present, lifetime}

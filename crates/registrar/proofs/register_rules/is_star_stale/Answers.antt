@@ -1,4 +1,4 @@
-use Rattle.std.proofs.Common.{◌&&◌, ◌∙◌, nat_lt, ap, sym}
+use Rattle.std.proofs.Common.{nat_lt}
 use Rattle.registrar.specs.Registering.{is_older_than}
 use Rattle.registrar.proofs.PresentLaws.{list_any-filter}
 use Rattle.registrar.proofs.register_rules.is_star_stale.Goals as goal
