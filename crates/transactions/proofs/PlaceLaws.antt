@@ -1,55 +1,39 @@
 -- The places of the table: what is found by the index, and the index behind a change.
-use Rattle.std.proofs.Common.{◌≡◌, ℕ, ◌+◌, ◌-◌, ◌<◌, ◌≤◌, Bool, true, false, ◌||◌, cond, ltb, eqb, List, [], ◌∷◌, ◌++◌, length, map, get_or, set, Option, Some, None, is_none, is_some, option_map, count_by, find, position, slice_get, refl, sym, ap, ◌∙◌, arith}
-use Prim.Native.Nat.{suc}
+use Rattle.std.proofs.Common.{◌≡◌, ℕ, ◌+◌, ◌-◌, ◌<◌, ◌≤◌, Bool, true, false, cond, ltb, eqb, List, [], ◌∷◌, ◌++◌, length, map, get_or, set, Option, Some, None, is_none, is_some, option_map, count_by, find, position, slice_get, refl, sym, ap, ◌∙◌, arith}
 use Rattle.std.specs.Prelude.{IsSome}
-use Rattle.std.specs.List.{list_any, position_or_len}
+use Rattle.std.specs.List.{list_any}
 use Rattle.std.proofs.lemmas.Bool.{false≢true, ne_eqb, eq-eqb, eqb-true, eqb-false}
 use Rattle.std.proofs.lemmas.List.{get_or_default}
 use Rattle.std.proofs.lemmas.List.Sums.{sum_by-set, get_or-le-sum_by}
 use Rattle.index.specs.declared.index.Entry.{Entry}
 use Rattle.index.specs.Entries.{numbers_of}
 use Rattle.index.specs.Numbers.{Indexed, put_number, remove_number}
+use Rattle.index.specs.Passing.{numbers_from}
 use Rattle.transaction_machines.specs.declared.state.State.{State}
 use Rattle.transaction_machines.specs.Machines.{is_server}
 use Rattle.transactions.specs.declared.transaction.Transaction.{Transaction}
 use Rattle.transactions.specs.Contents.{placed}
-use Rattle.transactions.specs.Places.{numbers_from, has_branch, has_call, IsIndexed, HasRoom}
+use Rattle.transactions.specs.Places.{has_branch, has_call, IsIndexed, HasRoom}
 use Rattle.index.specs.Print.{print_of}
 use Rattle.transactions.specs.Prints.{branch_print, print_at}
 use Rattle.transactions.specs.Slots.{at, free_number, is_serving}
 use Rattle.transactions.specs.Transactions.{went}
 use Rattle.transactions.proofs.LastingLaws.{within}
-use Rattle.transactions.proofs.NumberLaws as numbers
+use Rattle.index.proofs.NumberLaws as numbers
+use Rattle.transactions.proofs.NumberLaws.{placed_put, placed_same, placed_remove, count_placed}
 
 abbrev Slots : Type 0
 Slots = List (Option Transaction)
 
 -- ---- what is found
 
-find_number : (g : ℕ → Bool) (es : List Entry) → option_map (λ e. e.number) (find (λ e. g e.number) es) ≡ find g (map (λ e. e.number) es)
-find_number g [] = refl
-find_number g (e ∷ es) =
-    elim (g e.number) as (λ b. option_map (λ x. x.number) (cond b (Some e) (find (λ x. g x.number) es)) ≡ cond b (Some e.number) (find g (map (λ x. x.number) es))) [
-      | true ↦ refl
-      | false ↦ find_number g es
-    ]
-
-any_number : (g : ℕ → Bool) (es : List Entry) → list_any (λ e. g e.number) es ≡ list_any g (map (λ e. e.number) es)
-any_number g [] = refl
-any_number g (e ∷ es) = ap (λ b. g e.number || b) (any_number g es)
-
 pub first_found : (f p : Option Transaction → Bool) → ((slot : Option Transaction) → f slot ≡ true → p slot ≡ true) → (slots seen : Slots) (es : List Entry)
     → seen ≡ slots → map (λ e. e.number) es ≡ numbers_from p 0 slots → option_map (λ e. e.number) (find (λ e. f (at seen e.number)) es) ≡ position f slots
-first_found f p has slots seen es same is =
-    let g : ℕ → Bool = λ n. f (at seen n) in
-    find_number g es ∙ ap (find g) is ∙ numbers.found p f g has None slots 0 (λ i less. ap (λ l. f (at l (0 + i))) same ∙ ap (λ n. f (at slots n)) (omega arith))
-    ∙ ap (λ n. cond (ltb (position_or_len f slots) (length slots)) (Some n) None) (omega arith)
+first_found f p has slots seen es same is = numbers.first_found p f (λ n. f (at seen n)) has None slots es (λ i less. ap (λ l. f (at l i)) same) is
 
 pub any_found : (f p : Option Transaction → Bool) → ((slot : Option Transaction) → f slot ≡ true → p slot ≡ true) → (slots seen : Slots) (es : List Entry)
     → seen ≡ slots → map (λ e. e.number) es ≡ numbers_from p 0 slots → list_any (λ e. f (at seen e.number)) es ≡ list_any f slots
-any_found f p has slots seen es same is =
-    let g : ℕ → Bool = λ n. f (at seen n) in
-    any_number g es ∙ ap (list_any g) is ∙ numbers.any_found p f g has None slots 0 (λ i less. ap (λ l. f (at l (0 + i))) same ∙ ap (λ n. f (at slots n)) (omega arith))
+any_found f p has slots seen es same is = numbers.any_found p f (λ n. f (at seen n)) has None slots es (λ i less. ap (λ l. f (at l i)) same) is
 
 -- ---- the least free number
 
@@ -126,10 +110,10 @@ module _ (has : ℕ → Option Transaction → Bool) (key : Transaction → ℕ)
         | true ↦ λ e.
             (let here : p ≡ k = eqb-true p k e in
             let passes : has p (Some t) ≡ true = rw (some p t) (eq-eqb (key t) p (sym is ∙ sym here)) in
-            ap (λ ns. put_number ns (free_number slots)) (ap (numbers_of es) (sym here) ∙ before p) ∙ sym (numbers.placed_put (has p) t (none p) passes slots 0 (free_number slots) (omega arith)))
+            ap (λ ns. put_number ns (free_number slots)) (ap (numbers_of es) (sym here) ∙ before p) ∙ sym (placed_put (has p) t (none p) passes slots 0 (free_number slots) (omega arith)))
         | false ↦ λ e.
             (let fails : has p (Some t) ≡ false = rw (some p t) (ne_eqb (key t) p (λ same. eqb-false p k e (sym same ∙ sym is))) in
-            before p ∙ sym (numbers.placed_same (has p) t (none p) fails slots 0))
+            before p ∙ sym (placed_same (has p) t (none p) fails slots 0))
       ] refl)
 
 branch_none : (p : ℕ) → has_branch p None ≡ false
@@ -195,31 +179,15 @@ pub begun_all : (slots : Slots) (bs cs fs bs' cs' fs' : List Entry) (n is b c id
 begun_all slots bs cs fs bs' cs' fs' n is b c id t slot after h id_e slot_e is_e b_e c_e after_e bs_e cs_e fs_e =
     let then : after ≡ placed slots (free_number slots) t = after_e ∙ rw (slot_e, id_e) refl in
     let counts : is ≡ cond (is_serving (Some t)) 1 0 = is_e ∙ rw slot_e (ap (λ b. cond b 1 0) (serves_is (Some t))) in
-    let count = numbers.count_placed is_serving none_serves t slots in
+    let count = count_placed is_serving none_serves t slots in
     rw then (record {
       by_branch = begun has_branch (λ u. branch_print u.parts.vias) branch_none branch_some slots b t bs bs' (b_e ∙ ap (λ s. (print_at s).branch) slot_e) h.by_branch (rw (← id_e) bs_e);
       by_call = begun has_call (λ u. print_of u.parts.call_id) call_none call_some slots c t cs cs' (c_e ∙ ap (λ s. (print_at s).call) slot_e) h.by_call (rw (← id_e) cs_e);
-      without = fs_e 0 ∙ rw id_e (ap (λ ns. remove_number ns (free_number slots)) h.without ∙ sym (numbers.placed_remove t slots 0 (free_number slots) (omega arith)));
+      without = fs_e 0 ∙ rw id_e (ap (λ ns. remove_number ns (free_number slots)) h.without ∙ sym (placed_remove t slots 0 (free_number slots) (omega arith)));
       servers = omega (arith, h.servers, count, counts);
     })
 
 -- ---- the room
-
-put_length : (ns : List ℕ) (n : ℕ) → length (put_number ns n) ≡ suc (length ns)
-put_length [] n = refl
-put_length (m ∷ ns) n =
-    elim (ltb m n) as (λ b. length (cond b (m ∷ put_number ns n) (n ∷ m ∷ ns)) ≡ suc (suc (length ns))) [
-      | true ↦ ap suc (put_length ns n)
-      | false ↦ refl
-    ]
-
-remove_length : (ns : List ℕ) (n : ℕ) → length (remove_number ns n) ≤ length ns
-remove_length [] n = omega arith
-remove_length (m ∷ ns) n =
-    elim (eqb m n) as (λ b. length (cond b ns (m ∷ remove_number ns n)) ≤ suc (length ns)) [
-      | true ↦ omega arith
-      | false ↦ (let rest = remove_length ns n in omega (arith, rest))
-    ]
 
 -- an end takes room that there is
 pub end_fits : (slots : Slots) (bs cs : List Entry) (free : Indexed) (n id used capacity room : ℕ) (branches calls : Indexed)
@@ -242,9 +210,9 @@ pub room_ended : (used capacity room b c id : ℕ) (branches calls free branches
 room_ended used capacity room b c id branches calls free branches' calls' free' fits bs_e cs_e fs_e bs_r cs_r fs_r =
     let bs_l : length (numbers_of branches'.entries b) ≡ length (remove_number (numbers_of branches.entries b) id) = rw (bs_e b, eq-eqb b b refl) refl in
     let cs_l : length (numbers_of calls'.entries c) ≡ length (remove_number (numbers_of calls.entries c) id) = rw (cs_e c, eq-eqb c c refl) refl in
-    let fs_l = ap length (fs_e 0) ∙ put_length (numbers_of free.entries 0) id in
-    let bs_s = remove_length (numbers_of branches.entries b) id in
-    let cs_s = remove_length (numbers_of calls.entries c) id in
+    let fs_l = ap length (fs_e 0) ∙ numbers.put_length (numbers_of free.entries 0) id in
+    let bs_s = numbers.remove_length (numbers_of branches.entries b) id in
+    let cs_s = numbers.remove_length (numbers_of calls.entries c) id in
     record {
       for_slots = fits.for_slots;
       for_branches = omega (arith, fits.for_branches, bs_l, bs_s, bs_r);

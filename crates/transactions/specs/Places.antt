@@ -1,8 +1,9 @@
 -- The places of the table, and the index by which its transactions are looked up.
-use Rattle.std.specs.Prelude.{◌≡◌, ℕ, ◌+◌, ◌≤◌, Bool, false, List, [], ◌∷◌, length, Option, Some, None, is_none, nat_eq, count_by, if◌then◌else◌}
+use Rattle.std.specs.Prelude.{◌≡◌, ℕ, ◌+◌, ◌≤◌, Bool, false, List, length, Option, Some, None, is_none, nat_eq, count_by}
 use Rattle.index.specs.declared.index.Entry.{Entry}
 use Rattle.index.specs.Entries.{numbers_of}
 use Rattle.index.specs.Numbers.{Indexed}
+use Rattle.index.specs.Passing.{numbers_from}
 use Rattle.transactions.specs.declared.transaction.Transaction.{Transaction}
 use Rattle.index.specs.Print.{print_of}
 use Rattle.transactions.specs.Prints.{branch_print}
@@ -12,11 +13,6 @@ use Rattle.transactions.specs.Slots.{is_serving}
 pub record Placed : Type 0 where
   pub slots : List (Option Transaction)
   pub room : ℕ
-
--- the places of those that pass, the least first, where the first place has the number n
-abbrev pub numbers_from : {X : Type 0} → (X → Bool) → ℕ → List X → List ℕ
-numbers_from p n [] = []
-numbers_from p n (x ∷ xs) = if p x then n ∷ numbers_from p (1 + n) xs else numbers_from p (1 + n) xs
 
 -- a transaction whose top Via has a branch of this print
 abbrev pub has_branch : ℕ → Option Transaction → Bool

@@ -2,9 +2,10 @@
 
 ghost use Rattle.std.specs.Prelude.{◌≡◌, ◌+◌, ◌≤◌, ◌<◌, [], ◌∷◌, ◌++◌, length, map, vec_len, OnOk, OnErr, IsSome, Some, None, option_map, slice_set, nat_lt, if◌then◌else◌};
 ghost use Rattle.std.specs.Vec.{vec_capacity};
+ghost use Rattle.index.specs.Passing.{numbers_from};
 ghost use Rattle.transactions.specs.declared.transaction.Transaction.{Transaction};
 ghost use Rattle.transactions.specs.Contents.{placed};
-ghost use Rattle.transactions.specs.Places.{numbers_from, has_branch, has_call};
+ghost use Rattle.transactions.specs.Places.{has_branch, has_call};
 ghost use Rattle.transactions.specs.Slots.{at, free_number, serving};
 ghost use Rattle.transactions.specs.Transactions.{went};
 

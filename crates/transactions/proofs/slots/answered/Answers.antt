@@ -1,5 +1,6 @@
 use Rattle.std.proofs.Common.{◌≡◌, ◌∙◌, map, subst}
-use Rattle.transactions.specs.Places.{numbers_from, has_branch}
+use Rattle.index.specs.Passing.{numbers_from}
+use Rattle.transactions.specs.Places.{has_branch}
 use Rattle.transactions.specs.Prints.{branch_print}
 use Rattle.transactions.specs.Slots.{is_answered}
 use Rattle.transactions.proofs.PlaceLaws.{first_found}

@@ -1,5 +1,6 @@
 use Rattle.std.proofs.Common.{◌≡◌, ◌∙◌, map, ap, subst}
-use Rattle.transactions.specs.Places.{numbers_from, has_call}
+use Rattle.index.specs.Passing.{numbers_from}
+use Rattle.transactions.specs.Places.{has_call}
 use Rattle.index.specs.Print.{print_of}
 use Rattle.transactions.specs.Slots.{is_merged}
 use Rattle.transactions.proofs.PlaceLaws.{any_found}

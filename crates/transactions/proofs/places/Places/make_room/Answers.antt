@@ -1,7 +1,7 @@
 use Rattle.std.proofs.Common.{◌∙◌, ap, is_none, length, arith}
 use Rattle.std.proofs.lemmas.List.{length-map}
 use Rattle.index.specs.declared.index.Entry.{Entry}
-use Rattle.transactions.proofs.NumberLaws.{numbers_few}
+use Rattle.index.proofs.NumberLaws.{numbers_few}
 use Rattle.transactions.proofs.places.Places.make_room.Goals as goal
 
 pub overflow_sub-used : goal.overflow_sub-used
