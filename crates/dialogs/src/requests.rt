@@ -141,17 +141,23 @@ impl Dialog {
         ensures bytes { IfOk result (λ t. t ≡ message_text (Kinds.Request (request_in self.now extras.now.via.now ack_text number
             extras.now.max_forwards extras.now.further.now extras.now.body.now))) }
     {
+        let Extras {
+            via,
+            max_forwards,
+            further,
+            body,
+        } = *extras;
         let request = Unkept {
             method: b"ACK",
             uri: &self.target,
-            via: extras.via,
-            max_forwards: extras.max_forwards,
+            via,
+            max_forwards,
             from: self.our_name(),
             to: self.their_name(),
             call_id: self.id.call_id.as_bytes(),
             number,
-            further: extras.further,
-            body: extras.body,
+            further,
+            body,
         };
         write_unkept(alloc, &request)
     }

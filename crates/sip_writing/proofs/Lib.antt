@@ -13,3 +13,4 @@ pub mod NameTrip
 pub mod NumberTrip
 pub mod ServerViaTrip
 pub mod RequestTrip
+pub mod RequiredLines

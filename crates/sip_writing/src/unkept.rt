@@ -84,7 +84,8 @@ fn put_required(out: &mut Vec<u8>, request: &Unkept<'_, '_>) -> Result<(), Alloc
     put_end(out, b"From", &request.from)?;
     put_end(out, b"To", &request.to)?;
     put_named(out, b"Call-ID", request.call_id)?;
-    put_cseq(out, request.number, request.method)
+    put_cseq(out, request.number, request.method)?;
+    Ok(())
 }
 
 #[tactic(auto, unfolding(crate::specs::Writing::message_text, crate::specs::Unkept::unkept_request))]
