@@ -53,13 +53,9 @@ fn pairs_used(
     ensures { IfOk result (λ pairs. pairs
         ≡ pairs_at (pairs_named offer.now.offer_taken sent.now offer.now.offer_sent answer.now)) }
 {
-    let ports = session_pairs(
-        alloc,
-        offer.offer_taken.get(),
-        sent,
-        offer.offer_sent.get(),
-        answer,
-    )?;
+    let taken = offer.offer_taken.get();
+    let asked = offer.offer_sent.get();
+    let ports = session_pairs(alloc, taken, sent, asked, answer)?;
     let pairs = pairs_at(alloc, &ports)?;
     Ok(Pairs::from_vec(pairs))
 }
