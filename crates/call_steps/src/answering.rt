@@ -1,7 +1,7 @@
 //! The dialog after a 2xx.
 
-ghost use Rattle.std.specs.Prelude.{◌≡◌, IfOk, IsTrue, Some, option_map};
-ghost use Rattle.sip_message.specs.Contact.{contacts_of, is_one_address};
+ghost use Rattle.std.specs.Prelude.{◌≡◌, IfOk, Some, option_map};
+ghost use Rattle.sip_message.specs.Contact.{contacts_of};
 ghost use Rattle.dialogs.specs.Making.{callers_dialog, reached_at};
 ghost use Rattle.std.specs.Option.{option_copied};
 ghost use Rattle.call_core.specs.Calls.{to_target};
@@ -19,7 +19,6 @@ use transactions::Transaction;
 fn let_go<T: Drop>(_value: T) {}
 
 /// The dialog with the callee that a 2xx makes, where its Contact says where the callee is reached.
-#[tactic(auto, using(crate::proofs::ContactLaws::one_is_reached))]
 pub(crate) fn callee_dialog(
     alloc: Global,
     asked: &Transaction,
@@ -30,8 +29,8 @@ pub(crate) fn callee_dialog(
     let Some(target) = contact_uri(alloc, response.headers.as_slice())? else {
         return Ok(None);
     };
-    let_go(target);
-    Ok(Some(Dialog::as_caller(alloc, &asked.parts, response)?))
+    let dialog = Dialog::as_caller(alloc, &asked.parts, response, target)?;
+    Ok(Some(dialog))
 }
 
 /// This dialog, whose other side is reached at this target.

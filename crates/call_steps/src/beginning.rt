@@ -1,8 +1,8 @@
 //! A call begins.
 
-ghost use Rattle.std.specs.Prelude.{◌≡◌, ◌≢◌, ◌<◌, ◌≤◌, ◌+◌, ◌^◌, ℕ, false, IfErr, IfOk, IsTrue, OnOk, None, Some, length};
+ghost use Rattle.std.specs.Prelude.{◌≡◌, ◌≢◌, ◌<◌, ◌≤◌, ◌+◌, ◌^◌, ℕ, false, IfErr, IfOk, OnOk, None, Some, length};
 ghost use Rattle.std.specs.Option.{option_copied};
-ghost use Rattle.sip_message.specs.Contact.{contacts_of, is_one_address};
+ghost use Rattle.sip_message.specs.Contact.{contacts_of};
 ghost use Rattle.port_pool.specs.Pool.{Contents, is_port_of};
 ghost use Rattle.offer_answer.specs.Direct.{hold_address};
 ghost use Rattle.dialogs.specs.Making.{callees_dialog, reached_at};
@@ -157,27 +157,28 @@ fn step_of(call: Boxed<StandingCall>, plan: Boxed<Plan>, said: StepMessages) -> 
     }
 }
 
-/// The call of a request, before its first offer, which the server answers with this tag.
+/// The call of a request, whose Contact is this, before its first offer; the server answers it with this tag.
 fn call_of(
     alloc: Global,
     number: u64,
     o: Occasion,
     request: &Request<'_>,
     tag: &[u8],
+    contact: Uri<'static>,
 ) -> Result<Call, AllocError>
     requires somewhere { o.range.ip ≢ hold_address }
-    requires contact { IsTrue (is_one_address (contacts_of request.now.headers)) }
+    requires contact { reached_at (contacts_of request.now.headers) ≡ Some contact }
     ensures contact { IfOk result (λ call. reached_at (contacts_of request.now.headers) ≡ Some call.caller.target) }
     ensures call { IfOk result (λ call. call ≡ new_call number o.range (callees_dialog request.now tag.now call.caller.target)) }
     ensures serves { (pool : Contents) → ((port : ℕ) → is_port_of pool number port ≡ false) → IfOk result (λ call. IsServed call pool) }
     ensures nowhere { IfOk result (λ call. call.standing ≡ None) }
     ensures media { IfOk result (λ call. call.media ≡ new_media number o.range) }
 {
-    let caller = Dialog::as_callee(alloc, request, tag)?;
+    let caller = Dialog::as_callee(alloc, request, tag, contact)?;
     Ok(Call::new(number, o.range, caller))
 }
 
-/// A call begins, whose caller names one Contact.
+/// A call begins, whose caller names this Contact.
 #[tactic(auto, using(crate::proofs::StepLaws::begins_as_planned))]
 fn begins(
     alloc: Global,
@@ -188,11 +189,12 @@ fn begins(
     source: Addr,
     target: &Uri<'_>,
     offer: &Description<'_>,
+    contact: Uri<'static>,
 ) -> Result<CallStep, CallRefusal>
     requires few { o.tokens ≤ 2 ^ 63 }
     requires begun { calls.now.begun + 1 < 2 ^ 64 }
     requires somewhere { o.range.ip ≢ hold_address }
-    requires contact { IsTrue (is_one_address (contacts_of request.now.headers)) }
+    requires contact { reached_at (contacts_of request.now.headers) ≡ Some contact }
     ensures row { IfOk result (λ step. effect (standing calls.now) o.now step
         ≡ first_row (standing calls.now) o request.now id source target.now offer.now) }
     ensures fits { IfOk result (λ step. FitsChange (standing calls.now) o.now step.change) }
@@ -203,7 +205,14 @@ fn begins(
 {
     let tag = o.fresh(alloc, 1)?;
     let callee_tag = o.fresh(alloc, 3)?;
-    let call = call_of(alloc, calls.begun() + 1, o, request, tag.as_bytes())?;
+    let call = call_of(
+        alloc,
+        calls.begun() + 1,
+        o,
+        request,
+        tag.as_bytes(),
+        contact,
+    )?;
     let plan = call.plan_ask(alloc, offer, calls.pool(), o.now)?;
     let leg = first_leg(alloc, o, request, target, callee_tag.as_bytes())?;
     let asker = first_asker(&*request, id, source, tag.as_bytes());
@@ -252,7 +261,7 @@ fn begins_none(
 /// a call with the next number begins. It has two new legs; the offer is passed on to the callee, and 100 goes to the caller (RFC 3261
 /// section 16). The tags of the two legs, the Call-ID and the branch are tokens. K3 is the first refusal, K4 comes behind it, and else
 /// memory is missing. Nothing changes.
-#[tactic(auto, using(crate::proofs::ContactLaws::one_is_reached, crate::proofs::StepLaws::begins_nothing))]
+#[tactic(auto, using(crate::proofs::StepLaws::begins_nothing))]
 pub fn first_call(
     alloc: Global,
     calls: &Calls,
@@ -277,9 +286,6 @@ pub fn first_call(
 {
     match contact_uri(alloc, request.headers.as_slice())? {
         None => begins_none(alloc, calls, o, offer),
-        Some(contact) => {
-            let_go(contact);
-            begins(alloc, calls, o, request, id, source, target, offer)
-        }
+        Some(contact) => begins(alloc, calls, o, request, id, source, target, offer, contact),
     }
 }

@@ -35,7 +35,9 @@ fn callee_of(
 {
     invites_name_a_contact();
     if is_invite(&invite.parts) {
-        return Ok(Dialog::as_callee(alloc, invite, tag)?);
+        if let Some(target) = dialogs::contact_uri(alloc, invite.headers.as_slice())? {
+            return Ok(Dialog::as_callee(alloc, invite, tag, target)?);
+        }
     }
     Err(MessageError::StartLine)
 }
@@ -76,7 +78,9 @@ fn caller_of(
         && 200 <= answer.status
         && answer.status <= 299
     {
-        return Ok(Dialog::as_caller(alloc, &invite.parts, answer)?);
+        if let Some(target) = dialogs::contact_uri(alloc, answer.headers.as_slice())? {
+            return Ok(Dialog::as_caller(alloc, &invite.parts, answer, target)?);
+        }
     }
     Err(MessageError::StartLine)
 }

@@ -1,7 +1,7 @@
 //! Where the sender of a message is reached (RFC 3261 sections 12.1.1 and 12.1.2).
 
-ghost use Rattle.std.specs.Prelude.{◌≡◌, Some, IfOk, IsTrue};
-ghost use Rattle.sip_message.specs.Contact.{contacts_of, is_one_address};
+ghost use Rattle.std.specs.Prelude.{◌≡◌, IfOk};
+ghost use Rattle.sip_message.specs.Contact.{contacts_of};
 ghost use Rattle.dialogs.specs.Making.{reached_at};
 
 use sip_message::{ContactValue, Header, contact_values};
@@ -29,18 +29,4 @@ pub fn contact_uri(
 {
     let values = contact_values(alloc, headers)?;
     uri_of(alloc, &values)
-}
-
-/// The URI of the Contact that these header fields have.
-pub(crate) fn read_contact_uri(
-    alloc: Global,
-    headers: &[Header<'_>],
-) -> Result<Uri<'static>, AllocError>
-    requires { IsTrue (is_one_address (contacts_of headers.now)) }
-    ensures { IfOk result (λ uri. reached_at (contacts_of headers.now) ≡ Some uri) }
-{
-    match contact_uri(alloc, headers)? {
-        Some(uri) => Ok(uri),
-        None => unreachable!(),
-    }
 }

@@ -1,17 +1,13 @@
 //! Dialogs that begin (RFC 3261 section 12.1).
 
-ghost use Rattle.std.specs.Prelude.{◌≡◌, ℕ, List, Some, IfOk, IsTrue};
-ghost use Rattle.text.specs.Class.{is_run_of, is_token_byte};
-ghost use Rattle.sip_message.specs.Contact.{contacts_of, is_one_address, is_success};
-ghost use Rattle.sip_message.specs.Grammar.{ReadsMessage};
-ghost use Rattle.sip_message.specs.declared.message.Message.TheVariants as Kinds;
-ghost use Rattle.dialogs.specs.Making.{is_invite, reached_at, own_tag, party_named, callees_dialog, callers_dialog};
+ghost use Rattle.std.specs.Prelude.{◌≡◌, Some, IfOk};
+ghost use Rattle.sip_message.specs.Contact.{contacts_of};
+ghost use Rattle.dialogs.specs.Making.{reached_at, own_tag, party_named, callees_dialog, callers_dialog};
 
-use crate::contact::read_contact_uri;
 use crate::identifiers::DialogId;
 use crate::state::{Dialog, Party};
 use sip_message::{Parts, Request, Response, tag_text};
-use sip_uri::{NameAddr, keep_text};
+use sip_uri::{NameAddr, Uri, keep_text};
 use std::alloc::{AllocError, Global};
 use text::{Text, both};
 
@@ -50,22 +46,26 @@ fn own_tag<'m>(invite: &'m Request<'_>, tag: &'m [u8]) -> &'m [u8]
 }
 
 impl Dialog {
-    /// The dialog with the sender of an INVITE, which the server answers with this tag, or with that of its To where it has one
-    /// (RFC 3261 section 12.1.1).
-    pub fn as_callee(alloc: Global, invite: &Request<'_>, tag: &[u8]) -> Result<Dialog, AllocError>
-        requires { IsTrue (is_one_address (contacts_of invite.now.headers)) }
+    /// The dialog with the sender of an INVITE, whose Contact says this target, and which the server answers with this tag, or with
+    /// that of its To where it has one (RFC 3261 section 12.1.1).
+    pub fn as_callee(
+        alloc: Global,
+        invite: &Request<'_>,
+        tag: &[u8],
+        target: Uri<'static>,
+    ) -> Result<Dialog, AllocError>
+        requires target { reached_at (contacts_of invite.now.headers) ≡ Some target }
         ensures target { IfOk result (λ d. reached_at (contacts_of invite.now.headers) ≡ Some d.target) }
         ensures dialog { IfOk result (λ d. d ≡ callees_dialog invite.now tag.now d.target) }
     {
         let parts = &invite.parts;
-        let target = read_contact_uri(alloc, invite.headers.as_slice());
         let their_tag = tag_text(parts.from.params.as_slice());
         let id = identifiers(alloc, &parts.call_id, own_tag(invite, tag), their_tag);
         let ends = both(
             party_named(alloc, &parts.to),
             party_named(alloc, &parts.from),
         );
-        let ((target, id), (ours, theirs)) = both(both(target, id), ends)?;
+        let (id, (ours, theirs)) = both(id, ends)?;
         Ok(Dialog {
             id,
             ours,
@@ -76,17 +76,18 @@ impl Dialog {
         })
     }
 
-    /// The dialog with the sender of a 2xx to an INVITE of the server's, which has these parts (RFC 3261 section 12.1.2).
+    /// The dialog with the sender of a 2xx to an INVITE of the server's, which has these parts, where the Contact of the 2xx says
+    /// this target (RFC 3261 section 12.1.2).
     pub fn as_caller(
         alloc: Global,
         invite: &Parts<'_>,
         answer: &Response<'_>,
+        target: Uri<'static>,
     ) -> Result<Dialog, AllocError>
-        requires { IsTrue (is_one_address (contacts_of answer.now.headers)) }
+        requires target { reached_at (contacts_of answer.now.headers) ≡ Some target }
         ensures target { IfOk result (λ d. reached_at (contacts_of answer.now.headers) ≡ Some d.target) }
         ensures dialog { IfOk result (λ d. d ≡ callers_dialog invite.now answer.now d.target) }
     {
-        let target = read_contact_uri(alloc, answer.headers.as_slice());
         let our_tag = tag_text(invite.from.params.as_slice());
         let their_tag = tag_text(answer.parts.to.params.as_slice());
         let id = identifiers(alloc, &invite.call_id, our_tag, their_tag);
@@ -94,7 +95,7 @@ impl Dialog {
             party_named(alloc, &invite.from),
             party_named(alloc, &invite.to),
         );
-        let ((target, id), (ours, theirs)) = both(both(target, id), ends)?;
+        let (id, (ours, theirs)) = both(id, ends)?;
         Ok(Dialog {
             id,
             ours,
