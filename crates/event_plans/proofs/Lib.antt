@@ -1,1 +1,2 @@
 mod RoomLaws
+mod UnreadLaws

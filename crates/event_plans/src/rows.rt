@@ -66,6 +66,7 @@ fn rule_row(
     }
 }
 
+#[tactic(auto, using(crate::proofs::UnreadLaws::request_alike))]
 #[inline(never)]
 fn ruled_row(
     office: &Office<'_>,

@@ -1,15 +1,14 @@
 //! Which rule a request falls under that begins a transaction: the order of checks.
 
-ghost use Rattle.std.specs.Prelude.{◌≡◌, ◌||◌, IfOk, Option, codes, is_some, not};
+ghost use Rattle.std.specs.Prelude.{◌≡◌, ◌||◌, IfOk, codes, is_some, not};
 ghost use Rattle.std.specs.Option.{option_copied};
-ghost use Rattle.sdp.specs.declared.description.Description.{Description};
 ghost use Rattle.sip_message.specs.Words.{tag_value};
 ghost use Rattle.responses.specs.Words.{is_method};
 ghost use Rattle.calls.specs.Finding.{place_by_offer};
-ghost use Rattle.checks.specs.Rules.{callee_rule, cancel_line, cancels, contact_line, declined_line, described_rule, dialog_line, extension_line, first_call_rule, hops_line, invite_rule, known_rule, merged_line, of_dialog, offer_rule, offered_rule, options_line, refused, register_line, request_rule, route_line, target_rule, unknown_line, user_rule};
+ghost use Rattle.checks.specs.Rules.{cancel_line, cancels, contact_line, declined_line, dialog_line, extension_line, hops_line, merged_line, of_dialog, options_line, refused, register_line, route_line, unknown_line};
+ghost use Rattle.event_plans.specs.Unread.{callee_unread, content_by, first_call_unread, invite_unread, known_unread, offered_unread, request_unread, target_unread, user_unread};
 
-use crate::letting_go::let_go;
-use call_rules::{ContentRule, DialogRule, contact_address, content_rule, described, dialog_rule};
+use call_rules::{ContentRule, DialogRule, contact_address, content_rule, dialog_rule};
 use checks::Rule;
 use plans::{CallRule, Office, Reply};
 use responses::{has_header, is_declined_method, is_method, is_offered_method};
@@ -104,27 +103,15 @@ fn contact_line(alloc: Global, request: &Request<'_>) -> Result<Option<Rule>, Al
     Ok(Some(refused(400)))
 }
 
-/// What can be read of an offer.
-fn described_rule(rule: Option<ContentRule>, described: bool) -> Rule
-    ensures { (offer : Option Description) → is_some offer ≡ described → result ≡ described_rule rule offer }
+/// The rule of a body: whether a description can be read of it, the call looks that begins.
+fn content_by(rule: Option<ContentRule>) -> Rule
+    ensures { result ≡ content_by rule }
 {
     match rule {
         Some(ContentRule::Type) => Rule::Alone(Reply::TypeRefused),
         Some(ContentRule::Encoding) => Rule::Alone(Reply::EncodingRefused),
-        None if described => Rule::Call(CallRule::Begins),
-        None => refused(488),
+        None => Rule::Call(CallRule::Begins),
     }
-}
-
-fn offer_rule(alloc: Global, request: &Request<'_>) -> Result<Rule, AllocError>
-    ensures { IfOk result (λ rule. rule ≡ offer_rule request.now) }
-{
-    let headers = request.headers.as_slice();
-    let rule = content_rule(alloc, headers)?;
-    let offer = described(alloc, headers, request.body.as_bytes())?;
-    let is_described = offer.is_some();
-    let_go(offer);
-    Ok(described_rule(rule, is_described))
 }
 
 fn target_rule(
@@ -132,11 +119,14 @@ fn target_rule(
     request: &Request<'_>,
     target: Option<&Uri<'static>>,
 ) -> Result<Rule, AllocError>
-    ensures { IfOk result (λ rule. rule ≡ target_rule request.now (option_copied target.entry)) }
+    ensures { IfOk result (λ rule. rule ≡ target_unread request.now (option_copied target.entry)) }
 {
     match target {
         None => Ok(refused(480)),
-        Some(_) => offer_rule(alloc, request),
+        Some(_) => {
+            let rule = content_rule(alloc, request.headers.as_slice())?;
+            Ok(content_by(rule))
+        }
     }
 }
 
@@ -205,7 +195,7 @@ fn known_rule(
     now: u64,
     known: bool,
 ) -> Result<Rule, AllocError>
-    ensures { IfOk result (λ rule. rule ≡ known_rule office.now request.now user.now now known) }
+    ensures { IfOk result (λ rule. rule ≡ known_unread office.now request.now user.now now known) }
 {
     if !known {
         return Ok(refused(404));
@@ -219,7 +209,7 @@ fn user_rule(
     user: Option<&Text<'_>>,
     now: u64,
 ) -> Result<Rule, AllocError>
-    ensures { IfOk result (λ rule. rule ≡ user_rule office.now request.now now (option_copied user.entry)) }
+    ensures { IfOk result (λ rule. rule ≡ user_unread office.now request.now now (option_copied user.entry)) }
 {
     match user {
         None => Ok(refused(404)),
@@ -228,13 +218,13 @@ fn user_rule(
 }
 
 fn callee_rule(office: &Office<'_>, request: &Request<'_>, now: u64) -> Result<Rule, AllocError>
-    ensures { IfOk result (λ rule. rule ≡ callee_rule office.now request.now now) }
+    ensures { IfOk result (λ rule. rule ≡ callee_unread office.now request.now now) }
 {
     user_rule(office, request, office.registrar.user_of(&request.uri), now)
 }
 
 fn first_call_rule(office: &Office<'_>, request: &Request<'_>, now: u64) -> Result<Rule, AllocError>
-    ensures { IfOk result (λ rule. rule ≡ first_call_rule office.now request.now now) }
+    ensures { IfOk result (λ rule. rule ≡ first_call_unread office.now request.now now) }
 {
     if let Some(rule) = hops_line(request) {
         return Ok(rule);
@@ -245,9 +235,9 @@ fn first_call_rule(office: &Office<'_>, request: &Request<'_>, now: u64) -> Resu
     }
 }
 
-#[tactic(auto, unfolding(checks::specs::Rules::invite_rule))]
+#[tactic(auto, unfolding(crate::specs::Unread::invite_unread))]
 fn invite_rule(office: &Office<'_>, request: &Request<'_>, now: u64) -> Result<Rule, AllocError>
-    ensures { IfOk result (λ rule. rule ≡ invite_rule office.now request.now now) }
+    ensures { IfOk result (λ rule. rule ≡ invite_unread office.now request.now now) }
 {
     if let Some(rule) = dialog_line(office, request) {
         return Ok(rule);
@@ -255,9 +245,9 @@ fn invite_rule(office: &Office<'_>, request: &Request<'_>, now: u64) -> Result<R
     first_call_rule(office, request, now)
 }
 
-#[tactic(auto, unfolding(checks::specs::Rules::offered_rule))]
+#[tactic(auto, unfolding(crate::specs::Unread::offered_unread))]
 fn offered_rule(office: &Office<'_>, request: &Request<'_>, now: u64) -> Result<Rule, AllocError>
-    ensures { IfOk result (λ rule. rule ≡ offered_rule office.now request.now now) }
+    ensures { IfOk result (λ rule. rule ≡ offered_unread office.now request.now now) }
 {
     if let Some(rule) = extension_line(request) {
         return Ok(rule);
@@ -274,14 +264,15 @@ fn offered_rule(office: &Office<'_>, request: &Request<'_>, now: u64) -> Result<
     invite_rule(office, request, now)
 }
 
-/// The first line of the order of checks that applies to a request that begins a transaction.
-#[tactic(auto, unfolding(checks::specs::Rules::request_rule))]
+/// The first line of the order of checks that applies to a request that begins a transaction, but for whether the body of a first INVITE
+/// can be read.
+#[tactic(auto, unfolding(crate::specs::Unread::request_unread))]
 pub(crate) fn request_rule(
     office: &Office<'_>,
     request: &Request<'_>,
     now: u64,
 ) -> Result<Rule, AllocError>
-    ensures { IfOk result (λ rule. rule ≡ request_rule office.now request.now now) }
+    ensures { IfOk result (λ rule. rule ≡ request_unread office.now request.now now) }
 {
     if let Some(rule) = cancel_line(office, request) {
         return Ok(rule);
