@@ -1,32 +1,28 @@
 //! Rows of header fields alone: `Headers`, and how they are looked up.
 
 use crate::message_texts::{put_contacts, put_headers, put_value};
-use rows::{outcome_after, put_shown};
+use rows::{Output, let_go};
 use sip_message::{FieldValue, Header, Headers, contact_values, first_value, values_named};
 use sip_uri::{Param, put_param};
 use sip_writing::tag_param;
 use std::alloc::{AllocError, Global};
 use text::{cut, trimmed};
 
-fn push_headers(
-    alloc: Global,
-    headers: &mut Vec<Header<'static>>,
-    words: &[&[u8]],
-) -> Result<(), AllocError> {
-    for word in words {
-        let (name, value) = cut(word, b':');
-        headers.push(Header::of(alloc, name, trimmed(value.unwrap_or(&[])))?)?;
+fn push_header(out: &mut Output, headers: &mut Vec<Header<'static>>, word: &[u8]) {
+    let (name, value) = cut(word, b':');
+    match Header::of(out.alloc(), name, trimmed(value.unwrap_or(&[]))) {
+        Ok(header) => out.push(headers, header),
+        Err(_) => out.no_memory(),
     }
-    Ok(())
 }
 
 /// The header fields that the words write.
-fn headers_of(alloc: Global, words: &[&[u8]]) -> Result<Vec<Header<'static>>, AllocError> {
-    let mut headers: Vec<Header<'static>> = Vec::new(alloc);
-    match push_headers(alloc, &mut headers, words) {
-        Ok(()) => Ok(headers),
-        Err(fault) => outcome_after(headers, Err(fault)),
+fn headers_of(out: &mut Output, words: &[&[u8]]) -> Vec<Header<'static>> {
+    let mut headers = out.list();
+    for word in words {
+        push_header(out, &mut headers, word);
     }
+    headers
 }
 
 /// Two header fields put behind these, the second one as name and value.
@@ -35,154 +31,110 @@ fn add_two(alloc: Global, headers: &mut Headers<'static>) -> Result<(), AllocErr
     headers.add(alloc, b"Added", b"2")
 }
 
-fn put_last_headers(
-    alloc: Global,
-    out: &mut String,
-    headers: Vec<Header<'_>>,
-) -> Result<(), AllocError> {
-    let outcome = put_headers(alloc, out, &headers);
-    outcome_after(headers, outcome)
-}
-
 /// The header fields, put into a list, two more behind them, and taken out again.
-fn put_added(alloc: Global, out: &mut String, words: &[&[u8]]) -> Result<(), AllocError> {
-    let mut headers = Headers::from_vec(headers_of(alloc, words)?);
-    match add_two(alloc, &mut headers) {
-        Ok(()) => put_last_headers(alloc, out, headers.into_vec()),
-        Err(fault) => outcome_after(headers, Err(fault)),
-    }
+fn put_added(out: &mut Output, words: &[&[u8]]) {
+    let mut headers = Headers::from_vec(headers_of(out, words));
+    out.note(add_two(out.alloc(), &mut headers));
+    let headers = headers.into_vec();
+    put_headers(out, &headers);
+    let_go(headers);
 }
 
-fn put_listed(alloc: Global, out: &mut String, words: &[&[u8]]) -> Result<(), AllocError> {
-    let headers = Headers::from_vec(headers_of(alloc, words)?);
-    let outcome = put_headers(alloc, out, headers.as_slice());
-    outcome_after(headers, outcome)
+fn put_listed(out: &mut Output, words: &[&[u8]]) {
+    let headers = Headers::from_vec(headers_of(out, words));
+    put_headers(out, headers.as_slice());
+    let_go(headers);
 }
 
-fn put_each_value(
-    alloc: Global,
-    out: &mut String,
-    values: &[&FieldValue<'_>],
-) -> Result<(), AllocError> {
+fn put_each_value(out: &mut Output, values: &[&FieldValue<'_>]) {
     for (at, value) in values.iter().enumerate() {
         if at > 0 {
-            out.push(' ')?;
+            out.put(" ");
         }
-        put_value(alloc, out, value)?;
-        out.push(';')?;
+        put_value(out, value);
+        out.put(";");
     }
-    Ok(())
 }
 
-fn put_values(
-    alloc: Global,
-    out: &mut String,
-    headers: &[Header<'_>],
-    name: &[u8],
-) -> Result<(), AllocError> {
-    let values = values_named(alloc, headers, name)?;
-    if values.is_empty() {
-        return out.push_str("none");
+fn put_each_value_or_none(out: &mut Output, values: &[&FieldValue<'_>]) {
+    match values {
+        [] => out.put("none"),
+        _ => put_each_value(out, values),
     }
-    put_each_value(alloc, out, &values)
 }
 
-fn put_first(
-    alloc: Global,
-    out: &mut String,
-    headers: &[Header<'_>],
-    name: &[u8],
-) -> Result<(), AllocError> {
+fn put_values(out: &mut Output, headers: &[Header<'_>], name: &[u8]) {
+    match values_named(out.alloc(), headers, name) {
+        Ok(values) => put_each_value_or_none(out, &values),
+        Err(_) => out.no_memory(),
+    }
+}
+
+fn put_first(out: &mut Output, headers: &[Header<'_>], name: &[u8]) {
     match first_value(headers, name) {
-        Some(value) => put_value(alloc, out, value),
-        None => out.push_str("none"),
+        Some(value) => put_value(out, value),
+        None => out.put("none"),
     }
 }
 
 /// What is told of the header fields with a name: the first of them, or all.
-fn put_by(
-    alloc: Global,
-    out: &mut String,
-    call: &str,
-    headers: &[Header<'_>],
-    name: &[u8],
-) -> Result<(), AllocError> {
+fn put_by(out: &mut Output, call: &str, headers: &[Header<'_>], name: &[u8]) {
     match call {
-        "first_value" => put_first(alloc, out, headers, name),
-        _ => put_values(alloc, out, headers, name),
+        "first_value" => put_first(out, headers, name),
+        _ => put_values(out, headers, name),
     }
 }
 
-fn put_named_of(
-    alloc: Global,
-    out: &mut String,
-    call: &str,
-    name: &[u8],
-    words: &[&[u8]],
-) -> Result<(), AllocError> {
-    let headers = headers_of(alloc, words)?;
-    let outcome = put_by(alloc, out, call, &headers, name);
-    outcome_after(headers, outcome)
+fn put_named_of(out: &mut Output, call: &str, name: &[u8], words: &[&[u8]]) {
+    let headers = headers_of(out, words);
+    put_by(out, call, &headers, name);
+    let_go(headers);
 }
 
 /// What a call on the header fields with a name answers, of which the first word is.
-pub(crate) fn put_named(
-    alloc: Global,
-    out: &mut String,
-    call: &str,
-    args: &[&[u8]],
-) -> Option<Result<(), AllocError>> {
+pub(crate) fn put_named(out: &mut Output, call: &str, args: &[&[u8]]) {
     match args {
-        [name, words @ ..] => Some(put_named_of(alloc, out, call, name, words)),
-        [] => None,
+        [name, words @ ..] => put_named_of(out, call, name, words),
+        [] => out.no_such_row(),
     }
 }
 
-fn put_contact_values(alloc: Global, out: &mut String, words: &[&[u8]]) -> Result<(), AllocError> {
-    let headers = headers_of(alloc, words)?;
-    match contact_values(alloc, &headers) {
-        Ok(values) => {
-            let outcome = put_contacts(alloc, out, values);
-            outcome_after(headers, outcome)
+fn put_contact_values(out: &mut Output, words: &[&[u8]]) {
+    let headers = headers_of(out, words);
+    let values = contact_values(out.alloc(), &headers);
+    put_contacts(out, values);
+    let_go(headers);
+}
+
+fn put_shown_param(out: &mut Output, param: &Param<'_>) {
+    let mut text = out.list();
+    out.note(put_param(&mut text, param));
+    out.put_shown(&text);
+}
+
+fn put_tag_of(out: &mut Output, tag: &[u8]) {
+    match tag_param(out.alloc(), tag) {
+        Ok(param) => {
+            put_shown_param(out, &param);
+            let_go(param);
         }
-        Err(fault) => outcome_after(headers, Err(fault)),
+        Err(_) => out.no_memory(),
     }
-}
-
-fn put_shown_param(alloc: Global, out: &mut String, param: &Param<'_>) -> Result<(), AllocError> {
-    let mut text = Vec::new(alloc);
-    put_param(&mut text, param)?;
-    put_shown(out, &text)
-}
-
-fn put_tag_of(alloc: Global, out: &mut String, tag: &[u8]) -> Result<(), AllocError> {
-    let param = tag_param(alloc, tag)?;
-    let outcome = put_shown_param(alloc, out, &param);
-    outcome_after(param, outcome)
 }
 
 /// The parameter of a tag.
-pub(crate) fn put_tag(
-    alloc: Global,
-    out: &mut String,
-    args: &[&[u8]],
-) -> Option<Result<(), AllocError>> {
+pub(crate) fn put_tag(out: &mut Output, args: &[&[u8]]) {
     match args {
-        [tag] => Some(put_tag_of(alloc, out, tag)),
-        _ => None,
+        [tag] => put_tag_of(out, tag),
+        _ => out.no_such_row(),
     }
 }
 
 /// What a call on header fields that the words write answers.
-pub(crate) fn put_of_headers(
-    alloc: Global,
-    out: &mut String,
-    call: &str,
-    words: &[&[u8]],
-) -> Result<(), AllocError> {
+pub(crate) fn put_of_headers(out: &mut Output, call: &str, words: &[&[u8]]) {
     match call {
-        "added" => put_added(alloc, out, words),
-        "listed" => put_listed(alloc, out, words),
-        _ => put_contact_values(alloc, out, words),
+        "added" => put_added(out, words),
+        "listed" => put_listed(out, words),
+        _ => put_contact_values(out, words),
     }
 }

@@ -4,9 +4,8 @@ ghost use Rattle.std.specs.Prelude.{◌<◌, ◌^◌};
 
 use crate::machines::timer_kind;
 use crate::table_texts::{PLACE, put_before, put_id, put_refusal, put_verdict};
-use row_messages::fault_text;
-use rows::{number, outcome_after, put_address, put_shown, replace};
-use sip_message::{Message, MessageError, Request, Response};
+use rows::{Output, let_go, number, outcome_after, replace};
+use sip_message::{Message, Request, Response};
 use sip_uri::Addr;
 use sip_writing::write_request;
 use std::alloc::{AllocError, Global};
@@ -36,34 +35,37 @@ pub(crate) fn moment(word: &[u8]) -> u64
 }
 
 /// Calls what has a law for its contract.
-pub(crate) fn put_laws(out: &mut String) -> Result<(), AllocError> {
+pub(crate) fn put_laws(out: &mut Output) {
     once();
     replies();
     servers();
     others_are_untouched();
     answers_are_repeated();
-    out.push_str("hold")
+    out.put("hold");
 }
 
 /// The bytes of a request.
-fn put_request(alloc: Global, out: &mut String, request: &Request<'_>) -> Result<(), AllocError> {
-    let text = write_request(alloc, request)?;
-    let outcome = put_shown(out, text.as_bytes());
-    outcome_after(text, outcome)
+fn put_request(out: &mut Output, request: &Request<'_>) {
+    let text = write_request(out.alloc(), request);
+    out.put_written(text);
+}
+
+/// A request that is let go behind it, if there is one.
+fn put_request_or_none(out: &mut Output, request: Option<Request<'_>>) {
+    match request {
+        Some(request) => {
+            put_request(out, &request);
+            let_go(request);
+        }
+        None => out.put("none"),
+    }
 }
 
 /// The CANCEL of a transaction, if it has one.
-fn put_cancel_of(
-    alloc: Global,
-    out: &mut String,
-    transaction: &Transaction,
-) -> Result<(), AllocError> {
-    match cancel_of(alloc, transaction)? {
-        Some(cancel) => {
-            let outcome = put_request(alloc, out, &cancel);
-            outcome_after(cancel, outcome)
-        }
-        None => out.push_str("none"),
+fn put_cancel_of(out: &mut Output, transaction: &Transaction) {
+    match cancel_of(out.alloc(), transaction) {
+        Ok(cancel) => put_request_or_none(out, cancel),
+        Err(_) => out.no_memory(),
     }
 }
 
@@ -86,14 +88,6 @@ fn changes_of(alloc: Global, request: &Request<'_>) -> Result<Vec<Change>, Alloc
     }
 }
 
-pub(crate) fn put_fault(
-    alloc: Global,
-    out: &mut String,
-    fault: MessageError,
-) -> Result<(), AllocError> {
-    out.push_str(fault_text(alloc, fault)?.as_str())
-}
-
 impl History {
     pub(crate) fn new(alloc: Global) -> History {
         History {
@@ -102,200 +96,152 @@ impl History {
         }
     }
 
-    pub(crate) fn empty(&mut self, alloc: Global, out: &mut String) -> Result<(), AllocError> {
-        replace(&mut self.table, Table::new(alloc));
-        out.push_str("empty")
+    pub(crate) fn empty(&mut self, out: &mut Output) {
+        replace(&mut self.table, Table::new(out.alloc()));
+        out.put("empty");
     }
 
     /// What is sent, whose bytes are kept.
-    fn put_send(
-        &mut self,
-        alloc: Global,
-        out: &mut String,
-        send: &Outgoing,
-    ) -> Result<(), AllocError> {
+    fn put_send(&mut self, out: &mut Output, send: &Outgoing) {
         let bytes = send.bytes.as_bytes();
-        replace(&mut self.sent, Vec::from_slice(alloc, bytes)?);
-        out.push_str("sends ")?;
-        put_shown(out, cut(bytes, b'\r').0)?;
-        out.push_str(" to ")?;
-        put_address(out, send.to)
+        let mut sent = out.list();
+        out.extend(&mut sent, bytes);
+        replace(&mut self.sent, sent);
+        out.put("sends ");
+        out.put_shown(cut(bytes, b'\r').0);
+        out.put(" to ");
+        out.put_address(send.to)
     }
 
-    fn put_reception(
-        &mut self,
-        alloc: Global,
-        out: &mut String,
-        reception: &Reception,
-    ) -> Result<(), AllocError> {
-        put_verdict(out, reception.verdict)?;
-        put_before(out, reception.before)?;
+    fn put_reception(&mut self, out: &mut Output, reception: &Reception) {
+        put_verdict(out, reception.verdict);
+        put_before(out, reception.before);
         match &reception.send {
-            Some(send) => self.put_send(alloc, out, send),
-            None => out.push_str("sends nothing"),
+            Some(send) => self.put_send(out, send),
+            None => out.put("sends nothing"),
         }
     }
 
-    fn put_started(
-        &mut self,
-        alloc: Global,
-        out: &mut String,
-        started: &Started,
-    ) -> Result<(), AllocError> {
-        put_id(out, started.id)?;
-        out.push(' ')?;
-        self.put_send(alloc, out, &started.send)
+    fn put_started(&mut self, out: &mut Output, started: &Started) {
+        put_id(out, started.id);
+        out.put(" ");
+        self.put_send(out, &started.send)
     }
 
-    fn put_fired(
-        &mut self,
-        alloc: Global,
-        out: &mut String,
-        fired: &Fired,
-    ) -> Result<(), AllocError> {
+    fn put_fired(&mut self, out: &mut Output, fired: &Fired) {
         match fired {
-            Fired::Send(send) => self.put_send(alloc, out, send),
-            Fired::TimedOut => out.push_str("timed out"),
-            Fired::Ended => out.push_str("ended"),
+            Fired::Send(send) => self.put_send(out, send),
+            Fired::TimedOut => out.put("timed out"),
+            Fired::Ended => out.put("ended"),
         }
     }
 
     pub(crate) fn receive(
         &mut self,
-        alloc: Global,
-        out: &mut String,
+        out: &mut Output,
         message: &Message<'_>,
         source: Addr,
         now: u64,
-    ) -> Result<(), AllocError>
+    )
         requires { now < 2 ^ 60 }
     {
         match self.table.receive(message, source, now) {
             Ok(reception) => {
-                let outcome = self.put_reception(alloc, out, &reception);
-                outcome_after(reception, outcome)
+                self.put_reception(out, &reception);
+                let_go(reception);
             }
             Err(fault) => put_refusal(out, fault),
         }
     }
 
-    pub(crate) fn start(
-        &mut self,
-        alloc: Global,
-        out: &mut String,
-        request: &Request<'_>,
-        to: Addr,
-        now: u64,
-    ) -> Result<(), AllocError>
+    pub(crate) fn start(&mut self, out: &mut Output, request: &Request<'_>, to: Addr, now: u64)
         requires { now < 2 ^ 60 }
     {
-        let started = self.table.start(request, to, now)?;
-        let outcome = self.put_started(alloc, out, &started);
-        outcome_after(started, outcome)
+        match self.table.start(request, to, now) {
+            Ok(started) => {
+                self.put_started(out, &started);
+                let_go(started);
+            }
+            Err(_) => out.no_memory(),
+        }
+    }
+
+    fn put_entered(&mut self, out: &mut Output, changes: Vec<Change>, now: u64)
+        requires { now < 2 ^ 60 }
+    {
+        match self.table.apply(changes, now) {
+            Ok(()) => out.put("entered"),
+            Err(_) => out.no_memory(),
+        }
     }
 
     /// A request of the server's own, abandoned at once: two changes that are entered together.
-    pub(crate) fn apply(
-        &mut self,
-        alloc: Global,
-        out: &mut String,
-        request: &Request<'_>,
-        now: u64,
-    ) -> Result<(), AllocError>
+    pub(crate) fn apply(&mut self, out: &mut Output, request: &Request<'_>, now: u64)
         requires { now < 2 ^ 60 }
     {
-        self.table.apply(changes_of(alloc, request)?, now)?;
-        out.push_str("entered")
-    }
-
-    pub(crate) fn put_state(&self, out: &mut String, id: usize) -> Result<(), AllocError> {
-        match self.table.transaction(id) {
-            Some(transaction) => write!(out, "{:?}", transaction.state),
-            None => out.push_str("none"),
+        match changes_of(out.alloc(), request) {
+            Ok(changes) => self.put_entered(out, changes, now),
+            Err(_) => out.no_memory(),
         }
     }
 
-    pub(crate) fn put_cancel(
-        &self,
-        alloc: Global,
-        out: &mut String,
-        id: usize,
-    ) -> Result<(), AllocError> {
+    pub(crate) fn put_state(&self, out: &mut Output, id: usize) {
         match self.table.transaction(id) {
-            Some(transaction) => put_cancel_of(alloc, out, transaction),
-            None => out.push_str("none"),
+            Some(transaction) => out.put_debug(&transaction.state),
+            None => out.put("none"),
         }
     }
 
-    pub(crate) fn put_timer_count(&self, out: &mut String) -> Result<(), AllocError> {
-        let count = self.table.timer_count();
-        write!(out, "{count}")
+    pub(crate) fn put_cancel(&self, out: &mut Output, id: usize) {
+        match self.table.transaction(id) {
+            Some(transaction) => put_cancel_of(out, transaction),
+            None => out.put("none"),
+        }
     }
 
-    pub(crate) fn reply(
-        &mut self,
-        alloc: Global,
-        out: &mut String,
-        id: usize,
-        response: &Response<'_>,
-        now: u64,
-    ) -> Result<(), AllocError>
+    pub(crate) fn put_timer_count(&self, out: &mut Output) {
+        out.put_usize(self.table.timer_count());
+    }
+
+    pub(crate) fn reply(&mut self, out: &mut Output, id: usize, response: &Response<'_>, now: u64)
         requires { now < 2 ^ 60 }
     {
         match self.table.answer(id, response, now) {
             Ok(send) => {
-                let outcome = self.put_send(alloc, out, &send);
-                outcome_after(send, outcome)
+                self.put_send(out, &send);
+                let_go(send);
             }
             Err(fault) => put_refusal(out, fault),
         }
     }
 
-    pub(crate) fn abandon(
-        &mut self,
-        out: &mut String,
-        id: usize,
-        now: u64,
-    ) -> Result<(), AllocError>
+    pub(crate) fn abandon(&mut self, out: &mut Output, id: usize, now: u64)
         requires { now < 2 ^ 60 }
     {
         match self.table.abandon(id, now) {
-            Ok(()) => out.push_str("abandoned"),
+            Ok(()) => out.put("abandoned"),
             Err(fault) => put_refusal(out, fault),
         }
     }
 
-    fn fire(
-        &mut self,
-        alloc: Global,
-        out: &mut String,
-        timer: TimerId,
-        now: u64,
-    ) -> Result<(), AllocError>
+    fn fire(&mut self, out: &mut Output, timer: TimerId, now: u64)
         requires { now < 2 ^ 60 }
     {
         match self.table.fire(timer, now) {
             Ok(fired) => {
-                let outcome = self.put_fired(alloc, out, &fired);
-                outcome_after(fired, outcome)
+                self.put_fired(out, &fired);
+                let_go(fired);
             }
             Err(fault) => put_refusal(out, fault),
         }
     }
 
-    pub(crate) fn fire_named(
-        &mut self,
-        alloc: Global,
-        out: &mut String,
-        id: usize,
-        kind: &[u8],
-        now: u64,
-    ) -> Option<Result<(), AllocError>>
+    pub(crate) fn fire_named(&mut self, out: &mut Output, id: usize, kind: &[u8], now: u64)
         requires { now < 2 ^ 60 }
     {
         match timer_kind(kind) {
-            Some(kind) => Some(self.fire(alloc, out, TimerId { id, kind }, now)),
-            None => None,
+            Some(kind) => self.fire(out, TimerId { id, kind }, now),
+            None => out.no_such_row(),
         }
     }
 }

@@ -2,210 +2,166 @@
 
 ghost use Rattle.std.specs.Prelude.{◌<◌, ◌^◌};
 
-use crate::history::{History, moment, put_fault, put_laws};
+use crate::history::{History, moment, put_laws};
 use crate::machines::put_advance;
+use crate::message_texts::put_fault;
 use crate::table_texts::{PLACE, put_filled, put_id, put_moment, put_timer};
-use rows::{address_of, number, outcome_after, put_shown, put_truth, u16_of, usize_of};
+use rows::{Output, address_of, let_go, number, u16_of, usize_of};
 use sip_message::{Message, Request, Response, read_message};
-use std::alloc::{AllocError, Global};
+use sip_uri::Addr;
 
 impl History {
     /// What the receiving of a message answers.
-    fn put_received(
-        &mut self,
-        alloc: Global,
-        out: &mut String,
-        message: &Message<'_>,
-        more: &[&[u8]],
-    ) -> Option<Result<(), AllocError>> {
+    fn put_received(&mut self, out: &mut Output, message: &Message<'_>, more: &[&[u8]]) {
         match more {
-            [now] => Some(self.receive(alloc, out, message, PLACE, moment(now))),
-            [now, source] => {
-                Some(self.receive(alloc, out, message, address_of(source), moment(now)))
-            }
-            _ => None,
+            [now] => self.receive(out, message, PLACE, moment(now)),
+            [now, source] => self.receive(out, message, address_of(source), moment(now)),
+            _ => out.no_such_row(),
         }
     }
 
     /// What a call that only asks about a request answers, if it is one.
-    fn put_look(
-        &self,
-        out: &mut String,
-        request: &Request<'_>,
-        call: &str,
-    ) -> Option<Result<(), AllocError>> {
+    fn put_look(&self, out: &mut Output, request: &Request<'_>, call: &str) {
         match call {
-            "cancels" => Some(put_id(out, self.table.cancels(request))),
-            "merged" => Some(put_truth(out, self.table.merged(request))),
-            _ => None,
+            "cancels" => put_id(out, self.table.cancels(request)),
+            "merged" => out.put_truth(self.table.merged(request)),
+            _ => out.no_such_row(),
         }
     }
 
     /// What a call with a request at a moment answers, if it is one.
-    fn put_at(
-        &mut self,
-        alloc: Global,
-        out: &mut String,
-        request: &Request<'_>,
-        call: &str,
-        now: u64,
-    ) -> Option<Result<(), AllocError>>
+    fn put_at(&mut self, out: &mut Output, request: &Request<'_>, call: &str, now: u64)
         requires { now < 2 ^ 60 }
     {
         match call {
-            "start" => Some(self.start(alloc, out, request, PLACE, now)),
-            "apply" => Some(self.apply(alloc, out, request, now)),
-            _ => None,
+            "start" => self.start(out, request, PLACE, now),
+            "apply" => self.apply(out, request, now),
+            _ => out.no_such_row(),
+        }
+    }
+
+    /// What a call with a request that goes somewhere at a moment answers, if it is one.
+    fn put_to(&mut self, out: &mut Output, request: &Request<'_>, call: &str, to: Addr, now: u64)
+        requires { now < 2 ^ 60 }
+    {
+        match call {
+            "start" => self.start(out, request, to, now),
+            _ => out.no_such_row(),
         }
     }
 
     /// What a call with a request answers, if it is one.
     fn put_of_request(
         &mut self,
-        alloc: Global,
-        out: &mut String,
+        out: &mut Output,
         request: &Request<'_>,
         call: &str,
         more: &[&[u8]],
-    ) -> Option<Result<(), AllocError>> {
+    ) {
         match more {
             [] => self.put_look(out, request, call),
-            [now] => self.put_at(alloc, out, request, call, moment(now)),
-            [now, to] if call == "start" => {
-                Some(self.start(alloc, out, request, address_of(to), moment(now)))
-            }
-            _ => None,
+            [now] => self.put_at(out, request, call, moment(now)),
+            [now, to] => self.put_to(out, request, call, address_of(to), moment(now)),
+            _ => out.no_such_row(),
         }
     }
 
     /// What a call with a response answers, if it is one.
     fn put_of_response(
         &mut self,
-        alloc: Global,
-        out: &mut String,
+        out: &mut Output,
         response: &Response<'_>,
         call: &str,
         more: &[&[u8]],
-    ) -> Option<Result<(), AllocError>> {
-        match more {
-            [number, now] if call == "answer" => {
-                Some(self.reply(alloc, out, usize_of(number), response, moment(now)))
-            }
-            _ => None,
+    ) {
+        match (call, more) {
+            ("answer", [number, now]) => self.reply(out, usize_of(number), response, moment(now)),
+            _ => out.no_such_row(),
+        }
+    }
+
+    /// What a call with a message of one kind answers, if it is one.
+    fn put_of_kind(&mut self, out: &mut Output, message: &Message<'_>, call: &str, more: &[&[u8]]) {
+        match message {
+            Message::Request(request) => self.put_of_request(out, request, call, more),
+            Message::Response(response) => self.put_of_response(out, response, call, more),
         }
     }
 
     /// What a call with a message answers, if it is one.
     fn put_of_message(
         &mut self,
-        alloc: Global,
-        out: &mut String,
+        out: &mut Output,
         message: &Message<'_>,
         call: &str,
         more: &[&[u8]],
-    ) -> Option<Result<(), AllocError>> {
-        if call == "receive" {
-            return self.put_received(alloc, out, message, more);
-        }
-        match message {
-            Message::Request(request) => self.put_of_request(alloc, out, request, call, more),
-            Message::Response(response) => self.put_of_response(alloc, out, response, call, more),
+    ) {
+        match call {
+            "receive" => self.put_received(out, message, more),
+            _ => self.put_of_kind(out, message, call, more),
         }
     }
 
     /// What a call with the bytes of a message answers.
-    fn put_of_bytes(
-        &mut self,
-        alloc: Global,
-        out: &mut String,
-        call: &str,
-        args: &[&[u8]],
-    ) -> Option<Result<(), AllocError>> {
-        let [bytes, more @ ..] = args else {
-            return None;
-        };
-        match read_message(alloc, bytes) {
+    fn put_of_bytes(&mut self, out: &mut Output, call: &str, bytes: &[u8], more: &[&[u8]]) {
+        match read_message(out.alloc(), bytes) {
             Ok(message) => {
-                let outcome = self.put_of_message(alloc, out, &message, call, more);
-                outcome_after(message, outcome)
+                self.put_of_message(out, &message, call, more);
+                let_go(message);
             }
-            Err(fault) => Some(put_fault(alloc, out, fault)),
+            Err(fault) => put_fault(out, fault),
         }
     }
 
     /// What a call without words answers, if it is one.
-    fn put_plain(
-        &mut self,
-        alloc: Global,
-        out: &mut String,
-        call: &str,
-    ) -> Option<Result<(), AllocError>> {
+    fn put_plain(&mut self, out: &mut Output, call: &str) {
         match call {
-            "laws" => Some(put_laws(out)),
-            "new" => Some(self.empty(alloc, out)),
-            "timer_count" => Some(self.put_timer_count(out)),
-            "next" => Some(put_moment(out, self.table.next())),
-            "sent" => Some(put_shown(out, &self.sent)),
-            _ => None,
+            "laws" => put_laws(out),
+            "new" => self.empty(out),
+            "timer_count" => self.put_timer_count(out),
+            "next" => put_moment(out, self.table.next()),
+            "sent" => out.put_shown(&self.sent),
+            _ => out.no_such_row(),
         }
     }
 
     /// What a call with a number or a moment answers, or else one with the bytes of a message.
-    fn put_of_one(
-        &mut self,
-        alloc: Global,
-        out: &mut String,
-        call: &str,
-        args: &[&[u8]],
-        word: &[u8],
-    ) -> Option<Result<(), AllocError>> {
+    fn put_of_one(&mut self, out: &mut Output, call: &str, word: &[u8]) {
         match call {
-            "transaction" => Some(self.put_state(out, usize_of(word))),
-            "cancel_of" => Some(self.put_cancel(alloc, out, usize_of(word))),
-            "first_due" => Some(put_timer(out, self.table.first_due(number(word)))),
-            _ => self.put_of_bytes(alloc, out, call, args),
+            "transaction" => self.put_state(out, usize_of(word)),
+            "cancel_of" => self.put_cancel(out, usize_of(word)),
+            "first_due" => put_timer(out, self.table.first_due(number(word))),
+            _ => self.put_of_bytes(out, call, word, &[]),
         }
     }
 
     /// The same with two words.
-    fn put_of_two(
-        &mut self,
-        alloc: Global,
-        out: &mut String,
-        call: &str,
-        args: &[&[u8]],
-        one: &[u8],
-        two: &[u8],
-    ) -> Option<Result<(), AllocError>> {
+    fn put_of_two(&mut self, out: &mut Output, call: &str, one: &[u8], two: &[u8]) {
         match call {
-            "abandon" => Some(self.abandon(out, usize_of(one), moment(two))),
-            "may_answer" => {
-                Some(put_truth(out, self.table.may_answer(usize_of(one), u16_of(two))))
-            }
-            "fill" => Some(put_filled(alloc, out, &mut self.table, one, number(two))),
-            _ => self.put_of_bytes(alloc, out, call, args),
+            "abandon" => self.abandon(out, usize_of(one), moment(two)),
+            "may_answer" => out.put_truth(self.table.may_answer(usize_of(one), u16_of(two))),
+            "fill" => put_filled(out, &mut self.table, one, number(two)),
+            _ => self.put_of_bytes(out, call, one, &[two]),
+        }
+    }
+
+    /// The same with three words.
+    fn put_of_three(&mut self, out: &mut Output, call: &str, one: &[u8], two: &[u8], three: &[u8]) {
+        match call {
+            "advance" => put_advance(out, one, two, three),
+            "fire" => self.fire_named(out, usize_of(one), two, moment(three)),
+            _ => self.put_of_bytes(out, call, one, &[two, three]),
         }
     }
 
     /// Writes what the row's call answers, if it is one of `transactions`.
-    pub(crate) fn put_answer(
-        &mut self,
-        alloc: Global,
-        out: &mut String,
-        call: &str,
-        args: &[&[u8]],
-    ) -> Option<Result<(), AllocError>> {
+    pub(crate) fn put_answer(&mut self, out: &mut Output, call: &str, args: &[&[u8]]) {
         match args {
-            [] => self.put_plain(alloc, out, call),
-            [word] => self.put_of_one(alloc, out, call, args, word),
-            [one, two] => self.put_of_two(alloc, out, call, args, one, two),
-            [machine, state, input] if call == "advance" => {
-                put_advance(out, machine, state, input)
-            }
-            [id, kind, now] if call == "fire" => {
-                self.fire_named(alloc, out, usize_of(id), kind, moment(now))
-            }
-            _ => self.put_of_bytes(alloc, out, call, args),
+            [] => self.put_plain(out, call),
+            [word] => self.put_of_one(out, call, word),
+            [one, two] => self.put_of_two(out, call, one, two),
+            [one, two, three] => self.put_of_three(out, call, one, two, three),
+            [bytes, more @ ..] => self.put_of_bytes(out, call, bytes, more),
         }
     }
 }

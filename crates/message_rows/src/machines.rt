@@ -1,153 +1,176 @@
 //! Rows of the machines of transactions: what an input does in a state.
 
-use rows::number;
+use rows::{Output, beside, number};
 use sip_message::Class;
-use std::alloc::AllocError;
 use text::cut;
 use transaction_machines::{
     Input, InviteClient, InviteServer, OtherClient, OtherServer, Start, Starts, State, Step,
     TimerKind, advance,
 };
 
+/// The timers by their letters.
+const TIMERS: [(&[u8], TimerKind); 13] = [
+    (b"A", TimerKind::A),
+    (b"B", TimerKind::B),
+    (b"D", TimerKind::D),
+    (b"E", TimerKind::E),
+    (b"F", TimerKind::F),
+    (b"G", TimerKind::G),
+    (b"H", TimerKind::H),
+    (b"I", TimerKind::I),
+    (b"J", TimerKind::J),
+    (b"K", TimerKind::K),
+    (b"L", TimerKind::L),
+    (b"M", TimerKind::M),
+    (b"N", TimerKind::N),
+];
+
+// The states of each machine by their names, with 0 for the interval where a state has one.
+const INVITE_CLIENT: [(&[u8], State); 5] = [
+    (
+        b"Calling",
+        State::InviteClient(InviteClient::Calling(0, false)),
+    ),
+    (
+        b"Abandoned",
+        State::InviteClient(InviteClient::Calling(0, true)),
+    ),
+    (b"Proceeding", State::InviteClient(InviteClient::Proceeding)),
+    (b"Completed", State::InviteClient(InviteClient::Completed)),
+    (b"Accepted", State::InviteClient(InviteClient::Accepted)),
+];
+
+const INVITE_SERVER: [(&[u8], State); 4] = [
+    (b"Proceeding", State::InviteServer(InviteServer::Proceeding)),
+    (
+        b"Completed",
+        State::InviteServer(InviteServer::Completed(0)),
+    ),
+    (b"Confirmed", State::InviteServer(InviteServer::Confirmed)),
+    (b"Accepted", State::InviteServer(InviteServer::Accepted)),
+];
+
+const OTHER_CLIENT: [(&[u8], State); 3] = [
+    (b"Trying", State::OtherClient(OtherClient::Trying(0))),
+    (b"Proceeding", State::OtherClient(OtherClient::Proceeding)),
+    (b"Completed", State::OtherClient(OtherClient::Completed)),
+];
+
+const OTHER_SERVER: [(&[u8], State); 3] = [
+    (b"Trying", State::OtherServer(OtherServer::Trying)),
+    (b"Proceeding", State::OtherServer(OtherServer::Proceeding)),
+    (b"Completed", State::OtherServer(OtherServer::Completed)),
+];
+
+/// The inputs by their words, but for the timers.
+const INPUTS: [(&[u8], Input); 9] = [
+    (b"again", Input::Repeat),
+    (b"ACK", Input::Ack),
+    (b"abandon", Input::Abandon),
+    (b"1xx", Input::Response(Class::Provisional)),
+    (b"2xx", Input::Response(Class::Success)),
+    (b"300-699", Input::Response(Class::Failure)),
+    (b"core 1xx", Input::Answer(Class::Provisional)),
+    (b"core 2xx", Input::Answer(Class::Success)),
+    (b"core 300-699", Input::Answer(Class::Failure)),
+];
+
 /// The timer of a letter.
 pub(crate) fn timer_kind(word: &[u8]) -> Option<TimerKind> {
-    match word {
-        b"A" => Some(TimerKind::A),
-        b"B" => Some(TimerKind::B),
-        b"D" => Some(TimerKind::D),
-        b"E" => Some(TimerKind::E),
-        b"F" => Some(TimerKind::F),
-        b"G" => Some(TimerKind::G),
-        b"H" => Some(TimerKind::H),
-        b"I" => Some(TimerKind::I),
-        b"J" => Some(TimerKind::J),
-        b"K" => Some(TimerKind::K),
-        b"L" => Some(TimerKind::L),
-        b"M" => Some(TimerKind::M),
-        b"N" => Some(TimerKind::N),
+    beside(&TIMERS, word)
+}
+
+/// The state of a machine that has this name.
+fn state_named(machine: &[u8], name: &[u8]) -> Option<State> {
+    match machine {
+        b"INVITE client" => beside(&INVITE_CLIENT, name),
+        b"INVITE server" => beside(&INVITE_SERVER, name),
+        b"other client" => beside(&OTHER_CLIENT, name),
+        b"other server" => beside(&OTHER_SERVER, name),
         _ => None,
     }
 }
 
-fn invite_client(word: &[u8], interval: u64) -> Option<State> {
-    match word {
-        b"Calling" => Some(State::InviteClient(InviteClient::Calling(interval, false))),
-        b"Abandoned" => Some(State::InviteClient(InviteClient::Calling(interval, true))),
-        b"Proceeding" => Some(State::InviteClient(InviteClient::Proceeding)),
-        b"Completed" => Some(State::InviteClient(InviteClient::Completed)),
-        b"Accepted" => Some(State::InviteClient(InviteClient::Accepted)),
-        _ => None,
-    }
-}
-
-fn invite_server(word: &[u8], interval: u64) -> Option<State> {
-    match word {
-        b"Proceeding" => Some(State::InviteServer(InviteServer::Proceeding)),
-        b"Completed" => Some(State::InviteServer(InviteServer::Completed(interval))),
-        b"Confirmed" => Some(State::InviteServer(InviteServer::Confirmed)),
-        b"Accepted" => Some(State::InviteServer(InviteServer::Accepted)),
-        _ => None,
-    }
-}
-
-fn other_client(word: &[u8], interval: u64) -> Option<State> {
-    match word {
-        b"Trying" => Some(State::OtherClient(OtherClient::Trying(interval))),
-        b"Proceeding" => Some(State::OtherClient(OtherClient::Proceeding)),
-        b"Completed" => Some(State::OtherClient(OtherClient::Completed)),
-        _ => None,
-    }
-}
-
-fn other_server(word: &[u8]) -> Option<State> {
-    match word {
-        b"Trying" => Some(State::OtherServer(OtherServer::Trying)),
-        b"Proceeding" => Some(State::OtherServer(OtherServer::Proceeding)),
-        b"Completed" => Some(State::OtherServer(OtherServer::Completed)),
-        _ => None,
+/// The state with this interval, if it has one.
+fn with_interval(state: State, interval: u64) -> State {
+    match state {
+        State::InviteClient(InviteClient::Calling(_, abandoned)) => {
+            State::InviteClient(InviteClient::Calling(interval, abandoned))
+        }
+        State::InviteServer(InviteServer::Completed(_)) => {
+            State::InviteServer(InviteServer::Completed(interval))
+        }
+        State::OtherClient(OtherClient::Trying(_)) => {
+            State::OtherClient(OtherClient::Trying(interval))
+        }
+        _ => state,
     }
 }
 
 /// The state of a machine that the word names, with its interval behind a space where it has one.
 fn state(machine: &[u8], word: &[u8]) -> Option<State> {
     let (name, interval) = cut(word, b' ');
-    let interval = number(interval.unwrap_or(&[]));
-    match machine {
-        b"INVITE client" => invite_client(name, interval),
-        b"INVITE server" => invite_server(name, interval),
-        b"other client" => other_client(name, interval),
-        b"other server" => other_server(name),
-        _ => None,
-    }
+    let state = state_named(machine, name)?;
+    Some(with_interval(state, number(interval.unwrap_or(&[]))))
 }
 
 /// The input of a word: a timer's letter, what comes, or what the core does.
 fn input(word: &[u8]) -> Option<Input> {
-    match word {
-        b"again" => Some(Input::Repeat),
-        b"ACK" => Some(Input::Ack),
-        b"abandon" => Some(Input::Abandon),
-        b"1xx" => Some(Input::Response(Class::Provisional)),
-        b"2xx" => Some(Input::Response(Class::Success)),
-        b"300-699" => Some(Input::Response(Class::Failure)),
-        b"core 1xx" => Some(Input::Answer(Class::Provisional)),
-        b"core 2xx" => Some(Input::Answer(Class::Success)),
-        b"core 300-699" => Some(Input::Answer(Class::Failure)),
-        _ => Some(Input::Fires(timer_kind(word)?)),
+    match timer_kind(word) {
+        Some(kind) => Some(Input::Fires(kind)),
+        None => beside(&INPUTS, word),
     }
 }
 
-fn put_start(out: &mut String, start: Start) -> Result<(), AllocError> {
-    let (kind, after) = (start.kind, start.after);
-    write!(out, "{kind:?} {after}")
+fn put_start(out: &mut Output, start: Start) {
+    out.put_debug(&start.kind);
+    out.put(" ");
+    out.put_number(start.after);
 }
 
-fn put_starts(out: &mut String, starts: Starts) -> Result<(), AllocError> {
+fn put_starts(out: &mut Output, starts: Starts) {
     match starts {
-        Starts::NoTimer => out.push_str("none"),
+        Starts::NoTimer => out.put("none"),
         Starts::One(start) => put_start(out, start),
         Starts::Two(one, other) => {
-            put_start(out, one)?;
-            out.push_str(" and ")?;
+            put_start(out, one);
+            out.put(" and ");
             put_start(out, other)
         }
     }
 }
 
-fn put_next(out: &mut String, next: Option<State>) -> Result<(), AllocError> {
+fn put_next(out: &mut Output, next: Option<State>) {
     match next {
-        Some(next) => write!(out, "{next:?}"),
-        None => out.push_str("ended"),
+        Some(next) => out.put_debug(&next),
+        None => out.put("ended"),
     }
 }
 
 /// A step: the next state, what is sent and told, which timers stop and which start.
-fn put_step(out: &mut String, step: &Step) -> Result<(), AllocError> {
-    let (send, told, stops) = (step.send, step.told, step.stops);
-    put_next(out, step.next)?;
-    write!(
-        out,
-        ", sends {send:?}, tells {told:?}, stops {stops:?}, starts "
-    )?;
-    put_starts(out, step.starts)
+fn put_step(out: &mut Output, step: &Step) {
+    put_next(out, step.next);
+    out.put(", sends ");
+    out.put_debug(&step.send);
+    out.put(", tells ");
+    out.put_debug(&step.told);
+    out.put(", stops ");
+    out.put_debug(&step.stops);
+    out.put(", starts ");
+    put_starts(out, step.starts);
 }
 
-fn put_step_of(out: &mut String, step: Option<Step>) -> Result<(), AllocError> {
+fn put_step_of(out: &mut Output, step: Option<Step>) {
     match step {
         Some(step) => put_step(out, &step),
-        None => out.push_str("no line"),
+        None => out.put("no line"),
     }
 }
 
 /// What the input does in the state of the machine, if there are such.
-pub(crate) fn put_advance(
-    out: &mut String,
-    machine: &[u8],
-    before: &[u8],
-    comes: &[u8],
-) -> Option<Result<(), AllocError>> {
+pub(crate) fn put_advance(out: &mut Output, machine: &[u8], before: &[u8], comes: &[u8]) {
     match (state(machine, before), input(comes)) {
-        (Some(state), Some(input)) => Some(put_step_of(out, advance(state, input))),
-        _ => None,
+        (Some(state), Some(input)) => put_step_of(out, advance(state, input)),
+        _ => out.no_such_row(),
     }
 }

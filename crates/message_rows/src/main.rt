@@ -14,7 +14,7 @@ mod words_rows;
 
 use crate::history::History;
 use crate::torture::tell_outcome;
-use rows::{Notation, Rows, answer_by, play};
+use rows::{Output, Rows, outcome_after, play_lines};
 use std::alloc::{AllocError, Global};
 use std::{env, io};
 
@@ -26,18 +26,11 @@ struct MessageRows {
 
 impl MessageRows {
     /// Writes what a call answers, if there is such a call.
-    fn put_answer(
-        &mut self,
-        alloc: Global,
-        out: &mut String,
-        crate_name: &str,
-        call: &str,
-        args: &[&[u8]],
-    ) -> Option<Result<(), AllocError>> {
+    fn put_answer(&mut self, out: &mut Output, crate_name: &str, call: &str, args: &[&[u8]]) {
         match crate_name {
-            "sip_message" => sip_message_rows::put_answer(alloc, out, call, args),
-            "transactions" => self.history.put_answer(alloc, out, call, args),
-            _ => None,
+            "sip_message" => sip_message_rows::put_answer(out, call, args),
+            "transactions" => self.history.put_answer(out, call, args),
+            _ => out.no_such_row(),
         }
     }
 }
@@ -50,20 +43,23 @@ impl Rows for MessageRows {
         call: &str,
         args: &[&[u8]],
     ) -> Result<Option<String>, AllocError> {
-        let mut out = String::new(alloc);
-        let outcome = self.put_answer(alloc, &mut out, crate_name, call, args);
-        answer_by(out, outcome)
+        let mut out = Output::new(alloc);
+        self.put_answer(&mut out, crate_name, call, args);
+        out.end()
     }
 }
 
-fn main(rt: HostRuntime) -> io::Result<()> {
-    let mut notation = Notation::new(rt.alloc());
+/// Plays the lines of standard input from an empty table on.
+fn play_rows<R: Input + Print + AllocGlobal>(rt: &R) -> io::Result<()> {
     let mut rows = MessageRows {
         history: History::new(rt.alloc()),
     };
-    for line in rt.lines(rt.alloc()) {
-        play(&rt, &mut notation, &mut rows, line?.as_str())?;
-    }
+    let outcome = play_lines(rt, &mut rows);
+    outcome_after(rows, outcome)
+}
+
+fn main(rt: HostRuntime) -> io::Result<()> {
+    play_rows(&rt)?;
     for name in env::args(&rt)?.skip(1) {
         tell_outcome(&rt, name.as_str())?;
     }

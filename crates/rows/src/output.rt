@@ -6,7 +6,7 @@ use crate::notation::put_shown;
 use crate::words::{put_boxed, put_boxes};
 use sip_uri::Addr;
 use std::alloc::{AllocError, Global};
-use std::fmt::Display;
+use std::fmt::{Debug, Display};
 use std::io;
 use text::Text;
 
@@ -70,6 +70,11 @@ impl Output {
         if matches!(self.outcome, Outcome::Told) {
             self.outcome = Outcome::NoSuchRow;
         }
+    }
+
+    /// What is written from here on stands in the place of what was written. Want of memory stays noted.
+    pub fn begin_anew(&mut self) {
+        self.text.clear();
     }
 
     /// Whether there is such a row, and memory for it so far.
@@ -142,6 +147,17 @@ impl Output {
     /// Writes `yes` or `no`.
     pub fn put_yes_or_no(&mut self, holds: bool) {
         self.put(if holds { "yes" } else { "no" });
+    }
+
+    /// Writes `true` or `false`.
+    pub fn put_truth(&mut self, truth: bool) {
+        self.put(if truth { "true" } else { "false" });
+    }
+
+    /// Writes a value as it is spelled in the code.
+    pub fn put_debug<T: Debug>(&mut self, value: &T) {
+        let outcome = write!(self.text, "{value:?}");
+        self.note(outcome);
     }
 
     /// Writes bytes as a row writes them.

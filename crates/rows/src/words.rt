@@ -48,3 +48,13 @@ pub fn boxes(alloc: Global, texts: &[&[u8]]) -> Result<String, AllocError> {
 pub fn byte_of(word: &[u8]) -> u8 {
     word.first().copied().unwrap_or(0)
 }
+
+/// What a table has beside a word, if the word is in it.
+pub fn beside<T: Copy>(table: &[(&[u8], T)], word: &[u8]) -> Option<T> {
+    for (name, value) in table {
+        if *name == word {
+            return Some(*value);
+        }
+    }
+    None
+}
