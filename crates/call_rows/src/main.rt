@@ -11,7 +11,7 @@ mod trace_tables;
 mod whole_calls;
 
 use crate::call_trace_rows::CallTraceRows;
-use rows::{Notation, Rows, play};
+use rows::{Output, Rows, outcome_after, play_lines};
 use std::alloc::{AllocError, Global};
 use std::io;
 
@@ -19,6 +19,19 @@ use std::io;
 #[derive(Drop)]
 struct CallRows {
     traces: CallTraceRows,
+}
+
+impl CallRows {
+    /// Writes what a call answers, if there is such a call.
+    fn put_answer(&mut self, out: &mut Output, crate_name: &str, call: &str, args: &[&[u8]]) {
+        match crate_name {
+            "call_core" => call_core_rows::put_answer(out, call, args),
+            "call_media" => call_media_rows::put_answer(out, call, args),
+            "call_trace" => self.traces.put_of_trace(out, call, args),
+            "trace_reading" => self.traces.put_of_reading(out, call, args),
+            _ => out.no_such_row(),
+        }
+    }
 }
 
 impl Rows for CallRows {
@@ -29,21 +42,16 @@ impl Rows for CallRows {
         call: &str,
         args: &[&[u8]],
     ) -> Result<Option<String>, AllocError> {
-        match crate_name {
-            "call_core" => call_core_rows::answer(alloc, call, args),
-            "call_media" => call_media_rows::answer(alloc, call, args),
-            _ => self.traces.answer(alloc, crate_name, call, args),
-        }
+        let mut out = Output::new(alloc);
+        self.put_answer(&mut out, crate_name, call, args);
+        out.end()
     }
 }
 
 fn main(rt: HostRuntime) -> io::Result<()> {
-    let mut notation = Notation::new(rt.alloc());
     let mut rows = CallRows {
         traces: CallTraceRows::new(rt.alloc()),
     };
-    for line in rt.lines(rt.alloc()) {
-        play(&rt, &mut notation, &mut rows, line?.as_str())?;
-    }
-    Ok(())
+    let outcome = play_lines(&rt, &mut rows);
+    outcome_after(rows, outcome)
 }

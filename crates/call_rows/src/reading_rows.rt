@@ -1,20 +1,20 @@
 //! Rows of `trace_reading`.
 
 use call_trace::{Datagram, Direction, Kind, Message};
-use rows::{number, outcome_after, put_boxes};
+use rows::{Output, let_go, number};
 use sip_message::MessageError;
-use std::alloc::{AllocError, Global};
+use std::alloc::Global;
 use trace_reading::{
     bodies_describe, bytes_say_all, dialogs_agree, methods_agree, read_trace_message, replies_agree,
 };
 
-pub(crate) fn put_reading_laws(out: &mut String) -> Result<(), AllocError> {
+fn put_laws(out: &mut Output) {
     replies_agree();
     dialogs_agree();
     methods_agree();
     bodies_describe();
     bytes_say_all();
-    out.push_str("hold")
+    out.put("hold");
 }
 
 /// The datagram of an event.
@@ -31,23 +31,23 @@ pub(crate) fn datagram(
     })
 }
 
-/// A fault in its words. Want of memory goes up.
-pub(crate) fn put_message_fault(out: &mut String, fault: MessageError) -> Result<(), AllocError> {
+/// A fault in its words, or want of memory.
+pub(crate) fn put_message_fault(out: &mut Output, fault: MessageError) {
     match fault {
-        MessageError::OutOfMemory => Err(AllocError),
-        fault => write!(out, "{fault}"),
+        MessageError::OutOfMemory => out.no_memory(),
+        fault => out.put_fault(fault),
     }
 }
 
-fn put_kind(out: &mut String, kind: Kind) -> Result<(), AllocError> {
+fn put_kind(out: &mut Output, kind: Kind) {
     match kind {
-        Kind::Request => out.push_str("request "),
-        Kind::Response(status) => write!(out, "{status} "),
+        Kind::Request => out.put("request"),
+        Kind::Response(status) => out.put_number(u64::from(status)),
     }
 }
 
 /// Branch, Call-ID, tags and method.
-fn put_words(out: &mut String, message: &Message) -> Result<(), AllocError> {
+fn put_words(out: &mut Output, message: &Message) {
     let words = [
         message.branch.as_bytes(),
         message.call_id.as_bytes(),
@@ -55,33 +55,52 @@ fn put_words(out: &mut String, message: &Message) -> Result<(), AllocError> {
         message.to_tag.as_bytes(),
         message.method.as_bytes(),
     ];
-    put_boxes(out, &words)
+    out.put_boxes(&words)
 }
 
 fn described_word(is_described: bool) -> &'static str {
     if is_described {
-        "description"
+        ", description, "
     } else {
-        "no description"
+        ", no description, "
     }
 }
 
 /// Kind, branch, Call-ID, tags, method, number, whether the body describes anything, and how many bytes there are.
-fn put_message(out: &mut String, message: &Message) -> Result<(), AllocError> {
-    let (number, length) = (message.number, message.bytes.as_bytes().len());
-    let described = described_word(message.description.is_some());
-    put_kind(out, message.kind)?;
-    put_words(out, message)?;
-    write!(out, " {number}, {described}, {length} bytes")
+fn put_message(out: &mut Output, message: &Message) {
+    put_kind(out, message.kind);
+    out.put(" ");
+    put_words(out, message);
+    out.put(" ");
+    out.put_number(u64::from(message.number));
+    out.put(described_word(message.description.is_some()));
+    out.put_usize(message.bytes.as_bytes().len());
+    out.put(" bytes");
 }
 
 /// What a trace sees of the bytes, or the words of their fault.
-pub(crate) fn put_read(alloc: Global, out: &mut String, bytes: &[u8]) -> Result<(), AllocError> {
-    match read_trace_message(alloc, bytes) {
+fn put_read(out: &mut Output, bytes: &[u8]) {
+    match read_trace_message(out.alloc(), bytes) {
         Ok(message) => {
-            let outcome = put_message(out, &message);
-            outcome_after(message, outcome)
+            put_message(out, &message);
+            let_go(message);
         }
         Err(fault) => put_message_fault(out, fault),
+    }
+}
+
+/// What a call of `trace_reading` without words answers, if it is one.
+pub(crate) fn put_plain_of_reading(out: &mut Output, call: &str) {
+    match call {
+        "laws" => put_laws(out),
+        _ => out.no_such_row(),
+    }
+}
+
+/// What a call of `trace_reading` on bytes answers, if it is one.
+pub(crate) fn put_of_bytes(out: &mut Output, call: &str, bytes: &[u8]) {
+    match call {
+        "read" => put_read(out, bytes),
+        _ => out.no_such_row(),
     }
 }

@@ -168,11 +168,23 @@ impl Descriptions {
     }
 }
 
+/// A description that borrows nothing.
+fn kept(alloc: Global, lent: &Description<'_>) -> Result<Description<'static>, DescriptionError> {
+    match lent.keep(alloc) {
+        Ok(kept) => Ok(kept),
+        Err(_) => Err(DescriptionError::OutOfMemory),
+    }
+}
+
 /// A description of these bytes, which it does not borrow.
 fn description_of(alloc: Global, bytes: &[u8]) -> Result<Description<'static>, DescriptionError> {
-    let lent = read_description(alloc, bytes)?;
-    let kept = lent.keep(alloc);
-    Ok(outcome_after(lent, kept)?)
+    match read_description(alloc, bytes) {
+        Ok(lent) => {
+            let kept = kept(alloc, &lent);
+            outcome_after(lent, kept)
+        }
+        Err(fault) => Err(fault),
+    }
 }
 
 /// The bytes as a text, empty where they are none.
@@ -214,12 +226,4 @@ pub(crate) fn methods(alloc: Global) -> Result<Texts<'static>, AllocError> {
     let (invite, update) = both(word(alloc, "INVITE"), word(alloc, "UPDATE"))?;
     let methods = vec![in alloc; invite, update]?;
     Ok(Texts::from_vec(methods))
-}
-
-/// A fault in its words. Want of memory goes up.
-pub(crate) fn put_fault(out: &mut String, fault: DescriptionError) -> Result<(), AllocError> {
-    match fault {
-        DescriptionError::OutOfMemory => Err(AllocError),
-        fault => write!(out, "{fault}"),
-    }
 }

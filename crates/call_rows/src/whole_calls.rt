@@ -4,14 +4,14 @@
 ghost use Rattle.std.specs.Prelude.{◌≡◌, IfOk, None};
 ghost use Rattle.call_core.specs.Calls.{IsServed};
 
-use crate::call_core_rows::{clash_words, put_actions};
+use crate::call_core_rows::{put_actions, put_clash};
 use crate::call_told::put_call;
 use crate::call_words::{end_of, plain_input, readable, signal_of};
 use call_core::{Call, CallRefusal, Done, End, Input, Signal};
 use dialogs::{Dialog, DialogId, Party};
 use offer_answer::OwnRange;
 use port_pool::Pool;
-use rows::{outcome_after, said, u32_of};
+use rows::{Output, let_go, u32_of};
 use sdp::{Description, DescriptionError, read_description};
 use sip_uri::{Host, Params, Uri};
 use std::alloc::{AllocError, Global};
@@ -93,37 +93,30 @@ fn described(alloc: Global, body: Option<&[u8]>) -> Result<Option<Description<'_
 
 impl WholeCall {
     /// Writes where the call stands.
-    fn put(&self, alloc: Global, out: &mut String) -> Result<(), AllocError> {
-        put_call(alloc, out, &self.call, &self.pool, self.now)
+    fn put(&self, out: &mut Output) {
+        put_call(out, &self.call, &self.pool, self.now);
     }
 
-    fn done_words(&self, alloc: Global, done: &Done) -> Result<String, AllocError> {
-        let mut out = String::new(alloc);
-        put_actions(&mut out, done.actions.as_slice())?;
-        self.put(alloc, &mut out)?;
-        Ok(out)
+    fn put_done(&self, out: &mut Output, done: &Done) {
+        put_actions(out, done.actions.as_slice());
+        self.put(out);
     }
 
-    fn refusal_words(&self, alloc: Global, refusal: CallRefusal) -> Result<String, AllocError> {
-        let mut out = String::new(alloc);
-        write!(out, "{refusal}, ")?;
-        self.put(alloc, &mut out)?;
-        Ok(out)
+    fn put_refusal(&self, out: &mut Output, refusal: CallRefusal) {
+        out.put_fault(refusal);
+        out.put(", ");
+        self.put(out);
     }
 
     /// What was done, or why nothing was, and where the call stands behind it.
-    fn told(
-        &self,
-        alloc: Global,
-        outcome: Result<Done, CallRefusal>,
-    ) -> Result<String, AllocError> {
+    fn tell(&self, out: &mut Output, outcome: Result<Done, CallRefusal>) {
         match outcome {
             Ok(done) => {
-                let words = self.done_words(alloc, &done);
-                outcome_after(done, words)
+                self.put_done(out, &done);
+                let_go(done);
             }
-            Err(CallRefusal::OutOfMemory) => Err(AllocError),
-            Err(refusal) => self.refusal_words(alloc, refusal),
+            Err(CallRefusal::OutOfMemory) => out.no_memory(),
+            Err(refusal) => self.put_refusal(out, refusal),
         }
     }
 
@@ -153,123 +146,158 @@ impl WholeCall {
         }
     }
 
+    fn ask_first(&mut self, out: &mut Output, offer: &Description<'_>)
+        requires serves { IsServed self.old.call self.old.pool }
+        requires nowhere { self.old.call.standing ≡ None }
+        ensures { IsServed self.new.call self.new.pool }
+    {
+        let outcome = self.ask(out.alloc(), offer);
+        self.tell(out, outcome);
+    }
+
     /// What the first offer does; there is no second one.
-    fn asked(&mut self, alloc: Global, offer: &Description<'_>) -> Result<String, AllocError>
+    fn put_asked(&mut self, out: &mut Output, offer: &Description<'_>)
         requires { IsServed self.old.call self.old.pool }
         ensures { IsServed self.new.call self.new.pool }
     {
         if self.call.standing().is_some() {
-            return said(alloc, "no first offer");
+            out.put("no first offer");
+        } else {
+            self.ask_first(out, offer);
         }
-        let outcome = self.ask(alloc, offer);
-        self.told(alloc, outcome)
+    }
+
+    /// The same of a description, if there is one, which is let go behind it.
+    fn put_asked_by(&mut self, out: &mut Output, offer: Option<Description<'_>>)
+        requires { IsServed self.old.call self.old.pool }
+        ensures { IsServed self.new.call self.new.pool }
+    {
+        match offer {
+            Some(offer) => {
+                self.put_asked(out, &offer);
+                let_go(offer);
+            }
+            None => out.put("no description"),
+        }
     }
 
     /// The same of the description behind the word.
-    fn asked_by(&mut self, alloc: Global, body: Option<&[u8]>) -> Result<String, AllocError>
+    fn put_ask(&mut self, out: &mut Output, body: Option<&[u8]>)
         requires { IsServed self.old.call self.old.pool }
         ensures { IsServed self.new.call self.new.pool }
     {
-        match described(alloc, body)? {
-            Some(offer) => {
-                let words = self.asked(alloc, &offer);
-                outcome_after(offer, words)
-            }
-            None => said(alloc, "no description"),
+        match described(out.alloc(), body) {
+            Ok(offer) => self.put_asked_by(out, offer),
+            Err(_) => out.no_memory(),
         }
     }
 
-    fn taken(&mut self, alloc: Global, input: Input<'_>) -> Result<String, AllocError>
+    fn put_taken(&mut self, out: &mut Output, input: Input<'_>)
         requires { IsServed self.old.call self.old.pool }
         ensures { IsServed self.new.call self.new.pool }
     {
-        let outcome = self.take(alloc, &input);
-        self.told(alloc, outcome_after(input, outcome))
+        let outcome = self.take(out.alloc(), &input);
+        self.tell(out, outcome);
+        let_go(input);
     }
 
-    /// What a signal does, with the description that comes with it.
-    fn signalled(
+    /// What the signal of an offer or an answer does, with the description that comes with it.
+    fn put_of_description(
         &mut self,
-        alloc: Global,
+        out: &mut Output,
         signal: Signal,
-        body: Option<&[u8]>,
-    ) -> Result<String, AllocError>
+        description: Option<Description<'_>>,
+    )
         requires { IsServed self.old.call self.old.pool }
         ensures { IsServed self.new.call self.new.pool }
     {
         match signal {
             Signal::Offer(end, method) => {
-                let offer = described(alloc, body)?;
-                self.taken(alloc, Input::Offer(end, method, offer))
+                self.put_taken(out, Input::Offer(end, method, description));
             }
-            Signal::FitAnswer => {
-                let answer = described(alloc, body)?;
-                self.taken(alloc, Input::Answer(answer))
-            }
-            _ => self.taken(alloc, plain_input(signal)),
+            _ => self.put_taken(out, Input::Answer(description)),
+        }
+    }
+
+    /// The same of the description behind the word.
+    fn put_described(&mut self, out: &mut Output, signal: Signal, body: Option<&[u8]>)
+        requires { IsServed self.old.call self.old.pool }
+        ensures { IsServed self.new.call self.new.pool }
+    {
+        match described(out.alloc(), body) {
+            Ok(description) => self.put_of_description(out, signal, description),
+            Err(_) => out.no_memory(),
+        }
+    }
+
+    /// What a signal does, with the description that comes with it.
+    fn put_signalled(&mut self, out: &mut Output, signal: Signal, body: Option<&[u8]>)
+        requires { IsServed self.old.call self.old.pool }
+        ensures { IsServed self.new.call self.new.pool }
+    {
+        match signal {
+            Signal::Offer(_, _) | Signal::FitAnswer => self.put_described(out, signal, body),
+            _ => self.put_taken(out, plain_input(signal)),
         }
     }
 
     /// The callee's dialog, in which the last request of the server had this number.
-    fn put_callee(&mut self, alloc: Global, number: u32) -> Result<String, AllocError>
+    fn put_callee(&mut self, out: &mut Output, number: u32)
         requires { IsServed self.old.call self.old.pool }
         ensures { IsServed self.new.call self.new.pool }
     {
         self.call
-            .put_dialog(End::Callee, dialog(alloc, Some(number)));
-        said(alloc, "there")
+            .put_dialog(End::Callee, dialog(out.alloc(), Some(number)));
+        out.put("there");
     }
 
     /// What a word does that is no signal.
-    fn asked_or_told(
-        &mut self,
-        alloc: Global,
-        word: &[u8],
-        body: Option<&[u8]>,
-    ) -> Result<String, AllocError>
+    fn put_asked_or_told(&mut self, out: &mut Output, word: &[u8], body: Option<&[u8]>)
         requires { IsServed self.old.call self.old.pool }
         ensures { IsServed self.new.call self.new.pool }
     {
         let (name, rest) = cut_word(word);
         match readable(name) {
-            "ask" => self.asked_by(alloc, body),
-            "dialog" => self.put_callee(alloc, u32_of(rest)),
-            "clash" => clash_words(alloc, self.call.clash(end_of(rest))),
-            "clash_without_offer" => {
-                clash_words(alloc, self.call.clash_without_offer(end_of(rest)))
-            }
-            _ => said(alloc, "no such input"),
+            "ask" => self.put_ask(out, body),
+            "dialog" => self.put_callee(out, u32_of(rest)),
+            "clash" => put_clash(out, self.call.clash(end_of(rest))),
+            "clash_without_offer" => put_clash(out, self.call.clash_without_offer(end_of(rest))),
+            _ => out.put("no such input"),
         }
     }
 
-    fn step(&mut self, alloc: Global, word: &[u8]) -> Result<String, AllocError>
+    /// What a word does, in place of what those before it did.
+    fn put_step(&mut self, out: &mut Output, word: &[u8])
         requires { IsServed self.old.call self.old.pool }
         ensures { IsServed self.new.call self.new.pool }
     {
+        out.begin_anew();
         self.now = self.now.saturating_add(1000);
         let (word, body) = cut(word, b'\r');
         match signal_of(word) {
-            Some(signal) => self.signalled(alloc, signal, body),
-            None => self.asked_or_told(alloc, word, body),
+            Some(signal) => self.put_signalled(out, signal, body),
+            None => self.put_asked_or_told(out, word, body),
         }
     }
 
     /// What the last of the words does.
-    fn play(&mut self, alloc: Global, words: &[&[u8]]) -> Result<String, AllocError>
+    fn play(&mut self, out: &mut Output, words: &[&[u8]])
         requires { IsServed self.old.call self.old.pool }
         ensures { IsServed self.new.call self.new.pool }
     {
-        let mut last = String::new(alloc);
         for word in words {
-            last = self.step(alloc, word)?;
+            self.put_step(out, word);
         }
-        Ok(last)
     }
 }
 
 /// What the last of the words does to a call that the others reached before.
-pub(crate) fn call_words(alloc: Global, words: &[&[u8]]) -> Result<String, AllocError> {
-    let mut call = new_call(alloc)?;
-    let outcome = call.play(alloc, words);
-    outcome_after(call, outcome)
+pub(crate) fn put_call_of_words(out: &mut Output, words: &[&[u8]]) {
+    match new_call(out.alloc()) {
+        Ok(mut call) => {
+            call.play(out, words);
+            let_go(call);
+        }
+        Err(_) => out.no_memory(),
+    }
 }
