@@ -5,12 +5,12 @@ ghost use Rattle.sip_message.specs.Grammar.{ReadsMessage};
 ghost use Rattle.sip_message.specs.declared.message.Message.TheVariants as Kinds;
 ghost use Rattle.dialogs.specs.Making.{is_invite};
 
-use crate::calls::of_dialog;
+use crate::calls::put_of_dialog;
+use crate::messages::put_fault;
 use dialogs::{Dialog, contacts_are_read, dialogs_are_sound, invites_name_a_contact};
-use row_messages::fault_text;
-use rows::{answer_of, outcome_after, said};
+use rows::{Output, outcome_after};
 use sip_message::{Message, MessageError, Parts, Request, Response, read_message};
-use std::alloc::{AllocError, Global};
+use std::alloc::Global;
 
 /// The dialog that the rows before have left, if there is one.
 #[derive(Drop)]
@@ -125,11 +125,11 @@ fn caller(alloc: Global, sent: &[u8], taken: &[u8]) -> Result<Dialog, MessageErr
 }
 
 /// Calls what has a law for its contract.
-fn laws(alloc: Global) -> Result<String, AllocError> {
+fn put_laws(out: &mut Output) {
     invites_name_a_contact();
     dialogs_are_sound();
     contacts_are_read();
-    said(alloc, "hold")
+    out.put("hold");
 }
 
 impl History {
@@ -140,51 +140,53 @@ impl History {
     }
 
     /// The dialog is kept for the rows behind.
-    fn keep(&mut self, alloc: Global, dialog: Dialog) -> Result<String, AllocError> {
+    fn keep(&mut self, out: &mut Output, dialog: Dialog) {
         self.dialogs.clear();
-        self.dialogs.push(dialog)?;
-        said(alloc, "begun")
+        out.push(&mut self.dialogs, dialog);
+        out.put("begun");
     }
 
     /// The dialog is kept for the rows behind, if there is one.
-    fn begin(
-        &mut self,
-        alloc: Global,
-        dialog: Result<Dialog, MessageError>,
-    ) -> Result<String, AllocError> {
+    fn begin(&mut self, out: &mut Output, dialog: Result<Dialog, MessageError>) {
         match dialog {
-            Ok(dialog) => self.keep(alloc, dialog),
-            Err(fault) => fault_text(alloc, fault),
+            Ok(dialog) => self.keep(out, dialog),
+            Err(fault) => put_fault(out, fault),
         }
+    }
+
+    fn begin_as_callee(&mut self, out: &mut Output, bytes: &[u8], tag: &[u8]) {
+        let dialog = callee(out.alloc(), bytes, tag);
+        self.begin(out, dialog);
+    }
+
+    fn begin_as_caller(&mut self, out: &mut Output, sent: &[u8], taken: &[u8]) {
+        let dialog = caller(out.alloc(), sent, taken);
+        self.begin(out, dialog);
     }
 
     /// What a call on the dialog answers, if there is one.
-    fn of_last(
-        &mut self,
-        alloc: Global,
-        call: &str,
-        args: &[&[u8]],
-    ) -> Result<Option<String>, AllocError> {
+    fn put_of_last(&mut self, out: &mut Output, call: &str, args: &[&[u8]]) {
         match self.dialogs.first_mut() {
-            Some(dialog) => of_dialog(alloc, dialog, call, args),
-            None => Ok(None),
+            Some(dialog) => put_of_dialog(out, dialog, call, args),
+            None => out.no_such_row(),
         }
     }
 
-    /// What the row's call answers, if it is one of `dialogs`.
-    pub(crate) fn answer_to(
-        &mut self,
-        alloc: Global,
-        call: &str,
-        args: &[&[u8]],
-    ) -> Result<Option<String>, AllocError> {
+    /// What a call with two words answers, if it is one that begins a dialog, or else one on the dialog.
+    fn put_of_two(&mut self, out: &mut Output, call: &str, one: &[u8], two: &[u8]) {
+        match call {
+            "as_callee" => self.begin_as_callee(out, one, two),
+            "as_caller" => self.begin_as_caller(out, one, two),
+            _ => self.put_of_last(out, call, &[one, two]),
+        }
+    }
+
+    /// Writes what the row's call answers, if it is one of `dialogs`.
+    pub(crate) fn put_answer(&mut self, out: &mut Output, call: &str, args: &[&[u8]]) {
         match (call, args) {
-            ("laws", []) => answer_of(laws(alloc)),
-            ("as_callee", [bytes, tag]) => answer_of(self.begin(alloc, callee(alloc, bytes, tag))),
-            ("as_caller", [sent, taken]) => {
-                answer_of(self.begin(alloc, caller(alloc, sent, taken)))
-            }
-            _ => self.of_last(alloc, call, args),
+            ("laws", []) => put_laws(out),
+            (_, [one, two]) => self.put_of_two(out, call, one, two),
+            _ => self.put_of_last(out, call, args),
         }
     }
 }

@@ -3,10 +3,10 @@
 ghost use Rattle.std.specs.Prelude.{◌≡◌, nat_lt};
 ghost use Rattle.std.specs.List.{list_all};
 
-use crate::fields::given_text;
+use crate::fields::put_given;
 use registrar::Binding;
 use responses::contact_headers;
-use rows::{number, outcome_after, said};
+use rows::{Output, let_go, number, outcome_after};
 use sip_uri::{Uri, UriError, read_uri};
 use std::alloc::{AllocError, Global};
 use text::{Text, cut_word};
@@ -48,35 +48,34 @@ fn all_last(bindings: &[Binding], now: u64) -> bool
 }
 
 /// The bindings at a moment, at which none may be over.
-fn told_text(alloc: Global, bindings: &[Binding], now: u64) -> Result<String, AllocError> {
-    if !all_last(bindings, now) {
-        return said(alloc, "over");
+fn put_told(out: &mut Output, bindings: &[Binding], now: u64) {
+    if all_last(bindings, now) {
+        let headers = contact_headers(out.alloc(), bindings, now);
+        put_given(out, headers);
+    } else {
+        out.put("over");
     }
-    given_text(alloc, contact_headers(alloc, bindings, now))
 }
 
-fn fault_text(alloc: Global, fault: UriError) -> Result<String, AllocError> {
+fn put_fault(out: &mut Output, fault: UriError) {
     match fault {
-        UriError::OutOfMemory => Err(AllocError),
-        _ => said(alloc, "no URI"),
+        UriError::OutOfMemory => out.no_memory(),
+        _ => out.put("no URI"),
+    }
+}
+
+/// The same of bindings that were put into a list, or why they were not.
+fn put_pushed(out: &mut Output, outcome: Result<(), UriError>, bindings: &[Binding], now: u64) {
+    match outcome {
+        Ok(()) => put_told(out, bindings, now),
+        Err(fault) => put_fault(out, fault),
     }
 }
 
 /// The bindings of the words, each a URI and the moment at which it is over, at a moment in milliseconds.
-pub(crate) fn contacts_text(
-    alloc: Global,
-    now: u64,
-    words: &[&[u8]],
-) -> Result<String, AllocError> {
-    let mut bindings: Vec<Binding> = Vec::new(alloc);
-    match push_bindings(alloc, &mut bindings, words) {
-        Ok(()) => {
-            let text = told_text(alloc, &bindings, now);
-            outcome_after(bindings, text)
-        }
-        Err(fault) => {
-            let text = fault_text(alloc, fault);
-            outcome_after(bindings, text)
-        }
-    }
+pub(crate) fn put_contacts(out: &mut Output, now: u64, words: &[&[u8]]) {
+    let mut bindings: Vec<Binding> = out.list();
+    let outcome = push_bindings(out.alloc(), &mut bindings, words);
+    put_pushed(out, outcome, &bindings, now);
+    let_go(bindings);
 }

@@ -1,110 +1,141 @@
 //! Calls on a dialog that stands.
 
-use crate::messages::of_message;
-use crate::requests::{ack_text, next_text};
-use crate::texts::{put_dialog, refusal_text};
+use crate::messages::put_of_message;
+use crate::requests::{put_ack, put_next};
+use crate::texts::{put_dialog, put_refusal};
 use dialogs::{Dialog, Method};
-use rows::{answer_of, outcome_after, said, u32_of};
+use rows::{Output, beside, let_go, u32_of};
 use sip_uri::{Uri, UriError, read_uri};
-use std::alloc::{AllocError, Global};
+
+/// The methods of requests in a dialog by their names.
+const METHODS: [(&[u8], Method); 3] = [
+    (b"INVITE", Method::Invite),
+    (b"UPDATE", Method::Update),
+    (b"BYE", Method::Bye),
+];
 
 fn method(word: &[u8]) -> Option<Method> {
-    match str::from_utf8(word) {
-        Ok("INVITE") => Some(Method::Invite),
-        Ok("UPDATE") => Some(Method::Update),
-        Ok("BYE") => Some(Method::Bye),
-        _ => None,
-    }
+    beside(&METHODS, word)
 }
 
-fn next_number_text(alloc: Global, dialog: &Dialog, method: Method) -> Result<String, AllocError> {
+fn put_next_number(out: &mut Output, dialog: &Dialog, method: Method) {
     match dialog.next_number(method) {
-        Ok(number) => format!(in alloc; "{number}"),
-        Err(fault) => refusal_text(alloc, fault),
+        Ok(number) => out.put_number(u64::from(number)),
+        Err(fault) => put_refusal(out, fault),
     }
 }
 
 /// The target is this URI from now on.
-fn retargeted_text(
-    alloc: Global,
-    dialog: &mut Dialog,
-    target: &Uri<'_>,
-) -> Result<String, AllocError> {
-    dialog.refresh_target(target.keep(alloc)?);
-    said(alloc, "refreshed")
-}
-
-fn refreshed_text(alloc: Global, dialog: &mut Dialog, bytes: &[u8]) -> Result<String, AllocError> {
-    match read_uri(alloc, bytes) {
+fn put_retargeted(out: &mut Output, dialog: &mut Dialog, target: &Uri<'_>) {
+    match target.keep(out.alloc()) {
         Ok(target) => {
-            let text = retargeted_text(alloc, dialog, &target);
-            outcome_after(target, text)
+            dialog.refresh_target(target);
+            out.put("refreshed");
         }
-        Err(UriError::OutOfMemory) => Err(AllocError),
-        Err(fault) => fault.to_string(alloc),
+        Err(_) => out.no_memory(),
     }
 }
 
-fn dialog_text(alloc: Global, dialog: &Dialog) -> Result<String, AllocError> {
-    let mut out = String::new(alloc);
-    put_dialog(alloc, &mut out, dialog)?;
-    Ok(out)
+fn put_fault(out: &mut Output, fault: UriError) {
+    match fault {
+        UriError::OutOfMemory => out.no_memory(),
+        fault => out.put_fault(fault),
+    }
 }
 
-fn copied_text(alloc: Global, dialog: &Dialog) -> Result<String, AllocError> {
-    let copy = dialog.copy(alloc)?;
-    let text = dialog_text(alloc, &copy);
-    outcome_after(copy, text)
+fn put_refreshed(out: &mut Output, dialog: &mut Dialog, bytes: &[u8]) {
+    match read_uri(out.alloc(), bytes) {
+        Ok(target) => {
+            put_retargeted(out, dialog, &target);
+            let_go(target);
+        }
+        Err(fault) => put_fault(out, fault),
+    }
 }
 
-/// What a call on a dialog with a method answers.
-fn of_method(
-    alloc: Global,
+fn put_copied(out: &mut Output, dialog: &Dialog) {
+    match dialog.copy(out.alloc()) {
+        Ok(copy) => {
+            put_dialog(out, &copy);
+            let_go(copy);
+        }
+        Err(_) => out.no_memory(),
+    }
+}
+
+/// What a call on a dialog without words answers, if it is one.
+fn put_plain(out: &mut Output, dialog: &Dialog, call: &str) {
+    match call {
+        "shown" => put_dialog(out, dialog),
+        "copied" => put_copied(out, dialog),
+        _ => out.no_such_row(),
+    }
+}
+
+/// What a call on a dialog with a method alone answers, if it is one.
+fn put_of_method_alone(out: &mut Output, dialog: &Dialog, call: &str, method: Method) {
+    match call {
+        "next_number" => put_next_number(out, dialog, method),
+        _ => out.no_such_row(),
+    }
+}
+
+/// What a call on a dialog with a method, hops and a body answers, if it is one.
+fn put_of_hops(
+    out: &mut Output,
+    dialog: &mut Dialog,
+    call: &str,
+    method: Method,
+    hops: &[u8],
+    body: &[u8],
+) {
+    match call {
+        "next" => put_next(out, dialog, method, hops, body),
+        _ => out.no_such_row(),
+    }
+}
+
+/// What a call on a dialog with a method, and maybe more words, answers.
+fn put_of_method(
+    out: &mut Output,
     dialog: &mut Dialog,
     call: &str,
     method: Method,
     more: &[&[u8]],
-) -> Result<Option<String>, AllocError> {
-    match (call, more) {
-        ("next", [hops]) => answer_of(next_text(alloc, dialog, method, hops, b"")),
-        ("next", [hops, body]) => answer_of(next_text(alloc, dialog, method, hops, body)),
-        ("next_number", []) => answer_of(next_number_text(alloc, dialog, method)),
-        _ => Ok(None),
+) {
+    match more {
+        [] => put_of_method_alone(out, dialog, call, method),
+        [hops] => put_of_hops(out, dialog, call, method, hops, b""),
+        [hops, body] => put_of_hops(out, dialog, call, method, hops, body),
+        _ => out.no_such_row(),
     }
 }
 
-/// What a call on a dialog with a word, and maybe more words, answers.
-fn of_words(
-    alloc: Global,
-    dialog: &mut Dialog,
-    call: &str,
-    word: &[u8],
-    more: &[&[u8]],
-) -> Result<Option<String>, AllocError> {
-    match (call, more) {
-        ("admit" | "contact_uri" | "is_of_request" | "is_of_answer", []) => {
-            answer_of(of_message(alloc, dialog, call, word))
+/// The same with a word that may be no method.
+fn put_of_words(out: &mut Output, dialog: &mut Dialog, call: &str, word: &[u8], more: &[&[u8]]) {
+    match method(word) {
+        Some(method) => put_of_method(out, dialog, call, method, more),
+        None => out.no_such_row(),
+    }
+}
+
+/// What a call on a dialog with one word answers.
+fn put_of_one(out: &mut Output, dialog: &mut Dialog, call: &str, word: &[u8]) {
+    match call {
+        "admit" | "contact_uri" | "is_of_request" | "is_of_answer" => {
+            put_of_message(out, dialog, call, word);
         }
-        ("refresh_target", []) => answer_of(refreshed_text(alloc, dialog, word)),
-        ("ack", []) => answer_of(ack_text(alloc, dialog, u32_of(word))),
-        _ => match method(word) {
-            Some(method) => of_method(alloc, dialog, call, method, more),
-            None => Ok(None),
-        },
+        "refresh_target" => put_refreshed(out, dialog, word),
+        "ack" => put_ack(out, dialog, u32_of(word)),
+        _ => put_of_words(out, dialog, call, word, &[]),
     }
 }
 
 /// What a call on a dialog answers.
-pub(crate) fn of_dialog(
-    alloc: Global,
-    dialog: &mut Dialog,
-    call: &str,
-    args: &[&[u8]],
-) -> Result<Option<String>, AllocError> {
-    match (call, args) {
-        (_, [word, more @ ..]) => of_words(alloc, dialog, call, word, more),
-        ("shown", []) => answer_of(dialog_text(alloc, dialog)),
-        ("copied", []) => answer_of(copied_text(alloc, dialog)),
-        _ => Ok(None),
+pub(crate) fn put_of_dialog(out: &mut Output, dialog: &mut Dialog, call: &str, args: &[&[u8]]) {
+    match args {
+        [] => put_plain(out, dialog, call),
+        [word] => put_of_one(out, dialog, call, word),
+        [word, more @ ..] => put_of_words(out, dialog, call, word, more),
     }
 }

@@ -1,73 +1,60 @@
 //! Header fields as a row writes them.
 
-use rows::{outcome_after, put_shown, said};
+use rows::{Output, let_go};
 use sip_message::{FieldValue, Header};
-use std::alloc::{AllocError, Global};
+use std::alloc::AllocError;
 use text::{cut, trimmed};
 
-/// The header field that a word writes.
-fn field_of(alloc: Global, word: &[u8]) -> Result<Header<'static>, AllocError> {
+fn push_field(out: &mut Output, fields: &mut Vec<Header<'static>>, word: &[u8]) {
     let (name, value) = cut(word, b':');
-    Header::of(alloc, name, trimmed(value.unwrap_or(&[])))
-}
-
-fn push_fields(
-    alloc: Global,
-    fields: &mut Vec<Header<'static>>,
-    words: &[&[u8]],
-) -> Result<(), AllocError> {
-    for word in words {
-        fields.push(field_of(alloc, word)?)?;
+    match Header::of(out.alloc(), name, trimmed(value.unwrap_or(&[]))) {
+        Ok(field) => out.push(fields, field),
+        Err(_) => out.no_memory(),
     }
-    Ok(())
 }
 
 /// The header fields that the words write.
-pub(crate) fn fields_of(
-    alloc: Global,
-    words: &[&[u8]],
-) -> Result<Vec<Header<'static>>, AllocError> {
-    let mut fields: Vec<Header<'static>> = Vec::new(alloc);
-    match push_fields(alloc, &mut fields, words) {
-        Ok(()) => Ok(fields),
-        Err(fault) => outcome_after(fields, Err(fault)),
+pub(crate) fn fields_of(out: &mut Output, words: &[&[u8]]) -> Vec<Header<'static>> {
+    let mut fields = out.list();
+    for word in words {
+        push_field(out, &mut fields, word);
     }
+    fields
 }
 
-fn put_value(alloc: Global, out: &mut String, value: &FieldValue<'_>) -> Result<(), AllocError> {
-    let mut bytes = Vec::new(alloc);
-    value.put(&mut bytes)?;
-    put_shown(out, &bytes)
+fn put_value(out: &mut Output, value: &FieldValue<'_>) {
+    let mut bytes = out.list();
+    out.note(value.put(&mut bytes));
+    out.put_shown(&bytes);
 }
 
-fn put_field(alloc: Global, out: &mut String, field: &Header<'_>) -> Result<(), AllocError> {
-    put_shown(out, field.name.as_bytes())?;
-    out.push_str(": ")?;
-    put_value(alloc, out, &field.value)?;
-    out.push_str("\\r\\n")
+fn put_field(out: &mut Output, field: &Header<'_>) {
+    out.put_shown(field.name.as_bytes());
+    out.put(": ");
+    put_value(out, &field.value);
+    out.put("\\r\\n");
 }
 
-fn listed_text(alloc: Global, fields: &[Header<'_>]) -> Result<String, AllocError> {
-    let mut out = String::new(alloc);
+fn put_each_field(out: &mut Output, fields: &[Header<'_>]) {
     for field in fields {
-        put_field(alloc, &mut out, field)?;
+        put_field(out, field);
     }
-    Ok(out)
 }
 
-fn fields_text(alloc: Global, fields: &[Header<'_>]) -> Result<String, AllocError> {
-    if fields.is_empty() {
-        return said(alloc, "none");
+fn put_fields(out: &mut Output, fields: &[Header<'_>]) {
+    match fields {
+        [] => out.put("none"),
+        _ => put_each_field(out, fields),
     }
-    listed_text(alloc, fields)
 }
 
 /// Header fields that a call gave, each on a line of its own, or `none`. They are let go behind it.
-pub(crate) fn given_text(
-    alloc: Global,
-    fields: Result<Vec<Header<'static>>, AllocError>,
-) -> Result<String, AllocError> {
-    let fields = fields?;
-    let text = fields_text(alloc, &fields);
-    outcome_after(fields, text)
+pub(crate) fn put_given(out: &mut Output, fields: Result<Vec<Header<'static>>, AllocError>) {
+    match fields {
+        Ok(fields) => {
+            put_fields(out, &fields);
+            let_go(fields);
+        }
+        Err(_) => out.no_memory(),
+    }
 }

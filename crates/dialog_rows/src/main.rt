@@ -16,7 +16,7 @@ mod scenes;
 mod texts;
 
 use crate::beginnings::History;
-use rows::{Notation, Rows, play};
+use rows::{Output, Rows, outcome_after, play_lines};
 use std::alloc::{AllocError, Global};
 use std::io;
 
@@ -28,20 +28,19 @@ impl Rows for History {
         call: &str,
         args: &[&[u8]],
     ) -> Result<Option<String>, AllocError> {
+        let mut out = Output::new(alloc);
         match crate_name {
-            "dialogs" => self.answer_to(alloc, call, args),
-            "legs" => scenes::answer(alloc, call, args),
-            "responses" => response_calls::answer(alloc, call, args),
-            _ => Ok(None),
+            "dialogs" => self.put_answer(&mut out, call, args),
+            "legs" => scenes::put_answer(&mut out, call, args),
+            "responses" => response_calls::put_answer(&mut out, call, args),
+            _ => out.no_such_row(),
         }
+        out.end()
     }
 }
 
 fn main(rt: HostRuntime) -> io::Result<()> {
-    let mut notation = Notation::new(rt.alloc());
     let mut rows = History::new(rt.alloc());
-    for line in rt.lines(rt.alloc()) {
-        play(&rt, &mut notation, &mut rows, line?.as_str())?;
-    }
-    Ok(())
+    let outcome = play_lines(&rt, &mut rows);
+    outcome_after(rows, outcome)
 }

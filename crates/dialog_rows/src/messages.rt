@@ -1,74 +1,79 @@
 //! Calls on a dialog with a message: it is read in one place, and let go there, whatever is asked of it.
 
-use crate::texts::{put_uri, refusal_text};
+use crate::texts::{put_refusal, put_uri};
 use dialogs::{Dialog, contact_uri};
 use row_messages::fault_text;
-use rows::{outcome_after, said};
-use sip_message::{Message, MessageError, Request, read_message};
+use rows::{Output, let_go};
+use sip_message::{Message, MessageError, Request, Response, read_message};
 use sip_uri::Uri;
-use std::alloc::{AllocError, Global};
 
-fn admission_text(
-    alloc: Global,
-    dialog: &mut Dialog,
-    request: &Request<'_>,
-) -> Result<String, AllocError> {
-    match dialog.admit(request) {
-        Ok(()) => said(alloc, "admitted"),
-        Err(fault) => refusal_text(alloc, fault),
+/// A fault in its words, or want of memory.
+pub(crate) fn put_fault(out: &mut Output, fault: MessageError) {
+    match fault_text(out.alloc(), fault) {
+        Ok(text) => out.put(text.as_str()),
+        Err(_) => out.no_memory(),
     }
 }
 
-fn truth_text(alloc: Global, truth: bool) -> Result<String, AllocError> {
-    said(alloc, if truth { "true" } else { "false" })
+fn put_admission(out: &mut Output, dialog: &mut Dialog, request: &Request<'_>) {
+    match dialog.admit(request) {
+        Ok(()) => out.put("admitted"),
+        Err(fault) => put_refusal(out, fault),
+    }
 }
 
-fn reached_text(alloc: Global, uri: &Uri<'_>) -> Result<String, AllocError> {
-    let mut out = String::new(alloc);
-    put_uri(alloc, &mut out, uri)?;
-    Ok(out)
+/// A URI that is let go behind it, if there is one.
+fn put_uri_or_none(out: &mut Output, uri: Option<Uri<'_>>) {
+    match uri {
+        Some(uri) => {
+            put_uri(out, &uri);
+            let_go(uri);
+        }
+        None => out.put("none"),
+    }
 }
 
 /// The URI of the one Contact address of a request.
-fn contact_text(alloc: Global, request: &Request<'_>) -> Result<String, AllocError> {
-    match contact_uri(alloc, request.headers.as_slice())? {
-        Some(uri) => reached_text(alloc, &uri),
-        None => said(alloc, "none"),
+fn put_contact(out: &mut Output, request: &Request<'_>) {
+    match contact_uri(out.alloc(), request.headers.as_slice()) {
+        Ok(uri) => put_uri_or_none(out, uri),
+        Err(_) => out.no_memory(),
+    }
+}
+
+/// What a call with a request that was read answers.
+fn put_of_request(out: &mut Output, dialog: &mut Dialog, call: &str, request: &Request<'_>) {
+    match call {
+        "admit" => put_admission(out, dialog, request),
+        "contact_uri" => put_contact(out, request),
+        "is_of_request" => out.put_truth(dialog.id.is_of_request(request)),
+        _ => put_fault(out, MessageError::StartLine),
+    }
+}
+
+/// What a call with a response that was read answers.
+fn put_of_response(out: &mut Output, dialog: &Dialog, call: &str, response: &Response<'_>) {
+    match call {
+        "is_of_answer" => out.put_truth(dialog.id.is_of_answer(response)),
+        _ => put_fault(out, MessageError::StartLine),
     }
 }
 
 /// What a call with a message that was read answers.
-fn message_text(
-    alloc: Global,
-    dialog: &mut Dialog,
-    call: &str,
-    message: &Message<'_>,
-) -> Result<String, AllocError> {
-    match (call, message) {
-        ("admit", Message::Request(request)) => admission_text(alloc, dialog, request),
-        ("contact_uri", Message::Request(request)) => contact_text(alloc, request),
-        ("is_of_request", Message::Request(request)) => {
-            truth_text(alloc, dialog.id.is_of_request(request))
-        }
-        ("is_of_answer", Message::Response(response)) => {
-            truth_text(alloc, dialog.id.is_of_answer(response))
-        }
-        _ => fault_text(alloc, MessageError::StartLine),
+fn put_of_kind(out: &mut Output, dialog: &mut Dialog, call: &str, message: &Message<'_>) {
+    match message {
+        Message::Request(request) => put_of_request(out, dialog, call, request),
+        Message::Response(response) => put_of_response(out, dialog, call, response),
     }
 }
 
 /// What a call with a message answers.
-pub(crate) fn of_message(
-    alloc: Global,
-    dialog: &mut Dialog,
-    call: &str,
-    bytes: &[u8],
-) -> Result<String, AllocError> {
-    match read_message(alloc, bytes) {
+pub(crate) fn put_of_message(out: &mut Output, dialog: &mut Dialog, call: &str, bytes: &[u8]) {
+    match read_message(out.alloc(), bytes) {
         Ok(message) => {
-            let text = message_text(alloc, dialog, call, &message);
-            outcome_after(message, text)
+            put_of_kind(out, dialog, call, &message);
+            let_go(message);
         }
-        Err(fault) => fault_text(alloc, fault),
+        Err(fault) => put_fault(out, fault),
     }
 }

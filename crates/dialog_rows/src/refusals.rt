@@ -1,37 +1,38 @@
 //! Rows of REGISTERs that are refused.
 
-use crate::fields::given_text;
+use crate::fields::put_given;
 use registrar::Refusal;
 use responses::{refusal_headers, status_of};
-use rows::said;
-use std::alloc::{AllocError, Global};
+use rows::{Output, beside};
 
-/// The refusal with these letters; `memory` for want of it.
-fn refusal_of(word: &[u8]) -> Option<Refusal> {
-    match str::from_utf8(word) {
-        Ok("memory") => Some(Refusal::OutOfMemory),
-        Ok("B1") => Some(Refusal::UnknownUser),
-        Ok("B2") => Some(Refusal::StarMisused),
-        Ok("B3") => Some(Refusal::TooBrief),
-        Ok("B4") => Some(Refusal::OutOfOrder),
-        Ok("B5") => Some(Refusal::TooManyBindings),
-        Ok("B6") => Some(Refusal::BadContact),
-        _ => None,
+/// The refusals by their letters; `memory` for want of it.
+const REFUSALS: [(&[u8], Refusal); 7] = [
+    (b"memory", Refusal::OutOfMemory),
+    (b"B1", Refusal::UnknownUser),
+    (b"B2", Refusal::StarMisused),
+    (b"B3", Refusal::TooBrief),
+    (b"B4", Refusal::OutOfOrder),
+    (b"B5", Refusal::TooManyBindings),
+    (b"B6", Refusal::BadContact),
+];
+
+/// The status of a refusal.
+pub(crate) fn put_status(out: &mut Output, word: &[u8]) {
+    match beside(&REFUSALS, word) {
+        Some(refusal) => out.put_number(u64::from(status_of(refusal))),
+        None => out.put("no such refusal"),
     }
 }
 
-/// The status of a refusal.
-pub(crate) fn status_text(alloc: Global, word: &[u8]) -> Result<String, AllocError> {
-    match refusal_of(word) {
-        Some(refusal) => status_of(refusal).to_string(alloc),
-        None => said(alloc, "no such refusal"),
-    }
+fn put_headers_of(out: &mut Output, least: u32, refusal: Refusal) {
+    let headers = refusal_headers(out.alloc(), least, refusal);
+    put_given(out, headers);
 }
 
 /// What a refusal has besides, where a binding has to last for so many seconds at least.
-pub(crate) fn refusal_text(alloc: Global, least: u32, word: &[u8]) -> Result<String, AllocError> {
-    match refusal_of(word) {
-        Some(refusal) => given_text(alloc, refusal_headers(alloc, least, refusal)),
-        None => said(alloc, "no such refusal"),
+pub(crate) fn put_headers(out: &mut Output, least: u32, word: &[u8]) {
+    match beside(&REFUSALS, word) {
+        Some(refusal) => put_headers_of(out, least, refusal),
+        None => out.put("no such refusal"),
     }
 }

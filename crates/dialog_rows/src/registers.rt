@@ -2,11 +2,12 @@
 
 ghost use Rattle.std.specs.Prelude.{◌≡◌, ◌∷◌, [], codes, IfOk};
 
+use crate::texts::{put_number, put_uri};
 use registrar::{Contact, Register, Registrar};
 use responses::register_of;
-use rows::{outcome_after, put_shown, words_of};
+use rows::{Output, let_go, outcome_after};
 use sip_message::Request;
-use sip_uri::{Uri, write_uri};
+use sip_uri::Uri;
 use std::alloc::{AllocError, Global};
 use text::{Text, Texts};
 
@@ -34,79 +35,63 @@ fn register_by(alloc: Global, request: &Request<'_>) -> Result<Register<'static>
     outcome_after(office, register)
 }
 
-fn put_user(out: &mut String, user: Option<&Text<'_>>) -> Result<(), AllocError> {
+fn put_user_of(out: &mut Output, user: &Text<'_>) {
+    out.put("user ");
+    out.put_shown(user.as_bytes());
+}
+
+fn put_user(out: &mut Output, user: Option<&Text<'_>>) {
     match user {
-        Some(user) => {
-            out.push_str("user ")?;
-            put_shown(out, user.as_bytes())
-        }
-        None => out.push_str("nobody"),
+        Some(user) => put_user_of(out, user),
+        None => out.put("nobody"),
     }
 }
 
-fn put_seconds(out: &mut String, seconds: Option<u32>) -> Result<(), AllocError> {
-    match seconds {
-        Some(seconds) => write!(out, "{seconds}"),
-        None => out.push_str("none"),
-    }
-}
-
-fn put_uri(alloc: Global, out: &mut String, uri: Option<&Uri<'_>>) -> Result<(), AllocError> {
+fn put_uri_or_none(out: &mut Output, uri: Option<&Uri<'_>>) {
     match uri {
-        Some(uri) => {
-            let text = write_uri(alloc, uri)?;
-            put_shown(out, text.as_bytes())
-        }
-        None => out.push_str("unreadable"),
+        Some(uri) => put_uri(out, uri),
+        None => out.put("unreadable"),
     }
 }
 
-fn put_contact(alloc: Global, out: &mut String, contact: &Contact<'_>) -> Result<(), AllocError> {
-    out.push_str("; contact ")?;
-    put_uri(alloc, out, contact.uri.as_ref())?;
-    out.push_str(", expires ")?;
-    put_seconds(out, contact.expires)
+fn put_contact(out: &mut Output, contact: &Contact<'_>) {
+    out.put("; contact ");
+    put_uri_or_none(out, contact.uri.as_ref());
+    out.put(", expires ");
+    put_number(out, contact.expires);
 }
 
-fn put_contacts(
-    alloc: Global,
-    out: &mut String,
-    contacts: &[Contact<'_>],
-) -> Result<(), AllocError> {
+fn put_contacts(out: &mut Output, contacts: &[Contact<'_>]) {
     for contact in contacts {
-        put_contact(alloc, out, contact)?;
+        put_contact(out, contact);
     }
-    Ok(())
 }
 
 /// The Call-ID and the number.
-fn put_sequence(out: &mut String, register: &Register<'_>) -> Result<(), AllocError> {
-    out.push_str("; call ")?;
-    put_shown(out, register.call_id.as_bytes())?;
-    let number = register.cseq;
-    write!(out, ", number {number}")
+fn put_sequence(out: &mut Output, register: &Register<'_>) {
+    out.put("; call ");
+    out.put_shown(register.call_id.as_bytes());
+    out.put(", number ");
+    out.put_number(u64::from(register.cseq));
 }
 
 /// The user, whether there is a star, the contacts with the seconds of each, those of Expires, the Call-ID and the number.
-fn put_register(
-    alloc: Global,
-    out: &mut String,
-    register: &Register<'_>,
-) -> Result<(), AllocError> {
-    put_user(out, register.user.as_ref())?;
-    out.push_str(if register.star { ", star" } else { ", no star" })?;
-    put_contacts(alloc, out, register.contacts.as_slice())?;
-    out.push_str("; Expires ")?;
-    put_seconds(out, register.expires)?;
-    put_sequence(out, register)
+fn put_parts(out: &mut Output, register: &Register<'_>) {
+    put_user(out, register.user.as_ref());
+    out.put(if register.star { ", star" } else { ", no star" });
+    put_contacts(out, register.contacts.as_slice());
+    out.put("; Expires ");
+    put_number(out, register.expires);
+    put_sequence(out, register);
 }
 
 /// What a REGISTER asks.
-pub(crate) fn register_text(alloc: Global, request: &Request<'_>) -> Result<String, AllocError> {
-    let register = register_by(alloc, request)?;
-    words_of(
-        alloc,
-        register,
-        |alloc, out, register| put_register(alloc, out, register),
-    )
+pub(crate) fn put_register(out: &mut Output, request: &Request<'_>) {
+    match register_by(out.alloc(), request) {
+        Ok(register) => {
+            put_parts(out, &register);
+            let_go(register);
+        }
+        Err(_) => out.no_memory(),
+    }
 }

@@ -1,81 +1,98 @@
 //! Calls on a request: it is read in one place, and let go there, whatever is asked of it.
 
 use crate::fields::fields_of;
-use crate::registers::register_text;
+use crate::messages::put_fault;
+use crate::registers::put_register;
 use responses::{
     has_fit_branch, has_header, is_declined_method, is_method, is_offered_method, response_with,
 };
-use row_messages::fault_text;
-use rows::{address_of, answer_of, outcome_after, shown, u16_of, yes_or_no};
+use rows::{Output, address_of, let_go, u16_of};
 use sip_message::{Message, MessageError, Parts, Request, read_message};
 use sip_uri::Addr;
-use std::alloc::{AllocError, Global};
 
 /// The response with this status and tag, and the header fields of the words behind the others, as it is sent.
-fn shown_response(
-    alloc: Global,
+fn put_response(
+    out: &mut Output,
     parts: &Parts<'_>,
     source: Addr,
     status: u16,
     tag: &[u8],
     words: &[&[u8]],
-) -> Result<String, AllocError> {
-    let further = fields_of(alloc, words)?;
-    let bytes = response_with(alloc, parts, source, status, tag, &further);
-    let bytes = outcome_after(further, bytes)?;
-    shown(alloc, bytes.as_bytes())
+) {
+    let further = fields_of(out, words);
+    let bytes = response_with(out.alloc(), parts, source, status, tag, &further);
+    out.put_written(bytes);
+    let_go(further);
 }
 
-/// What a call on a request that was read answers.
-fn of_request(
-    alloc: Global,
-    request: &Request<'_>,
-    call: &str,
-    more: &[&[u8]],
-) -> Result<Option<String>, AllocError> {
-    match (call, more) {
-        ("response_with", [source, status, tag, words @ ..]) => {
-            let source = address_of(source);
-            answer_of(shown_response(alloc, &request.parts, source, u16_of(status), tag, words))
-        }
-        ("register_of", []) => answer_of(register_text(alloc, request)),
-        ("has_fit_branch", []) => {
-            answer_of(yes_or_no(alloc, has_fit_branch(&request.parts.vias)))
-        }
-        ("is_method", [name]) => answer_of(yes_or_no(alloc, is_method(name, request))),
-        ("has_header", [name]) => {
-            answer_of(yes_or_no(alloc, has_header(name, request.headers.as_slice())))
-        }
-        ("is_declined_method", []) => answer_of(yes_or_no(alloc, is_declined_method(request))),
-        ("is_offered_method", []) => answer_of(yes_or_no(alloc, is_offered_method(request))),
-        _ => Ok(None),
+/// What a call on a request that has no words more answers, if it is one.
+fn put_plain(out: &mut Output, request: &Request<'_>, call: &str) {
+    match call {
+        "register_of" => put_register(out, request),
+        "has_fit_branch" => out.put_yes_or_no(has_fit_branch(&request.parts.vias)),
+        "is_declined_method" => out.put_yes_or_no(is_declined_method(request)),
+        "is_offered_method" => out.put_yes_or_no(is_offered_method(request)),
+        _ => out.no_such_row(),
     }
 }
 
-fn of_message(
-    alloc: Global,
-    message: &Message<'_>,
-    call: &str,
-    more: &[&[u8]],
-) -> Result<Option<String>, AllocError> {
+/// What a call on a request with a name answers, if it is one.
+fn put_of_name(out: &mut Output, request: &Request<'_>, call: &str, name: &[u8]) {
+    match call {
+        "is_method" => out.put_yes_or_no(is_method(name, request)),
+        "has_header" => out.put_yes_or_no(has_header(name, request.headers.as_slice())),
+        _ => out.no_such_row(),
+    }
+}
+
+/// What a call on a request with so many words answers, if it is one.
+fn put_of_words(out: &mut Output, request: &Request<'_>, call: &str, more: &[&[u8]]) {
+    match more {
+        [] => put_plain(out, request, call),
+        [name] => put_of_name(out, request, call, name),
+        _ => out.no_such_row(),
+    }
+}
+
+/// What `response_with` answers: a source, a status and a tag, and any number of header fields.
+fn put_of_response(out: &mut Output, request: &Request<'_>, more: &[&[u8]]) {
+    match more {
+        [source, status, tag, words @ ..] => {
+            put_response(
+                out,
+                &request.parts,
+                address_of(source),
+                u16_of(status),
+                tag,
+                words,
+            );
+        }
+        _ => out.no_such_row(),
+    }
+}
+
+/// What a call on a request that was read answers.
+fn put_of_request(out: &mut Output, request: &Request<'_>, call: &str, more: &[&[u8]]) {
+    match call {
+        "response_with" => put_of_response(out, request, more),
+        _ => put_of_words(out, request, call, more),
+    }
+}
+
+fn put_of_message(out: &mut Output, message: &Message<'_>, call: &str, more: &[&[u8]]) {
     match message {
-        Message::Request(request) => of_request(alloc, request, call, more),
-        Message::Response(_) => answer_of(fault_text(alloc, MessageError::StartLine)),
+        Message::Request(request) => put_of_request(out, request, call, more),
+        Message::Response(_) => put_fault(out, MessageError::StartLine),
     }
 }
 
 /// What a call on the bytes of a request answers.
-pub(crate) fn of_bytes(
-    alloc: Global,
-    bytes: &[u8],
-    call: &str,
-    more: &[&[u8]],
-) -> Result<Option<String>, AllocError> {
-    match read_message(alloc, bytes) {
+pub(crate) fn put_of_bytes(out: &mut Output, bytes: &[u8], call: &str, more: &[&[u8]]) {
+    match read_message(out.alloc(), bytes) {
         Ok(message) => {
-            let answer = of_message(alloc, &message, call, more);
-            outcome_after(message, answer)
+            put_of_message(out, &message, call, more);
+            let_go(message);
         }
-        Err(fault) => answer_of(fault_text(alloc, fault)),
+        Err(fault) => put_fault(out, fault),
     }
 }

@@ -1,8 +1,8 @@
 //! Requests in a dialog, as they are sent.
 
-use crate::texts::refusal_text;
+use crate::texts::put_refusal;
 use dialogs::{Dialog, DialogError, Extras, Method, NextRequest};
-use rows::{number, outcome_after, shown};
+use rows::{Output, let_go, number, outcome_after};
 use sip_message::{Header, Via};
 use sip_uri::Addr;
 use sip_writing::server_via;
@@ -68,27 +68,21 @@ fn next(
     outcome_after(via, next)
 }
 
-/// The request as it is sent, whose number is kept.
-fn kept_text(alloc: Global, dialog: &mut Dialog, next: &NextRequest) -> Result<String, AllocError> {
-    let text = shown(alloc, next.bytes.as_bytes())?;
-    dialog.keep_number(next.number);
-    Ok(text)
-}
-
-/// The next request as it is sent, with so many hops and this body.
-pub(crate) fn next_text(
-    alloc: Global,
+/// The next request as it is sent, with so many hops and this body; its number is kept.
+pub(crate) fn put_next(
+    out: &mut Output,
     dialog: &mut Dialog,
     method: Method,
     hops: &[u8],
     body: &[u8],
-) -> Result<String, AllocError> {
-    match next(alloc, dialog, method, hops, body) {
+) {
+    match next(out.alloc(), dialog, method, hops, body) {
         Ok(next) => {
-            let text = kept_text(alloc, dialog, &next);
-            outcome_after(next, text)
+            out.put_shown(next.bytes.as_bytes());
+            dialog.keep_number(next.number);
+            let_go(next);
         }
-        Err(fault) => refusal_text(alloc, fault),
+        Err(fault) => put_refusal(out, fault),
     }
 }
 
@@ -106,7 +100,7 @@ fn ack(alloc: Global, dialog: &Dialog, number: u32) -> Result<Text<'static>, All
 }
 
 /// The ACK of the INVITE with this number, as it is sent.
-pub(crate) fn ack_text(alloc: Global, dialog: &Dialog, number: u32) -> Result<String, AllocError> {
-    let bytes = ack(alloc, dialog, number)?;
-    shown(alloc, bytes.as_bytes())
+pub(crate) fn put_ack(out: &mut Output, dialog: &Dialog, number: u32) {
+    let bytes = ack(out.alloc(), dialog, number);
+    out.put_written(bytes);
 }

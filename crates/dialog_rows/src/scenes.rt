@@ -1,11 +1,14 @@
 //! A scene of the plain call, in which a row's actions are dressed.
 
+ghost use Rattle.std.specs.Prelude.{◌<◌, ◌^◌};
+
 use crate::actions::actions_of;
+use call_core::Action;
 use dialogs::Dialog;
 use events::Sent;
 use legs::{Asker, Dressed, Scene, new_leg};
 use row_messages::message_of;
-use rows::{answer_of, outcome_after, put_address, put_shown, u32_of};
+use rows::{Output, let_go, outcome_after, u32_of};
 use sdp::{Description, read_description};
 use sip_message::{Message, Parts};
 use sip_uri::{Addr, Uri, read_uri};
@@ -109,22 +112,21 @@ fn messages_of<'a>(alloc: Global, bytes: &'a [u8]) -> Vec<Message<'a>> {
     }
 }
 
-fn put_sent(out: &mut String, sent: &Sent) -> Result<(), AllocError> {
-    out.push_str("; to ")?;
-    put_address(out, sent.to)?;
-    out.push(' ')?;
-    put_shown(out, sent.bytes.as_bytes())
+fn put_sent(out: &mut Output, sent: &Sent) {
+    out.put("; to ");
+    out.put_address(sent.to);
+    out.put(" ");
+    out.put_shown(sent.bytes.as_bytes());
 }
 
-fn dressed_text(alloc: Global, dressed: &Dressed) -> Result<String, AllocError> {
-    let mut out = String::new(alloc);
-    let made = dressed.made;
-    let changes = dressed.changes.len();
-    write!(out, "made {made}, changes {changes}")?;
+fn put_dressed(out: &mut Output, dressed: &Dressed) {
+    out.put("made ");
+    out.put_number(dressed.made);
+    out.put(", changes ");
+    out.put_usize(dressed.changes.len());
     for sent in &dressed.sends {
-        put_sent(&mut out, sent)?;
+        put_sent(out, sent);
     }
-    Ok(out)
 }
 
 /// The scene, with this salt, and so many tokens made so far.
@@ -151,19 +153,27 @@ fn scene_of<'m, 'a>(
     }
 }
 
-/// What the actions of these words come to.
-fn dressed_words(
-    alloc: Global,
-    scene: &Scene<'_, '_>,
-    words: &[&[u8]],
-) -> Result<Option<String>, AllocError> {
-    if scene.tokens >= 1 << 63 {
-        return Ok(None);
+/// What the actions come to.
+fn put_actions(out: &mut Output, scene: &Scene<'_, '_>, actions: &[Action])
+    requires { scene.now.tokens < 2 ^ 63 }
+{
+    match scene.dress(out.alloc(), scene.tokens, actions) {
+        Ok(dressed) => {
+            put_dressed(out, &dressed);
+            let_go(dressed);
+        }
+        Err(_) => out.no_memory(),
     }
-    let actions = actions_of(alloc, words)?;
-    let dressed = scene.dress(alloc, scene.tokens, &actions)?;
-    let text = dressed_text(alloc, &dressed);
-    answer_of(outcome_after(dressed, text))
+}
+
+/// What the actions of these words come to.
+fn put_words(out: &mut Output, scene: &Scene<'_, '_>, words: &[&[u8]]) {
+    if scene.tokens < 1 << 63 {
+        let actions = actions_of(out, words);
+        put_actions(out, scene, &actions);
+    } else {
+        out.no_such_row();
+    }
 }
 
 /// What a row has besides messages and a description: the callee's tag and the number of the last request to it, the salt and
@@ -176,88 +186,105 @@ struct Rest<'r> {
     words: &'r [&'r [u8]],
 }
 
+/// What a row answers with these messages and descriptions, and this leg.
+fn put_with_leg(
+    out: &mut Output,
+    offers: &[Message<'_>],
+    requests: &[Message<'_>],
+    descriptions: &[Description<'_>],
+    legs: &[Dialog],
+    rest: &Rest<'_>,
+) {
+    let scene = scene_of(offers, requests, descriptions, legs, rest.counted);
+    put_words(out, &scene, rest.words);
+}
+
 /// What a row answers with these messages and descriptions.
-fn answer_with(
-    alloc: Global,
+fn put_with(
+    out: &mut Output,
     offers: &[Message<'_>],
     requests: &[Message<'_>],
     descriptions: &[Description<'_>],
     rest: &Rest<'_>,
-) -> Result<Option<String>, AllocError> {
-    let legs = leg_of(alloc, offers, rest.tag, rest.number)?;
-    let scene = scene_of(offers, requests, descriptions, &legs, rest.counted);
-    let answer = dressed_words(alloc, &scene, rest.words);
-    outcome_after(legs, answer)
+) {
+    match leg_of(out.alloc(), offers, rest.tag, rest.number) {
+        Ok(legs) => {
+            put_with_leg(out, offers, requests, descriptions, &legs, rest);
+            let_go(legs);
+        }
+        Err(_) => out.no_memory(),
+    }
 }
 
-fn answer_with_description(
-    alloc: Global,
+fn put_with_description(
+    out: &mut Output,
     offers: &[Message<'_>],
     requests: &[Message<'_>],
     description: &[u8],
     rest: &Rest<'_>,
-) -> Result<Option<String>, AllocError> {
-    let descriptions = descriptions_of(alloc, description)?;
-    let answer = answer_with(alloc, offers, requests, &descriptions, rest);
-    outcome_after(descriptions, answer)
+) {
+    match descriptions_of(out.alloc(), description) {
+        Ok(descriptions) => {
+            put_with(out, offers, requests, &descriptions, rest);
+            let_go(descriptions);
+        }
+        Err(_) => out.no_memory(),
+    }
 }
 
-fn answer_with_request(
-    alloc: Global,
+fn put_with_request(
+    out: &mut Output,
     offers: &[Message<'_>],
     request: &[u8],
     description: &[u8],
     rest: &Rest<'_>,
-) -> Result<Option<String>, AllocError> {
-    let requests = messages_of(alloc, request);
-    let answer = answer_with_description(alloc, offers, &requests, description, rest);
-    outcome_after(requests, answer)
+) {
+    let requests = messages_of(out.alloc(), request);
+    put_with_description(out, offers, &requests, description, rest);
+    let_go(requests);
 }
 
-fn answer_with_offer(
-    alloc: Global,
+fn put_with_offer(
+    out: &mut Output,
     offer: &[u8],
     request: &[u8],
     description: &[u8],
     rest: &Rest<'_>,
-) -> Result<Option<String>, AllocError> {
-    let offers = messages_of(alloc, offer);
-    let answer = answer_with_request(alloc, &offers, request, description, rest);
-    outcome_after(offers, answer)
+) {
+    let offers = messages_of(out.alloc(), offer);
+    put_with_request(out, &offers, request, description, rest);
+    let_go(offers);
 }
 
 /// What the actions of a scene come to: the words are the offer, the request that is answered, the description, and the rest.
-fn dress(alloc: Global, args: &[&[u8]]) -> Result<Option<String>, AllocError> {
-    let [
-        offer,
-        request,
-        description,
-        tag,
-        number,
-        salt,
-        tokens,
-        words @ ..,
-    ] = args
-    else {
-        return Ok(None);
-    };
-    let rest = Rest {
-        tag,
-        number: u32_of(number),
-        counted: (u64::from(u32_of(salt)), u64::from(u32_of(tokens))),
-        words,
-    };
-    answer_with_offer(alloc, offer, request, description, &rest)
+fn dress(out: &mut Output, args: &[&[u8]]) {
+    match args {
+        [
+            offer,
+            request,
+            description,
+            tag,
+            number,
+            salt,
+            tokens,
+            words @ ..,
+        ] => {
+            let rest = Rest {
+                tag,
+                number: u32_of(number),
+                counted: (u64::from(u32_of(salt)), u64::from(u32_of(tokens))),
+                words,
+            };
+            put_with_offer(out, offer, request, description, &rest);
+        }
+        _ => out.no_such_row(),
+    }
 }
 
-/// What the row's call answers.
-pub(crate) fn answer(
-    alloc: Global,
-    call: &str,
-    args: &[&[u8]],
-) -> Result<Option<String>, AllocError> {
+/// Writes what the row's call answers.
+pub(crate) fn put_answer(out: &mut Output, call: &str, args: &[&[u8]]) {
     match call {
-        "dress" => dress(alloc, args),
-        _ => Ok(None),
+        "dress" => dress(out, args),
+        _ => out.no_such_row(),
     }
 }

@@ -1,21 +1,12 @@
 //! Dialogs as a row writes them.
 
 use dialogs::{Dialog, DialogError, DialogId, Party};
-use rows::put_shown;
+use rows::Output;
 use sip_uri::{Uri, write_uri};
-use std::alloc::{AllocError, Global};
 
-/// Writes texts one behind the other.
-fn put_texts(out: &mut String, texts: &[&[u8]]) -> Result<(), AllocError> {
-    for text in texts {
-        put_shown(out, text)?;
-    }
-    Ok(())
-}
-
-pub(crate) fn put_uri(alloc: Global, out: &mut String, uri: &Uri<'_>) -> Result<(), AllocError> {
-    let text = write_uri(alloc, uri)?;
-    put_shown(out, text.as_bytes())
+pub(crate) fn put_uri(out: &mut Output, uri: &Uri<'_>) {
+    let text = write_uri(out.alloc(), uri);
+    out.put_written(text);
 }
 
 fn display_of(party: &Party) -> &[u8] {
@@ -26,62 +17,52 @@ fn display_of(party: &Party) -> &[u8] {
 }
 
 /// Writes an end, and before it what it is.
-fn put_party(
-    alloc: Global,
-    out: &mut String,
-    name: &[u8],
-    party: &Party,
-) -> Result<(), AllocError> {
-    put_texts(out, &[name, display_of(party), b" "])?;
-    put_uri(alloc, out, &party.uri)
+fn put_party(out: &mut Output, name: &str, party: &Party) {
+    out.put(name);
+    out.put_shown(display_of(party));
+    out.put(" ");
+    put_uri(out, &party.uri);
 }
 
-fn put_number(out: &mut String, number: Option<u32>) -> Result<(), AllocError> {
+pub(crate) fn put_number(out: &mut Output, number: Option<u32>) {
     match number {
-        Some(number) => write!(out, "{number}"),
-        None => out.push_str("none"),
+        Some(number) => out.put_number(u64::from(number)),
+        None => out.put("none"),
     }
 }
 
 /// Our number and theirs.
-fn put_numbers(out: &mut String, dialog: &Dialog) -> Result<(), AllocError> {
-    out.push_str("; numbers ")?;
-    put_number(out, dialog.local_number)?;
-    out.push_str(" and ")?;
-    put_number(out, dialog.remote_number)
+fn put_numbers(out: &mut Output, dialog: &Dialog) {
+    out.put("; numbers ");
+    put_number(out, dialog.local_number);
+    out.put(" and ");
+    put_number(out, dialog.remote_number);
 }
 
 /// Call-ID, our tag and theirs.
-fn put_id(out: &mut String, id: &DialogId) -> Result<(), AllocError> {
-    let texts = [
-        id.call_id.as_bytes(),
-        b" '",
-        id.ours.as_bytes(),
-        b"' '",
-        id.theirs.as_bytes(),
-        b"'",
-    ];
-    put_texts(out, &texts)
+fn put_id(out: &mut Output, id: &DialogId) {
+    out.put_shown(id.call_id.as_bytes());
+    out.put(" '");
+    out.put_shown(id.ours.as_bytes());
+    out.put("' '");
+    out.put_shown(id.theirs.as_bytes());
+    out.put("'");
 }
 
 /// Call-ID, our tag and theirs; our end and theirs; the target; our number and theirs.
-pub(crate) fn put_dialog(
-    alloc: Global,
-    out: &mut String,
-    dialog: &Dialog,
-) -> Result<(), AllocError> {
-    put_id(out, &dialog.id)?;
-    put_party(alloc, out, b"; ours ", &dialog.ours)?;
-    put_party(alloc, out, b"; theirs ", &dialog.theirs)?;
-    out.push_str("; target ")?;
-    put_uri(alloc, out, &dialog.target)?;
-    put_numbers(out, dialog)
+pub(crate) fn put_dialog(out: &mut Output, dialog: &Dialog) {
+    put_id(out, &dialog.id);
+    put_party(out, "; ours ", &dialog.ours);
+    put_party(out, "; theirs ", &dialog.theirs);
+    out.put("; target ");
+    put_uri(out, &dialog.target);
+    put_numbers(out, dialog);
 }
 
-/// A refusal in its words. Want of memory goes up.
-pub(crate) fn refusal_text(alloc: Global, fault: DialogError) -> Result<String, AllocError> {
+/// A refusal in its words, or want of memory.
+pub(crate) fn put_refusal(out: &mut Output, fault: DialogError) {
     match fault {
-        DialogError::OutOfMemory => Err(AllocError),
-        fault => fault.to_string(alloc),
+        DialogError::OutOfMemory => out.no_memory(),
+        fault => out.put_fault(fault),
     }
 }
