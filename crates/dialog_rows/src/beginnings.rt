@@ -1,13 +1,8 @@
 //! How a dialog begins, and what the rows behind ask of it.
 
-ghost use Rattle.std.specs.Prelude.{◌≡◌};
-ghost use Rattle.sip_message.specs.Grammar.{ReadsMessage};
-ghost use Rattle.sip_message.specs.declared.message.Message.TheVariants as Kinds;
-ghost use Rattle.dialogs.specs.Making.{is_invite};
-
 use crate::calls::put_of_dialog;
 use crate::messages::put_fault;
-use dialogs::{Dialog, contacts_are_read, dialogs_are_sound, invites_name_a_contact};
+use dialogs::{Dialog, contact_uri, contacts_are_read, dialogs_are_sound, invites_name_a_contact};
 use rows::{Output, outcome_after};
 use sip_message::{Message, MessageError, Parts, Request, Response, read_message};
 use std::alloc::Global;
@@ -18,24 +13,14 @@ pub(crate) struct History {
     dialogs: Vec<Dialog>,
 }
 
-fn is_invite(parts: &Parts<'_>) -> bool
-    ensures { result ≡ is_invite parts.now }
-{
+fn is_invite(parts: &Parts<'_>) -> bool {
     parts.cseq.method.as_bytes() == b"INVITE".as_slice()
 }
 
 /// The dialog with the sender of an INVITE.
-fn callee_of(
-    alloc: Global,
-    bytes: &[u8],
-    invite: &Request<'_>,
-    tag: &[u8],
-) -> Result<Dialog, MessageError>
-    requires { ReadsMessage bytes.now (Kinds.Request invite.now) }
-{
-    invites_name_a_contact();
+fn callee_of(alloc: Global, invite: &Request<'_>, tag: &[u8]) -> Result<Dialog, MessageError> {
     if is_invite(&invite.parts) {
-        if let Some(target) = dialogs::contact_uri(alloc, invite.headers.as_slice())? {
+        if let Some(target) = contact_uri(alloc, invite.headers.as_slice())? {
             return Ok(Dialog::as_callee(alloc, invite, tag, target)?);
         }
     }
@@ -43,23 +28,16 @@ fn callee_of(
 }
 
 /// The same of a message, which is no response.
-fn callee_by(
-    alloc: Global,
-    bytes: &[u8],
-    message: &Message<'_>,
-    tag: &[u8],
-) -> Result<Dialog, MessageError>
-    requires { ReadsMessage bytes.now message.now }
-{
+fn callee_by(alloc: Global, message: &Message<'_>, tag: &[u8]) -> Result<Dialog, MessageError> {
     match message {
-        Message::Request(invite) => callee_of(alloc, bytes, invite, tag),
+        Message::Request(invite) => callee_of(alloc, invite, tag),
         Message::Response(_) => Err(MessageError::StartLine),
     }
 }
 
 fn callee(alloc: Global, bytes: &[u8], tag: &[u8]) -> Result<Dialog, MessageError> {
     let message = read_message(alloc, bytes)?;
-    let dialog = callee_by(alloc, bytes, &message, tag);
+    let dialog = callee_by(alloc, &message, tag);
     outcome_after(message, dialog)
 }
 
@@ -67,18 +45,14 @@ fn callee(alloc: Global, bytes: &[u8], tag: &[u8]) -> Result<Dialog, MessageErro
 fn caller_of(
     alloc: Global,
     invite: &Request<'_>,
-    bytes: &[u8],
     answer: &Response<'_>,
-) -> Result<Dialog, MessageError>
-    requires { ReadsMessage bytes.now (Kinds.Response answer.now) }
-{
-    invites_name_a_contact();
+) -> Result<Dialog, MessageError> {
     if is_invite(&invite.parts)
         && is_invite(&answer.parts)
         && 200 <= answer.status
         && answer.status <= 299
     {
-        if let Some(target) = dialogs::contact_uri(alloc, answer.headers.as_slice())? {
+        if let Some(target) = contact_uri(alloc, answer.headers.as_slice())? {
             return Ok(Dialog::as_caller(alloc, &invite.parts, answer, target)?);
         }
     }
@@ -89,14 +63,11 @@ fn caller_of(
 fn caller_by(
     alloc: Global,
     invite: &Request<'_>,
-    bytes: &[u8],
     message: &Message<'_>,
-) -> Result<Dialog, MessageError>
-    requires { ReadsMessage bytes.now message.now }
-{
+) -> Result<Dialog, MessageError> {
     match message {
         Message::Request(_) => Err(MessageError::StartLine),
-        Message::Response(answer) => caller_of(alloc, invite, bytes, answer),
+        Message::Response(answer) => caller_of(alloc, invite, answer),
     }
 }
 
@@ -106,7 +77,7 @@ fn caller_of_taken(
     taken: &[u8],
 ) -> Result<Dialog, MessageError> {
     let message = read_message(alloc, taken)?;
-    let dialog = caller_by(alloc, invite, taken, &message);
+    let dialog = caller_by(alloc, invite, &message);
     outcome_after(message, dialog)
 }
 

@@ -11,8 +11,8 @@ mod playing;
 mod words;
 
 pub use crate::addresses::{address_of, address_words, put_address};
-pub use crate::answers::{answer_by, answer_of, let_go, outcome_after, replace, words_of};
+pub use crate::answers::{let_go, outcome_after, replace};
 pub use crate::notation::{Notation, number, put_shown, shown, u16_of, u32_of, usize_of};
 pub use crate::output::Output;
 pub use crate::playing::{Rows, play, play_lines};
-pub use crate::words::{beside, boxes, byte_of, put_boxes, put_truth, said, yes_or_no};
+pub use crate::words::{beside, boxes, byte_of, put_boxes, said};

@@ -9,16 +9,6 @@ pub fn said(alloc: Global, word: &str) -> Result<String, AllocError> {
     String::from_str(alloc, word)
 }
 
-/// `yes` or `no`.
-pub fn yes_or_no(alloc: Global, holds: bool) -> Result<String, AllocError> {
-    said(alloc, if holds { "yes" } else { "no" })
-}
-
-/// Writes `true` or `false`.
-pub fn put_truth(out: &mut String, truth: bool) -> Result<(), AllocError> {
-    out.push_str(if truth { "true" } else { "false" })
-}
-
 /// Writes a text in brackets.
 pub(crate) fn put_boxed(out: &mut String, text: &[u8]) -> Result<(), AllocError> {
     out.push('[')?;
