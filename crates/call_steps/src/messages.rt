@@ -1,6 +1,6 @@
 //! The messages of a step, and those of them that are kept.
 
-ghost use Rattle.std.specs.Prelude.{◌≡◌, ◌<◌, ◌≤◌, ◌+◌, ◌^◌, ◌++◌, IfOk, None, find, length};
+ghost use Rattle.std.specs.Prelude.{◌≡◌, ◌<◌, ◌≤◌, ◌+◌, ◌^◌, ◌++◌, IfOk, None, find, length, option_to_list};
 ghost use Rattle.std.specs.Option.{option_copied};
 ghost use Rattle.call_steps.specs.Messages.{ack_kept, answer_kept, first_sent, given_up, is_abandon, is_answer, messages, with_changes};
 ghost use Rattle.legs.specs.Dressing.{dressed};
@@ -48,10 +48,10 @@ fn abandon_among(actions: &[Action]) -> Option<&Action>
 
 // ---- what is kept
 
-fn first_sent(alloc: Global, sends: &[Sent]) -> Result<Option<Sent>, AllocError>
-    ensures { IfOk result (λ sent. sent ≡ first_sent sends.now) }
+fn first_sent(alloc: Global, send: Option<&Sent>) -> Result<Option<Sent>, AllocError>
+    ensures { IfOk result (λ sent. sent ≡ first_sent (option_to_list (option_copied send.entry))) }
 {
-    let [sent, ..] = sends else {
+    let Some(sent) = send else {
         return Ok(None);
     };
     let bytes = sent.bytes.keep(alloc)?;
@@ -76,12 +76,12 @@ fn with_answer(
     let first = scene.dress_one(alloc, tokens, *action)?;
     let tokens = tokens + first.made;
     if is_answer(*action) {
-        let answer = first_sent(alloc, first.sends.as_slice())?;
+        let answer = first_sent(alloc, first.send.as_ref())?;
         let later = scene.dress(alloc, tokens, later)?;
-        return Ok((first.then(later)?, answer));
+        return Ok((first.before(later)?, answer));
     }
     let (later, answer) = with_answer(alloc, scene, tokens, later)?;
-    Ok((first.then(later)?, answer))
+    Ok((first.before(later)?, answer))
 }
 
 /// The messages of these actions, with copies of those that go again: the 200 with the answer, and an ACK that is the first.
@@ -106,10 +106,10 @@ fn with_copies(
         });
     };
     let first = scene.dress_one(alloc, scene.tokens, Action::Ack(*end))?;
-    let ack = first_sent(alloc, first.sends.as_slice())?;
+    let ack = first_sent(alloc, first.send.as_ref())?;
     let (later, answer) = with_answer(alloc, scene, scene.tokens + first.made, later)?;
     Ok(StepMessages {
-        dressed: first.then(later)?,
+        dressed: first.before(later)?,
         answer,
         ack,
     })

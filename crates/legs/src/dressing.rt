@@ -10,6 +10,7 @@ ghost use Rattle.legs.specs.Dressing.{says_ack, says_answer, asks_if, branch, sa
 use crate::dressed::Dressed;
 use crate::requests::{ack, bye, offer};
 use crate::responding::{answer, okay, provisional, refusal, trying};
+use crate::saying::Saying;
 use crate::scene::{Asker, Scene};
 use call_core::{Action, End, OfferMethod};
 use dialogs::{Dialog, Method};
@@ -31,14 +32,14 @@ fn method_of(method: OfferMethod) -> Method
 }
 
 #[tactic(auto, unfolding(responses::specs::Responding::responds, sip_writing::specs::Reply::reply_of))]
-fn says_trying(alloc: Global, asker: Option<Asker<'_, '_>>) -> Result<Dressed, AllocError>
+fn says_trying(alloc: Global, asker: Option<Asker<'_, '_>>) -> Result<Saying, AllocError>
     ensures { IfOk result (λ d. d ≡ says_trying asker.entry) }
 {
     let Some(asker) = asker else {
-        return Ok(Dressed::no_message(alloc));
+        return Ok(Saying::nothing());
     };
     let bytes = trying(alloc, &asker)?;
-    Dressed::responds_through(alloc, &asker, 100, bytes)
+    Saying::responds_through(alloc, &asker, 100, bytes)
 }
 
 #[tactic(auto, unfolding(responses::specs::Responding::responds, sip_writing::specs::Reply::reply_of))]
@@ -47,14 +48,14 @@ fn says_provisional(
     server: Addr,
     asker: Option<Asker<'_, '_>>,
     status: u16,
-) -> Result<Dressed, AllocError>
+) -> Result<Saying, AllocError>
     ensures { IfOk result (λ d. d ≡ says_provisional server asker.entry status) }
 {
     let Some(asker) = asker else {
-        return Ok(Dressed::no_message(alloc));
+        return Ok(Saying::nothing());
     };
     let bytes = provisional(alloc, server, &asker, status)?;
-    Dressed::responds_through(alloc, &asker, status, bytes)
+    Saying::responds_through(alloc, &asker, status, bytes)
 }
 
 #[tactic(auto, unfolding(responses::specs::Responding::responds, sip_writing::specs::Reply::reply_of))]
@@ -63,17 +64,17 @@ fn says_answer(
     server: Addr,
     asker: Option<Asker<'_, '_>>,
     description: Option<&Description<'_>>,
-) -> Result<Dressed, AllocError>
+) -> Result<Saying, AllocError>
     ensures { IfOk result (λ d. d ≡ says_answer server asker.entry (option_copied description.entry)) }
 {
     let Some(asker) = asker else {
-        return Ok(Dressed::no_message(alloc));
+        return Ok(Saying::nothing());
     };
     let Some(description) = description else {
-        return Ok(Dressed::no_message(alloc));
+        return Ok(Saying::nothing());
     };
     let bytes = answer(alloc, server, &asker, description)?;
-    Dressed::responds_through(alloc, &asker, 200, bytes)
+    Saying::responds_through(alloc, &asker, 200, bytes)
 }
 
 #[tactic(auto, unfolding(responses::specs::Responding::responds, sip_writing::specs::Reply::reply_of))]
@@ -81,14 +82,14 @@ fn says_refusal(
     alloc: Global,
     asker: Option<Asker<'_, '_>>,
     status: u16,
-) -> Result<Dressed, AllocError>
+) -> Result<Saying, AllocError>
     ensures { IfOk result (λ d. d ≡ says_refusal asker.entry status) }
 {
     let Some(asker) = asker else {
-        return Ok(Dressed::no_message(alloc));
+        return Ok(Saying::nothing());
     };
     let bytes = refusal(alloc, &asker, status)?;
-    Dressed::responds_through(alloc, &asker, status, bytes)
+    Saying::responds_through(alloc, &asker, status, bytes)
 }
 
 #[tactic(auto, unfolding(responses::specs::Responding::responds, sip_writing::specs::Reply::reply_of))]
@@ -96,31 +97,31 @@ fn says_okay(
     alloc: Global,
     server: Addr,
     asker: Option<Asker<'_, '_>>,
-) -> Result<Dressed, AllocError>
+) -> Result<Saying, AllocError>
     ensures { IfOk result (λ d. d ≡ says_okay server asker.entry) }
 {
     let Some(asker) = asker else {
-        return Ok(Dressed::no_message(alloc));
+        return Ok(Saying::nothing());
     };
     let bytes = okay(alloc, server, &asker)?;
-    Dressed::responds_through(alloc, &asker, 200, bytes)
+    Saying::responds_through(alloc, &asker, 200, bytes)
 }
 
-fn says_again(alloc: Global, sent: Option<&Sent>) -> Result<Dressed, AllocError>
+fn says_again(alloc: Global, sent: Option<&Sent>) -> Result<Saying, AllocError>
     ensures { IfOk result (λ d. d ≡ says_again (option_copied sent.entry)) }
 {
     match sent {
-        None => Ok(Dressed::no_message(alloc)),
-        Some(sent) => Dressed::again(alloc, sent),
+        None => Ok(Saying::nothing()),
+        Some(sent) => Saying::again(alloc, sent),
     }
 }
 
-fn asks_if(alloc: Global, request: Option<OwnRequest>, made: u64) -> Result<Dressed, AllocError>
+fn asks_if(alloc: Global, request: Option<OwnRequest>, made: u64) -> Result<Saying, AllocError>
     ensures { (r : Option Request) → request ≡ option_map own_of r → IfOk result (λ d. d ≡ asks_if r made) }
 {
     match request {
-        None => Ok(Dressed::no_message(alloc)),
-        Some(request) => Dressed::asks(alloc, request, made),
+        None => Ok(Saying::nothing()),
+        Some(request) => Saying::asks(alloc, request, made),
     }
 }
 
@@ -133,11 +134,11 @@ fn cancel(alloc: Global, invite: &Transaction) -> Result<Option<OwnRequest>, All
     }
 }
 
-fn says_cancel(alloc: Global, invite: Option<&Transaction>) -> Result<Dressed, AllocError>
+fn says_cancel(alloc: Global, invite: Option<&Transaction>) -> Result<Saying, AllocError>
     ensures { IfOk result (λ d. d ≡ says_cancel (option_copied invite.entry)) }
 {
     let Some(invite) = invite else {
-        return Ok(Dressed::no_message(alloc));
+        return Ok(Saying::nothing());
     };
     asks_if(alloc, cancel(alloc, invite)?, 0)
 }
@@ -166,15 +167,15 @@ impl Scene<'_, '_> {
         tokens: u64,
         dialog: Option<&Dialog>,
         method: OfferMethod,
-    ) -> Result<Dressed, AllocError>
+    ) -> Result<Saying, AllocError>
         requires { tokens + 1 < 2 ^ 64 }
         ensures { IfOk result (λ d. d ≡ says_offer self.now tokens (option_copied dialog.entry) method (option_copied self.now.description)) }
     {
         let Some(dialog) = dialog else {
-            return Ok(Dressed::no_message(alloc));
+            return Ok(Saying::nothing());
         };
         let Some(description) = self.description else {
-            return Ok(Dressed::no_message(alloc));
+            return Ok(Saying::nothing());
         };
         let branch = self.branch(alloc, tokens)?;
         let request = offer(
@@ -194,16 +195,16 @@ impl Scene<'_, '_> {
         alloc: Global,
         tokens: u64,
         dialog: Option<&Dialog>,
-    ) -> Result<Dressed, AllocError>
+    ) -> Result<Saying, AllocError>
         requires { tokens + 1 < 2 ^ 64 }
         ensures { IfOk result (λ d. d ≡ says_ack self.now tokens (option_copied dialog.entry)) }
     {
         let Some(dialog) = dialog else {
-            return Ok(Dressed::no_message(alloc));
+            return Ok(Saying::nothing());
         };
         let branch = self.branch(alloc, tokens)?;
         let bytes = ack(alloc, self.server, dialog, branch.as_bytes())?;
-        Dressed::acknowledges(alloc, &dialog.target, bytes)
+        Ok(Saying::acknowledges(&dialog.target, bytes))
     }
 
     fn says_bye(
@@ -211,12 +212,12 @@ impl Scene<'_, '_> {
         alloc: Global,
         tokens: u64,
         dialog: Option<&Dialog>,
-    ) -> Result<Dressed, AllocError>
+    ) -> Result<Saying, AllocError>
         requires { tokens + 1 < 2 ^ 64 }
         ensures { IfOk result (λ d. d ≡ says_bye self.now tokens (option_copied dialog.entry)) }
     {
         let Some(dialog) = dialog else {
-            return Ok(Dressed::no_message(alloc));
+            return Ok(Saying::nothing());
         };
         let branch = self.branch(alloc, tokens)?;
         let request = bye(alloc, self.server, dialog, branch.as_bytes())?;
@@ -231,7 +232,7 @@ impl Scene<'_, '_> {
         alloc: Global,
         tokens: u64,
         action: Action,
-    ) -> Result<Dressed, AllocError>
+    ) -> Result<Saying, AllocError>
         requires { tokens + 1 < 2 ^ 64 }
         ensures dressed { IfOk result (λ d. d ≡ dress_one self.now tokens action) }
         ensures few { IfOk result (λ d. d.made ≤ 1) }
@@ -259,7 +260,7 @@ impl Scene<'_, '_> {
             | Action::RemoveRows
             | Action::Set(_, _)
             | Action::Stop(_)
-            | Action::Abandon(_) => Ok(Dressed::no_message(alloc)),
+            | Action::Abandon(_) => Ok(Saying::nothing()),
         }
     }
 
@@ -280,6 +281,6 @@ impl Scene<'_, '_> {
         };
         let first = self.dress_one(alloc, tokens, *action)?;
         let later = self.dress(alloc, tokens + first.made, later)?;
-        first.then(later)
+        first.before(later)
     }
 }

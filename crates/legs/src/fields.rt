@@ -3,10 +3,10 @@
 ghost use Rattle.std.specs.Prelude.{◌≡◌, [], ◌∷◌, IfOk};
 ghost use Rattle.legs.specs.Messages.{contact, content_type, description_headers, retry_after};
 
-use sip_message::Header;
+use sip_message::{FieldValue, Header};
 use sip_uri::{Addr, put_ip4};
 use std::alloc::{AllocError, Global};
-use text::put_number;
+use text::{Text, put_number};
 
 /// Where the server is reached: `Contact: <sip:ADDRESS:PORT>` (RFC 3261 sections 8.1.1.8 and 12.1.1).
 pub fn contact_header(alloc: Global, server: Addr) -> Result<Header<'static>, AllocError>
@@ -18,7 +18,10 @@ pub fn contact_header(alloc: Global, server: Addr) -> Result<Header<'static>, Al
     out.extend_from_slice(b":")?;
     put_number(&mut out, u64::from(server.port))?;
     out.extend_from_slice(b">")?;
-    Header::of(alloc, b"Contact", &out)
+    Ok(Header {
+        name: Text::lent(b"Contact"),
+        value: FieldValue::whole(Text::from_vec(out)),
+    })
 }
 
 /// When a request that clashed with another may come again: `Retry-After: 5` alone (RFC 3261 sections 14.2 and 20.33).
@@ -39,10 +42,13 @@ pub(crate) fn contact_alone(alloc: Global, server: Addr) -> Result<Vec<Header<'s
     Ok(headers)
 }
 
-fn content_type(alloc: Global) -> Result<Header<'static>, AllocError>
-    ensures { IfOk result (λ h. h ≡ content_type) }
+fn content_type() -> Header<'static>
+    ensures { result ≡ content_type }
 {
-    Header::of(alloc, b"Content-Type", b"application/sdp")
+    Header {
+        name: Text::lent(b"Content-Type"),
+        value: FieldValue::whole(Text::lent(b"application/sdp")),
+    }
 }
 
 /// The header fields of a message with a description.
@@ -53,6 +59,6 @@ pub(crate) fn description_headers(
     ensures { IfOk result (λ hs. hs.items ≡ description_headers server) }
 {
     let mut headers = contact_alone(alloc, server)?;
-    headers.push(content_type(alloc)?)?;
+    headers.push(content_type())?;
     Ok(headers)
 }

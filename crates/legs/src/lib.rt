@@ -9,6 +9,7 @@ mod dressing;
 mod fields;
 mod requests;
 mod responding;
+mod saying;
 mod scene;
 
 pub use beginning::new_leg;
@@ -16,4 +17,5 @@ pub use dressed::Dressed;
 pub use fields::{contact_header, retry_alone};
 pub use requests::{ack, bye, offer};
 pub use responding::{answer, okay, provisional, refusal, retry_later, trying};
+pub use saying::Saying;
 pub use scene::{Asker, Scene};

@@ -14,9 +14,12 @@ const ROOM: usize = 37;
 pub fn token(alloc: Global, salt: u64, count: u64) -> Result<Text<'static>, AllocError>
     ensures { IfOk result (λ t. t ≡ token salt count) }
 {
-    let digits = hex::encode(alloc, salt.to_be_bytes())?;
+    let mut digits = [0u8; 16];
+    let Ok(()) = hex::encode_to_slice(salt.to_be_bytes(), &mut digits) else {
+        unreachable!()
+    };
     let mut out = Vec::with_capacity(alloc, ROOM)?;
-    out.extend_from_slice(digits.as_bytes())?;
+    out.extend_from_slice(&digits)?;
     out.extend_from_slice(b".")?;
     put_number(&mut out, count)?;
     Ok(Text::from_vec(out))
