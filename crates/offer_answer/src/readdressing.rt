@@ -14,7 +14,7 @@ use crate::direct::{HOLD, is_hold};
 use sdp::{Address, Description, Line, Lines, Media, MediaList, Origin, keep_formats};
 use sip_uri::{keep_text, put_ip4};
 use std::alloc::{AllocError, Global};
-use text::{Text, both, cut, put_number};
+use text::{Text, both, cut, number_text};
 
 /// What the `o=` line of a description of the server's says: `o=- ID VERSION IN IP4 ADDRESS` (RFC 4566 section 5.2).
 #[derive(Clone, Copy, Debug, PartialEq, Eq)]
@@ -23,14 +23,6 @@ pub struct ServerOrigin {
     pub version: u64,
     /// The server's address.
     pub ip: [u8; 4],
-}
-
-fn number_text(alloc: Global, number: u64) -> Result<Text<'static>, AllocError>
-    ensures { IfOk result (λ t. t ≡ decimal number) }
-{
-    let mut out = Vec::with_capacity(alloc, 20)?;
-    put_number(&mut out, number)?;
-    Ok(Text::from_vec(out))
 }
 
 fn address_text(alloc: Global, ip: [u8; 4]) -> Result<Text<'static>, AllocError>
@@ -49,19 +41,13 @@ fn origin_of(alloc: Global, origin: ServerOrigin) -> Result<Origin<'static>, All
         number_text(alloc, origin.id),
         number_text(alloc, origin.version),
     );
-    let types = both(
-        Text::from_slice(alloc, b"IN"),
-        Text::from_slice(alloc, b"IP4"),
-    );
-    let place = both(types, address_text(alloc, origin.ip));
-    let owner = both(Text::from_slice(alloc, b"-"), numbers);
-    let ((username, (id, version)), ((network_type, address_type), address)) = both(owner, place)?;
+    let ((id, version), address) = both(numbers, address_text(alloc, origin.ip))?;
     Ok(Origin {
-        username,
+        username: Text::lent(b"-"),
         id,
         version,
-        network_type,
-        address_type,
+        network_type: Text::lent(b"IN"),
+        address_type: Text::lent(b"IP4"),
         address,
     })
 }
