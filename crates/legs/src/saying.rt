@@ -41,7 +41,7 @@ impl Model for Saying {
 
 /// This list, with the value before it, if there is one.
 fn with_first<T: Drop>(first: Option<T>, mut later: Vec<T>) -> Result<Vec<T>, AllocError>
-    ensures { IfOk result (λ all. all.items ≡ option_to_list first.entry ++ later.items) }
+    ensures { IfOk result (λ all. all.items ≡ option_to_list first ++ later.items) }
 {
     if let Some(first) = first {
         later.insert(0, first)?;
