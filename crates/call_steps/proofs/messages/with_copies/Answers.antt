@@ -1,6 +1,8 @@
 use Rattle.std.proofs.Common.{◌≡◌, ◌+◌, ◌-◌, ◌∙◌, length, take, drop, slice_index_or, ap}
 use Rattle.call_media.specs.declared.end.End.TheVariants.{Caller}
 use Rattle.call_core.specs.declared.action.Action.TheVariants.{Ack, Trying}
+use Rattle.std.specs.Prelude.{Option, option_to_list}
+use Rattle.events.specs.declared.sent.Sent.{Sent}
 use Rattle.legs.specs.Dressed.{Dressed, behind}
 use Rattle.legs.specs.Dressing.{dressed}
 use Rattle.call_steps.specs.Messages.{first_sent}
@@ -14,7 +16,7 @@ returns-clause-dressed c =
     let rest = take (length actions - 1) (drop 1 actions) in
     let is : slice_index_or actions 0 (Trying Caller) ≡ Ack c.in-Ack.end = cc in
     let later : c.in_ok-later.later ≡ dressed s (s.tokens + c.first.inside.made) rest = c.in_ok-later.ensures.dressed in
-    c.in_ok-then.ensures
+    c.in_ok-before.ensures
     ∙ ap (λ (d : Dressed). behind c.in_ok-first.first d) later
     ∙ ap (λ (d : Dressed). behind c.in_ok-first.first (dressed s (s.tokens + d.made) rest)) c.first.view_is
     ∙ ap (λ (d : Dressed). behind d (dressed s (s.tokens + d.made) rest)) c.in_ok-first.ensures.dressed
@@ -24,6 +26,6 @@ pub returns-clause-ack : goal.returns-clause-ack
 returns-clause-ack c =
     let is : slice_index_or c.args.actions.now 0 (Trying Caller) ≡ Ack c.in-Ack.end = cc in
     c.in_ok-ack.ensures
-    ∙ ap first_sent c.as_slice.ensures.value
+    ∙ ap (λ (o : Option Sent). first_sent (option_to_list o)) c.as_ref.ensures.value
     ∙ ap (λ (d : Dressed). first_sent d.sends) (c.first.view_is ∙ c.in_ok-first.ensures.dressed)
     ∙ first_ack c.args.scene.now c.args.actions.now _ c.in-Ack.end c.in-Ack.len_at_least is
