@@ -112,42 +112,48 @@ described_rule None (Some offer) = Call calls.Begins
 abbrev pub offer_rule : Request → Rule
 offer_rule r = described_rule (content_rule r.headers) (described r.headers r.body)
 
-abbrev pub target_rule : Request → Option Uri → Rule
-target_rule r None = refused 480
-target_rule r (Some target) = offer_rule r
+-- what a first call comes to whose callee is bound
+abbrev pub target_by : Rule → Option Uri → Rule
+target_by last None = refused 480
+target_by last (Some target) = last
 
-abbrev pub known_rule : Office → Request → List ℕ → ℕ → Bool → Rule
-known_rule s r user now false = refused 404
-known_rule s r user now true = target_rule r (target_of (bindings_at s.registrar user now))
+abbrev pub known_by : Rule → Office → List ℕ → ℕ → Bool → Rule
+known_by last s user now false = refused 404
+known_by last s user now true = target_by last (target_of (bindings_at s.registrar user now))
 
-abbrev pub user_rule : Office → Request → ℕ → Option (List ℕ) → Rule
-user_rule s r now None = refused 404
-user_rule s r now (Some user) = known_rule s r user now (is_known (rules_of s.registrar) user)
+abbrev pub user_by : Rule → Office → ℕ → Option (List ℕ) → Rule
+user_by last s now None = refused 404
+user_by last s now (Some user) = known_by last s user now (is_known (rules_of s.registrar) user)
 
 -- the user whom the Request-URI names, and where that is (section 16.5)
-abbrev pub callee_rule : Office → Request → ℕ → Rule
-callee_rule s r now = user_rule s r now (user_of (rules_of s.registrar) r.uri)
+abbrev pub callee_by : Rule → Office → Request → ℕ → Rule
+callee_by last s r now = user_by last s now (user_of (rules_of s.registrar) r.uri)
 
-abbrev pub first_call_rule : Office → Request → ℕ → Rule
-first_call_rule s r now = otherwise (hops_line r) (otherwise (contact_line r) (callee_rule s r now))
+abbrev pub first_call_by : Rule → Office → Request → ℕ → Rule
+first_call_by last s r now = otherwise (hops_line r) (otherwise (contact_line r) (callee_by last s r now))
 
 -- ---- all, in their order
 
-unfoldable pub invite_rule : Office → Request → ℕ → Rule
-invite_rule s r now = otherwise (dialog_line s r) (first_call_rule s r now)
+unfoldable pub invite_by : Rule → Office → Request → ℕ → Rule
+invite_by last s r now = otherwise (dialog_line s r) (first_call_by last s r now)
 
-unfoldable pub offered_rule : Office → Request → ℕ → Rule
-offered_rule s r now =
+unfoldable pub offered_by : Rule → Office → Request → ℕ → Rule
+offered_by last s r now =
     otherwise (extension_line r)
     (otherwise (route_line r)
     (otherwise (options_line r)
     (otherwise (register_line r)
-    (invite_rule s r now))))
+    (invite_by last s r now))))
 
-unfoldable pub request_rule : Office → Request → ℕ → Rule
-request_rule s r now =
+-- whatever the last line gives, where no line before it applies
+unfoldable pub rule_by : Rule → Office → Request → ℕ → Rule
+rule_by last s r now =
     otherwise (cancel_line s r)
     (otherwise (merged_line s r)
     (otherwise (declined_line r)
     (otherwise (unknown_line r)
-    (offered_rule s r now))))
+    (offered_by last s r now))))
+
+-- the last line is what can be read of the offer
+unfoldable pub request_rule : Office → Request → ℕ → Rule
+request_rule s r now = rule_by (offer_rule r) s r now

@@ -16,66 +16,63 @@ use Rattle.plans.specs.Office.{Office}
 use Rattle.plans.specs.Replies.{reply_row}
 use Rattle.checks.specs.declared.rule.Rule.{Rule}
 use Rattle.checks.specs.Rows.{rule_row}
-use Rattle.checks.specs.Rules.{callee_rule, cancel_line, contact_line, declined_line, described_rule, dialog_line, extension_line, hops_line, invite_rule, known_rule, merged_line, offered_rule, options_line, otherwise, register_line, request_rule, route_line, target_rule, unknown_line, user_rule}
-use Rattle.event_plans.specs.Unread.{callee_unread, content_by, invite_unread, known_unread, offered_unread, request_unread, target_unread, user_unread}
+use Rattle.checks.specs.Rules.{callee_by, cancel_line, contact_line, declined_line, described_rule, dialog_line, extension_line, hops_line, invite_by, known_by, merged_line, offer_rule, offered_by, options_line, otherwise, register_line, request_rule, route_line, rule_by, target_by, unknown_line, user_by}
+use Rattle.event_plans.specs.Unread.{content_by, unread}
 
--- these two rules come to the same for a request
-abbrev pub AreAlike : Office → Setting → Request → List Entry → ℕ → Rule → Rule → Type 0
-AreAlike s e r begun id one two = rule_row s e r begun id one ≡ rule_row s e r begun id two
+module _ (s : Office) (e : Setting) (r : Request) (begun : List Entry) (id : ℕ) where
+  -- these two rules come to the same
+  abbrev AreAlike : Rule → Rule → Type 0
+  AreAlike one two = rule_row s e r begun id one ≡ rule_row s e r begun id two
 
--- behind a line that doesn't apply
-behind : (s : Office) (e : Setting) (r : Request) (begun : List Entry) (id : ℕ) (line : Option Rule) (one two : Rule)
-    → AreAlike s e r begun id one two → AreAlike s e r begun id (otherwise line one) (otherwise line two)
-behind s e r begun id (Some rule) one two alike = refl
-behind s e r begun id None one two alike = alike
+  -- behind a line that doesn't apply
+  behind : (line : Option Rule) (one two : Rule) → AreAlike one two → AreAlike (otherwise line one) (otherwise line two)
+  behind (Some rule) one two alike = refl
+  behind None one two alike = alike
 
--- a callee who is bound, and a body that is taken, whatever can be read of it
-offer_alike : (s : Office) (e : Setting) (r : Request) (begun : List Entry) (id : ℕ) (callee : Uri) (rule : Option ContentRule) (offer : Option Description)
-    → target s r e.now ≡ Some callee → described r.headers r.body ≡ offer → AreAlike s e r begun id (content_by rule) (described_rule rule offer)
-unfolding call_row reply_row
-offer_alike s e r begun id callee (Some content.Type) offer at reads = refl
-offer_alike s e r begun id callee (Some content.Encoding) offer at reads = refl
-offer_alike s e r begun id callee None None at reads = rw (at, reads) refl
-offer_alike s e r begun id callee None (Some offer) at reads = refl
+  -- a callee who is bound, and a body that is taken, whatever can be read of it
+  offer_alike : (callee : Uri) (rule : Option ContentRule) (offer : Option Description)
+      → target s r e.now ≡ Some callee → described r.headers r.body ≡ offer → AreAlike (content_by rule) (described_rule rule offer)
+  unfolding call_row reply_row
+  offer_alike callee (Some content.Type) offer at reads = refl
+  offer_alike callee (Some content.Encoding) offer at reads = refl
+  offer_alike callee None None at reads = rw (at, reads) refl
+  offer_alike callee None (Some offer) at reads = refl
 
-target_alike : (s : Office) (e : Setting) (r : Request) (begun : List Entry) (id : ℕ) (callee : Option Uri)
-    → target s r e.now ≡ callee → AreAlike s e r begun id (target_unread r callee) (target_rule r callee)
-target_alike s e r begun id None at = refl
-target_alike s e r begun id (Some callee) at = offer_alike s e r begun id callee (content_rule r.headers) (described r.headers r.body) at refl
+  target_alike : (callee : Option Uri) → target s r e.now ≡ callee → AreAlike (target_by (unread r) callee) (target_by (offer_rule r) callee)
+  target_alike None at = refl
+  target_alike (Some callee) at = offer_alike callee (content_rule r.headers) (described r.headers r.body) at refl
 
-known_alike : (s : Office) (e : Setting) (r : Request) (begun : List Entry) (id : ℕ) (user : List ℕ) (known : Bool)
-    → target s r e.now ≡ target_of (bindings_at s.registrar user e.now) → AreAlike s e r begun id (known_unread s r user e.now known) (known_rule s r user e.now known)
-known_alike s e r begun id user false at = refl
-known_alike s e r begun id user true at = target_alike s e r begun id (target_of (bindings_at s.registrar user e.now)) at
+  known_alike : (user : List ℕ) (known : Bool) → target s r e.now ≡ target_of (bindings_at s.registrar user e.now)
+      → AreAlike (known_by (unread r) s user e.now known) (known_by (offer_rule r) s user e.now known)
+  known_alike user false at = refl
+  known_alike user true at = target_alike (target_of (bindings_at s.registrar user e.now)) at
 
-user_alike : (s : Office) (e : Setting) (r : Request) (begun : List Entry) (id : ℕ) (user : Option (List ℕ))
-    → user_of (rules_of s.registrar) r.uri ≡ user → AreAlike s e r begun id (user_unread s r e.now user) (user_rule s r e.now user)
-user_alike s e r begun id None is = refl
-user_alike s e r begun id (Some user) is = known_alike s e r begun id user (is_known (rules_of s.registrar) user) (rw is refl)
+  user_alike : (user : Option (List ℕ)) → user_of (rules_of s.registrar) r.uri ≡ user → AreAlike (user_by (unread r) s e.now user) (user_by (offer_rule r) s e.now user)
+  user_alike None is = refl
+  user_alike (Some user) is = known_alike user (is_known (rules_of s.registrar) user) (rw is refl)
 
-invite_alike : (s : Office) (e : Setting) (r : Request) (begun : List Entry) (id : ℕ) → AreAlike s e r begun id (invite_unread s r e.now) (invite_rule s r e.now)
-unfolding invite_unread invite_rule
-invite_alike s e r begun id =
-    behind s e r begun id (dialog_line s r) _ _
-    (behind s e r begun id (hops_line r) _ _
-    (behind s e r begun id (contact_line r) (callee_unread s r e.now) (callee_rule s r e.now)
-    (user_alike s e r begun id (user_of (rules_of s.registrar) r.uri) refl)))
+  invite_alike : AreAlike (invite_by (unread r) s r e.now) (invite_by (offer_rule r) s r e.now)
+  unfolding invite_by
+  invite_alike =
+      behind (dialog_line s r) _ _
+      (behind (hops_line r) _ _
+      (behind (contact_line r) (callee_by (unread r) s r e.now) (callee_by (offer_rule r) s r e.now)
+      (user_alike (user_of (rules_of s.registrar) r.uri) refl)))
 
-offered_alike : (s : Office) (e : Setting) (r : Request) (begun : List Entry) (id : ℕ) → AreAlike s e r begun id (offered_unread s r e.now) (offered_rule s r e.now)
-unfolding offered_unread offered_rule
-offered_alike s e r begun id =
-    behind s e r begun id (extension_line r) _ _
-    (behind s e r begun id (route_line r) _ _
-    (behind s e r begun id (options_line r) _ _
-    (behind s e r begun id (register_line r) (invite_unread s r e.now) (invite_rule s r e.now)
-    (invite_alike s e r begun id))))
+  offered_alike : AreAlike (offered_by (unread r) s r e.now) (offered_by (offer_rule r) s r e.now)
+  unfolding offered_by
+  offered_alike =
+      behind (extension_line r) _ _
+      (behind (route_line r) _ _
+      (behind (options_line r) _ _
+      (behind (register_line r) (invite_by (unread r) s r e.now) (invite_by (offer_rule r) s r e.now)
+      invite_alike)))
 
-pub request_alike : (s : Office) (e : Setting) (r : Request) (begun : List Entry) (id : ℕ)
-    → rule_row s e r begun id (request_unread s r e.now) ≡ rule_row s e r begun id (request_rule s r e.now)
-unfolding request_unread request_rule
-request_alike s e r begun id =
-    behind s e r begun id (cancel_line s r) _ _
-    (behind s e r begun id (merged_line s r) _ _
-    (behind s e r begun id (declined_line r) _ _
-    (behind s e r begun id (unknown_line r) (offered_unread s r e.now) (offered_rule s r e.now)
-    (offered_alike s e r begun id))))
+  pub request_alike : rule_row s e r begun id (rule_by (unread r) s r e.now) ≡ rule_row s e r begun id (request_rule s r e.now)
+  unfolding rule_by request_rule
+  request_alike =
+      behind (cancel_line s r) _ _
+      (behind (merged_line s r) _ _
+      (behind (declined_line r) _ _
+      (behind (unknown_line r) (offered_by (unread r) s r e.now) (offered_by (offer_rule r) s r e.now)
+      offered_alike)))

@@ -5,8 +5,8 @@ ghost use Rattle.std.specs.Option.{option_copied};
 ghost use Rattle.sip_message.specs.Words.{tag_value};
 ghost use Rattle.responses.specs.Words.{is_method};
 ghost use Rattle.calls.specs.Finding.{place_by_offer};
-ghost use Rattle.checks.specs.Rules.{cancel_line, cancels, contact_line, declined_line, dialog_line, extension_line, hops_line, merged_line, of_dialog, options_line, refused, register_line, route_line, unknown_line};
-ghost use Rattle.event_plans.specs.Unread.{callee_unread, content_by, first_call_unread, invite_unread, known_unread, offered_unread, request_unread, target_unread, user_unread};
+ghost use Rattle.checks.specs.Rules.{callee_by, cancel_line, cancels, contact_line, declined_line, dialog_line, extension_line, first_call_by, hops_line, invite_by, known_by, merged_line, of_dialog, offered_by, options_line, refused, register_line, route_line, rule_by, target_by, unknown_line, user_by};
+ghost use Rattle.event_plans.specs.Unread.{content_by, unread};
 
 use call_rules::{ContentRule, DialogRule, contact_address, content_rule, dialog_rule};
 use checks::Rule;
@@ -119,7 +119,7 @@ fn target_rule(
     request: &Request<'_>,
     target: Option<&Uri<'static>>,
 ) -> Result<Rule, AllocError>
-    ensures { IfOk result (λ rule. rule ≡ target_unread request.now (option_copied target.entry)) }
+    ensures { IfOk result (λ rule. rule ≡ target_by (unread request.now) (option_copied target.entry)) }
 {
     match target {
         None => Ok(refused(480)),
@@ -195,7 +195,7 @@ fn known_rule(
     now: u64,
     known: bool,
 ) -> Result<Rule, AllocError>
-    ensures { IfOk result (λ rule. rule ≡ known_unread office.now request.now user.now now known) }
+    ensures { IfOk result (λ rule. rule ≡ known_by (unread request.now) office.now user.now now known) }
 {
     if !known {
         return Ok(refused(404));
@@ -209,7 +209,7 @@ fn user_rule(
     user: Option<&Text<'_>>,
     now: u64,
 ) -> Result<Rule, AllocError>
-    ensures { IfOk result (λ rule. rule ≡ user_unread office.now request.now now (option_copied user.entry)) }
+    ensures { IfOk result (λ rule. rule ≡ user_by (unread request.now) office.now now (option_copied user.entry)) }
 {
     match user {
         None => Ok(refused(404)),
@@ -218,13 +218,13 @@ fn user_rule(
 }
 
 fn callee_rule(office: &Office<'_>, request: &Request<'_>, now: u64) -> Result<Rule, AllocError>
-    ensures { IfOk result (λ rule. rule ≡ callee_unread office.now request.now now) }
+    ensures { IfOk result (λ rule. rule ≡ callee_by (unread request.now) office.now request.now now) }
 {
     user_rule(office, request, office.registrar.user_of(&request.uri), now)
 }
 
 fn first_call_rule(office: &Office<'_>, request: &Request<'_>, now: u64) -> Result<Rule, AllocError>
-    ensures { IfOk result (λ rule. rule ≡ first_call_unread office.now request.now now) }
+    ensures { IfOk result (λ rule. rule ≡ first_call_by (unread request.now) office.now request.now now) }
 {
     if let Some(rule) = hops_line(request) {
         return Ok(rule);
@@ -235,9 +235,9 @@ fn first_call_rule(office: &Office<'_>, request: &Request<'_>, now: u64) -> Resu
     }
 }
 
-#[tactic(auto, unfolding(crate::specs::Unread::invite_unread))]
+#[tactic(auto, unfolding(checks::specs::Rules::invite_by))]
 fn invite_rule(office: &Office<'_>, request: &Request<'_>, now: u64) -> Result<Rule, AllocError>
-    ensures { IfOk result (λ rule. rule ≡ invite_unread office.now request.now now) }
+    ensures { IfOk result (λ rule. rule ≡ invite_by (unread request.now) office.now request.now now) }
 {
     if let Some(rule) = dialog_line(office, request) {
         return Ok(rule);
@@ -245,9 +245,9 @@ fn invite_rule(office: &Office<'_>, request: &Request<'_>, now: u64) -> Result<R
     first_call_rule(office, request, now)
 }
 
-#[tactic(auto, unfolding(crate::specs::Unread::offered_unread))]
+#[tactic(auto, unfolding(checks::specs::Rules::offered_by))]
 fn offered_rule(office: &Office<'_>, request: &Request<'_>, now: u64) -> Result<Rule, AllocError>
-    ensures { IfOk result (λ rule. rule ≡ offered_unread office.now request.now now) }
+    ensures { IfOk result (λ rule. rule ≡ offered_by (unread request.now) office.now request.now now) }
 {
     if let Some(rule) = extension_line(request) {
         return Ok(rule);
@@ -266,13 +266,13 @@ fn offered_rule(office: &Office<'_>, request: &Request<'_>, now: u64) -> Result<
 
 /// The first line of the order of checks that applies to a request that begins a transaction, but for whether the body of a first INVITE
 /// can be read.
-#[tactic(auto, unfolding(crate::specs::Unread::request_unread))]
+#[tactic(auto, unfolding(checks::specs::Rules::rule_by))]
 pub(crate) fn request_rule(
     office: &Office<'_>,
     request: &Request<'_>,
     now: u64,
 ) -> Result<Rule, AllocError>
-    ensures { IfOk result (λ rule. rule ≡ request_unread office.now request.now now) }
+    ensures { IfOk result (λ rule. rule ≡ rule_by (unread request.now) office.now request.now now) }
 {
     if let Some(rule) = cancel_line(office, request) {
         return Ok(rule);

@@ -118,33 +118,33 @@ described_fits r (Some content.Encoding) offer = tt
 described_fits r None None = (omega arith, omega arith)
 described_fits r None (Some offer) = tt
 
-target_fits : (r : Request) (to : Option Uri) → FitsAlone r (checks.target_rule r to)
+target_fits : (r : Request) (to : Option Uri) → FitsAlone r (checks.target_by (checks.offer_rule r) to)
 target_fits r None = (omega arith, omega arith)
 target_fits r (Some to) = described_fits r _ (described r.headers r.body)
 
-known_fits : (s : Office) (r : Request) (user : List ℕ) (now : ℕ) (b : Bool) → FitsAlone r (checks.known_rule s r user now b)
+known_fits : (s : Office) (r : Request) (user : List ℕ) (now : ℕ) (b : Bool) → FitsAlone r (checks.known_by (checks.offer_rule r) s user now b)
 known_fits s r user now false = (omega arith, omega arith)
 known_fits s r user now true = target_fits r _
 
-user_fits : (s : Office) (r : Request) (now : ℕ) (user : Option (List ℕ)) → FitsAlone r (checks.user_rule s r now user)
+user_fits : (s : Office) (r : Request) (now : ℕ) (user : Option (List ℕ)) → FitsAlone r (checks.user_by (checks.offer_rule r) s now user)
 user_fits s r now None = (omega arith, omega arith)
 user_fits s r now (Some user) = known_fits s r user now _
 
-first_fits : (s : Office) (r : Request) (now : ℕ) → FitsAlone r (checks.first_call_rule s r now)
+first_fits : (s : Office) (r : Request) (now : ℕ) → FitsAlone r (checks.first_call_by (checks.offer_rule r) s r now)
 first_fits s r now =
-    line_fits r (checks.hops_line r) (checks.otherwise (checks.contact_line r) (checks.callee_rule s r now)) (when_fits r (r.max_forwards == 0) (checks.refused 483) (λ e. (omega arith, omega arith)))
-    (line_fits r (checks.contact_line r) (checks.callee_rule s r now) (when_fits r _ (checks.refused 400) (λ e. (omega arith, omega arith))) (user_fits s r now _))
+    line_fits r (checks.hops_line r) (checks.otherwise (checks.contact_line r) (checks.callee_by (checks.offer_rule r) s r now)) (when_fits r (r.max_forwards == 0) (checks.refused 483) (λ e. (omega arith, omega arith)))
+    (line_fits r (checks.contact_line r) (checks.callee_by (checks.offer_rule r) s r now) (when_fits r _ (checks.refused 400) (λ e. (omega arith, omega arith))) (user_fits s r now _))
 
-invite_fits : (s : Office) (r : Request) (now : ℕ) → FitsAlone r (checks.invite_rule s r now)
-unfolding checks.invite_rule
+invite_fits : (s : Office) (r : Request) (now : ℕ) → FitsAlone r (checks.invite_by (checks.offer_rule r) s r now)
+unfolding checks.invite_by
 invite_fits s r now =
-    line_fits r (checks.dialog_line s r) (checks.first_call_rule s r now)
+    line_fits r (checks.dialog_line s r) (checks.first_call_by (checks.offer_rule r) s r now)
     (when_fits r (not (request_method (codes "INVITE") r) || is_some (tag_value r.parts.to.params)) (checks.of_dialog (dialog_rule s.calls.calls r)) (λ e. dialog_fits r (dialog_rule s.calls.calls r) (rule_leaves s.calls.calls r))) (first_fits s r now)
 
-offered_fits : (s : Office) (r : Request) (now : ℕ) → FitsAlone r (checks.offered_rule s r now)
-unfolding checks.offered_rule
+offered_fits : (s : Office) (r : Request) (now : ℕ) → FitsAlone r (checks.offered_by (checks.offer_rule r) s r now)
+unfolding checks.offered_by
 offered_fits s r now =
-    let invite = checks.invite_rule s r now in
+    let invite = checks.invite_by (checks.offer_rule r) s r now in
     let register = checks.otherwise (checks.register_line r) invite in
     let options = checks.otherwise (checks.options_line r) register in
     let route = checks.otherwise (checks.route_line r) options in
@@ -154,9 +154,9 @@ offered_fits s r now =
     (line_fits r (checks.register_line r) invite (when_fits r (request_method (codes "REGISTER") r) (rules.Alone replies.Registration) (λ e. is_the_method r (codes "REGISTER") e)) (invite_fits s r now))))
 
 pub request_fits : (s : Office) (r : Request) (now : ℕ) → FitsAlone r (request_rule s r now)
-unfolding request_rule
+unfolding request_rule checks.rule_by
 request_fits s r now =
-    let offered = checks.offered_rule s r now in
+    let offered = checks.offered_by (checks.offer_rule r) s r now in
     let known = checks.otherwise (checks.unknown_line r) offered in
     let declined = checks.otherwise (checks.declined_line r) known in
     let once = checks.otherwise (checks.merged_line s r) declined in

@@ -81,33 +81,33 @@ described_quiet r (Some content.Encoding) offer = tt
 described_quiet r None None = refl
 described_quiet r None (Some offer) = tt
 
-target_quiet : (r : Request) (to : Option Uri) → IsQuietRule r (checks.target_rule r to)
+target_quiet : (r : Request) (to : Option Uri) → IsQuietRule r (checks.target_by (checks.offer_rule r) to)
 target_quiet r None = refl
 target_quiet r (Some to) = described_quiet r _ (described r.headers r.body)
 
-known_quiet : (s : Office) (r : Request) (user : List ℕ) (now : ℕ) (b : Bool) → IsQuietRule r (checks.known_rule s r user now b)
+known_quiet : (s : Office) (r : Request) (user : List ℕ) (now : ℕ) (b : Bool) → IsQuietRule r (checks.known_by (checks.offer_rule r) s user now b)
 known_quiet s r user now false = refl
 known_quiet s r user now true = target_quiet r _
 
-user_quiet : (s : Office) (r : Request) (now : ℕ) (user : Option (List ℕ)) → IsQuietRule r (checks.user_rule s r now user)
+user_quiet : (s : Office) (r : Request) (now : ℕ) (user : Option (List ℕ)) → IsQuietRule r (checks.user_by (checks.offer_rule r) s now user)
 user_quiet s r now None = refl
 user_quiet s r now (Some user) = known_quiet s r user now _
 
-first_quiet : (s : Office) (r : Request) (now : ℕ) → IsQuietRule r (checks.first_call_rule s r now)
+first_quiet : (s : Office) (r : Request) (now : ℕ) → IsQuietRule r (checks.first_call_by (checks.offer_rule r) s r now)
 first_quiet s r now =
-    line_quiet r (r.max_forwards == 0) (checks.refused 483) (checks.otherwise (checks.contact_line r) (checks.callee_rule s r now)) (λ b. refl)
-    (line_quiet r (not (is_some (contact_address (contacts_of r.headers)))) (checks.refused 400) (checks.callee_rule s r now) (λ b. refl) (user_quiet s r now _))
+    line_quiet r (r.max_forwards == 0) (checks.refused 483) (checks.otherwise (checks.contact_line r) (checks.callee_by (checks.offer_rule r) s r now)) (λ b. refl)
+    (line_quiet r (not (is_some (contact_address (contacts_of r.headers)))) (checks.refused 400) (checks.callee_by (checks.offer_rule r) s r now) (λ b. refl) (user_quiet s r now _))
 
-invite_quiet : (s : Office) (r : Request) (now : ℕ) → IsQuietRule r (checks.invite_rule s r now)
-unfolding checks.invite_rule
+invite_quiet : (s : Office) (r : Request) (now : ℕ) → IsQuietRule r (checks.invite_by (checks.offer_rule r) s r now)
+unfolding checks.invite_by
 invite_quiet s r now =
-    line_quiet r (not (request_method (codes "INVITE") r) || is_some (tag_value r.parts.to.params)) (checks.of_dialog (dialog_rule s.calls.calls r)) (checks.first_call_rule s r now)
+    line_quiet r (not (request_method (codes "INVITE") r) || is_some (tag_value r.parts.to.params)) (checks.of_dialog (dialog_rule s.calls.calls r)) (checks.first_call_by (checks.offer_rule r) s r now)
     (λ b. of_dialog_quiet r (dialog_rule s.calls.calls r)) (first_quiet s r now)
 
-offered_quiet : (s : Office) (r : Request) (now : ℕ) → IsOneMethod r → IsQuietRule r (checks.offered_rule s r now)
-unfolding checks.offered_rule
+offered_quiet : (s : Office) (r : Request) (now : ℕ) → IsOneMethod r → IsQuietRule r (checks.offered_by (checks.offer_rule r) s r now)
+unfolding checks.offered_by
 offered_quiet s r now one =
-    let invite = checks.invite_rule s r now in
+    let invite = checks.invite_by (checks.offer_rule r) s r now in
     let register = checks.otherwise (checks.register_line r) invite in
     let options = checks.otherwise (checks.options_line r) register in
     let route = checks.otherwise (checks.route_line r) options in
@@ -117,9 +117,9 @@ offered_quiet s r now one =
     (line_quiet r (request_method (codes "REGISTER") r) (rules.Alone replies.Registration) invite (other_method r (codes "REGISTER") one refl refl) (invite_quiet s r now))))
 
 request_quiet : (s : Office) (r : Request) (now : ℕ) → IsOneMethod r → IsQuietRule r (request_rule s r now)
-unfolding request_rule
+unfolding request_rule checks.rule_by
 request_quiet s r now one =
-    let offered = checks.offered_rule s r now in
+    let offered = checks.offered_by (checks.offer_rule r) s r now in
     let known = checks.otherwise (checks.unknown_line r) offered in
     let declined = checks.otherwise (checks.declined_line r) known in
     let once = checks.otherwise (checks.merged_line s r) declined in

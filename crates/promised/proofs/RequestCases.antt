@@ -200,15 +200,15 @@ described_fits s r (Some content.Encoding) offer first = tt
 described_fits s r None None first = tt
 described_fits s r None (Some offer) first = first
 
-target_fits : (s : Office) (r : Request) (to : Option Uri) → IsFirst r → FitsRule s r (checks.target_rule r to)
+target_fits : (s : Office) (r : Request) (to : Option Uri) → IsFirst r → FitsRule s r (checks.target_by (checks.offer_rule r) to)
 target_fits s r None first = tt
 target_fits s r (Some to) first = described_fits s r _ (described r.headers r.body) first
 
-known_fits : (s : Office) (r : Request) (user : List ℕ) (now : ℕ) (b : Bool) → IsFirst r → FitsRule s r (checks.known_rule s r user now b)
+known_fits : (s : Office) (r : Request) (user : List ℕ) (now : ℕ) (b : Bool) → IsFirst r → FitsRule s r (checks.known_by (checks.offer_rule r) s user now b)
 known_fits s r user now false first = tt
 known_fits s r user now true first = target_fits s r _ first
 
-user_fits : (s : Office) (r : Request) (now : ℕ) (user : Option (List ℕ)) → IsFirst r → FitsRule s r (checks.user_rule s r now user)
+user_fits : (s : Office) (r : Request) (now : ℕ) (user : Option (List ℕ)) → IsFirst r → FitsRule s r (checks.user_by (checks.offer_rule r) s now user)
 user_fits s r now None first = tt
 user_fits s r now (Some user) first = known_fits s r user now _ first
 
@@ -222,23 +222,23 @@ not_false : (b : Bool) → not b ≡ false → b ≡ true
 not_false true e = refl
 not_false false e = absurd (false≢true (sym e))
 
-first_fits : (s : Office) (r : Request) (now : ℕ) → (request_method (codes "INVITE") r ≡ true) × (tag_value r.parts.to.params ≡ None) → FitsRule s r (checks.first_call_rule s r now)
+first_fits : (s : Office) (r : Request) (now : ℕ) → (request_method (codes "INVITE") r ≡ true) × (tag_value r.parts.to.params ≡ None) → FitsRule s r (checks.first_call_by (checks.offer_rule r) s r now)
 first_fits s r now first =
-    line_fits s r (checks.hops_line r) (checks.otherwise (checks.contact_line r) (checks.callee_rule s r now)) (when_fits s r (r.max_forwards == 0) (checks.refused 483) tt)
-    (unless_fits s r (not (is_some (contact_address (contacts_of r.headers)))) (checks.refused 400) (checks.callee_rule s r now) tt
+    line_fits s r (checks.hops_line r) (checks.otherwise (checks.contact_line r) (checks.callee_by (checks.offer_rule r) s r now)) (when_fits s r (r.max_forwards == 0) (checks.refused 483) tt)
+    (unless_fits s r (not (is_some (contact_address (contacts_of r.headers)))) (checks.refused 400) (checks.callee_by (checks.offer_rule r) s r now) tt
     (λ e. user_fits s r now _ (first.0, first.1, not_false (is_some (contact_address (contacts_of r.headers))) e)))
 
-invite_fits : (s : Office) (r : Request) (now : ℕ) → IsInside r → FitsRule s r (checks.invite_rule s r now)
-unfolding checks.invite_rule
+invite_fits : (s : Office) (r : Request) (now : ℕ) → IsInside r → FitsRule s r (checks.invite_by (checks.offer_rule r) s r now)
+unfolding checks.invite_by
 invite_fits s r now inside =
-    unless_fits s r (not (request_method (codes "INVITE") r) || is_some (tag_value r.parts.to.params)) (checks.of_dialog (dialog_rule s.calls.calls r)) (checks.first_call_rule s r now)
+    unless_fits s r (not (request_method (codes "INVITE") r) || is_some (tag_value r.parts.to.params)) (checks.of_dialog (dialog_rule s.calls.calls r)) (checks.first_call_by (checks.offer_rule r) s r now)
     (dialog_fits s r (dialog_rule s.calls.calls r) inside refl)
     (λ e. first_fits s r now (first_of (request_method (codes "INVITE") r) (tag_value r.parts.to.params) e))
 
-offered_fits : (s : Office) (r : Request) (now : ℕ) → is_offered_method r ≡ true → FitsRule s r (checks.offered_rule s r now)
-unfolding checks.offered_rule
+offered_fits : (s : Office) (r : Request) (now : ℕ) → is_offered_method r ≡ true → FitsRule s r (checks.offered_by (checks.offer_rule r) s r now)
+unfolding checks.offered_by
 offered_fits s r now offered =
-    let invite = checks.invite_rule s r now in
+    let invite = checks.invite_by (checks.offer_rule r) s r now in
     let register = checks.otherwise (checks.register_line r) invite in
     let options = checks.otherwise (checks.options_line r) register in
     let route = checks.otherwise (checks.route_line r) options in
@@ -249,9 +249,9 @@ offered_fits s r now offered =
     (λ no_register. invite_fits s r now (record { offered = offered; no_options = no_options; no_register = no_register })))))
 
 request_fits : (s : Office) (r : Request) (now : ℕ) → FitsRule s r (request_rule s r now)
-unfolding request_rule
+unfolding request_rule checks.rule_by
 request_fits s r now =
-    let offered = checks.offered_rule s r now in
+    let offered = checks.offered_by (checks.offer_rule r) s r now in
     let known = checks.otherwise (checks.unknown_line r) offered in
     let declined = checks.otherwise (checks.declined_line r) known in
     let once = checks.otherwise (checks.merged_line s r) declined in

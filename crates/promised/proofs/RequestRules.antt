@@ -59,22 +59,22 @@ module _ (s : Office) (r : Request) where
   described_fits None None none = tt
   described_fits None (Some offer) none = none
 
-  target_fits : (to : Option Uri) → IsFirst → Fits (checks.target_rule r to)
+  target_fits : (to : Option Uri) → IsFirst → Fits (checks.target_by (checks.offer_rule r) to)
   target_fits None none = tt
   target_fits (Some to) none = described_fits _ (described r.headers r.body) none
 
-  known_fits : (user : List ℕ) (now : ℕ) (b : Bool) → IsFirst → Fits (checks.known_rule s r user now b)
+  known_fits : (user : List ℕ) (now : ℕ) (b : Bool) → IsFirst → Fits (checks.known_by (checks.offer_rule r) s user now b)
   known_fits user now false none = tt
   known_fits user now true none = target_fits _ none
 
-  user_fits : (now : ℕ) (user : Option (List ℕ)) → IsFirst → Fits (checks.user_rule s r now user)
+  user_fits : (now : ℕ) (user : Option (List ℕ)) → IsFirst → Fits (checks.user_by (checks.offer_rule r) s now user)
   user_fits now None none = tt
   user_fits now (Some user) none = known_fits user now _ none
 
-  first_fits : (now : ℕ) → IsFirst → Fits (checks.first_call_rule s r now)
+  first_fits : (now : ℕ) → IsFirst → Fits (checks.first_call_by (checks.offer_rule r) s r now)
   first_fits now none =
-      unless (r.max_forwards == 0) (checks.refused 483) (checks.otherwise (checks.contact_line r) (checks.callee_rule s r now)) tt
-      (λ hops. unless (not (is_some (contact_address (contacts_of r.headers)))) (checks.refused 400) (checks.callee_rule s r now) tt (λ reached. user_fits now _ none))
+      unless (r.max_forwards == 0) (checks.refused 483) (checks.otherwise (checks.contact_line r) (checks.callee_by (checks.offer_rule r) s r now)) tt
+      (λ hops. unless (not (is_some (contact_address (contacts_of r.headers)))) (checks.refused 400) (checks.callee_by (checks.offer_rule r) s r now) tt (λ reached. user_fits now _ none))
 
   -- ---- in a dialog
 
@@ -91,18 +91,18 @@ module _ (s : Office) (r : Request) where
   first_of false None e = absurd (false≢true (sym e))
   first_of false (Some tag) e = absurd (false≢true (sym e))
 
-  invite_fits : (now : ℕ) → Fits (checks.invite_rule s r now)
-  unfolding checks.invite_rule
+  invite_fits : (now : ℕ) → Fits (checks.invite_by (checks.offer_rule r) s r now)
+  unfolding checks.invite_by
   invite_fits now =
-      unless (not (is_method (codes "INVITE") r) || is_some (tag_value r.parts.to.params)) (checks.of_dialog (dialog_rule s.calls.calls r)) (checks.first_call_rule s r now)
+      unless (not (is_method (codes "INVITE") r) || is_some (tag_value r.parts.to.params)) (checks.of_dialog (dialog_rule s.calls.calls r)) (checks.first_call_by (checks.offer_rule r) s r now)
       (dialog_fits (dialog_rule s.calls.calls r) refl) (λ e. first_fits now (first_of (is_method (codes "INVITE") r) (tag_value r.parts.to.params) e))
 
   -- ---- in their order
 
-  offered_fits : (now : ℕ) → Fits (checks.offered_rule s r now)
-  unfolding checks.offered_rule
+  offered_fits : (now : ℕ) → Fits (checks.offered_by (checks.offer_rule r) s r now)
+  unfolding checks.offered_by
   offered_fits now =
-      let invite = checks.invite_rule s r now in
+      let invite = checks.invite_by (checks.offer_rule r) s r now in
       let register = checks.otherwise (checks.register_line r) invite in
       let options = checks.otherwise (checks.options_line r) register in
       unless (has_header (codes "Require") r.headers) (rules.Alone replies.ExtensionRefused) (checks.otherwise (checks.route_line r) options) tt
@@ -111,9 +111,9 @@ module _ (s : Office) (r : Request) where
       (λ c. unless (is_method (codes "REGISTER") r) (rules.Alone replies.Registration) invite tt (λ d. invite_fits now))))
 
   pub request_fits : (now : ℕ) → Fits (request_rule s r now)
-  unfolding request_rule
+  unfolding request_rule checks.rule_by
   request_fits now =
-      let offered = checks.offered_rule s r now in
+      let offered = checks.offered_by (checks.offer_rule r) s r now in
       let known = checks.otherwise (checks.unknown_line r) offered in
       let declined = checks.otherwise (checks.declined_line r) known in
       unless (is_method (codes "CANCEL") r) (checks.cancel_rule s.calls.calls (named s.table.slots r.parts)) (checks.otherwise (checks.merged_line s r) declined) (cancel_fits (named s.table.slots r.parts))
