@@ -1,12 +1,7 @@
--- The ends of texts and of lists of labels.
+-- The end of a text, without its dot.
 use Rattle.std.proofs.Common.{◌≡◌, ℕ, Bool, true, false, ◌&&◌, cond, eqb, List, [], ◌∷◌, ◌++◌, length, refl, ap, ◌∙◌}
 use Rattle.text.proofs.Lists.{more_than_nothing}
-use Rattle.sip_uri.specs.Hosts.{ends_with, without_dot, top_label}
-
-pub ends_at : (p : ℕ → Bool) (xs : List ℕ) (b : ℕ) → ends_with p (xs ++ b ∷ []) ≡ p b
-ends_at p [] b = refl
-ends_at p (x ∷ []) b = refl
-ends_at p (x ∷ y ∷ xs) b = ends_at p (y ∷ xs) b
+use Rattle.sip_uri.specs.Hosts.{without_dot}
 
 inner : (x : ℕ) (rest : List ℕ) → eqb (length rest) 0 ≡ false → without_dot (x ∷ rest) ≡ x ∷ without_dot rest
 inner x rest h = step (eqb x 46) (eqb (length rest) 0) h where
@@ -22,7 +17,3 @@ dot_at_end (x ∷ xs) = inner x (xs ++ 46 ∷ []) (more_than_nothing xs 46) ∙ 
 pub other_at_end : (xs : List ℕ) (b : ℕ) → eqb b 46 ≡ false → without_dot (xs ++ b ∷ []) ≡ xs ++ b ∷ []
 other_at_end [] b h = rw h refl
 other_at_end (x ∷ xs) b h = inner x (xs ++ b ∷ []) (more_than_nothing xs b) ∙ ap (λ (t : List ℕ). x ∷ t) (other_at_end xs b h)
-
-pub top_at_end : (first : List ℕ) (ls : List (List ℕ)) (last : List ℕ) → top_label first (ls ++ last ∷ []) ≡ last
-top_at_end first [] last = refl
-top_at_end first (l ∷ ls) last = top_at_end l ls last

@@ -1,5 +1,6 @@
 mod BeginLaws
 mod LabelLaws
+mod NameScan
 pub mod HostLaws
 mod RawLaws
 mod PlainUsers

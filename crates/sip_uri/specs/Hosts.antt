@@ -57,6 +57,15 @@ is_hostname text =
     let labels = slice_split (λ b. b == 46) (without_dot text) in
     list_all is_label labels && begins_with is_ascii_alphabetic (top_label [] labels)
 
+-- whether this byte may stand behind that one, where a dot stands in front of each label and behind it
+abbrev pub may_follow : ℕ → ℕ → Bool
+may_follow last b = if b == 46 then is_ascii_alphanumeric last else if last == 46 then is_ascii_alphanumeric b else is_label_byte b
+
+-- what is left of such labels behind this byte, where the label that it stands in begins with a letter or not
+abbrev pub goes_on : ℕ → Bool → List ℕ → Bool
+goes_on last letter [] = letter && is_ascii_alphanumeric last
+goes_on last letter (b ∷ bs) = may_follow last b && goes_on b (if last == 46 then is_ascii_alphabetic b else letter) bs
+
 -- four octets, or a name
 unfoldable pub is_host : List ℕ → Bool
 is_host text = is_some (ip4_of text) || is_hostname text

@@ -1,10 +1,7 @@
 //! IPv4 addresses and host names (RFC 3261 section 25.1).
 
-ghost use Rattle.std.specs.Prelude.{◌≡◌, ◌==◌, [], map};
-ghost use Rattle.std.specs.List.{list_all, slice_split};
-ghost use Rattle.std.specs.Char.{is_ascii_alphabetic, is_ascii_alphanumeric};
-ghost use Rattle.sip_uri.specs.Classes.{is_label_byte};
-ghost use Rattle.sip_uri.specs.Hosts.{octet_of, ip4_of, begins_with, ends_with, is_label, without_dot, top_label, is_hostname, is_host};
+ghost use Rattle.std.specs.Prelude.{◌≡◌, false};
+ghost use Rattle.sip_uri.specs.Hosts.{octet_of, ip4_of, without_dot, may_follow, goes_on, is_hostname, is_host};
 
 use crate::class::is_label_byte;
 use text::{cut, number_upto};
@@ -33,42 +30,6 @@ pub fn ip4(text: &[u8]) -> Option<[u8; 4]>
     Some([a, b, c, octet(rest?)?])
 }
 
-fn all_label(text: &[u8]) -> bool
-    ensures { result ≡ list_all is_label_byte text.now }
-{
-    text.iter().all(|b| is_label_byte(*b))
-}
-
-fn begins_well(text: &[u8]) -> bool
-    ensures { result ≡ begins_with is_ascii_alphanumeric text.now }
-{
-    match text {
-        [first, ..] => first.is_ascii_alphanumeric(),
-        [] => false,
-    }
-}
-
-fn ends_well(text: &[u8]) -> bool
-    ensures { result ≡ ends_with is_ascii_alphanumeric text.now }
-{
-    match text.split_last() {
-        Some((last, _)) => last.is_ascii_alphanumeric(),
-        None => false,
-    }
-}
-
-fn is_label(text: &[u8]) -> bool
-    ensures { result ≡ is_label text.now }
-{
-    all_label(text) && begins_well(text) && ends_well(text)
-}
-
-fn are_labels(text: &[u8]) -> bool
-    ensures { result ≡ list_all is_label (slice_split (λ b. b == 46) text.now) }
-{
-    text.split(|b| *b == b'.').all(|label| is_label(label))
-}
-
 /// The text without a dot at its end.
 fn without_dot(text: &[u8]) -> &[u8]
     ensures { result.now ≡ without_dot text.now }
@@ -79,32 +40,42 @@ fn without_dot(text: &[u8]) -> &[u8]
     if *last == b'.' { front } else { text }
 }
 
-/// The label behind the last dot.
-fn top_label(text: &[u8]) -> &[u8]
-    ensures { result.now ≡ top_label [] (slice_split (λ b. b == 46) text.now) }
+/// Whether this byte may stand behind that one, where a dot stands in front of each label and behind it.
+fn may_follow(last: u8, b: u8) -> bool
+    ensures { result ≡ may_follow last b }
 {
-    let mut top: &[u8] = &[];
-    for label in text.split(|b| *b == b'.') {
-        top = label;
-    }
-    top
-}
-
-fn begins_with_letter(text: &[u8]) -> bool
-    ensures { result ≡ begins_with is_ascii_alphabetic text.now }
-{
-    match text {
-        [first, ..] => first.is_ascii_alphabetic(),
-        [] => false,
+    if b == b'.' {
+        last.is_ascii_alphanumeric()
+    } else if last == b'.' {
+        b.is_ascii_alphanumeric()
+    } else {
+        is_label_byte(b)
     }
 }
 
-#[tactic(auto, unfolding(crate::specs::Hosts::is_hostname))]
+/// Whether the text is labels with dots between them, the last of which begins with a letter.
+fn is_name(text: &[u8]) -> bool
+    ensures { result ≡ goes_on 46 false text.now }
+{
+    let mut last = b'.';
+    let mut letter = false;
+    for b in text {
+        if !may_follow(last, *b) {
+            return false;
+        }
+        if last == b'.' {
+            letter = b.is_ascii_alphabetic();
+        }
+        last = *b;
+    }
+    letter && last.is_ascii_alphanumeric()
+}
+
+#[tactic(auto, using(crate::proofs::NameScan::name_again))]
 pub(crate) fn is_hostname(text: &[u8]) -> bool
     ensures { result ≡ is_hostname text.now }
 {
-    let text = without_dot(text);
-    are_labels(text) && begins_with_letter(top_label(text))
+    is_name(without_dot(text))
 }
 
 /// Whether the text is the host of a URI: an IPv4 address or a host name.
