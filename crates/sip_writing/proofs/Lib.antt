@@ -14,3 +14,4 @@ pub mod NumberTrip
 pub mod ServerViaTrip
 pub mod RequestTrip
 pub mod RequiredLines
+pub mod MarkedText

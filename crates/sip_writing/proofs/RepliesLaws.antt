@@ -41,7 +41,7 @@ find_last p (x ∷ xs) y none h = step (p x) none (λ e. find_last p xs y e h) w
   step false e more = more e
 
 -- a parameter of one name has no other
-other_name : (a b : List ℕ) (p : Param) → is_param a p ≡ true → pointwise nat_eq (str_to_ascii_lowercase a) (str_to_ascii_lowercase b) ≡ false → is_param b p ≡ false
+pub other_name : (a b : List ℕ) (p : Param) → is_param a p ≡ true → pointwise nat_eq (str_to_ascii_lowercase a) (str_to_ascii_lowercase b) ≡ false → is_param b p ≡ false
 other_name a b p h other = rw ((bytes_decides (str_to_ascii_lowercase p.name) (str_to_ascii_lowercase a)).0 h) other
 
 -- ---- the branch

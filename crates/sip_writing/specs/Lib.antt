@@ -7,3 +7,4 @@ pub mod Further
 pub mod Requests
 pub mod Outlines
 pub mod Unkept
+pub mod MarkedText

@@ -47,6 +47,10 @@ abbrev pub is_address : Host → List ℕ → Bool
 is_address (Ip4 octets) ip = pointwise nat_eq octets ip
 is_address (Name name) ip = false
 
+-- the host of sent-by is another, or `rport` was empty
+abbrev pub needs_received : Bool → Host → List ℕ → Bool
+needs_received asked host ip = asked || not (is_address host ip)
+
 unfoldable pub received : Addr → Param
 received source = record { name = codes "received"; value = Some (ip4_text source.ip) }
 
@@ -64,7 +68,7 @@ marked_params asked needed source params = with_received needed source (without 
 unfoldable pub marked : Addr → Via → Via
 marked source via =
     let asked = asks_port via.params in
-    record via { params = marked_params asked (asked || not (is_address via.host source.ip)) source via.params }
+    record via { params = marked_params asked (needs_received asked via.host source.ip) source via.params }
 
 abbrev pub marked_top : Addr → List Via → List Via
 marked_top source [] = []

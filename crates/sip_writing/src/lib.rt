@@ -4,6 +4,7 @@
 #![tactic(auto)]
 
 mod laws;
+mod marked_text;
 mod reasons;
 mod received;
 mod reply;

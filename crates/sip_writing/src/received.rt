@@ -3,14 +3,14 @@
 ghost use Rattle.std.specs.Prelude.{◌≡◌, ◌<◌, ◌≤◌, ℕ, slice_index, length, position, decimal, IfOk, IfSome, OnOk, map};
 ghost use Rattle.std.specs.Option.{option_copied};
 ghost use Rattle.sip_uri.specs.Writing.{ip4_text};
-ghost use Rattle.sip_writing.specs.Reply.{is_param, is_empty_param, asks_port, value_put, with_value, without, is_address, received, filled, with_received, marked_params, marked};
+ghost use Rattle.sip_writing.specs.Reply.{is_param, is_empty_param, asks_port, value_put, with_value, without, is_address, needs_received, received, filled, with_received, marked_params, marked};
 
 use sip_message::Via;
 use sip_uri::{Addr, Host, Param, Params, param_named, put_ip4};
 use std::alloc::{AllocError, Global};
 use text::{Text, put_number};
 
-fn is_param(param: &Param, name: &[u8]) -> bool
+pub(crate) fn is_param(param: &Param, name: &[u8]) -> bool
     ensures { result ≡ is_param name.now param.now }
 {
     param.name.as_bytes().eq_ignore_ascii_case(name)
@@ -70,6 +70,13 @@ fn is_address(host: &Host, ip: &[u8; 4]) -> bool
         Host::Ip4(octets) => octets == ip,
         Host::Name(_) => false,
     }
+}
+
+/// Whether `received` is put into the top Via: the host of sent-by is another, or `rport` was empty.
+pub(crate) fn needs_received(asked: bool, host: &Host, ip: &[u8; 4]) -> bool
+    ensures { result ≡ needs_received asked host.now ip.now }
+{
+    asked || !is_address(host, ip)
 }
 
 fn number_text(alloc: Global, number: u16) -> Result<Text<'static>, AllocError>
@@ -154,7 +161,7 @@ pub(crate) fn marked(alloc: Global, via: &Via<'_>, source: Addr) -> Result<Via<'
     ensures { IfOk result (λ v. v ≡ marked source via.now) }
 {
     let asked = asks_port(via.params.as_slice());
-    let needed = asked || !is_address(&via.host, &source.ip);
+    let needed = needs_received(asked, &via.host, &source.ip);
     let params = marked_params(alloc, &via.params, asked, needed, source)?;
     Ok(Via {
         sent_by: via.sent_by.keep(alloc)?,

@@ -8,8 +8,8 @@ ghost use Rattle.sip_writing.specs.Reasons.{reason_of};
 ghost use Rattle.sip_writing.specs.Reply.{marked_top, replied, reply_headers, reply_of, tagged_text, via_headers, via_text};
 ghost use Rattle.sip_writing.specs.Writing.{header_text, headers_text, length_text, message_text};
 
+use crate::marked_text::put_marked_via;
 use crate::reasons::reason_of;
-use crate::received::marked;
 use crate::reply::puts_tag;
 use crate::room::ROOM;
 use crate::write::{put_content, put_headers};
@@ -80,19 +80,13 @@ pub(crate) fn put_vias(out: &mut Vec<u8>, vias: &[Via<'_>]) -> Result<(), AllocE
 }
 
 // The request's Vias, of which the top one is marked.
-fn put_marked(
-    alloc: Global,
-    out: &mut Vec<u8>,
-    vias: &[Via<'_>],
-    source: Addr,
-) -> Result<(), AllocError>
+fn put_marked(out: &mut Vec<u8>, vias: &[Via<'_>], source: Addr) -> Result<(), AllocError>
     ensures { OnOk result (out.new.items ≡ out.old.items ++ headers_text (via_headers (marked_top source vias.now))) }
 {
     let [top, below @ ..] = vias else {
         return Ok(());
     };
-    let top = marked(alloc, top, source)?;
-    put_via(out, &top)?;
+    put_marked_via(out, top, source)?;
     put_vias(out, below)
 }
 
@@ -109,12 +103,12 @@ fn put_to(out: &mut Vec<u8>, parts: &Parts<'_>, status: u16, tag: &[u8]) -> Resu
 }
 
 #[tactic(auto, unfolding(crate::specs::Reply::reply_headers, crate::specs::Reply::replied))]
-fn put_repeated(alloc: Global, out: &mut Vec<u8>, reply: &Reply<'_, '_>) -> Result<(), AllocError>
+fn put_repeated(out: &mut Vec<u8>, reply: &Reply<'_, '_>) -> Result<(), AllocError>
     ensures { OnOk result (out.new.items ≡ out.old.items
         ++ headers_text (reply_headers (replied reply.now.parts.now reply.now.source reply.now.status reply.now.tag.now))) }
 {
     let parts = reply.parts;
-    put_marked(alloc, out, parts.vias.as_slice(), reply.source)?;
+    put_marked(out, parts.vias.as_slice(), reply.source)?;
     put_named(out, b"From", parts.from_text.as_bytes())?;
     put_to(out, parts, reply.status, reply.tag)?;
     put_named(out, b"Call-ID", parts.call_id.as_bytes())?;
@@ -122,12 +116,12 @@ fn put_repeated(alloc: Global, out: &mut Vec<u8>, reply: &Reply<'_, '_>) -> Resu
 }
 
 #[tactic(auto, unfolding(crate::specs::Writing::message_text, crate::specs::Reply::reply_of))]
-fn put_reply(alloc: Global, out: &mut Vec<u8>, reply: &Reply<'_, '_>) -> Result<(), AllocError>
+fn put_reply(out: &mut Vec<u8>, reply: &Reply<'_, '_>) -> Result<(), AllocError>
     ensures { OnOk result (out.new.items ≡ out.old.items ++ message_text (Kinds.Response
         (with_further (reply_of reply.now.parts.now reply.now.source reply.now.status reply.now.tag.now) reply.now.further.now reply.now.body.now))) }
 {
     put_status(out, reply.status)?;
-    put_repeated(alloc, out, reply)?;
+    put_repeated(out, reply)?;
     put_headers(out, reply.further)?;
     put_content(out, reply.body)
 }
@@ -138,6 +132,6 @@ pub fn write_reply(alloc: Global, reply: &Reply<'_, '_>) -> Result<Text<'static>
         (with_further (reply_of reply.now.parts.now reply.now.source reply.now.status reply.now.tag.now) reply.now.further.now reply.now.body.now))) }
 {
     let mut out = Vec::with_capacity(alloc, ROOM)?;
-    put_reply(alloc, &mut out, reply)?;
+    put_reply(&mut out, reply)?;
     Ok(Text::from_vec(out))
 }
