@@ -40,33 +40,15 @@ fn put_status(out: &mut Vec<u8>, status: u16) -> Result<(), AllocError>
     out.extend_from_slice(b"\r\n")
 }
 
-/// A header field on a line of its own.
-pub(crate) fn put_named(out: &mut Vec<u8>, name: &[u8], value: &[u8]) -> Result<(), AllocError>
-    ensures { OnOk result (out.new.items ≡ out.old.items ++ header_text (named name.now value.now)) }
-{
-    out.extend_from_slice(name)?;
-    out.extend_from_slice(b": ")?;
-    out.extend_from_slice(value)?;
-    out.extend_from_slice(b"\r\n")
-}
-
-fn put_via_text(out: &mut Vec<u8>, via: &Via<'_>) -> Result<(), AllocError>
-    ensures { OnOk result (out.new.items ≡ out.old.items ++ via_text via.now) }
-{
-    out.extend_from_slice(b"SIP/2.0/UDP ")?;
-    out.extend_from_slice(via.sent_by.as_bytes())?;
-    put_params(out, via.params.as_slice(), b';', b';')?;
-    Ok(())
-}
-
 /// A Via on a line of its own.
 pub(crate) fn put_via(out: &mut Vec<u8>, via: &Via<'_>) -> Result<(), AllocError>
     ensures { OnOk result (out.new.items ≡ out.old.items ++ header_text (named (codes "Via") (via_text via.now))) }
 {
-    out.extend_from_slice(b"Via")?;
-    out.extend_from_slice(b": ")?;
-    put_via_text(out, via)?;
-    out.extend_from_slice(b"\r\n")
+    out.extend_from_slice(b"Via: SIP/2.0/UDP ")?;
+    out.extend_from_slice(via.sent_by.as_bytes())?;
+    put_params(out, via.params.as_slice(), b';', b';')?;
+    out.extend_from_slice(b"\r\n")?;
+    Ok(())
 }
 
 /// Each Via on a line of its own.
@@ -90,29 +72,44 @@ fn put_marked(out: &mut Vec<u8>, vias: &[Via<'_>], source: Addr) -> Result<(), A
     put_vias(out, below)
 }
 
+// The value of To.
 fn put_to(out: &mut Vec<u8>, parts: &Parts<'_>, status: u16, tag: &[u8]) -> Result<(), AllocError>
-    ensures { OnOk result (out.new.items ≡ out.old.items ++ header_text (named (codes "To") (tagged_text status parts.now.to parts.now.to_text tag.now))) }
+    ensures { OnOk result (out.new.items ≡ out.old.items ++ tagged_text status parts.now.to parts.now.to_text tag.now) }
 {
-    out.extend_from_slice(b"To: ")?;
     out.extend_from_slice(parts.to_text.as_bytes())?;
     if puts_tag(status, &parts.to) {
         out.extend_from_slice(b";tag=")?;
         out.extend_from_slice(tag)?;
     }
-    out.extend_from_slice(b"\r\n")
+    Ok(())
 }
 
-#[tactic(auto, unfolding(crate::specs::Reply::reply_headers, crate::specs::Reply::replied))]
+/// Behind the value of To: the end of its line, then Call-ID and CSeq, each on a line of its own.
+pub(crate) fn put_call(out: &mut Vec<u8>, parts: &Parts<'_>) -> Result<(), AllocError>
+    ensures { OnOk result (out.new.items ≡ out.old.items
+        ++ (codes "\r\nCall-ID: " ++ (parts.now.call_id ++ (codes "\r\nCSeq: " ++ (parts.now.cseq_text ++ codes "\r\n"))))) }
+{
+    out.extend_from_slice(b"\r\nCall-ID: ")?;
+    out.extend_from_slice(parts.call_id.as_bytes())?;
+    out.extend_from_slice(b"\r\nCSeq: ")?;
+    out.extend_from_slice(parts.cseq_text.as_bytes())?;
+    out.extend_from_slice(b"\r\n")?;
+    Ok(())
+}
+
+// Each piece has its cost, so the end of a line is written with the name on the next.
 fn put_repeated(out: &mut Vec<u8>, reply: &Reply<'_, '_>) -> Result<(), AllocError>
     ensures { OnOk result (out.new.items ≡ out.old.items
         ++ headers_text (reply_headers (replied reply.now.parts.now reply.now.source reply.now.status reply.now.tag.now))) }
 {
     let parts = reply.parts;
     put_marked(out, parts.vias.as_slice(), reply.source)?;
-    put_named(out, b"From", parts.from_text.as_bytes())?;
+    out.extend_from_slice(b"From: ")?;
+    out.extend_from_slice(parts.from_text.as_bytes())?;
+    out.extend_from_slice(b"\r\nTo: ")?;
     put_to(out, parts, reply.status, reply.tag)?;
-    put_named(out, b"Call-ID", parts.call_id.as_bytes())?;
-    put_named(out, b"CSeq", parts.cseq_text.as_bytes())
+    put_call(out, parts)?;
+    Ok(())
 }
 
 #[tactic(auto, unfolding(crate::specs::Writing::message_text, crate::specs::Reply::reply_of))]

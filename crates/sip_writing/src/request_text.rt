@@ -7,7 +7,7 @@ ghost use Rattle.sip_writing.specs.Outlines.{outlined};
 ghost use Rattle.sip_writing.specs.Requests.{headers_with};
 ghost use Rattle.sip_writing.specs.Writing.{header_text, headers_text, message_text};
 
-use crate::reply_text::{put_named, put_vias};
+use crate::reply_text::{put_call, put_vias};
 use crate::room::ROOM;
 use crate::write::{put_content, put_headers, put_request_line};
 use sip_message::{Header, Parts};
@@ -31,8 +31,7 @@ pub struct Outline<'m, 'a> {
 pub(crate) fn put_hops(out: &mut Vec<u8>, hops: u8) -> Result<(), AllocError>
     ensures { OnOk result (out.new.items ≡ out.old.items ++ header_text (named (codes "Max-Forwards") (decimal hops))) }
 {
-    out.extend_from_slice(b"Max-Forwards")?;
-    out.extend_from_slice(b": ")?;
+    out.extend_from_slice(b"Max-Forwards: ")?;
     put_number(out, u64::from(hops))?;
     out.extend_from_slice(b"\r\n")?;
     Ok(())
@@ -44,10 +43,11 @@ fn put_required(out: &mut Vec<u8>, parts: &Parts<'_>, hops: u8) -> Result<(), Al
 {
     put_vias(out, parts.vias.as_slice())?;
     put_hops(out, hops)?;
-    put_named(out, b"From", parts.from_text.as_bytes())?;
-    put_named(out, b"To", parts.to_text.as_bytes())?;
-    put_named(out, b"Call-ID", parts.call_id.as_bytes())?;
-    put_named(out, b"CSeq", parts.cseq_text.as_bytes())?;
+    out.extend_from_slice(b"From: ")?;
+    out.extend_from_slice(parts.from_text.as_bytes())?;
+    out.extend_from_slice(b"\r\nTo: ")?;
+    out.extend_from_slice(parts.to_text.as_bytes())?;
+    put_call(out, parts)?;
     Ok(())
 }
 

@@ -9,7 +9,7 @@ ghost use Rattle.sip_writing.specs.Requests.{cseq_text, headers_with, tag_params
 ghost use Rattle.sip_writing.specs.Unkept.{end_name, unkept_request, unkept_parts};
 ghost use Rattle.sip_writing.specs.Writing.{header_text, headers_text, message_text};
 
-use crate::reply_text::{put_named, put_via};
+use crate::reply_text::put_via;
 use crate::request_text::put_hops;
 use crate::room::ROOM;
 use crate::write::{put_content, put_headers, put_request_line};
@@ -44,6 +44,15 @@ pub struct Unkept<'m, 'a> {
     pub body: &'m [u8],
 }
 
+/// A header field on a line of its own, whose label is its name with the colon and the blank behind it.
+fn put_line(out: &mut Vec<u8>, label: &[u8], value: &[u8]) -> Result<(), AllocError>
+    ensures { OnOk result (out.new.items ≡ out.old.items ++ (label.now ++ (value.now ++ codes "\r\n"))) }
+{
+    out.extend_from_slice(label)?;
+    out.extend_from_slice(value)?;
+    out.extend_from_slice(b"\r\n")
+}
+
 fn put_tag(out: &mut Vec<u8>, tag: &[u8]) -> Result<(), AllocError>
     ensures { OnOk result (out.new.items ≡ out.old.items ++ params_text 59 59 (tag_params tag.now)) }
 {
@@ -55,11 +64,10 @@ fn put_tag(out: &mut Vec<u8>, tag: &[u8]) -> Result<(), AllocError>
 }
 
 #[tactic(auto, unfolding(sip_uri::specs::NameAddr::name_addr_text))]
-fn put_end(out: &mut Vec<u8>, name: &[u8], end: &EndName<'_, '_>) -> Result<(), AllocError>
-    ensures { OnOk result (out.new.items ≡ out.old.items ++ header_text (named name.now (name_addr_text (end_name end.now)))) }
+fn put_end(out: &mut Vec<u8>, label: &[u8], end: &EndName<'_, '_>) -> Result<(), AllocError>
+    ensures { OnOk result (out.new.items ≡ out.old.items ++ (label.now ++ (name_addr_text (end_name end.now) ++ codes "\r\n"))) }
 {
-    out.extend_from_slice(name)?;
-    out.extend_from_slice(b": ")?;
+    out.extend_from_slice(label)?;
     put_display_and_uri(out, end.display.as_ref(), end.uri)?;
     put_tag(out, end.tag)?;
     out.extend_from_slice(b"\r\n")
@@ -81,9 +89,9 @@ fn put_required(out: &mut Vec<u8>, request: &Unkept<'_, '_>) -> Result<(), Alloc
 {
     put_via(out, request.via)?;
     put_hops(out, request.max_forwards)?;
-    put_end(out, b"From", &request.from)?;
-    put_end(out, b"To", &request.to)?;
-    put_named(out, b"Call-ID", request.call_id)?;
+    put_end(out, b"From: ", &request.from)?;
+    put_end(out, b"To: ", &request.to)?;
+    put_line(out, b"Call-ID: ", request.call_id)?;
     put_cseq(out, request.number, request.method)?;
     Ok(())
 }
