@@ -1,6 +1,6 @@
 //! Changes as they are entered: first the room that they take, which may be refused, then the changes, which cannot.
 
-ghost use Rattle.std.specs.Prelude.{◌≡◌, ◌+◌, ◌*◌, ◌<◌, ◌≤◌, ◌^◌, OnOk, OnErr, IsTrue, IsSome, Some, None, is_some, true, length, option_map, slice_set, vec_len};
+ghost use Rattle.std.specs.Prelude.{◌≡◌, ◌+◌, ◌*◌, ◌<◌, ◌≤◌, ◌^◌, OnOk, OnErr, IfSome, IsTrue, IsSome, Some, None, is_some, true, length, option_map, slice_set, vec_len};
 ghost use Rattle.transactions.specs.declared.transaction.Transaction.{Transaction};
 ghost use Rattle.transaction_machines.specs.Lines.{follows, is_answer, starts_with_lines};
 ghost use Rattle.transactions.specs.Fireable.{IsFireable, has_sent};
@@ -20,7 +20,7 @@ use boxed::Boxed;
 use std::alloc::AllocError;
 use text::Text;
 use timers::Timers;
-use transaction_machines::{Input, Starts, Step, advance};
+use transaction_machines::{Input, Starts, State, Step, advance};
 
 fn starts_count(starts: Starts) -> usize
     ensures { result ≡ starts_count starts }
@@ -190,22 +190,25 @@ fn tell(
     let Some(transaction) = transaction_at(places.slots(), id) else {
         return;
     };
-    let Some(step) = advance(transaction.state, input) else {
+    let state = transaction.state;
+    let Some(step) = advance(state, input) else {
         return;
     };
-    carry_out(places, timers, id, step, fresh, now);
+    carry_out(places, timers, id, state, step, fresh, now);
 }
 
-// A step of transaction id, with what is fresh.
+// A step of transaction id, which is in this state, with what is fresh.
 fn carry_out(
     places: &mut Places,
     timers: &mut Timers<TimerId>,
     id: usize,
+    state: State,
     step: Step,
     fresh: Option<Text<'static>>,
     now: u64,
 )
     requires there { IsSome (at places.old.slots id) }
+    requires state { IfSome (at places.old.slots id) (λ t. t.state ≡ state) }
     requires moment { now < 2 ^ 60 }
     requires short { IsShort step.starts }
     requires follows { (t : Transaction) → at places.old.slots id ≡ Some t → IsTrue (follows t.state (is_some fresh) step) }
@@ -217,6 +220,6 @@ fn carry_out(
     ensures timers_room { timers.old.room ≤ timers.new.room + 2 }
 {
     places.write(id, step.next, fresh);
-    stop(timers, id, step.stops);
+    stop(timers, id, state, step.stops);
     set_all(timers, id, step.starts, now);
 }

@@ -5,11 +5,12 @@ ghost use Rattle.transactions.specs.Timing.{same_timer, timer_of, without_kinds,
 ghost use Rattle.transaction_machines.specs.Steps.{IsShort};
 ghost use Rattle.timers.specs.Queue.{without, moment};
 ghost use Rattle.transactions.specs.Contents.{has_come};
+ghost use Rattle.transactions.specs.Kinds.{HaveLines, kinds_of};
 ghost use Rattle.transactions.specs.Changes.{starts_count};
 
 use crate::transaction::TimerId;
 use timers::Timers;
-use transaction_machines::{Start, Starts, Stops, TimerKind};
+use transaction_machines::{Start, Starts, State, Stops, TimerKind};
 
 /// The moment of a timer, where it is set.
 pub(crate) fn moment(timers: &Timers<TimerId>, id: usize, kind: TimerKind) -> Option<u64>
@@ -44,38 +45,43 @@ fn stop_kinds(timers: &mut Timers<TimerId>, id: usize, kinds: &[TimerKind])
     }
 }
 
-// All timers of the transaction.
-fn stop_every(timers: &mut Timers<TimerId>, id: usize)
+/// The kinds of timers that the machine of this state has lines for.
+fn kinds_of(state: State) -> &'static [TimerKind]
+    ensures { result.now ≡ kinds_of state }
+{
+    match state {
+        State::InviteClient(_) => &[
+            TimerKind::A,
+            TimerKind::B,
+            TimerKind::D,
+            TimerKind::M,
+            TimerKind::N,
+        ],
+        State::InviteServer(_) => &[TimerKind::G, TimerKind::H, TimerKind::I, TimerKind::L],
+        State::OtherClient(_) => &[TimerKind::E, TimerKind::F, TimerKind::K],
+        State::OtherServer(_) => &[TimerKind::J],
+    }
+}
+
+// All timers of the transaction: no other kind than its machine's is set.
+fn stop_every(timers: &mut Timers<TimerId>, id: usize, state: State)
+    requires lines { HaveLines id state timers.old.timers }
     ensures timers { timers.new.timers ≡ stopped timers.old.timers id }
     ensures room { timers.old.room ≤ timers.new.room }
 {
-    let kinds = [
-        TimerKind::A,
-        TimerKind::B,
-        TimerKind::D,
-        TimerKind::E,
-        TimerKind::F,
-        TimerKind::G,
-        TimerKind::H,
-        TimerKind::I,
-        TimerKind::J,
-        TimerKind::K,
-        TimerKind::L,
-        TimerKind::M,
-        TimerKind::N,
-    ];
-    stop_kinds(timers, id, &kinds);
+    stop_kinds(timers, id, kinds_of(state));
 }
 
-/// Stops timers of a transaction.
-pub(crate) fn stop(timers: &mut Timers<TimerId>, id: usize, stops: Stops)
+/// Stops timers of a transaction that is in this state.
+pub(crate) fn stop(timers: &mut Timers<TimerId>, id: usize, state: State, stops: Stops)
+    requires lines { HaveLines id state timers.old.timers }
     ensures timers { timers.new.timers ≡ stopped_by timers.old.timers id stops }
     ensures room { timers.old.room ≤ timers.new.room }
 {
     match stops {
         Stops::NoTimer => {}
         Stops::Retransmission => stop_kinds(timers, id, &[TimerKind::A, TimerKind::B]),
-        Stops::Every => stop_every(timers, id),
+        Stops::Every => stop_every(timers, id, state),
     }
 }
 
