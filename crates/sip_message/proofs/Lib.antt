@@ -22,3 +22,4 @@ pub mod CleanLaws
 pub mod RepeatableLaws
 mod NextLine
 pub mod NameLaws
+mod MediaLaws

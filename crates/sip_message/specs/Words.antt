@@ -1,5 +1,5 @@
 -- Words on messages that the crates above share.
-use Rattle.std.specs.Prelude.{ℕ, Bool, nat_eq, nat_lt, List, [], ◌∷◌, ◌++◌, map, codes, unwrap_or, option_map, Option, Some, None, if◌then◌else◌}
+use Rattle.std.specs.Prelude.{ℕ, Bool, ◌&&◌, ◌||◌, nat_eq, nat_lt, List, [], ◌∷◌, ◌++◌, map, codes, unwrap_or, option_map, Option, Some, None, if◌then◌else◌}
 use Rattle.std.specs.Char.{to_ascii_lowercase}
 use Rattle.std.specs.Cmp.Lexicographic.{pointwise}
 use Rattle.text.specs.Cut.{before, after}
@@ -50,6 +50,10 @@ class_of status = if nat_lt status 200 then Provisional else if nat_lt status 30
 
 abbrev pub lower_case : List ℕ → List ℕ
 lower_case text = map to_ascii_lowercase text
+
+-- a byte of a media range in lower case: neither a blank nor a capital letter
+abbrev pub is_range_byte : ℕ → Bool
+is_range_byte b = nat_lt 90 b || nat_lt 32 b && nat_lt b 65
 
 -- `type/subtype` in lower case, without the blanks round its slash and without parameters
 abbrev pub media_range : List ℕ → List ℕ

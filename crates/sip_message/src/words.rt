@@ -1,9 +1,9 @@
 //! Words on messages that the crates above share.
 
-ghost use Rattle.std.specs.Prelude.{◌≡◌, ◌++◌, map, IfOk, OnOk};
-ghost use Rattle.std.specs.Char.{to_ascii_lowercase};
+ghost use Rattle.std.specs.Prelude.{◌≡◌, ◌++◌, ◌∷◌, IfOk};
+ghost use Rattle.std.specs.List.{list_all};
 ghost use Rattle.std.specs.Option.{option_copied};
-ghost use Rattle.sip_message.specs.Words.{param_value, top_branch, tag_value, tag_text, is_method, class_of, lower_case, media_range, content_type_of};
+ghost use Rattle.sip_message.specs.Words.{param_value, top_branch, tag_value, tag_text, is_method, class_of, lower_case, is_range_byte, media_range, content_type_of};
 
 use crate::headers::Header;
 use crate::lookup::first_value;
@@ -81,24 +81,40 @@ pub fn is_method(parts: &Parts<'_>, name: &[u8]) -> bool
     parts.cseq.method.as_bytes() == name
 }
 
-fn put_lower_case(out: &mut Vec<u8>, text: &[u8]) -> Result<(), AllocError>
-    ensures { OnOk result (out.new.items ≡ out.old.items ++ lower_case text.now) }
+/// A byte of a media range in lower case: neither a blank nor a capital letter.
+fn is_range_byte(b: u8) -> bool
+    ensures { result ≡ is_range_byte b }
 {
-    for b in text {
-        out.push(b.to_ascii_lowercase())?;
-    }
-    Ok(())
+    b > b'Z' || (b' ' < b && b < b'A')
 }
 
+/// Whether a media range is given as it stands, as most are written.
+fn is_lower_range(text: &[u8]) -> bool
+    ensures { result ≡ list_all is_range_byte text.now }
+{
+    text.iter().all(|b| is_range_byte(*b))
+}
+
+fn lower_range(alloc: Global, kind: &[u8], subtype: &[u8]) -> Result<Text<'static>, AllocError>
+    ensures { IfOk result (λ range. range ≡ lower_case kind.now ++ 47 ∷ lower_case subtype.now) }
+{
+    let mut out = Vec::with_capacity(alloc, kind.len() + 1 + subtype.len())?;
+    out.extend_from_slice(kind)?;
+    out.push(b'/')?;
+    out.extend_from_slice(subtype)?;
+    out.as_mut_slice().make_ascii_lowercase();
+    Ok(Text::from_vec(out))
+}
+
+#[tactic(auto, using(crate::proofs::MediaLaws::range_kept))]
 fn media_range(alloc: Global, text: &[u8]) -> Result<Text<'static>, AllocError>
     ensures { IfOk result (λ range. range ≡ media_range text.now) }
 {
     let (kind, subtype) = cut(text, b'/');
-    let mut out = Vec::new(alloc);
-    put_lower_case(&mut out, trimmed(kind))?;
-    out.push(b'/')?;
-    put_lower_case(&mut out, trimmed(subtype.unwrap_or(b"")))?;
-    Ok(Text::from_vec(out))
+    if subtype.is_some() && is_lower_range(text) {
+        return Text::from_slice(alloc, text);
+    }
+    lower_range(alloc, trimmed(kind), trimmed(subtype.unwrap_or(b"")))
 }
 
 /// What the body is, as Content-Type says it: `type/subtype` in lower case, without its parameters, where that header
