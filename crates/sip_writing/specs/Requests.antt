@@ -63,17 +63,21 @@ tagged name tag = name_with_tag name.display name.uri tag
 abbrev pub cseq_text : ℕ → List ℕ → List ℕ
 cseq_text number method = decimal number ++ 32 ∷ method
 
-unfoldable pub parts_of : Draft → Parts
-parts_of d = record {
-  vias = d.via.now ∷ [];
-  from = d.from.now;
-  to = d.to.now;
-  call_id = d.call_id.now;
-  cseq = record { number = d.number; method = d.method.now };
-  from_text = name_addr_text d.from.now;
-  to_text = name_addr_text d.to.now;
-  cseq_text = cseq_text d.number d.method.now;
+-- one Via, and these names in From and To
+abbrev pub parts_with_names : Via → NameAddr → NameAddr → List ℕ → ℕ → List ℕ → Parts
+parts_with_names via from to call_id number method = record {
+  vias = via ∷ [];
+  from = from;
+  to = to;
+  call_id = call_id;
+  cseq = record { number = number; method = method };
+  from_text = name_addr_text from;
+  to_text = name_addr_text to;
+  cseq_text = cseq_text number method;
 }
+
+unfoldable pub parts_of : Draft → Parts
+parts_of d = parts_with_names d.via.now d.from.now d.to.now d.call_id.now d.number d.method.now
 
 -- each on a line of its own
 unfoldable pub headers_with : ℕ → Parts → List Header
@@ -86,15 +90,18 @@ headers_with hops parts =
     ++ named (codes "CSeq") parts.cseq_text ∷ []
 
 -- the further header fields stand behind those that each request has
-unfoldable pub request_of : Draft → Request
-request_of d = record {
-  method = d.method.now;
-  uri = d.uri.now;
-  parts = parts_of d;
-  max_forwards = d.max_forwards;
-  headers = headers_with d.max_forwards (parts_of d) ++ d.further.now;
-  body = d.body.now;
+abbrev pub request_with : List ℕ → Uri → Parts → ℕ → List Header → List ℕ → Request
+request_with method uri parts hops further body = record {
+  method = method;
+  uri = uri;
+  parts = parts;
+  max_forwards = hops;
+  headers = headers_with hops parts ++ further;
+  body = body;
 }
+
+unfoldable pub request_of : Draft → Request
+request_of d = request_with d.method.now d.uri.now (parts_of d) d.max_forwards d.further.now d.body.now
 
 -- ---- what is written and read again
 

@@ -7,8 +7,7 @@ ghost use Rattle.text.specs.Class.{is_run_of, is_token_byte};
 ghost use Rattle.sip_uri.specs.NameAddr.{name_addr_text};
 ghost use Rattle.sip_message.specs.declared.message.Message.TheVariants as Kinds;
 ghost use Rattle.sip_message.specs.Lookup.{named};
-ghost use Rattle.sip_writing.specs.Outlines.{parts_with_names};
-ghost use Rattle.sip_writing.specs.Requests.{branch_text, server_via, tag_params, name_with_tag, cseq_text, parts_of, headers_with, request_of, IsReadVia, IsSound};
+ghost use Rattle.sip_writing.specs.Requests.{branch_text, server_via, tag_params, name_with_tag, cseq_text, parts_of, parts_with_names, headers_with, request_of, IsReadVia, IsSound};
 ghost use Rattle.sip_writing.specs.WritingMessage.{IsWrittenMessage};
 
 use crate::received::numbers_fit;
