@@ -8,7 +8,7 @@ ghost use Rattle.sip_message.specs.Folded.{unfolded_text};
 use crate::folded::{is_unfolded_without_case, put_unfolded};
 use std::alloc::{AllocError, Global};
 use std::marker::Model;
-use text::Text;
+use text::{Text, same_without_case};
 
 /// Where a value stands.
 #[derive(Drop)]
@@ -92,7 +92,7 @@ impl<'a> FieldValue<'a> {
         ensures { result ≡ str_eq_ignore_ascii_case self.now other.now }
     {
         match &self.form {
-            Form::Whole(text) => text.as_bytes().eq_ignore_ascii_case(other),
+            Form::Whole(text) => same_without_case(text.as_bytes(), other),
             Form::Folded(raw) => is_unfolded_without_case(raw, other),
         }
     }

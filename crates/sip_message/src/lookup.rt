@@ -9,11 +9,12 @@ use crate::field_value::FieldValue;
 use crate::header_names::HeaderName;
 use crate::headers::Header;
 use std::alloc::{AllocError, Global};
+use text::same_without_case;
 
 pub(crate) fn is_named(header: &Header<'_>, name: &[u8]) -> bool
     ensures { result ≡ is_named name.now header.now }
 {
-    header.name.as_bytes().eq_ignore_ascii_case(name)
+    same_without_case(header.name.as_bytes(), name)
 }
 
 fn first_named<'m, 'a>(headers: &'m [Header<'a>], name: &[u8]) -> Option<&'m Header<'a>>

@@ -8,7 +8,7 @@ ghost use Rattle.sip_message.specs.Start.{has_no_space, is_part, is_version, beg
 use crate::error::MessageError;
 use sip_uri::{Uri, UriError, read_uri};
 use std::alloc::Global;
-use text::{Text, cut, is_run_of_digits, is_run_of_token, number_upto};
+use text::{Text, cut, is_run_of_digits, is_run_of_token, number_upto, same_without_case};
 
 /// The start line of a request.
 #[derive(Drop)]
@@ -48,7 +48,7 @@ pub(crate) fn is_part(text: &[u8]) -> bool
 fn is_version(text: &[u8]) -> bool
     ensures { result ≡ is_version text.now }
 {
-    text.eq_ignore_ascii_case(b"SIP/2.0")
+    same_without_case(text, b"SIP/2.0")
 }
 
 /// Whether the text begins with `SIP/`, without case.
@@ -56,7 +56,7 @@ pub(crate) fn begins_sip(text: &[u8]) -> bool
     ensures { result ≡ begins_sip text.now }
 {
     let (name, version) = cut(text, b'/');
-    name.eq_ignore_ascii_case(b"SIP") && version.is_some()
+    same_without_case(name, b"SIP") && version.is_some()
 }
 
 /// The number of an answer: three digits, 100 to 699.

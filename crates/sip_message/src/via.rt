@@ -18,7 +18,8 @@ use sip_uri::{Host, Params, read_field_params, read_host};
 use std::alloc::{AllocError, Global};
 use std::marker::Model;
 use text::{
-    Text, cut, cut_piece, cut_word, is_run_of_digits, number_upto, trimmed, without_blanks,
+    Text, cut, cut_piece, cut_word, is_run_of_digits, number_upto, same_without_case, trimmed,
+    without_blanks,
 };
 
 /// Where an answer goes (RFC 3261 section 18.2.2). `sent_by` is host and port as received, without blanks.
@@ -149,9 +150,9 @@ fn is_port(text: &[u8]) -> bool
 fn is_well_formed(via: &ViaText<'_>) -> bool
     ensures { result ≡ is_raw_via via.now }
 {
-    via.name.eq_ignore_ascii_case(b"SIP")
-        && via.version.eq_ignore_ascii_case(b"2.0")
-        && via.transport.eq_ignore_ascii_case(b"UDP")
+    same_without_case(via.name, b"SIP")
+        && same_without_case(via.version, b"2.0")
+        && same_without_case(via.transport, b"UDP")
         && via.port.is_none_or(|port| is_port(port))
 }
 

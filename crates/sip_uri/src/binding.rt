@@ -24,7 +24,7 @@ fn same_without_case(a: &Text, b: &Text) -> bool
     ensures test { result ≡ str_eq_ignore_ascii_case a.now b.now }
     ensures relation { IsTrue result ↔ (str_to_ascii_lowercase a.now ≡ str_to_ascii_lowercase b.now) }
 {
-    a.as_bytes().eq_ignore_ascii_case(b.as_bytes())
+    text::same_without_case(a.as_bytes(), b.as_bytes())
 }
 
 /// Whether two hosts are one: four octets, or a name without case.
@@ -45,7 +45,7 @@ pub fn param_named<'m, 'a>(params: &'m [Param<'a>], name: &[u8]) -> Option<&'m P
 {
     params
         .iter()
-        .find(|p| p.name.as_bytes().eq_ignore_ascii_case(name))
+        .find(|p| text::same_without_case(p.name.as_bytes(), name))
 }
 
 fn same_value(a: &Param, b: &Param) -> bool

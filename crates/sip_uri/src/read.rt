@@ -14,7 +14,7 @@ use crate::hosts::{ip4, is_hostname};
 use crate::parts::Parts;
 use crate::uri::{Host, Param, Params, Uri};
 use std::alloc::{AllocError, Global};
-use text::{Text, cut, lent, number_upto};
+use text::{Text, cut, lent, number_upto, same_without_case};
 
 /// The host of a text, whose octets these are where it is an address.
 fn host(text: &[u8], octets: Option<[u8; 4]>) -> Host<'_>
@@ -124,7 +124,7 @@ fn is_sip(text: &[u8]) -> bool
     ensures test { result ≡ is_sip text.now }
     ensures long { IsTrue result → 4 ≤ length text.now }
 {
-    text.len() >= 4 && text[..4].eq_ignore_ascii_case(b"sip:")
+    text.len() >= 4 && same_without_case(&text[..4], b"sip:")
 }
 
 #[tactic(auto, unfolding(crate::specs::Reading::uri_of))]

@@ -8,12 +8,12 @@ ghost use Rattle.sip_writing.specs.Reply.{is_param, is_empty_param, asks_port, v
 use sip_message::Via;
 use sip_uri::{Addr, Host, Param, Params, param_named, put_ip4};
 use std::alloc::{AllocError, Global};
-use text::{Text, put_number};
+use text::{Text, put_number, same_without_case};
 
 pub(crate) fn is_param(param: &Param, name: &[u8]) -> bool
     ensures { result ≡ is_param name.now param.now }
 {
-    param.name.as_bytes().eq_ignore_ascii_case(name)
+    same_without_case(param.name.as_bytes(), name)
 }
 
 fn is_empty_param(param: Option<&Param>) -> bool
