@@ -1,7 +1,7 @@
 //! The office, and a day of a task in it.
 
 use crate::filling::{Template, digits_of};
-use crate::playing::{Counts, Day, FIRST_USER, Round, play_round};
+use crate::playing::{Counts, Day, FIRST_USER, Round, play_round, play_scripts};
 use agent::Agent;
 use configuration::{Config, ConfigError};
 use std::alloc::{AllocError, Global};
@@ -12,6 +12,8 @@ use text::{Text, Texts};
 pub(crate) struct Scripts {
     /// A registration.
     pub register: Vec<Template>,
+    /// A request whose transaction stands behind it.
+    pub options: Vec<Template>,
     /// A call up to its ACK.
     pub begin: Vec<Template>,
     /// The call's end.
@@ -53,8 +55,17 @@ impl Scripts {
         }
     }
 
+    fn nothing(&self) -> Round<'_> {
+        Round {
+            first: &[],
+            then: &[],
+            tokens: 0,
+        }
+    }
+
     fn round_of(&self, task: &str) -> Round<'_> {
         match task {
+            "nothing" => self.nothing(),
             "hold" => self.held(),
             "register" => self.registration(),
             _ => self.plain(),
@@ -69,11 +80,12 @@ pub(crate) struct Outcome {
     pub standing: usize,
 }
 
-/// How often a task is done, and beside how many calls.
+/// How often a task is done, beside how many calls, and beside how many server transactions more, which begin with each round.
 #[derive(Clone, Copy)]
 pub(crate) struct Amount {
     pub standing: u32,
     pub rounds: u32,
+    pub transactions: u32,
 }
 
 /// A value that is done with. In a function of every type its drop is one call, which is proved once.
@@ -126,17 +138,18 @@ fn play_each(
     Ok(())
 }
 
-/// Plays so many rounds between a pair of users.
+/// Plays the rounds of a task between the last pair of users, each behind the requests whose transactions stand beside it.
 fn play_rounds(
     alloc: Global,
     agent: &mut Agent,
     day: &mut Day,
+    scripts: &Scripts,
     round: &Round<'_>,
-    pair: u32,
-    rounds: u32,
+    amount: Amount,
 ) -> Result<(), AllocError> {
-    for _ in 0..rounds {
-        play_round(alloc, agent, day, round, pair)?;
+    for _ in 0..amount.rounds {
+        play_scripts(alloc, agent, day, &scripts.options, amount.transactions)?;
+        play_round(alloc, agent, day, round, amount.standing)?;
     }
     Ok(())
 }
@@ -156,7 +169,7 @@ fn play_day(
     play_each(alloc, agent, &mut day, &scripts.beginning(), pair)?;
     day.counts = Counts::none();
     let round = scripts.round_of(task);
-    play_rounds(alloc, agent, &mut day, &round, pair, amount.rounds)?;
+    play_rounds(alloc, agent, &mut day, scripts, &round, amount)?;
     Ok(Outcome {
         counts: day.counts,
         standing: agent.calls().len(),

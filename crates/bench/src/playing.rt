@@ -8,8 +8,8 @@ use std::alloc::{AllocError, Global};
 /// From the beginning of a round to the next, in milliseconds: by then its transactions have ended, and its pairs have rested.
 const ROUND: u64 = 60_000;
 
-/// Timers that fire behind one another at most.
-const MOST_DUE: u32 = 1_000;
+/// Timers that fire behind one another at most: each server transaction has one.
+const MOST_DUE: u32 = 10_000;
 
 /// The first user's number.
 pub(crate) const FIRST_USER: u64 = 1_000;
@@ -78,8 +78,12 @@ impl Day {
         })
     }
 
-    fn pass(&mut self, tokens: u64) {
+    fn count_tokens(&mut self, tokens: u64) {
         self.tokens = self.tokens.saturating_add(tokens);
+    }
+
+    fn pass(&mut self, tokens: u64) {
+        self.count_tokens(tokens);
         self.moment = self.moment.saturating_add(ROUND);
     }
 }
@@ -171,6 +175,22 @@ fn play_script(
 ) -> Result<(), AllocError> {
     for template in script {
         take_filled(alloc, agent, day, template, filling)?;
+    }
+    Ok(())
+}
+
+/// Plays a script in which the server makes one token so many times at one moment, from the first user.
+pub(crate) fn play_scripts(
+    alloc: Global,
+    agent: &mut Agent,
+    day: &mut Day,
+    script: &[Template],
+    times: u32,
+) -> Result<(), AllocError> {
+    for _ in 0..times {
+        let filling = day.next_filling(alloc, 0)?;
+        play_script(alloc, agent, day, script, &filling)?;
+        day.count_tokens(1);
     }
     Ok(())
 }

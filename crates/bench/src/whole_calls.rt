@@ -1,8 +1,8 @@
 //! What a whole call takes, or a registration: a task is done so many rounds while so many calls stand.
 //!
 //! A task is `plain`, a call of seven datagrams from its INVITE to the response to its BYE; `hold`, the same call, which is held and
-//! resumed; or `register`, a registration that is refreshed. Each call is between two users of its own, and the users that are
-//! called are registered. Behind each round time passes until its transactions have ended.
+//! resumed; `register`, a registration that is refreshed; or `nothing`. Each call is between two users of its own, and the users that are
+//! called are registered. A round begins with the server transactions that stand beside it, and behind it time passes until all have ended.
 
 use crate::filling::{Template, templates_of};
 use crate::office::{Amount, Outcome, Scripts, play_task};
@@ -19,6 +19,14 @@ const TASKS: [&str; 3] = ["plain", "hold", "register"];
 const USUAL: Amount = Amount {
     standing: 2,
     rounds: 3,
+    transactions: 0,
+};
+
+/// A task beside server transactions, where no words are given.
+const CROWDED: Amount = Amount {
+    standing: 2,
+    rounds: 3,
+    transactions: 4,
 };
 
 /// The events of a script; none of what is no script.
@@ -37,11 +45,13 @@ fn read_templates<R: Files + AllocGlobal>(rt: &R, name: &str) -> io::Result<Vec<
 
 fn read_scripts<R: Files + AllocGlobal>(rt: &R) -> io::Result<Scripts> {
     let register = read_templates(rt, "register")?;
+    let options = read_templates(rt, "options")?;
     let begin = read_templates(rt, "begin")?;
     let end = read_templates(rt, "end")?;
     let hold = read_templates(rt, "hold")?;
     Ok(Scripts {
         register,
+        options,
         begin,
         end,
         hold,
@@ -75,11 +85,11 @@ pub(crate) fn perform<R: Files + Print + AllocGlobal>(
     play(rt, &read_scripts(rt)?, task, amount)
 }
 
-/// Does each task three times beside two calls.
+/// Does each task three times beside two calls, and a call beside four server transactions too.
 pub(crate) fn perform_each<R: Files + Print + AllocGlobal>(rt: &R) -> io::Result<()> {
     let scripts = read_scripts(rt)?;
     for task in TASKS {
         play(rt, &scripts, task, USUAL)?;
     }
-    Ok(())
+    play(rt, &scripts, "plain", CROWDED)
 }
