@@ -8,136 +8,167 @@
 //! Other rows are `serve`, so many turns, and how many receives in a row fail before one doesn't: how the signalling ends, and
 //! after how many receives and waits; `stopped`, the same with the stop flag set; and `salts`, the first two of a key of zeros.
 
-use crate::days::day_text;
+use crate::days::put_day;
 use crate::playing::{Played, play};
+use crate::printed::Printed;
 use crate::receiving::put_receives;
-use crate::serving::{salts_text, serve_text};
+use crate::serving::{put_salts, put_served};
 use events::Event;
+use rows::let_go;
 use scripts::{ScriptError, read_script};
-use std::alloc::AllocError;
+use std::alloc::{AllocError, Global};
 use std::fs::Files;
 use std::io::Write;
 use std::sync::Wait;
 use std::{fs, io};
 
-fn events_of<R: Files + AllocGlobal>(rt: &R, name: &str) -> io::Result<Vec<Event>> {
-    let path = format!(in rt.alloc(); "{name}.script")?;
-    let script = fs::read(rt, path.as_str())?;
-    match read_script(rt.alloc(), &script) {
+/// The events of a script, or what an input that is none comes to.
+fn events_in(alloc: Global, script: &[u8]) -> io::Result<Vec<Event>> {
+    match read_script(alloc, script) {
         Ok(events) => Ok(events),
         Err(ScriptError::OutOfMemory) => Err(io::Error::from(AllocError)),
         Err(ScriptError::Malformed) => Err(io::Error::from(io::ErrorKind::InvalidData)),
     }
 }
 
+fn events_of<R: Files + AllocGlobal>(rt: &R, name: &str) -> io::Result<Vec<Event>> {
+    let path = format!(in rt.alloc(); "{name}.script")?;
+    let script = fs::read(rt, path.as_str())?;
+    events_in(rt.alloc(), &script)
+}
+
 /// All of a run.
-fn tell<W: Write>(writer: &mut W, played: &Played) -> io::Result<()> {
-    writer.write_all(&played.sent)?;
-    writer.write_all(&played.summary)?;
-    writer.write_all(&played.states)
+fn put_played(out: &mut Printed, played: &Played) {
+    out.put_printed(&played.sent);
+    out.put("failed ");
+    out.put_number(played.failed as u64);
+    out.put("\n");
+    out.put_printed(&played.states);
 }
 
 /// A run in which the send at this place fails, beside the one in which none does.
-fn compare<R: Wait + AllocGlobal>(
+fn put_compared<R: Wait + AllocGlobal>(
     rt: &R,
+    out: &mut Printed,
     events: &[Event],
     undisturbed: &Played,
     place: u64,
-) -> Result<String, AllocError> {
-    let played = play(rt, events, Some(place))?;
-    let like = if played.states.as_slice() == undisturbed.states.as_slice() {
-        "the same"
-    } else {
-        "other"
-    };
-    format!(in rt.alloc(); "send {place} fails: {like} lists, calls and rows\n")
+) {
+    let played = play(rt, events, Some(place));
+    let is_same = out.compare(&played.states, &undisturbed.states);
+    out.put("send ");
+    out.put_number(place);
+    out.put_likeness(is_same);
 }
 
-fn tell_each<R: Wait + AllocGlobal, W: Write>(
-    rt: &R,
-    writer: &mut W,
-    events: &[Event],
-) -> io::Result<()> {
-    let undisturbed = play(rt, events, None)?;
+/// The same of each place in turn.
+fn put_each<R: Wait + AllocGlobal>(rt: &R, out: &mut Printed, events: &[Event]) {
+    let undisturbed = play(rt, events, None);
     for place in 0..undisturbed.sends {
-        let told = compare(rt, events, &undisturbed, place.saturating_add(1))?;
-        writer.write_all(told.as_bytes())?;
+        put_compared(rt, out, events, &undisturbed, place.saturating_add(1));
+    }
+}
+
+/// A run in which the send at the place of a word fails.
+fn put_failing<R: Wait + AllocGlobal>(rt: &R, out: &mut Printed, events: &[Event], place: &str) {
+    match place.parse::<u64>() {
+        Ok(place) => put_played(out, &play(rt, events, Some(place))),
+        Err(_) => put_no_such_row(out),
+    }
+}
+
+fn put_no_such_row(out: &mut Printed) {
+    out.put("no such row\n");
+}
+
+/// Live turns of a script, of whose sends this one fails.
+fn put_live<R: Wait + AllocGlobal>(rt: &R, out: &mut Printed, events: &[Event], which: &str) {
+    match which {
+        "each" => put_each(rt, out, events),
+        "none" => put_played(out, &play(rt, events, None)),
+        _ => put_failing(rt, out, events, which),
+    }
+}
+
+/// The name of the script of a row.
+fn script_name<'a>(first: &'a str, rest: &'a str) -> &'a str {
+    match first {
+        "day" | "receives" => rest,
+        _ => first,
+    }
+}
+
+fn put_events<R: Wait + AllocGlobal>(
+    rt: &R,
+    out: &mut Printed,
+    events: &[Event],
+    first: &str,
+    rest: &str,
+) {
+    match first {
+        "day" => put_day(out, events),
+        "receives" => put_receives(rt, out, events),
+        _ => put_live(rt, out, events, rest),
+    }
+}
+
+/// The row of a script.
+fn put_script<R: Files + Wait + AllocGlobal>(
+    rt: &R,
+    out: &mut Printed,
+    first: &str,
+    rest: &str,
+) -> io::Result<()> {
+    let events = events_of(rt, script_name(first, rest))?;
+    put_events(rt, out, &events, first, rest);
+    let_go(events);
+    Ok(())
+}
+
+/// How many turns, and how many receives in a row fail.
+fn serving_of(words: &str) -> Option<(u64, u32)> {
+    let (turns, failing) = words.split_once('|')?;
+    match (turns.parse::<u64>(), failing.parse::<u32>()) {
+        (Ok(turns), Ok(failing)) => Some((turns, failing)),
+        _ => None,
+    }
+}
+
+fn put_serving<R: Wait>(rt: &R, out: &mut Printed, words: &str, is_stopped: bool) {
+    match serving_of(words) {
+        Some((turns, failing)) => put_served(rt, out, turns, failing, is_stopped),
+        None => put_no_such_row(out),
+    }
+}
+
+fn put_words<R: Files + Wait + AllocGlobal>(
+    rt: &R,
+    out: &mut Printed,
+    first: &str,
+    rest: &str,
+) -> io::Result<()> {
+    match first {
+        "serve" => put_serving(rt, out, rest, false),
+        "stopped" => put_serving(rt, out, rest, true),
+        _ => return put_script(rt, out, first, rest),
     }
     Ok(())
 }
 
-/// The row of a script.
-fn script_row<R: Files + Wait + AllocGlobal, W: Write>(
-    rt: &R,
-    writer: &mut W,
-    name: &str,
-    which: &str,
-) -> io::Result<()> {
-    let events = events_of(rt, name)?;
-    match which {
-        "each" => tell_each(rt, writer, &events),
-        "none" => tell(writer, &play(rt, &events, None)?),
-        _ => match which.parse::<u64>() {
-            Ok(place) => tell(writer, &play(rt, &events, Some(place))?),
-            Err(_) => writer.write_all(b"no such row\n"),
-        },
-    }
-}
-
-fn serve_row<R: Wait + AllocGlobal, W: Write>(
-    rt: &R,
-    writer: &mut W,
-    words: &str,
-    is_stopped: bool,
-) -> io::Result<()> {
-    let Some((turns, failing)) = words.split_once('|') else {
-        return writer.write_all(b"no such row\n");
-    };
-    let (Ok(turns), Ok(failing)) = (turns.parse::<u64>(), failing.parse::<u32>()) else {
-        return writer.write_all(b"no such row\n");
-    };
-    let told = serve_text(rt, turns, failing, is_stopped)?;
-    writer.write_all(told.as_bytes())
-}
-
-fn day_row<R: Files + AllocGlobal, W: Write>(rt: &R, writer: &mut W, name: &str) -> io::Result<()> {
-    let events = events_of(rt, name)?;
-    writer.write_all(&day_text(rt.alloc(), &events)?)
-}
-
-fn receives_row<R: Files + Wait + AllocGlobal, W: Write>(
-    rt: &R,
-    writer: &mut W,
-    name: &str,
-) -> io::Result<()> {
-    let events = events_of(rt, name)?;
-    let mut out = Vec::new(rt.alloc());
-    put_receives(rt, &mut out, &events)?;
-    writer.write_all(&out)
-}
-
-fn put_row<R: Files + Wait + AllocGlobal, W: Write>(
-    rt: &R,
-    writer: &mut W,
-    row: &str,
-) -> io::Result<()> {
+fn put_row<R: Files + Wait + AllocGlobal>(rt: &R, out: &mut Printed, row: &str) -> io::Result<()> {
     match row.split_once('|') {
-        Some(("day", name)) => day_row(rt, writer, name),
-        Some(("receives", name)) => receives_row(rt, writer, name),
-        Some(("serve", words)) => serve_row(rt, writer, words, false),
-        Some(("stopped", words)) => serve_row(rt, writer, words, true),
-        Some((name, which)) => script_row(rt, writer, name, which),
-        None => writer.write_all(salts_text(rt.alloc())?.as_bytes()),
+        Some((first, rest)) => put_words(rt, out, first, rest),
+        None => {
+            put_salts(out);
+            Ok(())
+        }
     }
 }
 
 /// Prints a row, and behind it what it comes to.
-pub(crate) fn play_row<R: Files + Wait + AllocGlobal, W: Write>(
-    rt: &R,
-    writer: &mut W,
-    row: &str,
-) -> io::Result<()> {
-    writer.write_all(row.as_bytes())?;
-    writer.write_all(b"\n")?;
-    put_row(rt, writer, row)
+pub(crate) fn play_row<R: Files + Print + Wait + AllocGlobal>(rt: &R, row: &str) -> io::Result<()> {
+    println!(rt; "{row}")?;
+    let mut out = Printed::new(rt.alloc());
+    put_row(rt, &mut out, row)?;
+    io::writer(rt).write_all(out.whole()?)
 }

@@ -7,19 +7,21 @@ mod configuration_rows;
 mod days;
 mod memory_wire;
 mod playing;
+mod printed;
 mod receiving;
 mod replay_rows;
+mod run_rows;
 mod scripts_rows;
 mod serve_rows;
 mod server_rows;
 mod serving;
 mod state_text;
 mod streams;
+mod words;
 
 use crate::agent_rows::play_row;
-use rows::{Notation, Rows, play};
+use rows::{Output, Rows, play_lines};
 use std::alloc::{AllocError, Global};
-use std::io::Write;
 use std::{env, io};
 
 /// Nothing is left for later rows.
@@ -34,24 +36,21 @@ impl Rows for ServerRows {
         call: &str,
         args: &[&[u8]],
     ) -> Result<Option<String>, AllocError> {
+        let mut out = Output::new(alloc);
         match crate_name {
-            "configuration" => configuration_rows::answer(alloc, call, args),
-            "scripts" => scripts_rows::answer(alloc, call, args),
-            "server" => server_rows::answer(alloc, call, args),
-            _ => Ok(None),
+            "configuration" => configuration_rows::put_answer(&mut out, call, args),
+            "scripts" => scripts_rows::put_answer(&mut out, call, args),
+            "server" => server_rows::put_answer(&mut out, call, args),
+            _ => out.no_such_row(),
         }
+        out.end()
     }
 }
 
 fn main(rt: HostRuntime) -> io::Result<()> {
-    let mut notation = Notation::new(rt.alloc());
-    let mut rows = ServerRows;
-    for line in rt.lines(rt.alloc()) {
-        play(&rt, &mut notation, &mut rows, line?.as_str())?;
-    }
-    let mut writer = io::writer(&rt);
+    play_lines(&rt, &mut ServerRows)?;
     for row in env::args(&rt)?.skip(1) {
-        play_row(&rt, &mut writer, row.as_str())?;
+        play_row(&rt, row.as_str())?;
     }
-    writer.flush()
+    Ok(())
 }

@@ -51,12 +51,13 @@ fn is_last_of(count: u64, others: u32) -> bool {
 }
 
 impl MemoryWire {
-    pub(crate) fn new(alloc: Global, failing: Option<u64>) -> MemoryWire {
+    /// Nothing comes, and nothing fails. Takes no memory.
+    pub(crate) fn new(alloc: Global) -> MemoryWire {
         MemoryWire {
             alloc,
             outbox: Vec::new(alloc),
             count: 0,
-            failing,
+            failing: None,
             refused: false,
             receives: 0,
             waits: 0,
@@ -66,6 +67,11 @@ impl MemoryWire {
             next: 0,
             failed: false,
         }
+    }
+
+    /// The send at this place fails, if there is one.
+    pub(crate) fn fail_send(&mut self, place: Option<u64>) {
+        self.failing = place;
     }
 
     /// A datagram comes.

@@ -2,70 +2,92 @@
 
 use crate::memory_wire::MemoryWire;
 use crate::playing::new_office;
+use crate::printed::Printed;
 use crate::serving::serve_turns;
-use crate::state_text::{put_state, put_words};
+use crate::state_text::put_state;
 use events::{Event, What};
-use std::alloc::AllocError;
+use rows::{let_go, replace};
 use std::sync::Wait;
 
-/// What stands after so many turns at a wire with these datagrams, where the receive of the one at a place, counted from 1, fails once.
+fn put_datagram(out: &mut Printed, wire: &mut MemoryWire, event: &Event) {
+    if let What::Datagram { source, bytes } = &event.what {
+        out.note(wire.put(*source, bytes.as_bytes()));
+    }
+}
+
+fn put_datagrams(out: &mut Printed, wire: &mut MemoryWire, events: &[Event]) {
+    for event in events {
+        put_datagram(out, wire, event);
+    }
+}
+
+/// A wire with the datagrams of a script, where the receive of the one at a place, counted from 1, fails once.
+fn wire_with(out: &mut Printed, events: &[Event], failing: Option<usize>) -> MemoryWire {
+    let mut wire = MemoryWire::new(out.alloc());
+    wire.failing_datagram = failing;
+    put_datagrams(out, &mut wire, events);
+    wire
+}
+
+/// What stands after so many turns at such a wire.
 fn state_after<R: Wait + AllocGlobal>(
     rt: &R,
     events: &[Event],
     turns: u64,
     failing: Option<usize>,
-) -> Result<Vec<u8>, AllocError> {
-    let mut wire = MemoryWire::new(rt.alloc(), None);
-    put_datagrams(&mut wire, events)?;
-    wire.failing_datagram = failing;
-    let (mut signalling, mut viewer) = new_office(rt, rt.alloc(), wire)?;
-    let _ = serve_turns(rt, &mut signalling, turns, false);
-    let mut out = Vec::new(rt.alloc());
-    let told = put_state(rt.alloc(), &mut out, &signalling.agent, &mut viewer, 0);
-    signalling.close(rt);
-    told?;
-    Ok(out)
-}
-
-fn put_datagrams(wire: &mut MemoryWire, events: &[Event]) -> Result<(), AllocError> {
-    for event in events {
-        if let What::Datagram { source, bytes } = &event.what {
-            wire.put(*source, bytes.as_bytes())?;
+) -> Printed {
+    let mut out = Printed::new(rt.alloc());
+    match new_office(rt, rt.alloc()) {
+        Ok((mut signalling, mut viewer)) => {
+            let wire = wire_with(&mut out, events, failing);
+            replace(&mut signalling.wire, wire);
+            let_go(serve_turns(rt, &mut signalling, turns, false));
+            put_state(&mut out, &signalling.agent, &mut viewer, 0);
+            signalling.close(rt);
         }
+        Err(_) => out.no_memory(),
     }
-    Ok(())
+    out
 }
 
-/// Whether all that stands behind a datagram, from this place on, is the same where its receive fails once: then it takes a turn more.
+/// Whether the same stands after so many turns where the receive of the datagram at a place fails once: then it takes a turn more.
+fn is_same_after<R: Wait + AllocGlobal>(
+    rt: &R,
+    out: &mut Printed,
+    events: &[Event],
+    turns: u64,
+    place: usize,
+) -> bool {
+    let undisturbed = state_after(rt, events, turns, None);
+    let disturbed = state_after(rt, events, turns.saturating_add(1), Some(place));
+    out.compare(&undisturbed, &disturbed)
+}
+
+/// Whether all that stands behind a datagram, from this place on, is the same where its receive fails once.
 fn is_same_behind<R: Wait + AllocGlobal>(
     rt: &R,
+    out: &mut Printed,
     events: &[Event],
     place: usize,
-) -> Result<bool, AllocError> {
+) -> bool {
     let mut is_same = true;
     for turns in place..=events.len() {
-        let undisturbed = state_after(rt, events, turns as u64, None)?;
-        let disturbed = state_after(rt, events, (turns as u64).saturating_add(1), Some(place))?;
-        is_same = is_same && undisturbed.as_slice() == disturbed.as_slice();
+        is_same = is_same_after(rt, out, events, turns as u64, place) && is_same;
     }
-    Ok(is_same)
+    is_same
+}
+
+fn put_receive<R: Wait + AllocGlobal>(rt: &R, out: &mut Printed, events: &[Event], place: usize) {
+    out.put_printed(&state_after(rt, events, place as u64, None));
+    let is_same = is_same_behind(rt, out, events, place);
+    out.put("receive ");
+    out.put_number(place as u64);
+    out.put_likeness(is_same);
 }
 
 /// What stands after each turn, and whether it is the same where the receive of each datagram fails in turn.
-pub(crate) fn put_receives<R: Wait + AllocGlobal>(
-    rt: &R,
-    out: &mut Vec<u8>,
-    events: &[Event],
-) -> Result<(), AllocError> {
+pub(crate) fn put_receives<R: Wait + AllocGlobal>(rt: &R, out: &mut Printed, events: &[Event]) {
     for place in 1..=events.len() {
-        out.append(&mut state_after(rt, events, place as u64, None)?)?;
-        let like = if is_same_behind(rt, events, place)? {
-            "the same"
-        } else {
-            "other"
-        };
-        let told = format!(in rt.alloc(); "receive {place} fails: {like} lists, calls and rows\n")?;
-        put_words(out, told.as_str())?;
+        put_receive(rt, out, events, place);
     }
-    Ok(())
 }

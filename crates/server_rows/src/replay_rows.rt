@@ -1,144 +1,114 @@
-//! Rows of `replay`, over files that give little or fail, and of whole runs over files.
+//! Rows of `replay`, over files that give little or fail.
 
-use crate::server_rows::{
-    command_words, ending_text, fault_text, is_out_of_memory, shown_or_nothing,
-};
-use crate::streams::{EndlessReader, Hall, NarrowWriter, SlowReader, TwoFiles, slow};
-use rows::{number, usize_of};
-use server::{Fault, replay, run};
-use std::alloc::{AllocError, Global};
+use crate::streams::{EndlessReader, NarrowWriter, SlowReader, slow};
+use crate::words::{joined, put_fault, put_length, put_outcome, put_shown_or_nothing};
+use rows::{Output, number, usize_of};
+use server::{Fault, replay};
 
-/// The words of a row, one behind the other.
-fn joined(alloc: Global, words: &[&[u8]]) -> Result<Vec<u8>, AllocError> {
-    let mut whole = Vec::new(alloc);
-    for word in words {
-        whole.extend_from_slice(word)?;
-    }
-    Ok(whole)
+fn put_fault_before(out: &mut Output, fault: Fault) {
+    put_fault(out, fault);
+    out.put(", ");
 }
 
 /// What was written, behind the words of a fault where there is one.
-fn outcome_text(
-    alloc: Global,
-    outcome: Result<(), Fault>,
-    written: &[u8],
-) -> Result<String, AllocError> {
-    let written = shown_or_nothing(alloc, written)?;
-    match outcome {
-        Ok(()) => Ok(written),
-        Err(fault) => {
-            let words = fault_text(alloc, fault)?;
-            format!(in alloc; "{words}, {written}")
-        }
+fn put_replayed(out: &mut Output, outcome: Result<(), Fault>, written: &[u8]) {
+    if let Err(fault) = outcome {
+        put_fault_before(out, fault);
     }
+    put_shown_or_nothing(out, written);
 }
 
-fn replay_text(
-    alloc: Global,
-    config: Option<SlowReader<'_>>,
-    script: SlowReader<'_>,
-) -> Result<String, AllocError> {
-    let mut written = Vec::new(alloc);
-    let outcome = replay(alloc, config, script, &mut written);
-    outcome_text(alloc, outcome, &written)
+/// A script on the office of a configuration, or on the example office.
+fn put_replay(out: &mut Output, config: Option<SlowReader<'_>>, script: SlowReader<'_>) {
+    let mut written = out.list();
+    let outcome = replay(out.alloc(), config, script, &mut written);
+    put_replayed(out, outcome, &written);
 }
 
-/// On the example office.
-fn example_text(alloc: Global, words: &[&[u8]]) -> Result<String, AllocError> {
-    let script = joined(alloc, words)?;
-    replay_text(alloc, None, slow(&script, 100, 0))
+fn put_on_example(out: &mut Output, words: &[&[u8]]) {
+    let script = joined(out, words);
+    put_replay(out, None, slow(&script, 100, 0));
 }
 
 /// On the office of a configuration, of which some read fails, or of whose script.
-fn configured_text(
-    alloc: Global,
-    config: SlowReader<'_>,
-    failing: u64,
-    words: &[&[u8]],
-) -> Result<String, AllocError> {
-    let script = joined(alloc, words)?;
-    replay_text(alloc, Some(config), slow(&script, 100, failing))
+fn put_configured(out: &mut Output, config: SlowReader<'_>, failing: u64, words: &[&[u8]]) {
+    let script = joined(out, words);
+    put_replay(out, Some(config), slow(&script, 100, failing));
 }
 
 /// A script that never ends.
-fn endless_script_text(alloc: Global) -> Result<String, AllocError> {
-    let mut written = Vec::new(alloc);
+fn put_endless_script(out: &mut Output) {
+    let mut written = out.list();
     let script = EndlessReader { reads: 0 };
-    let outcome = replay(alloc, None::<EndlessReader>, script, &mut written);
-    outcome_text(alloc, outcome, &written)
+    let outcome = replay(out.alloc(), None::<EndlessReader>, script, &mut written);
+    put_replayed(out, outcome, &written);
 }
 
 /// A configuration that never ends.
-fn endless_config_text(alloc: Global, words: &[&[u8]]) -> Result<String, AllocError> {
-    let script = joined(alloc, words)?;
-    let mut written = Vec::new(alloc);
+fn put_endless_config(out: &mut Output, words: &[&[u8]]) {
+    let script = joined(out, words);
+    let mut written = out.list();
     let config = EndlessReader { reads: 0 };
-    let outcome = replay(alloc, Some(config), slow(&script, 100, 0), &mut written);
-    outcome_text(alloc, outcome, &written)
+    let outcome = replay(
+        out.alloc(),
+        Some(config),
+        slow(&script, 100, 0),
+        &mut written,
+    );
+    put_replayed(out, outcome, &written);
 }
 
 /// What `replay` says over a writer with little room, and how much that took.
-fn unwritten_text(alloc: Global, room: usize, words: &[&[u8]]) -> Result<String, AllocError> {
-    let script = joined(alloc, words)?;
+fn put_unwritten(out: &mut Output, room: usize, words: &[&[u8]]) {
+    let script = joined(out, words);
     let mut writer = NarrowWriter { room, written: 0 };
     let script = slow(&script, 100, 0);
-    match replay(alloc, None::<EndlessReader>, script, &mut writer) {
-        Ok(()) => format!(in alloc; "done, {} bytes written", writer.written),
-        Err(fault) => {
-            let words = fault_text(alloc, fault)?;
-            format!(in alloc; "{words}, {} bytes written", writer.written)
-        }
-    }
+    let outcome = replay(out.alloc(), None::<EndlessReader>, script, &mut writer);
+    put_outcome(out, outcome);
+    put_length(out, writer.written);
 }
 
-/// A whole run of the program over two files, and an empty input.
-fn files_text(alloc: Global, files: &TwoFiles<'_>, words: &[&str]) -> Result<String, AllocError> {
-    let mut reader = slow(&[], 100, 0);
-    let mut written = Vec::new(alloc);
-    let mut hall = Hall::new(None);
-    let ending = run(alloc, words, files, &mut hall, &mut reader, &mut written);
-    if is_out_of_memory(ending) {
-        return Err(AllocError);
-    }
-    let outcome = ending_text(alloc, ending)?;
-    let written = shown_or_nothing(alloc, &written)?;
-    format!(in alloc; "{outcome}, {written}")
-}
-
-/// The same, with the words of a row.
-fn of_files(
-    alloc: Global,
-    files: &TwoFiles<'_>,
-    words: &[&[u8]],
-) -> Result<Option<String>, AllocError> {
-    match command_words(alloc, words)? {
-        Some(words) => Ok(Some(files_text(alloc, files, &words)?)),
-        None => Ok(None),
-    }
-}
-
-/// What the row's call answers, if it is one of `replay` or of a run over files.
-pub(crate) fn replay_answer(
-    alloc: Global,
-    call: &str,
-    args: &[&[u8]],
-) -> Result<Option<String>, AllocError> {
-    let answer = match (call, args) {
-        ("replay", words) => example_text(alloc, words),
-        ("replay_by", [config, words @ ..]) => {
-            configured_text(alloc, slow(config, 7, 0), 0, words)
-        }
-        ("replay_failing", [config_at, script_at, config, words @ ..]) => {
+/// The first word is the read of the configuration that fails, and behind it stand that of the script and the configuration.
+fn put_failing(out: &mut Output, config_at: &[u8], words: &[&[u8]]) {
+    match words {
+        [script_at, config, words @ ..] => {
             let config = slow(config, 100, number(config_at));
-            configured_text(alloc, config, number(script_at), words)
+            put_configured(out, config, number(script_at), words);
         }
-        ("replay_endless_script", []) => endless_script_text(alloc),
-        ("replay_endless_config", words) => endless_config_text(alloc, words),
-        ("replay_unwritten", [room, words @ ..]) => unwritten_text(alloc, usize_of(room), words),
-        ("run_files", [config, script, words @ ..]) => {
-            return of_files(alloc, &TwoFiles { config, script }, words);
-        }
-        _ => return Ok(None),
-    };
-    Ok(Some(answer?))
+        _ => out.no_such_row(),
+    }
+}
+
+/// What a call without words answers, if it is one.
+fn put_plain(out: &mut Output, call: &str) {
+    match call {
+        "replay_endless_script" => put_endless_script(out),
+        _ => out.no_such_row(),
+    }
+}
+
+/// What a call on a word and the pieces of a script answers, if it is one.
+fn put_of_first(out: &mut Output, call: &str, first: &[u8], words: &[&[u8]]) {
+    match call {
+        "replay_by" => put_configured(out, slow(first, 7, 0), 0, words),
+        "replay_failing" => put_failing(out, first, words),
+        "replay_unwritten" => put_unwritten(out, usize_of(first), words),
+        _ => out.no_such_row(),
+    }
+}
+
+fn put_of_words(out: &mut Output, call: &str, args: &[&[u8]]) {
+    match args {
+        [] => put_plain(out, call),
+        [first, words @ ..] => put_of_first(out, call, first, words),
+    }
+}
+
+/// Writes what a call of `replay` answers: a script has any number of words.
+pub(crate) fn put_answer(out: &mut Output, call: &str, args: &[&[u8]]) {
+    match call {
+        "replay" => put_on_example(out, args),
+        "replay_endless_config" => put_endless_config(out, args),
+        _ => put_of_words(out, call, args),
+    }
 }

@@ -2,98 +2,133 @@
 
 use events::{Event, Sent, What};
 use port_pool::Hop;
-use rows::{address_of, address_words, boxes, number, said, u16_of};
+use rows::{Output, address_of, let_go, number, u16_of};
 use scripts::{ScriptError, put_call, put_hop, put_sent, read_script};
-use std::alloc::{AllocError, Global};
 use text::Text;
 
-/// What was found, or the words of the fault.
-fn told(alloc: Global, outcome: Result<String, ScriptError>) -> Result<String, AllocError> {
-    match outcome {
-        Ok(words) => Ok(words),
-        Err(ScriptError::OutOfMemory) => Err(AllocError),
-        Err(fault) => fault.to_string(alloc),
+/// The words of a fault, or want of memory.
+fn put_fault(out: &mut Output, fault: ScriptError) {
+    match fault {
+        ScriptError::OutOfMemory => out.no_memory(),
+        fault => out.put_fault(fault),
     }
 }
 
 /// What happens.
-fn what_words(alloc: Global, what: &What) -> Result<String, AllocError> {
+fn put_what(out: &mut Output, what: &What) {
     match what {
         What::Datagram { source, bytes } => {
-            let source = address_words(alloc, *source)?;
-            let bytes = boxes(alloc, &[bytes.as_bytes()])?;
-            format!(in alloc; "{bytes} from {source}")
+            out.put_boxed(bytes.as_bytes());
+            out.put(" from ");
+            out.put_address(*source);
         }
-        What::Due => said(alloc, "due"),
+        What::Due => out.put("due"),
     }
 }
 
-fn event_words(alloc: Global, event: &Event) -> Result<String, AllocError> {
-    let what = what_words(alloc, &event.what)?;
-    let now = event.now;
-    let salt = event.salt;
-    format!(in alloc; "{now} {salt} {what}")
+fn put_event(out: &mut Output, event: &Event) {
+    out.put_number(event.now);
+    out.put(" ");
+    out.put_number(event.salt);
+    out.put(" ");
+    put_what(out, &event.what);
 }
 
-fn events_words(alloc: Global, events: &[Event]) -> Result<String, AllocError> {
-    let mut words = String::new(alloc);
-    for event in events {
-        if !words.is_empty() {
-            words.push_str("; ")?;
+fn put_each_event(out: &mut Output, events: &[Event]) {
+    for (at, event) in events.iter().enumerate() {
+        if at > 0 {
+            out.put("; ");
         }
-        words.push_str(event_words(alloc, event)?.as_str())?;
+        put_event(out, event);
     }
-    Ok(words)
+}
+
+fn put_events(out: &mut Output, events: &[Event]) {
+    match events {
+        [] => out.put("no events"),
+        _ => put_each_event(out, events),
+    }
 }
 
 /// The events of a script.
-fn script_words(alloc: Global, text: &[u8]) -> Result<String, ScriptError> {
-    let events = read_script(alloc, text)?;
-    if events.is_empty() {
-        return Ok(said(alloc, "no events")?);
+fn put_script(out: &mut Output, text: &[u8]) {
+    match read_script(out.alloc(), text) {
+        Ok(events) => {
+            put_events(out, &events);
+            let_go(events);
+        }
+        Err(fault) => put_fault(out, fault),
     }
-    Ok(events_words(alloc, &events)?)
+}
+
+fn put_datagram(out: &mut Output, sent: &Sent) {
+    let mut text = out.list();
+    out.note(put_sent(&mut text, sent));
+    out.put_boxed(&text);
 }
 
 /// What is printed of a datagram that is sent.
-fn sent_words(alloc: Global, to: &[u8], bytes: &[u8]) -> Result<String, AllocError> {
-    let sent = Sent {
-        to: address_of(to),
-        bytes: Text::from_slice(alloc, bytes)?,
-    };
-    let mut out = Vec::new(alloc);
-    put_sent(&mut out, &sent)?;
-    boxes(alloc, &[&out])
+fn put_sent_of(out: &mut Output, to: &[u8], bytes: &[u8]) {
+    match Text::from_slice(out.alloc(), bytes) {
+        Ok(bytes) => {
+            let sent = Sent {
+                to: address_of(to),
+                bytes,
+            };
+            put_datagram(out, &sent);
+            let_go(sent);
+        }
+        Err(_) => out.no_memory(),
+    }
 }
 
-fn call_words(alloc: Global, count: &[u8], phase: &[u8]) -> Result<String, AllocError> {
-    let mut out = Vec::new(alloc);
-    put_call(&mut out, number(count), phase)?;
-    boxes(alloc, &[&out])
+fn put_call_of(out: &mut Output, count: &[u8], phase: &[u8]) {
+    let mut text = out.list();
+    out.note(put_call(&mut text, number(count), phase));
+    out.put_boxed(&text);
 }
 
-fn hop_words(alloc: Global, port: &[u8], to: &[u8], from: &[u8]) -> Result<String, AllocError> {
+fn put_hop_of(out: &mut Output, port: &[u8], to: &[u8], from: &[u8]) {
     let hop = Hop {
         to: address_of(to),
         from: u16_of(from),
     };
-    let mut out = Vec::new(alloc);
-    put_hop(&mut out, u16_of(port), hop)?;
-    boxes(alloc, &[&out])
+    let mut text = out.list();
+    out.note(put_hop(&mut text, u16_of(port), hop));
+    out.put_boxed(&text);
 }
 
-/// What the call answers, if there is such a call.
-pub(crate) fn answer(
-    alloc: Global,
-    call: &str,
-    args: &[&[u8]],
-) -> Result<Option<String>, AllocError> {
-    let words = match (call, args) {
-        ("read_script", [text]) => told(alloc, script_words(alloc, text))?,
-        ("put_sent", [to, bytes]) => sent_words(alloc, to, bytes)?,
-        ("put_call", [count, phase]) => call_words(alloc, count, phase)?,
-        ("put_hop", [port, to, from]) => hop_words(alloc, port, to, from)?,
-        _ => return Ok(None),
-    };
-    Ok(Some(words))
+/// What a call on a text answers, if it is one.
+fn put_of_one(out: &mut Output, call: &str, text: &[u8]) {
+    match call {
+        "read_script" => put_script(out, text),
+        _ => out.no_such_row(),
+    }
+}
+
+/// What a call on two words answers, if it is one.
+fn put_of_two(out: &mut Output, call: &str, first: &[u8], second: &[u8]) {
+    match call {
+        "put_sent" => put_sent_of(out, first, second),
+        "put_call" => put_call_of(out, first, second),
+        _ => out.no_such_row(),
+    }
+}
+
+/// What a call on the row of a port answers, if it is one.
+fn put_of_three(out: &mut Output, call: &str, port: &[u8], to: &[u8], from: &[u8]) {
+    match call {
+        "put_hop" => put_hop_of(out, port, to, from),
+        _ => out.no_such_row(),
+    }
+}
+
+/// Writes what a call of `scripts` answers.
+pub(crate) fn put_answer(out: &mut Output, call: &str, args: &[&[u8]]) {
+    match args {
+        [text] => put_of_one(out, call, text),
+        [first, second] => put_of_two(out, call, first, second),
+        [port, to, from] => put_of_three(out, call, port, to, from),
+        _ => out.no_such_row(),
+    }
 }

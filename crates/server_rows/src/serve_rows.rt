@@ -1,41 +1,68 @@
 //! Rows of `serve`, over a host without sockets.
 
 use crate::streams::{Hall, slow};
-use server::{HostFault, serve};
-use std::alloc::{AllocError, Global};
+use crate::words::put_fault_told;
+use rows::{Output, beside, let_go};
+use server::{Fault, HostFault, serve};
 
-/// What `serve` asks for.
-pub(crate) fn serve_asked_text(
-    alloc: Global,
-    config: &str,
-    turns: Option<u64>,
-) -> Result<String, AllocError> {
+/// How a host fails, by its words.
+const HOST_FAULTS: [(&[u8], HostFault); 2] = [
+    (b"socket", HostFault::Socket),
+    (b"memory", HostFault::OutOfMemory),
+];
+
+fn put_turns(out: &mut Output, turns: u64) {
+    out.put(" for ");
+    out.put_number(turns);
+    out.put(" turns");
+}
+
+/// What the words ask to serve.
+pub(crate) fn put_serve_asked(out: &mut Output, config: &str, turns: Option<u64>) {
+    out.put("serve ");
+    out.put(config);
     match turns {
-        Some(turns) => format!(in alloc; "serve {config} for {turns} turns"),
-        None => format!(in alloc; "serve {config} without an end"),
+        Some(turns) => put_turns(out, turns),
+        None => out.put(" without an end"),
     }
 }
 
-fn hall_told(name: &[u8]) -> Hall {
-    match name {
-        b"socket" => Hall::new(Some(HostFault::Socket)),
-        b"memory" => Hall::new(Some(HostFault::OutOfMemory)),
-        _ => Hall::new(None),
+fn put_place(out: &mut Output, port: u16, turns: Option<u64>) {
+    out.put(", asked at ");
+    out.put_number(u64::from(port));
+    if let Some(turns) = turns {
+        put_turns(out, turns);
     }
+}
+
+/// What the host was asked.
+fn put_asked(out: &mut Output, asked: Option<(u16, Option<u64>)>) {
+    match asked {
+        Some((port, turns)) => put_place(out, port, turns),
+        None => out.put(", not asked"),
+    }
+}
+
+/// Why nothing is served. Memory that ran out before the host was asked is no answer: only the host's own want of it is.
+fn put_unserved(out: &mut Output, fault: Fault, is_asked: bool) {
+    match fault {
+        Fault::OutOfMemory if !is_asked => out.no_memory(),
+        _ => put_fault_told(out, fault),
+    }
+}
+
+fn put_outcome(out: &mut Output, outcome: Result<(), Fault>, hall: &Hall) {
+    match outcome {
+        Ok(()) => out.put("served"),
+        Err(fault) => put_unserved(out, fault, hall.asked.is_some()),
+    }
+    put_asked(out, hall.asked);
 }
 
 /// What `serve` says of a configuration, for 3 turns, over a host that fails as it is told.
-pub(crate) fn serve_text(alloc: Global, text: &[u8], told: &[u8]) -> Result<String, AllocError> {
-    let mut hall = hall_told(told);
-    let outcome = match serve(alloc, slow(text, 100, 0), &mut hall, Some(3)) {
-        Ok(()) => format!(in alloc; "served")?,
-        Err(fault) => format!(in alloc; "{fault}, status {}", fault.status())?,
-    };
-    match hall.asked {
-        Some((port, Some(turns))) => format!(in alloc;
-            "{outcome}, asked at {port} for {turns} turns"
-        ),
-        Some((port, None)) => format!(in alloc; "{outcome}, asked at {port}"),
-        None => format!(in alloc; "{outcome}, not asked"),
-    }
+pub(crate) fn put_serve(out: &mut Output, text: &[u8], told: &[u8]) {
+    let mut hall = Hall::new(beside(&HOST_FAULTS, told));
+    let outcome = serve(out.alloc(), slow(text, 100, 0), &mut hall, Some(3));
+    put_outcome(out, outcome, &hall);
+    let_go(hall);
 }

@@ -1,234 +1,192 @@
 //! Rows of calls of `server`, some of them over readers and writers that give little or fail.
 
-use crate::replay_rows::replay_answer;
-use crate::serve_rows::{serve_asked_text, serve_text};
-use crate::streams::{EndlessReader, Hall, NarrowWriter, TwoFiles, slow};
-use rows::{number, said, shown, usize_of};
-use server::{Asked, CommandError, Ending, Fault, command, once, read_datagram, run};
-use std::alloc::{AllocError, Global};
+use crate::replay_rows;
+use crate::run_rows::{put_command, put_input_run, put_run_of_files};
+use crate::serve_rows::put_serve;
+use crate::streams::{EndlessReader, NarrowWriter, slow};
+use crate::words::{
+    error_named, fault_named, put_ending, put_error_told, put_fault, put_fault_told, put_length,
+    put_outcome, put_shown_or_nothing,
+};
+use rows::{Output, number, usize_of};
+use server::{Ending, once, read_datagram};
 
-/// Bytes, or that there are none.
-pub(crate) fn shown_or_nothing(alloc: Global, bytes: &[u8]) -> Result<String, AllocError> {
-    if bytes.is_empty() {
-        return said(alloc, "nothing");
-    }
-    shown(alloc, bytes)
+fn put_left(out: &mut Output, written: &[u8], left: usize) {
+    put_shown_or_nothing(out, written);
+    out.put(", ");
+    out.put_usize(left);
+    out.put(" bytes left");
 }
 
-/// A fault in its words. Want of memory goes up.
-pub(crate) fn fault_text(alloc: Global, fault: Fault) -> Result<String, AllocError> {
-    match fault {
-        Fault::OutOfMemory => Err(AllocError),
-        fault => format!(in alloc; "{fault}, status {}", fault.status()),
-    }
-}
-
-fn once_text(alloc: Global, text: &[u8], size: usize) -> Result<String, AllocError> {
+fn put_once(out: &mut Output, text: &[u8], size: usize) {
     let mut reader = slow(text, size, 0);
-    let mut written = Vec::new(alloc);
-    match once(alloc, &mut reader, &mut written) {
-        Ok(()) => {
-            let answer = shown_or_nothing(alloc, &written)?;
-            format!(in alloc; "{answer}, {} bytes left", reader.left.len())
-        }
-        Err(fault) => fault_text(alloc, fault),
+    let mut written = out.list();
+    match once(out.alloc(), &mut reader, &mut written) {
+        Ok(()) => put_left(out, &written, reader.left.len()),
+        Err(fault) => put_fault(out, fault),
     }
 }
 
 /// What `once` says over a reader that fails, and how much it has written then.
-fn failing_text(alloc: Global, text: &[u8], failing: u64) -> Result<String, AllocError> {
+fn put_failing(out: &mut Output, text: &[u8], failing: u64) {
     let mut reader = slow(text, 100, failing);
-    let mut written = Vec::new(alloc);
-    let outcome = match once(alloc, &mut reader, &mut written) {
-        Ok(()) => said(alloc, "done")?,
-        Err(fault) => fault_text(alloc, fault)?,
-    };
-    format!(in alloc; "{outcome}, {} bytes written", written.len())
+    let mut written = out.list();
+    let outcome = once(out.alloc(), &mut reader, &mut written);
+    put_outcome(out, outcome);
+    put_length(out, written.len());
 }
 
-fn endless_text(alloc: Global) -> Result<String, AllocError> {
+fn put_endless(out: &mut Output) {
     let mut reader = EndlessReader { reads: 0 };
-    let mut written = Vec::new(alloc);
-    let outcome = match once(alloc, &mut reader, &mut written) {
-        Ok(()) => said(alloc, "done")?,
-        Err(fault) => fault_text(alloc, fault)?,
-    };
-    format!(in alloc;
-        "{outcome}, {} reads, {} bytes written",
-        reader.reads,
-        written.len()
-    )
+    let mut written = out.list();
+    let outcome = once(out.alloc(), &mut reader, &mut written);
+    put_outcome(out, outcome);
+    out.put(", ");
+    out.put_number(reader.reads);
+    out.put(" reads");
+    put_length(out, written.len());
 }
 
 /// What `once` says over a writer with little room, and how much that took.
-fn unwritten_text(alloc: Global, text: &[u8], room: usize) -> Result<String, AllocError> {
+fn put_unwritten(out: &mut Output, text: &[u8], room: usize) {
     let mut reader = slow(text, 4096, 0);
     let mut writer = NarrowWriter { room, written: 0 };
-    let outcome = match once(alloc, &mut reader, &mut writer) {
-        Ok(()) => said(alloc, "done")?,
-        Err(fault) => fault_text(alloc, fault)?,
-    };
-    format!(in alloc; "{outcome}, {} bytes written", writer.written)
+    let outcome = once(out.alloc(), &mut reader, &mut writer);
+    put_outcome(out, outcome);
+    put_length(out, writer.written);
+}
+
+fn put_lengths(out: &mut Output, kept: usize, left: usize) {
+    out.put_usize(kept);
+    out.put(" kept, ");
+    out.put_usize(left);
+    out.put(" left");
+}
+
+fn put_kept(out: &mut Output, whole: &[u8], size: usize) {
+    let mut reader = slow(whole, size, 0);
+    match read_datagram(out.alloc(), &mut reader) {
+        Ok(kept) => put_lengths(out, kept.len(), reader.left.len()),
+        Err(fault) => put_fault(out, fault),
+    }
 }
 
 /// How many bytes are kept of so many.
-fn length_text(alloc: Global, count: usize, size: usize) -> Result<String, AllocError> {
-    let whole = vec![in alloc; b'A'; count.min(100_000)]?;
-    let mut reader = slow(&whole, size, 0);
-    match read_datagram(alloc, &mut reader) {
-        Ok(kept) => format!(in alloc; "{} kept, {} left", kept.len(), reader.left.len()),
-        Err(fault) => fault_text(alloc, fault),
+fn put_kept_of(out: &mut Output, count: usize, size: usize) {
+    match vec![in out.alloc(); b'A'; count.min(100_000)] {
+        Ok(whole) => put_kept(out, &whole, size),
+        Err(_) => out.no_memory(),
     }
 }
 
-/// The words of a row behind the program's own, if each is text.
-pub(crate) fn command_words<'a>(
-    alloc: Global,
-    args: &[&'a [u8]],
-) -> Result<Option<Vec<&'a str>>, AllocError> {
-    let mut words = Vec::new(alloc);
-    words.push("office")?;
-    for arg in args {
-        match str::from_utf8(arg) {
-            Ok(word) => words.push(word)?,
-            Err(_) => return Ok(None),
-        }
-    }
-    Ok(Some(words))
-}
-
-fn asked_text(alloc: Global, config: Option<&str>, script: &str) -> Result<String, AllocError> {
-    match config {
-        Some(config) => format!(in alloc; "replay {script} on {config}"),
-        None => format!(in alloc; "replay {script} on the example office"),
+fn put_fault_named(out: &mut Output, name: &[u8]) {
+    match fault_named(name) {
+        Some(fault) => put_fault_told(out, fault),
+        None => out.no_such_row(),
     }
 }
 
-fn command_text(alloc: Global, words: &[&str]) -> Result<String, AllocError> {
-    match command(alloc, words) {
-        Ok(Asked::Once) => said(alloc, "once"),
-        Ok(Asked::Replay { config, script }) => asked_text(alloc, config, script),
-        Ok(Asked::Serve { config, turns }) => serve_asked_text(alloc, config, turns),
-        Err(CommandError::OutOfMemory) => Err(AllocError),
-        Err(error) => format!(in alloc; "{error}, status {}", error.status()),
+fn put_error_named(out: &mut Output, name: &[u8]) {
+    match error_named(name) {
+        Some(error) => put_error_told(out, error),
+        None => out.no_such_row(),
     }
 }
 
-pub(crate) fn ending_text(alloc: Global, ending: Ending) -> Result<String, AllocError> {
-    match ending.words() {
-        Some(words) => format!(in alloc; "{words}, status {}", ending.status()),
-        None => format!(in alloc; "no words, status {}", ending.status()),
-    }
+fn refused(name: &[u8]) -> Option<Ending> {
+    Some(Ending::Refused(error_named(name)?))
 }
 
-/// Whether memory ran out, which goes up.
-pub(crate) fn is_out_of_memory(ending: Ending) -> bool {
-    ending == Ending::Refused(CommandError::OutOfMemory)
-        || ending == Ending::Broken(Fault::OutOfMemory)
-}
-
-/// A whole run of the program over this input, and two empty files.
-fn run_text(alloc: Global, text: &[u8], words: &[&str]) -> Result<String, AllocError> {
-    let mut reader = slow(text, 100, 0);
-    let mut written = Vec::new(alloc);
-    let files = TwoFiles {
-        config: &[],
-        script: &[],
-    };
-    let mut hall = Hall::new(None);
-    let ending = run(alloc, words, &files, &mut hall, &mut reader, &mut written);
-    if is_out_of_memory(ending) {
-        return Err(AllocError);
-    }
-    let outcome = ending_text(alloc, ending)?;
-    let answer = shown_or_nothing(alloc, &written)?;
-    format!(in alloc; "{outcome}, {} bytes left, {answer}", reader.left.len())
-}
-
-fn fault_named(name: &[u8]) -> Option<Fault> {
-    match name {
-        b"input" => Some(Fault::Input),
-        b"config" => Some(Fault::Config),
-        b"output" => Some(Fault::Output),
-        b"socket" => Some(Fault::Socket),
-        b"memory" => Some(Fault::OutOfMemory),
-        _ => None,
-    }
-}
-
-fn error_named(name: &[u8]) -> Option<CommandError> {
-    match name {
-        b"words" => Some(CommandError::Words),
-        b"memory" => Some(CommandError::OutOfMemory),
-        _ => None,
-    }
+fn broken(name: &[u8]) -> Option<Ending> {
+    Some(Ending::Broken(fault_named(name)?))
 }
 
 fn ending_named(name: &[u8], of: &[u8]) -> Option<Ending> {
     match name {
         b"done" => Some(Ending::Done),
-        b"refused" => Some(Ending::Refused(error_named(of)?)),
-        b"broken" => Some(Ending::Broken(fault_named(of)?)),
+        b"refused" => refused(of),
+        b"broken" => broken(of),
         _ => None,
     }
 }
 
-/// The words and the status of what has a name.
-fn named_text(alloc: Global, call: &str, args: &[&[u8]]) -> Result<Option<String>, AllocError> {
-    match (call, args) {
-        ("fault", [name]) => match fault_named(name) {
-            Some(fault) => Ok(Some(format!(in alloc; "{fault}, status {}", fault.status())?)),
-            None => Ok(None),
-        },
-        ("command_error", [name]) => match error_named(name) {
-            Some(error) => Ok(Some(format!(in alloc; "{error}, status {}", error.status())?)),
-            None => Ok(None),
-        },
-        ("ending", [name, of]) => match ending_named(name, of) {
-            Some(ending) => Ok(Some(ending_text(alloc, ending)?)),
-            None => Ok(None),
-        },
-        _ => Ok(None),
+fn put_ending_named(out: &mut Output, name: &[u8], of: &[u8]) {
+    match ending_named(name, of) {
+        Some(ending) => put_ending(out, ending),
+        None => out.no_such_row(),
     }
 }
 
-/// What the words of a command line ask for.
-fn of_command(alloc: Global, words: &[&[u8]]) -> Result<Option<String>, AllocError> {
-    match command_words(alloc, words)? {
-        Some(words) => Ok(Some(command_text(alloc, &words)?)),
-        None => Ok(None),
+/// What a call without words answers, if it is one.
+fn put_plain(out: &mut Output, call: &str) {
+    match call {
+        "once_endless" => put_endless(out),
+        _ => out.no_such_row(),
     }
 }
 
-/// A whole run of the program with these words.
-fn of_run(alloc: Global, text: &[u8], words: &[&[u8]]) -> Result<Option<String>, AllocError> {
-    match command_words(alloc, words)? {
-        Some(words) => Ok(Some(run_text(alloc, text, &words)?)),
-        None => Ok(None),
+/// What a call on a name answers, if it is one.
+fn put_of_name(out: &mut Output, call: &str, name: &[u8]) {
+    match call {
+        "fault" => put_fault_named(out, name),
+        "command_error" => put_error_named(out, name),
+        _ => out.no_such_row(),
     }
 }
 
-/// What the row's call answers, if it is one of `server`.
-pub(crate) fn answer(
-    alloc: Global,
-    call: &str,
-    args: &[&[u8]],
-) -> Result<Option<String>, AllocError> {
-    let answer = match (call, args) {
-        ("once", [text, given]) => once_text(alloc, text, usize_of(given)),
-        ("once_failing", [text, failing]) => failing_text(alloc, text, number(failing)),
-        ("once_endless", []) => endless_text(alloc),
-        ("once_unwritten", [text, room]) => unwritten_text(alloc, text, usize_of(room)),
-        ("read_length", [count, given]) => length_text(alloc, usize_of(count), usize_of(given)),
-        ("serve", [text, told]) => serve_text(alloc, text, told),
-        ("command", words) => return of_command(alloc, words),
-        ("run", [text, words @ ..]) => return of_run(alloc, text, words),
-        _ => {
-            return match named_text(alloc, call, args)? {
-                Some(text) => Ok(Some(text)),
-                None => replay_answer(alloc, call, args),
-            };
-        }
-    };
-    Ok(Some(answer?))
+/// What a call on two words answers, if it is one.
+fn put_of_two(out: &mut Output, call: &str, first: &[u8], second: &[u8]) {
+    match call {
+        "once" => put_once(out, first, usize_of(second)),
+        "once_failing" => put_failing(out, first, number(second)),
+        "once_unwritten" => put_unwritten(out, first, usize_of(second)),
+        "read_length" => put_kept_of(out, usize_of(first), usize_of(second)),
+        "serve" => put_serve(out, first, second),
+        "ending" => put_ending_named(out, first, second),
+        _ => out.no_such_row(),
+    }
+}
+
+/// What a call with so many words answers, if there is one.
+fn put_of_words(out: &mut Output, call: &str, args: &[&[u8]]) {
+    match args {
+        [] => put_plain(out, call),
+        [name] => put_of_name(out, call, name),
+        [first, second] => put_of_two(out, call, first, second),
+        _ => out.no_such_row(),
+    }
+}
+
+/// What a call on a word and the words of a command line answers, or one with so many words.
+fn put_of_first(out: &mut Output, call: &str, first: &[u8], words: &[&[u8]]) {
+    match call {
+        "run" => put_input_run(out, first, words),
+        "run_files" => put_run_of_files(out, first, words),
+        _ => out.no_such_row(),
+    }
+}
+
+fn put_run(out: &mut Output, call: &str, args: &[&[u8]]) {
+    match args {
+        [first, words @ ..] => put_of_first(out, call, first, words),
+        [] => out.no_such_row(),
+    }
+}
+
+/// What a call of `replay` answers, or one with so many words.
+fn put_replay_or_words(out: &mut Output, call: &str, args: &[&[u8]]) {
+    if call.starts_with("replay") {
+        replay_rows::put_answer(out, call, args);
+    } else {
+        put_of_words(out, call, args);
+    }
+}
+
+/// Writes what a call of `server` answers: command lines and scripts have any number of words.
+pub(crate) fn put_answer(out: &mut Output, call: &str, args: &[&[u8]]) {
+    match call {
+        "command" => put_command(out, args),
+        "run" | "run_files" => put_run(out, call, args),
+        _ => put_replay_or_words(out, call, args),
+    }
 }

@@ -4,8 +4,8 @@ ghost use Rattle.live.specs.Turns.{HasTable};
 
 use crate::memory_wire::MemoryWire;
 use crate::playing::new_office;
+use crate::printed::Printed;
 use live::{Clock, End, Operator, Signalling, Trouble, next_salt, salts_of, serve};
-use std::alloc::{AllocError, Global};
 use std::sync::Wait;
 use std::sync::atomic::AtomicBool;
 
@@ -74,31 +74,61 @@ pub(crate) fn serve_turns<R: Wait>(
     (end, operator)
 }
 
+fn put_told(out: &mut Printed, operator: &Counting) {
+    out.put(", told ");
+    out.put_number(u64::from(operator.sockets));
+    out.put(" and ");
+    out.put_number(u64::from(operator.memories));
+    out.put("\n");
+}
+
+fn put_end(out: &mut Printed, end: End, wire: &MemoryWire) {
+    out.put(end_word(end));
+    out.put(" after ");
+    out.put_number(wire.receives);
+    out.put(" receives and ");
+    out.put_number(wire.waits);
+    out.put(" waits");
+}
+
+fn put_turns<R: Wait>(
+    rt: &R,
+    out: &mut Printed,
+    signalling: &mut Signalling<MemoryWire>,
+    turns: u64,
+    is_stopped: bool,
+)
+    requires { HasTable signalling.old.board signalling.old.agent }
+{
+    let (end, operator) = serve_turns(rt, signalling, turns, is_stopped);
+    put_end(out, end, &signalling.wire);
+    put_told(out, &operator);
+}
+
 /// How the signalling ends, where so many receives in a row fail before one doesn't, and after how many receives and waits; and how
 /// often an operator was told that the socket fails, and that memory is refused.
-pub(crate) fn serve_text<R: Wait + AllocGlobal>(
+pub(crate) fn put_served<R: Wait>(
     rt: &R,
+    out: &mut Printed,
     turns: u64,
     failing: u32,
     is_stopped: bool,
-) -> Result<String, AllocError> {
-    let mut wire = MemoryWire::new(rt.alloc(), None);
-    wire.failing_receives = failing;
-    let (mut signalling, _viewer) = new_office(rt, rt.alloc(), wire)?;
-    let (end, operator) = serve_turns(rt, &mut signalling, turns, is_stopped);
-    let (receives, waits) = (signalling.wire.receives, signalling.wire.waits);
-    signalling.close(rt);
-    let word = end_word(end);
-    let (sockets, memories) = (operator.sockets, operator.memories);
-    format!(in rt.alloc();
-        "{word} after {receives} receives and {waits} waits, told {sockets} and {memories}\n"
-    )
+) {
+    match new_office(rt, out.alloc()) {
+        Ok((mut signalling, _viewer)) => {
+            signalling.wire.failing_receives = failing;
+            put_turns(rt, out, &mut signalling, turns, is_stopped);
+            signalling.close(rt);
+        }
+        Err(_) => out.no_memory(),
+    }
 }
 
 /// The first two salts of a key of zeros in the second 0.
-pub(crate) fn salts_text(alloc: Global) -> Result<String, AllocError> {
+pub(crate) fn put_salts(out: &mut Printed) {
     let mut salts = salts_of([0; 32], 0);
-    let first = next_salt(&mut salts);
-    let second = next_salt(&mut salts);
-    format!(in alloc; "{first} {second}\n")
+    out.put_number(next_salt(&mut salts));
+    out.put(" ");
+    out.put_number(next_salt(&mut salts));
+    out.put("\n");
 }

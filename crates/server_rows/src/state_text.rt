@@ -1,12 +1,11 @@
 //! What stands behind an event, as text.
 
+use crate::printed::Printed;
 use agent::Agent;
 use call_core::Phase;
 use calls::StandingCall;
 use port_pool::{Hop, RelayTable};
 use relay::Viewer;
-use scripts::{put_call, put_hop};
-use std::alloc::{AllocError, Global};
 
 fn phase_word(phase: Option<Phase>) -> &'static [u8] {
     match phase {
@@ -22,30 +21,34 @@ fn phase_word(phase: Option<Phase>) -> &'static [u8] {
     }
 }
 
-pub(crate) fn put_words(out: &mut Vec<u8>, words: &str) -> Result<(), AllocError> {
-    out.extend_from_slice(words.as_bytes())?;
-    Ok(())
+/// The calls that stand.
+pub(crate) fn put_calls(out: &mut Printed, calls: &[StandingCall]) {
+    for call in calls {
+        out.put_call(call.call.number(), phase_word(call.call.phase()));
+    }
 }
 
-fn put_moment(
-    alloc: Global,
-    out: &mut Vec<u8>,
-    viewer: &mut Viewer,
-    now: u64,
-) -> Result<(), AllocError> {
-    let lists = match viewer.route(41000) {
+/// The row at a port, if there is one.
+pub(crate) fn put_hop_at(out: &mut Printed, relay: &RelayTable, port: u16) {
+    if let Some(hop) = relay.hop(port) {
+        out.put_hop(port, hop);
+    }
+}
+
+/// How many lists were published.
+fn lists_seen(viewer: &mut Viewer) -> u64 {
+    match viewer.route(41000) {
         Some((lists, _)) => lists,
         None => 0,
-    };
-    let words = format!(in alloc; "at {now}, lists {lists}\n")?;
-    put_words(out, words.as_str())
+    }
 }
 
-pub(crate) fn put_calls(out: &mut Vec<u8>, calls: &[StandingCall]) -> Result<(), AllocError> {
-    for call in calls {
-        put_call(out, call.call.number(), phase_word(call.call.phase()))?;
-    }
-    Ok(())
+fn put_moment(out: &mut Printed, viewer: &mut Viewer, now: u64) {
+    out.put("at ");
+    out.put_number(now);
+    out.put(", lists ");
+    out.put_number(lists_seen(viewer));
+    out.put("\n");
 }
 
 fn is_seen(viewer: &mut Viewer, port: u16, hop: Option<Hop>) -> bool {
@@ -55,46 +58,29 @@ fn is_seen(viewer: &mut Viewer, port: u16, hop: Option<Hop>) -> bool {
     }
 }
 
-/// The row at a port, and whether media threads see another.
-fn put_port(
-    alloc: Global,
-    out: &mut Vec<u8>,
-    relay: &RelayTable,
-    viewer: &mut Viewer,
-    port: u16,
-) -> Result<(), AllocError> {
-    let hop = relay.hop(port);
-    if let Some(hop) = hop {
-        put_hop(out, port, hop)?;
-    }
-    if is_seen(viewer, port, hop) {
-        return Ok(());
-    }
-    let words = format!(in alloc; "media see another row at {port}\n")?;
-    put_words(out, words.as_str())
+fn put_unseen(out: &mut Printed, port: u16) {
+    out.put("media see another row at ");
+    out.put_port(port);
+    out.put("\n");
 }
 
-fn put_ports(
-    alloc: Global,
-    out: &mut Vec<u8>,
-    relay: &RelayTable,
-    viewer: &mut Viewer,
-) -> Result<(), AllocError> {
-    for port in 41000..41008 {
-        put_port(alloc, out, relay, viewer, port)?;
+/// The row at a port, and whether media threads see another.
+fn put_seen_hop(out: &mut Printed, relay: &RelayTable, viewer: &mut Viewer, port: u16) {
+    put_hop_at(out, relay, port);
+    if !is_seen(viewer, port, relay.hop(port)) {
+        put_unseen(out, port);
     }
-    Ok(())
+}
+
+fn put_seen_hops(out: &mut Printed, relay: &RelayTable, viewer: &mut Viewer) {
+    for port in 41000..41008 {
+        put_seen_hop(out, relay, viewer, port);
+    }
 }
 
 /// How many lists were published, the calls that stand, and the rows of the relay table.
-pub(crate) fn put_state(
-    alloc: Global,
-    out: &mut Vec<u8>,
-    agent: &Agent,
-    viewer: &mut Viewer,
-    now: u64,
-) -> Result<(), AllocError> {
-    put_moment(alloc, out, viewer, now)?;
-    put_calls(out, agent.calls())?;
-    put_ports(alloc, out, agent.relay(), viewer)
+pub(crate) fn put_state(out: &mut Printed, agent: &Agent, viewer: &mut Viewer, now: u64) {
+    put_moment(out, viewer, now);
+    put_calls(out, agent.calls());
+    put_seen_hops(out, agent.relay(), viewer);
 }
