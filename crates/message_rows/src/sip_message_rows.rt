@@ -4,7 +4,7 @@ use crate::header_rows::{put_named, put_of_headers, put_tag};
 use crate::message_texts::{
     put_contacts, put_fault, put_headers, put_message, put_parts, put_vias,
 };
-use crate::words_rows::{put_built, put_words};
+use crate::words_rows::{put_built, put_unkept, put_words};
 use rows::{Output, address_of, let_go, number, u16_of};
 use sip_message::{
     Header, Message, Parts, Via, Vias, answerable, contacts, one_message, read_message,
@@ -217,6 +217,7 @@ fn put_of_three(
 ) {
     match call {
         "build" => put_built(out, message, place, word, tag),
+        "write_unkept" => put_unkept(out, message, place, word, tag),
         "reply" => put_reply(out, parts_in(message), place, u16_of(word), tag),
         _ => out.no_such_row(),
     }

@@ -7,7 +7,8 @@ use sip_message::{
 };
 use sip_uri::{Addr, NameAddr, address_of};
 use sip_writing::{
-    Draft, build_request, name_with_tag, server_via, write_request, written_is_read,
+    Draft, EndName, Unkept, build_request, name_with_tag, server_via, write_request, write_unkept,
+    written_is_read,
 };
 use text::Text;
 
@@ -160,6 +161,80 @@ pub(crate) fn put_built(
     written_is_read();
     match message {
         Message::Request(request) => put_built_of(out, request, server, token, tag),
+        Message::Response(_) => out.put("no request"),
+    }
+}
+
+fn end_of<'m, 'a>(name: &'m NameAddr<'a>, tag: &'m [u8]) -> EndName<'m, 'a> {
+    EndName {
+        display: &name.display,
+        uri: &name.uri,
+        tag,
+    }
+}
+
+/// A request with these further header fields between these ends, of which nothing but its bytes is kept.
+fn put_unkept_between<'m, 'a>(
+    out: &mut Output,
+    request: &'m Request<'a>,
+    via: &'m Via<'a>,
+    from: EndName<'m, 'a>,
+    to: EndName<'m, 'a>,
+    further: &'m [Header<'a>],
+) {
+    let unkept = Unkept {
+        method: request.method.as_bytes(),
+        uri: &request.uri,
+        via,
+        max_forwards: request.max_forwards,
+        from,
+        to,
+        call_id: request.parts.call_id.as_bytes(),
+        number: request.parts.cseq.number,
+        further,
+        body: request.body.as_bytes(),
+    };
+    let text = write_unkept(out.alloc(), &unkept);
+    out.put_written(text);
+}
+
+/// The same through this Via from an end with this tag.
+fn put_unkept_through<'m, 'a>(
+    out: &mut Output,
+    request: &'m Request<'a>,
+    via: &'m Via<'a>,
+    tag: &'m [u8],
+) {
+    let from = end_of(&request.parts.from, tag);
+    let to = end_of(
+        &request.parts.to,
+        tag_text(request.parts.to.params.as_slice()),
+    );
+    let further = request.headers.as_slice().get(6..).unwrap_or(&[]);
+    put_unkept_between(out, request, via, from, to, further);
+}
+
+fn put_unkept_of(out: &mut Output, request: &Request<'_>, server: Addr, token: &[u8], tag: &[u8]) {
+    match server_via(out.alloc(), server, token) {
+        Ok(via) => {
+            put_unkept_through(out, request, &via, tag);
+            let_go(via);
+        }
+        Err(_) => out.no_memory(),
+    }
+}
+
+/// The request as one that the server makes of it and doesn't keep, with its header fields from the seventh on: From has this tag,
+/// and To its own.
+pub(crate) fn put_unkept(
+    out: &mut Output,
+    message: &Message<'_>,
+    server: Addr,
+    token: &[u8],
+    tag: &[u8],
+) {
+    match message {
+        Message::Request(request) => put_unkept_of(out, request, server, token, tag),
         Message::Response(_) => out.put("no request"),
     }
 }

@@ -7,8 +7,8 @@ use crate::telling::word_or_none;
 use rows::{Output, byte_of, let_go};
 use sip_uri::{
     Host, NameAddr, Param, Params, Uri, UriError, binding_is_equivalence, ip4, is_host, one_value,
-    param_named, put_param, put_params, read_field_params, read_host, read_name_addr, read_uri,
-    same_binding, same_host, same_text,
+    param_named, put_display_and_uri, put_param, put_params, read_field_params, read_host,
+    read_name_addr, read_uri, same_binding, same_host, same_text,
 };
 use text::lent;
 
@@ -61,11 +61,19 @@ fn put_kept_name(out: &mut Output, name: &NameAddr<'_>) {
     }
 }
 
+/// The name and the address alone, without the parameters behind them.
+fn put_party(out: &mut Output, name: &NameAddr<'_>) {
+    let mut text = out.list();
+    out.note(put_display_and_uri(&mut text, name.display.as_ref(), &name.uri));
+    out.put_shown(&text);
+}
+
 /// The same of a name and an address.
 fn put_name_by(out: &mut Output, call: &str, name: &NameAddr<'_>) {
     match call {
         "read_name_addr" => put_name_parts(out, name),
         "write_name_addr" => put_name(out, name),
+        "put_display_and_uri" => put_party(out, name),
         _ => put_kept_name(out, name),
     }
 }
@@ -202,7 +210,9 @@ fn put_plain(out: &mut Output, call: &str) {
 fn put_of_one(out: &mut Output, call: &str, text: &[u8]) {
     match call {
         "read_uri" | "write_uri" | "keep_uri" => put_told_uri(out, call, text),
-        "read_name_addr" | "write_name_addr" | "keep_name_addr" => put_told_name(out, call, text),
+        "read_name_addr" | "write_name_addr" | "keep_name_addr" | "put_display_and_uri" => {
+            put_told_name(out, call, text)
+        }
         "read_field_params" => put_told_params(out, Some(text), &[]),
         "read_host" => put_host_of(out, text),
         "is_host" => out.put_yes_or_no(is_host(text)),
