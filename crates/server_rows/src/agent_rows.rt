@@ -64,6 +64,7 @@ fn put_compared<R: Wait + AllocGlobal>(
 /// The same of each place in turn.
 fn put_each<R: Wait + AllocGlobal>(rt: &R, out: &mut Printed, events: &[Event]) {
     let undisturbed = play(rt, events, None);
+    out.note_whole(&undisturbed.states);
     for place in 0..undisturbed.sends {
         put_compared(rt, out, events, &undisturbed, place.saturating_add(1));
     }

@@ -102,15 +102,21 @@ impl Printed {
         self.note(outcome);
     }
 
-    /// Writes what another one has.
-    pub(crate) fn put_printed(&mut self, other: &Printed) {
-        self.put_bytes(&other.bytes);
+    /// Notes whether another one is whole: what is told of it is whole only then.
+    pub(crate) fn note_whole(&mut self, other: &Printed) {
         self.is_whole = self.is_whole && other.is_whole;
     }
 
-    /// Whether two have the same bytes. Where one of them is not whole, what is told of them isn't either.
+    /// Writes what another one has.
+    pub(crate) fn put_printed(&mut self, other: &Printed) {
+        self.put_bytes(&other.bytes);
+        self.note_whole(other);
+    }
+
+    /// Whether two have the same bytes.
     pub(crate) fn compare(&mut self, one: &Printed, other: &Printed) -> bool {
-        self.is_whole = self.is_whole && one.is_whole && other.is_whole;
+        self.note_whole(one);
+        self.note_whole(other);
         one.bytes.as_slice() == other.bytes.as_slice()
     }
 

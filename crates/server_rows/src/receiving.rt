@@ -3,10 +3,10 @@
 use crate::memory_wire::MemoryWire;
 use crate::playing::new_office;
 use crate::printed::Printed;
-use crate::serving::serve_turns;
+use crate::serving::{Counting, serve_turns};
 use crate::state_text::put_state;
 use events::{Event, What};
-use rows::{let_go, replace};
+use rows::replace;
 use std::sync::Wait;
 
 fn put_datagram(out: &mut Printed, wire: &mut MemoryWire, event: &Event) {
@@ -29,6 +29,13 @@ fn wire_with(out: &mut Printed, events: &[Event], failing: Option<usize>) -> Mem
     wire
 }
 
+/// An event that is lost for want of memory is none that the rows show.
+fn note_lost(out: &mut Printed, operator: &Counting) {
+    if operator.memories > 0 {
+        out.no_memory();
+    }
+}
+
 /// What stands after so many turns at such a wire.
 fn state_after<R: Wait + AllocGlobal>(
     rt: &R,
@@ -41,7 +48,8 @@ fn state_after<R: Wait + AllocGlobal>(
         Ok((mut signalling, mut viewer)) => {
             let wire = wire_with(&mut out, events, failing);
             replace(&mut signalling.wire, wire);
-            let_go(serve_turns(rt, &mut signalling, turns, false));
+            let (_, operator) = serve_turns(rt, &mut signalling, turns, false);
+            note_lost(&mut out, &operator);
             put_state(&mut out, &signalling.agent, &mut viewer, 0);
             signalling.close(rt);
         }

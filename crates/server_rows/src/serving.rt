@@ -24,7 +24,7 @@ impl Clock for Still {
 pub(crate) struct Counting {
     told: Option<Trouble>,
     sockets: u32,
-    memories: u32,
+    pub(crate) memories: u32,
 }
 
 impl Operator for Counting {
