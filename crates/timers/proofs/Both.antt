@@ -3,13 +3,13 @@ use Rattle.std.proofs.Common.{◌≡◌, ℕ, Bool, true, false, not, cond, ltb,
 use Rattle.std.specs.Cmp.{IsEquivalence, IsTotalOrder}
 use Rattle.std.specs.Ordering.{is_eq}
 use Rattle.std.specs.declared.cmp.Ordering.{Ordering}
-use Rattle.std.specs.List.{find}
+use Rattle.std.specs.List.{find, slice_get}
 use Rattle.std.specs.Prelude.{is_some}
 use Rattle.std.proofs.lemmas.Bool.{or_parts}
 use Rattle.timers.specs.declared.timers.Timer.{Timer}
 use Rattle.timers.specs.Queue.{put, set, stands, moment, without}
-use Rattle.timers.specs.ByKey.{AreInBoth, put_key}
-use Rattle.timers.proofs.ByKey.{rise_filter, rise_put, find_put_key}
+use Rattle.timers.specs.ByKey.{AreInBoth, place_by_key, moment_of, put_key}
+use Rattle.timers.proofs.ByKey.{moment_is, rise_filter, rise_put, find_put_key}
 use Rattle.timers.proofs.Keys.{cond_swap, one_key, gone, moment_stands}
 use Rattle.timers.proofs.Standing.{queue_without, queue_set}
 
@@ -83,6 +83,13 @@ module _ {K : Type 0} (eq : K → K → Bool) (laws : IsEquivalence eq) where
 
     pub stood_both : (ts ks : List (Timer K)) (key : K) (o : Option ℕ) → AreInBoth eq cmp ts ks → o ≡ moment eq ks key → stands eq ts key ≡ is_some o
     stood_both ts ks key o both e = sym (moment_stands eq ts key) ∙ ap is_some (sym (both.by_key.moments key) ∙ sym e)
+
+    -- as what was found at the place of its key says
+    pub moment_found : (ts ks : List (Timer K)) (key : K) (o : Option ℕ) → AreInBoth eq cmp ts ks → o ≡ moment_of eq (slice_get ks (place_by_key cmp ks key)) key → moment eq ts key ≡ o
+    moment_found ts ks key o both e = sym (both.by_key.moments key) ∙ sym (moment_is eq cmp order alike ks key both.by_key.rise) ∙ sym e
+
+    pub stands_found : (ts ks : List (Timer K)) (key : K) (o : Option ℕ) → AreInBoth eq cmp ts ks → o ≡ moment_of eq (slice_get ks (place_by_key cmp ks key)) key → stands eq ts key ≡ is_some o
+    stands_found ts ks key o both e = sym (moment_stands eq ts key) ∙ ap is_some (moment_found ts ks key o both e)
 
     pub stands_both : (ts ks : List (Timer K)) (key : K) → AreInBoth eq cmp ts ks → stands eq ks key ≡ stands eq ts key
     stands_both ts ks key both = sym (moment_stands eq ks key) ∙ ap is_some (both.by_key.moments key) ∙ moment_stands eq ts key

@@ -79,7 +79,7 @@ module _ {K : Type 0} (eq : K → K → Bool) (cmp : K → K → Ordering) (orde
         ]
       ] refl
 
-  pub stands_is : (ts : List (Timer K)) (k : K) → KeysRise cmp ts → is_some (moment_of eq (slice_get ts (place_by_key cmp ts k)) k) ≡ stands eq ts k
+  stands_is : (ts : List (Timer K)) (k : K) → KeysRise cmp ts → is_some (moment_of eq (slice_get ts (place_by_key cmp ts k)) k) ≡ stands eq ts k
   stands_is ts k h = ap is_some (moment_is ts k h) ∙ moment_stands eq ts k
 
   -- as what was found there says

@@ -76,9 +76,9 @@ module _ {K : Type 0} (eq : K → K → Bool) (key : K) where
       ] refl m
 
   -- steps from the first timer with that moment
-  pub steps_is : (ts rest : List (Timer K)) (at start steps : ℕ) → start ≡ prefix_len (λ t. ltb t.at at) ts → rest ≡ drop start ts → steps ≡ position_or_len is_key rest → moment eq ts key ≡ Some at
+  pub steps_is : (ts : List (Timer K)) (at start steps : ℕ) → start ≡ prefix_len (λ t. ltb t.at at) ts → steps ≡ position_or_len is_key (drop start ts) → moment eq ts key ≡ Some at
       → start + steps ≡ position_or_len is_key ts
-  steps_is ts rest at start steps from left there m = rw (there, left, from) (sym (place_is ts at m))
+  steps_is ts at start steps from there m = rw (there, from) (sym (place_is ts at m))
 
   pub place_within : (ts : List (Timer K)) (at : ℕ) → moment eq ts key ≡ Some at → position_or_len is_key ts < length ts
   place_within [] at m = cc

@@ -1,7 +1,7 @@
 //! Timers in a plain list, the first due first. A key is looked for in all of it.
 
-ghost use Rattle.std.specs.Prelude.{ℕ, List, ◌≡◌, ◌+◌, ◌<◌, ◌≤◌, [], true, OnOk, OnErr, IsOk, option_map, length, vec_len, if◌then◌else◌};
-ghost use Rattle.std.specs.Vec.{vec_capacity};
+ghost use Rattle.std.specs.Prelude.{ℕ, List, ◌≡◌, ◌+◌, ◌<◌, ◌≤◌, [], true, OnOk, OnErr, IsOk, option_map, length, if◌then◌else◌};
+ghost use Rattle.std.specs.VecDeque.{deque_len, deque_capacity};
 ghost use Rattle.timers.specs.declared.timers.Timer.{Timer};
 ghost use Rattle.timers.specs.Queue.{EachKeyOnce, set, stands, moment, without, first, first_due, after_due};
 ghost use Rattle.timers.specs.Settings.{IsDue, IsNext, taken};
@@ -9,6 +9,7 @@ ghost use Rattle.timers.specs.Settings.{IsDue, IsNext, taken};
 use crate::by_moment::{first_due, least_moment, put};
 use crate::{DueTimers, Timer};
 use std::alloc::{AllocError, Global};
+use std::collections::VecDeque;
 use std::marker::Model;
 
 /// The timers that are set, each key once. A timer stays until it is taken or cancelled, or its key is set anew: it fires
@@ -17,17 +18,17 @@ use std::marker::Model;
 /// They are seen in the order in which they are due: by moment, and at equal moments in the order of setting.
 #[derive(Drop)]
 pub struct Timers<K: Ord> {
-    timers: Vec<Timer<K>>,
+    timers: VecDeque<Timer<K>>,
 }
 
 impl<K: Ord> Model for Timers<K> {
-    ghost use Rattle.std.specs.Prelude.{vec_len, ◌-◌};
-    ghost use Rattle.std.specs.Vec.{vec_capacity};
+    ghost use Rattle.std.specs.Prelude.{◌-◌};
+    ghost use Rattle.std.specs.VecDeque.{deque_len, deque_capacity};
     ghost use Rattle.timers.specs.Queue.{Queue, IsQueue};
 
     ghost Value = { Queue K };
 
-    ghost view = { λ t. record { timers = t.timers.items; room = vec_capacity t.timers - vec_len t.timers } };
+    ghost view = { λ t. record { timers = t.timers.items; room = deque_capacity t.timers - deque_len t.timers } };
 
     // Moments rise, and each key stands once.
     ghost invariant = { λ t. IsQueue K.eq t.timers.items };
@@ -39,7 +40,7 @@ impl<K: Ord + Copy> Timers<K> {
         ensures { result.timers ≡ [] }
     {
         Timers {
-            timers: Vec::new(alloc),
+            timers: VecDeque::new(alloc),
         }
     }
 
@@ -88,7 +89,7 @@ impl<K: Ord + Copy> Timers<K> {
         ensures room { self.old.room ≤ self.new.room }
     {
         let timer = self.first_due(now)?;
-        self.timers.remove(0);
+        self.timers.pop_front();
         Some(timer)
     }
 
@@ -139,20 +140,20 @@ impl<K: Ord + Copy> Timers<K> {
 }
 
 // Whether a key is set.
-fn stands<K: Ord + Copy>(timers: &[Timer<K>], key: K) -> bool
-    ensures { result ≡ stands K.eq timers.now key }
+fn stands<K: Ord + Copy>(timers: &VecDeque<Timer<K>>, key: K) -> bool
+    ensures { result ≡ stands K.eq timers.now.items key }
 {
     timers.iter().any(|timer| timer.key == key)
 }
 
 // Makes room for a key, where it isn't set.
-fn make_room<K: Ord + Copy>(timers: &mut Vec<Timer<K>>, key: K) -> Result<(), AllocError>
+fn make_room<K: Ord + Copy>(timers: &mut VecDeque<Timer<K>>, key: K) -> Result<(), AllocError>
     ensures items { timers.new.items ≡ timers.old.items }
-    ensures ok { OnOk result (vec_len timers.new
-        < vec_capacity timers.new + (if stands K.eq timers.old.items key then 1 else 0)) }
-    ensures capacity { vec_capacity timers.old ≤ vec_capacity timers.new }
+    ensures ok { OnOk result (deque_len timers.new
+        < deque_capacity timers.new + (if stands K.eq timers.old.items key then 1 else 0)) }
+    ensures capacity { deque_capacity timers.old ≤ deque_capacity timers.new }
     ensures standing { stands K.eq timers.old.items key ≡ true → IsOk result }
-    ensures room { vec_len timers.old < vec_capacity timers.old → IsOk result }
+    ensures room { deque_len timers.old < deque_capacity timers.old → IsOk result }
 {
     if stands(timers, key) {
         Ok(())
@@ -162,10 +163,10 @@ fn make_room<K: Ord + Copy>(timers: &mut Vec<Timer<K>>, key: K) -> Result<(), Al
 }
 
 // Removes the timer of a key.
-fn remove_key<K: Ord + Copy>(timers: &mut Vec<Timer<K>>, key: K)
+fn remove_key<K: Ord + Copy>(timers: &mut VecDeque<Timer<K>>, key: K)
     ensures others { timers.new.items ≡ without K.eq timers.old.items key }
-    ensures len { vec_len timers.new + (if stands K.eq timers.old.items key then 1 else 0) ≤ vec_len timers.old }
-    ensures capacity { vec_capacity timers.new ≡ vec_capacity timers.old }
+    ensures len { deque_len timers.new + (if stands K.eq timers.old.items key then 1 else 0) ≤ deque_len timers.old }
+    ensures capacity { deque_capacity timers.new ≡ deque_capacity timers.old }
 {
     timers.retain(|timer| timer.key != key);
 }

@@ -1,9 +1,8 @@
 use Rattle.std.proofs.Common.{rules, ltb}
-use Rattle.timers.proofs.Halving.{halved}
+use Rattle.timers.proofs.Halving.{counted}
 use Rattle.timers.proofs.ByMoment.{parted_at}
 use Rattle.timers.proofs.by_moment.first_at.Goals as goal
 
 pub returns-clause-place : goal.returns-clause-place
 returns-clause-place g c =
-    let point = c.partition_point.ensures in
-    halved (λ t. ltb t.at c.args.at) _ _ point.bound point.partitioned (parted_at c.args.at _ c.requires) (λ a r f k. search rules)
+    counted (λ t. ltb t.at c.args.at) c.args.timers.now.items c.parted.result c.parted.ensures.place (parted_at c.args.at _ c.requires) (λ a r f k. search rules)

@@ -7,7 +7,7 @@ use Rattle.timers.proofs.plain.Timers.take_due.Goals as goal
 pub returns-clause-cancelled : goal.returns-clause-cancelled
 returns-clause-cancelled g c =
     let eq = g.K.PartialEq.eq in
-    let rest : c.remove.new.self.items ≡ after_due c.args.self.now.timers c.args.now = search rules in
+    let rest : c.pop_front.new.self.items ≡ after_due c.args.self.now.timers c.args.now = search rules in
     rest
     ∙ ap (λ q. after_due q.timers c.args.now) (sym c.self.view_is)
     ∙ after_first eq g.met.K.Eq.laws c.self.inside.timers.items c.args.now c.self.invariant.once

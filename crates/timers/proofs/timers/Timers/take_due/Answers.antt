@@ -10,7 +10,7 @@ invariant_of-self g c =
     let laws = g.met.K.Ord in
     let ts = c.self.inside.timers.items in
     let due : first_due ts c.args.now ≡ Some c.in_ok-timer.timer = ap (λ q. first_due q.timers c.args.now) c.self.view_is ∙ sym c.first_due.ensures.first ∙ c.in_ok-timer.was in
-    rw (c.take.ensures.others, c.remove.ensures.items, first_taken eq g.met.K.Eq.laws ts c.args.now c.in_ok-timer.timer c.self.invariant.queue.once due)
+    rw (c.take.ensures.others, c.pop_front.ensures.rest, first_taken eq g.met.K.Eq.laws ts c.args.now c.in_ok-timer.timer c.self.invariant.queue.once due)
     (both_without eq g.met.K.Eq.laws g.K.Ord.cmp laws.total laws.matches_eq ts c.self.inside.keys.items c.in_ok-timer.timer.key c.self.invariant)
 
 pub returns-clause-cancelled : goal.returns-clause-cancelled
@@ -18,6 +18,6 @@ returns-clause-cancelled g c =
     let eq = g.K.PartialEq.eq in
     let ts = c.self.inside.timers.items in
     let due : first_due ts c.args.now ≡ Some c.in_ok-timer.timer = ap (λ q. first_due q.timers c.args.now) c.self.view_is ∙ sym c.first_due.ensures.first ∙ c.in_ok-timer.was in
-    c.remove.ensures.items
+    c.pop_front.ensures.rest
     ∙ first_taken eq g.met.K.Eq.laws ts c.args.now c.in_ok-timer.timer c.self.invariant.queue.once due
     ∙ ap (λ q. without eq q.timers c.in_ok-timer.timer.key) c.self.view_is
