@@ -1,3 +1,4 @@
+pub mod BucketLaws
 pub mod NumberLaws
 pub mod Order
 pub mod Places

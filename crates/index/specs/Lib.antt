@@ -1,3 +1,4 @@
+pub mod Buckets
 pub mod Entries
 pub mod Numbers
 pub mod Passing

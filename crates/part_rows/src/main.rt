@@ -21,7 +21,7 @@ mod telling;
 mod text_rows;
 mod timers_rows;
 
-use index::Index;
+use index::{Buckets, Index};
 use port_pool::Pool;
 use registrar::Registrar;
 use rows::{Output, Rows, outcome_after, play_lines};
@@ -32,6 +32,7 @@ use timers::Timers;
 /// What the calls of a crate leave for the rows behind them.
 #[derive(Drop)]
 struct PartRows {
+    buckets: Buckets,
     index: Index,
     pool: Option<Pool>,
     registrar: Option<Registrar>,
@@ -42,6 +43,7 @@ impl PartRows {
     /// Writes what a call answers, if there is such a call.
     fn put_answer(&mut self, out: &mut Output, crate_name: &str, call: &str, args: &[&[u8]]) {
         match crate_name {
+            "buckets" => index_rows::put_answer(&mut self.buckets, out, call, args),
             "index" => index_rows::put_answer(&mut self.index, out, call, args),
             "offer_answer" => offer_answer_rows::put_answer(out, call, args),
             "port_pool" => port_pool_rows::put_answer(&mut self.pool, out, call, args),
@@ -71,6 +73,7 @@ impl Rows for PartRows {
 
 fn main(rt: HostRuntime) -> io::Result<()> {
     let mut rows = PartRows {
+        buckets: Buckets::new(rt.alloc()),
         index: Index::new(rt.alloc()),
         pool: None,
         registrar: None,
