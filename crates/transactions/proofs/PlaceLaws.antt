@@ -6,6 +6,7 @@ use Rattle.std.proofs.lemmas.Bool.{false≢true, ne_eqb, eq-eqb, eqb-true, eqb-f
 use Rattle.std.proofs.lemmas.List.{get_or_default}
 use Rattle.std.proofs.lemmas.List.Sums.{sum_by-set, get_or-le-sum_by}
 use Rattle.index.specs.declared.index.Entry.{Entry}
+use Rattle.index.specs.Buckets.{Bucketed, numbers_in}
 use Rattle.index.specs.Entries.{numbers_of}
 use Rattle.index.specs.Numbers.{Indexed, put_number, remove_number}
 use Rattle.index.specs.Passing.{numbers_from}
@@ -13,9 +14,9 @@ use Rattle.transaction_machines.specs.declared.state.State.{State}
 use Rattle.transaction_machines.specs.Machines.{is_server}
 use Rattle.transactions.specs.declared.transaction.Transaction.{Transaction}
 use Rattle.transactions.specs.Contents.{placed}
-use Rattle.transactions.specs.Places.{has_branch, has_call, IsIndexed, HasRoom}
+use Rattle.transactions.specs.Places.{has_branch, has_call, has_tag, IsIndexed, HasRoom}
 use Rattle.index.specs.Print.{print_of}
-use Rattle.transactions.specs.Prints.{branch_print, print_at}
+use Rattle.transactions.specs.Prints.{branch_print, print_at, tag_print}
 use Rattle.transactions.specs.Slots.{at, free_number, is_serving}
 use Rattle.transactions.specs.Transactions.{went}
 use Rattle.transactions.proofs.LastingLaws.{within}
@@ -83,34 +84,34 @@ module _ (has : ℕ → Option Transaction → Bool) (key : Transaction → ℕ)
   kept slots id d new t u was is same p = numbers.set_same (has p) slots id 0 new d (rw (was, is, some p u, same) (sym (some p t)))
 
   -- at its end its number is removed
-  pub ended : (slots : Slots) (id k : ℕ) (d : Option Transaction) (t : Transaction) (es es' : List Entry) → id < length slots → get_or slots id d ≡ Some t → k ≡ key t
-      → ((p : ℕ) → numbers_of es p ≡ numbers_from (has p) 0 slots) → ((p : ℕ) → numbers_of es' p ≡ cond (eqb p k) (remove_number (numbers_of es k) id) (numbers_of es p))
-      → (p : ℕ) → numbers_of es' p ≡ numbers_from (has p) 0 (set slots id None)
+  pub ended : (slots : Slots) (id k : ℕ) (d : Option Transaction) (t : Transaction) (es es' : List Indexed) → id < length slots → get_or slots id d ≡ Some t → k ≡ key t
+      → ((p : ℕ) → numbers_in es p ≡ numbers_from (has p) 0 slots) → ((p : ℕ) → numbers_in es' p ≡ cond (eqb p k) (remove_number (numbers_in es k) id) (numbers_in es p))
+      → (p : ℕ) → numbers_in es' p ≡ numbers_from (has p) 0 (set slots id None)
   ended slots id k d t es es' less was is before removed p =
-      elim (eqb p k) as (λ b. eqb p k ≡ b → cond b (remove_number (numbers_of es k) id) (numbers_of es p) ≡ numbers_from (has p) 0 (set slots id None) → numbers_of es' p ≡ numbers_from (has p) 0 (set slots id None)) [
+      elim (eqb p k) as (λ b. eqb p k ≡ b → cond b (remove_number (numbers_in es k) id) (numbers_in es p) ≡ numbers_from (has p) 0 (set slots id None) → numbers_in es' p ≡ numbers_from (has p) 0 (set slots id None)) [
         | true ↦ λ e h. removed p ∙ rw e h
         | false ↦ λ e h. removed p ∙ rw e h
       ] refl (
-      elim (eqb p k) as (λ b. eqb p k ≡ b → cond b (remove_number (numbers_of es k) id) (numbers_of es p) ≡ numbers_from (has p) 0 (set slots id None)) [
+      elim (eqb p k) as (λ b. eqb p k ≡ b → cond b (remove_number (numbers_in es k) id) (numbers_in es p) ≡ numbers_from (has p) 0 (set slots id None)) [
         | true ↦ λ e.
             (let here : p ≡ k = eqb-true p k e in
             let passes : has p (get_or slots id d) ≡ true = rw (was, some p t) (eq-eqb (key t) p (sym is ∙ sym here)) in
-            ap (λ ns. remove_number ns id) (ap (numbers_of es) (sym here) ∙ before p) ∙ sym (numbers.set_remove (has p) slots id 0 id None d (omega arith) less passes (none p)))
+            ap (λ ns. remove_number ns id) (ap (numbers_in es) (sym here) ∙ before p) ∙ sym (numbers.set_remove (has p) slots id 0 id None d (omega arith) less passes (none p)))
         | false ↦ λ e.
             (let fails : has p (get_or slots id d) ≡ false = rw (was, some p t) (ne_eqb (key t) p (λ same. eqb-false p k e (sym same ∙ sym is))) in
             before p ∙ sym (numbers.set_same (has p) slots id 0 None d (none p ∙ sym fails)))
       ] refl)
 
   -- at its beginning its number is put
-  pub begun : (slots : Slots) (k : ℕ) (t : Transaction) (es es' : List Entry) → k ≡ key t
-      → ((p : ℕ) → numbers_of es p ≡ numbers_from (has p) 0 slots) → ((p : ℕ) → numbers_of es' p ≡ cond (eqb p k) (put_number (numbers_of es k) (free_number slots)) (numbers_of es p))
-      → (p : ℕ) → numbers_of es' p ≡ numbers_from (has p) 0 (placed slots (free_number slots) t)
+  pub begun : (slots : Slots) (k : ℕ) (t : Transaction) (es es' : List Indexed) → k ≡ key t
+      → ((p : ℕ) → numbers_in es p ≡ numbers_from (has p) 0 slots) → ((p : ℕ) → numbers_in es' p ≡ cond (eqb p k) (put_number (numbers_in es k) (free_number slots)) (numbers_in es p))
+      → (p : ℕ) → numbers_in es' p ≡ numbers_from (has p) 0 (placed slots (free_number slots) t)
   begun slots k t es es' is before put p =
-      put p ∙ (elim (eqb p k) as (λ b. eqb p k ≡ b → cond b (put_number (numbers_of es k) (free_number slots)) (numbers_of es p) ≡ numbers_from (has p) 0 (placed slots (free_number slots) t)) [
+      put p ∙ (elim (eqb p k) as (λ b. eqb p k ≡ b → cond b (put_number (numbers_in es k) (free_number slots)) (numbers_in es p) ≡ numbers_from (has p) 0 (placed slots (free_number slots) t)) [
         | true ↦ λ e.
             (let here : p ≡ k = eqb-true p k e in
             let passes : has p (Some t) ≡ true = rw (some p t) (eq-eqb (key t) p (sym is ∙ sym here)) in
-            ap (λ ns. put_number ns (free_number slots)) (ap (numbers_of es) (sym here) ∙ before p) ∙ sym (placed_put (has p) t (none p) passes slots 0 (free_number slots) (omega arith)))
+            ap (λ ns. put_number ns (free_number slots)) (ap (numbers_in es) (sym here) ∙ before p) ∙ sym (placed_put (has p) t (none p) passes slots 0 (free_number slots) (omega arith)))
         | false ↦ λ e.
             (let fails : has p (Some t) ≡ false = rw (some p t) (ne_eqb (key t) p (λ same. eqb-false p k e (sym same ∙ sym is))) in
             before p ∙ sym (placed_same (has p) t (none p) fails slots 0))
@@ -128,10 +129,16 @@ call_none p = refl
 call_some : (p : ℕ) (t : Transaction) → has_call p (Some t) ≡ eqb (print_of t.parts.call_id) p
 call_some p t = refl
 
-pub advanced : (slots : Slots) (bs cs fs : List Entry) (n id was is : ℕ) (d new : Option Transaction) (fresh : Option (List ℕ)) (state : State)
-    → IsIndexed slots bs cs fs n → IsSome (at slots id) → new ≡ option_map (λ t. went t fresh state) (get_or slots id d) → was ≡ cond (is_serving (get_or slots id d)) 1 0 → is ≡ cond (is_server state) 1 0
-    → IsIndexed (set slots id new) bs cs fs (n - was + is)
-advanced slots bs cs fs n id was is d new fresh state h some e was_e is_e =
+tag_none : (p : ℕ) → has_tag p None ≡ false
+tag_none p = refl
+
+tag_some : (p : ℕ) (t : Transaction) → has_tag p (Some t) ≡ eqb (tag_print t.parts.from.params) p
+tag_some p t = refl
+
+pub advanced : (slots : Slots) (bs cs ts : List Indexed) (fs : List Entry) (n id was is : ℕ) (d new : Option Transaction) (fresh : Option (List ℕ)) (state : State)
+    → IsIndexed slots bs cs ts fs n → IsSome (at slots id) → new ≡ option_map (λ t. went t fresh state) (get_or slots id d) → was ≡ cond (is_serving (get_or slots id d)) 1 0 → is ≡ cond (is_server state) 1 0
+    → IsIndexed (set slots id new) bs cs ts fs (n - was + is)
+advanced slots bs cs ts fs n id was is d new fresh state h some e was_e is_e =
     let one = stands slots id some in
     let t = one.0 in
     let less = within slots id t one.1 in
@@ -143,18 +150,20 @@ advanced slots bs cs fs n id was is d new fresh state h some e was_e is_e =
     record {
       by_branch = λ p. h.by_branch p ∙ sym (kept has_branch (λ u. branch_print u.parts.vias) branch_none branch_some slots id d new t (went t fresh state) there next refl p);
       by_call = λ p. h.by_call p ∙ sym (kept has_call (λ u. print_of u.parts.call_id) call_none call_some slots id d new t (went t fresh state) there next refl p);
+      by_tag = λ p. h.by_tag p ∙ sym (kept has_tag (λ u. tag_print u.parts.from.params) tag_none tag_some slots id d new t (went t fresh state) there next refl p);
       without = h.without ∙ sym (numbers.set_same is_none slots id 0 new d (rw (there, next) refl));
       servers = omega (arith, h.servers, count, fewer, counts, was_e);
     }
 
-pub ended_all : (slots : Slots) (bs cs fs bs' cs' fs' : List Entry) (n id was b c : ℕ) (d new : Option Transaction)
-    → IsIndexed slots bs cs fs n → IsSome (at slots id) → new ≡ None → was ≡ cond (is_serving (get_or slots id d)) 1 0
-    → b ≡ (print_at (get_or slots id d)).branch → c ≡ (print_at (get_or slots id d)).call
-    → ((p : ℕ) → numbers_of bs' p ≡ cond (eqb p b) (remove_number (numbers_of bs b) id) (numbers_of bs p))
-    → ((p : ℕ) → numbers_of cs' p ≡ cond (eqb p c) (remove_number (numbers_of cs c) id) (numbers_of cs p))
+pub ended_all : (slots : Slots) (bs cs ts : List Indexed) (fs : List Entry) (bs' cs' ts' : List Indexed) (fs' : List Entry) (n id was b c g : ℕ) (d new : Option Transaction)
+    → IsIndexed slots bs cs ts fs n → IsSome (at slots id) → new ≡ None → was ≡ cond (is_serving (get_or slots id d)) 1 0
+    → b ≡ (print_at (get_or slots id d)).branch → c ≡ (print_at (get_or slots id d)).call → g ≡ (print_at (get_or slots id d)).tag
+    → ((p : ℕ) → numbers_in bs' p ≡ cond (eqb p b) (remove_number (numbers_in bs b) id) (numbers_in bs p))
+    → ((p : ℕ) → numbers_in cs' p ≡ cond (eqb p c) (remove_number (numbers_in cs c) id) (numbers_in cs p))
+    → ((p : ℕ) → numbers_in ts' p ≡ cond (eqb p g) (remove_number (numbers_in ts g) id) (numbers_in ts p))
     → ((p : ℕ) → numbers_of fs' p ≡ cond (eqb p 0) (put_number (numbers_of fs 0) id) (numbers_of fs p))
-    → IsIndexed (set slots id new) bs' cs' fs' (n - was)
-ended_all slots bs cs fs bs' cs' fs' n id was b c d new h some is was_e b_e c_e bs_e cs_e fs_e =
+    → IsIndexed (set slots id new) bs' cs' ts' fs' (n - was)
+ended_all slots bs cs ts fs bs' cs' ts' fs' n id was b c g d new h some is was_e b_e c_e g_e bs_e cs_e ts_e fs_e =
     let one = stands slots id some in
     let t = one.0 in
     let less = within slots id t one.1 in
@@ -165,24 +174,27 @@ ended_all slots bs cs fs bs' cs' fs' n id was b c d new h some is was_e b_e c_e 
     rw is (record {
       by_branch = ended has_branch (λ u. branch_print u.parts.vias) branch_none branch_some slots id b d t bs bs' less there (b_e ∙ ap (λ s. (print_at s).branch) there) h.by_branch bs_e;
       by_call = ended has_call (λ u. print_of u.parts.call_id) call_none call_some slots id c d t cs cs' less there (c_e ∙ ap (λ s. (print_at s).call) there) h.by_call cs_e;
+      by_tag = ended has_tag (λ u. tag_print u.parts.from.params) tag_none tag_some slots id g d t ts ts' less there (g_e ∙ ap (λ s. (print_at s).tag) there) h.by_tag ts_e;
       without = fs_e 0 ∙ ap (λ ns. put_number ns id) h.without ∙ sym put;
       servers = omega (arith, h.servers, count, fewer, none_counts, was_e);
     })
 
-pub begun_all : (slots : Slots) (bs cs fs bs' cs' fs' : List Entry) (n is b c id : ℕ) (t : Transaction) (slot : Option Transaction) (after : Slots)
-    → IsIndexed slots bs cs fs n → id ≡ free_number slots → slot ≡ Some t → is ≡ cond (print_at slot).serves 1 0 → b ≡ (print_at slot).branch → c ≡ (print_at slot).call
+pub begun_all : (slots : Slots) (bs cs ts : List Indexed) (fs : List Entry) (bs' cs' ts' : List Indexed) (fs' : List Entry) (n is b c g id : ℕ) (t : Transaction) (slot : Option Transaction) (after : Slots)
+    → IsIndexed slots bs cs ts fs n → id ≡ free_number slots → slot ≡ Some t → is ≡ cond (print_at slot).serves 1 0 → b ≡ (print_at slot).branch → c ≡ (print_at slot).call → g ≡ (print_at slot).tag
     → after ≡ cond (ltb id (length slots)) (set slots id slot) (slots ++ slot ∷ [])
-    → ((p : ℕ) → numbers_of bs' p ≡ cond (eqb p b) (put_number (numbers_of bs b) id) (numbers_of bs p))
-    → ((p : ℕ) → numbers_of cs' p ≡ cond (eqb p c) (put_number (numbers_of cs c) id) (numbers_of cs p))
+    → ((p : ℕ) → numbers_in bs' p ≡ cond (eqb p b) (put_number (numbers_in bs b) id) (numbers_in bs p))
+    → ((p : ℕ) → numbers_in cs' p ≡ cond (eqb p c) (put_number (numbers_in cs c) id) (numbers_in cs p))
+    → ((p : ℕ) → numbers_in ts' p ≡ cond (eqb p g) (put_number (numbers_in ts g) id) (numbers_in ts p))
     → ((p : ℕ) → numbers_of fs' p ≡ cond (eqb p 0) (remove_number (numbers_of fs 0) id) (numbers_of fs p))
-    → IsIndexed after bs' cs' fs' (n + is)
-begun_all slots bs cs fs bs' cs' fs' n is b c id t slot after h id_e slot_e is_e b_e c_e after_e bs_e cs_e fs_e =
+    → IsIndexed after bs' cs' ts' fs' (n + is)
+begun_all slots bs cs ts fs bs' cs' ts' fs' n is b c g id t slot after h id_e slot_e is_e b_e c_e g_e after_e bs_e cs_e ts_e fs_e =
     let then : after ≡ placed slots (free_number slots) t = after_e ∙ rw (slot_e, id_e) refl in
     let counts : is ≡ cond (is_serving (Some t)) 1 0 = is_e ∙ rw slot_e (ap (λ b. cond b 1 0) (serves_is (Some t))) in
     let count = count_placed is_serving none_serves t slots in
     rw then (record {
       by_branch = begun has_branch (λ u. branch_print u.parts.vias) branch_none branch_some slots b t bs bs' (b_e ∙ ap (λ s. (print_at s).branch) slot_e) h.by_branch (rw (← id_e) bs_e);
       by_call = begun has_call (λ u. print_of u.parts.call_id) call_none call_some slots c t cs cs' (c_e ∙ ap (λ s. (print_at s).call) slot_e) h.by_call (rw (← id_e) cs_e);
+      by_tag = begun has_tag (λ u. tag_print u.parts.from.params) tag_none tag_some slots g t ts ts' (g_e ∙ ap (λ s. (print_at s).tag) slot_e) h.by_tag (rw (← id_e) ts_e);
       without = fs_e 0 ∙ rw id_e (ap (λ ns. remove_number ns (free_number slots)) h.without ∙ sym (placed_remove t slots 0 (free_number slots) (omega arith)));
       servers = omega (arith, h.servers, count, counts);
     })
@@ -190,44 +202,38 @@ begun_all slots bs cs fs bs' cs' fs' n is b c id t slot after h id_e slot_e is_e
 -- ---- the room
 
 -- an end takes room that there is
-pub end_fits : (slots : Slots) (bs cs : List Entry) (free : Indexed) (n id used capacity room : ℕ) (branches calls : Indexed)
-    → IsIndexed slots bs cs free.entries n → HasRoom used capacity branches calls free room → used ≡ length slots → IsSome (at slots id) → 0 < free.room
-end_fits slots bs cs free n id used capacity room branches calls h fits is some =
+pub end_fits : (slots : Slots) (bs cs ts : List Indexed) (free : Indexed) (n id used capacity room : ℕ) (branches calls tags : Bucketed)
+    → IsIndexed slots bs cs ts free.entries n → HasRoom used capacity branches calls tags free room → used ≡ length slots → IsSome (at slots id) → 0 < free.room
+end_fits slots bs cs ts free n id used capacity room branches calls tags h fits is some =
     let one = stands slots id some in
     let less = within slots id one.0 one.1 in
     let fewer = numbers.numbers_fewer is_none slots id 0 None less (rw one.1 refl) in
     let same = ap length h.without in
     omega (arith, fits.for_ends, is, fewer, same)
 
-pub room_ended : (used capacity room b c id : ℕ) (branches calls free branches' calls' free' : Indexed) → HasRoom used capacity branches calls free room
-    → ((p : ℕ) → numbers_of branches'.entries p ≡ cond (eqb p b) (remove_number (numbers_of branches.entries b) id) (numbers_of branches.entries p))
-    → ((p : ℕ) → numbers_of calls'.entries p ≡ cond (eqb p c) (remove_number (numbers_of calls.entries c) id) (numbers_of calls.entries p))
+pub room_ended : (used capacity room id : ℕ) (branches calls tags branches' calls' tags' : Bucketed) (free free' : Indexed) → HasRoom used capacity branches calls tags free room
     → ((p : ℕ) → numbers_of free'.entries p ≡ cond (eqb p 0) (put_number (numbers_of free.entries 0) id) (numbers_of free.entries p))
-    → length (numbers_of branches.entries b) + branches.room ≤ length (numbers_of branches'.entries b) + branches'.room
-    → length (numbers_of calls.entries c) + calls.room ≤ length (numbers_of calls'.entries c) + calls'.room
-    → free.room ≤ free'.room + 1
-    → HasRoom used capacity branches' calls' free' room
-room_ended used capacity room b c id branches calls free branches' calls' free' fits bs_e cs_e fs_e bs_r cs_r fs_r =
-    let bs_l : length (numbers_of branches'.entries b) ≡ length (remove_number (numbers_of branches.entries b) id) = rw (bs_e b, eq-eqb b b refl) refl in
-    let cs_l : length (numbers_of calls'.entries c) ≡ length (remove_number (numbers_of calls.entries c) id) = rw (cs_e c, eq-eqb c c refl) refl in
+    → branches.room ≤ branches'.room → calls.room ≤ calls'.room → tags.room ≤ tags'.room → free.room ≤ free'.room + 1
+    → HasRoom used capacity branches' calls' tags' free' room
+room_ended used capacity room id branches calls tags branches' calls' tags' free free' fits fs_e bs_r cs_r ts_r fs_r =
     let fs_l = ap length (fs_e 0) ∙ numbers.put_length (numbers_of free.entries 0) id in
-    let bs_s = numbers.remove_length (numbers_of branches.entries b) id in
-    let cs_s = numbers.remove_length (numbers_of calls.entries c) id in
     record {
       for_slots = fits.for_slots;
-      for_branches = omega (arith, fits.for_branches, bs_l, bs_s, bs_r);
-      for_calls = omega (arith, fits.for_calls, cs_l, cs_s, cs_r);
+      for_branches = omega (arith, fits.for_branches, bs_r);
+      for_calls = omega (arith, fits.for_calls, cs_r);
+      for_tags = omega (arith, fits.for_tags, ts_r);
       for_ends = omega (arith, fits.for_ends, fs_l, fs_r);
     }
 
-pub room_begun : (used used' capacity capacity' room : ℕ) (branches calls free branches' calls' free' : Indexed) → HasRoom used capacity branches calls free room → 0 < room
-    → used' ≤ used + 1 → capacity ≤ capacity' → branches.room ≤ branches'.room + 1 → calls.room ≤ calls'.room + 1
+pub room_begun : (used used' capacity capacity' room : ℕ) (branches calls tags branches' calls' tags' : Bucketed) (free free' : Indexed) → HasRoom used capacity branches calls tags free room → 0 < room
+    → used' ≤ used + 1 → capacity ≤ capacity' → branches.room ≤ branches'.room + 1 → calls.room ≤ calls'.room + 1 → tags.room ≤ tags'.room + 1
     → length (numbers_of free.entries 0) + free.room ≤ length (numbers_of free'.entries 0) + free'.room
-    → HasRoom used' capacity' branches' calls' free' (room - 1)
-room_begun used used' capacity capacity' room branches calls free branches' calls' free' fits some more most bs_r cs_r fs_r =
+    → HasRoom used' capacity' branches' calls' tags' free' (room - 1)
+room_begun used used' capacity capacity' room branches calls tags branches' calls' tags' free free' fits some more most bs_r cs_r ts_r fs_r =
     record {
       for_slots = omega (arith, fits.for_slots, some, more, most);
       for_branches = omega (arith, fits.for_branches, bs_r);
       for_calls = omega (arith, fits.for_calls, cs_r);
+      for_tags = omega (arith, fits.for_tags, ts_r);
       for_ends = omega (arith, fits.for_ends, some, more, fs_r);
     }

@@ -4,16 +4,16 @@ use Rattle.std.specs.Cmp.Lexicographic.{bytes_decides}
 use Rattle.std.proofs.lemmas.Bool.{false≢true, and_parts, and_from, eq-eqb}
 use Rattle.sip_message.specs.declared.message.Parts.{Parts}
 use Rattle.sip_message.specs.declared.via.Via.{Via}
-use Rattle.sip_message.specs.Words.{top_branch}
+use Rattle.sip_message.specs.Words.{top_branch, tag_value}
 use Rattle.transaction_machines.specs.declared.state.State.{State}
 use Rattle.transaction_machines.specs.declared.state.State.TheVariants.{InviteClient, InviteServer, OtherClient, OtherServer}
 use Rattle.transaction_machines.specs.Machines.{is_server}
 use Rattle.transactions.specs.declared.transaction.Transaction.{Transaction}
 use Rattle.transactions.specs.Matching.{is_copy, is_reply, is_merged_with, same_top}
 use Rattle.index.specs.Print.{print_of}
-use Rattle.transactions.specs.Prints.{print_by, branch_print, print_at, may_serve, may_ask, may_merge}
-use Rattle.transactions.specs.Places.{has_branch, has_call}
-use Rattle.transactions.specs.Slots.{is_asked, is_answered, is_invite_server, is_named_invite, is_named, is_merged}
+use Rattle.transactions.specs.Prints.{print_by, branch_print, tag_print, print_at, may_serve, may_ask, may_merge}
+use Rattle.transactions.specs.Places.{has_branch, has_call, has_tag}
+use Rattle.transactions.specs.Slots.{is_asked, is_answered, is_invite_server, is_named_invite, is_named, is_merged, is_waiting_invite, awaits_final}
 use Rattle.transactions.proofs.ReplyLaws.{text_is}
 
 -- ---- equal texts
@@ -104,3 +104,9 @@ pub merged_has : (parts : Parts) (slot : Option Transaction) → is_merged parts
 unfolding is_merged
 merged_has parts None h = absurd (false≢true h)
 merged_has parts (Some t) h = (and_parts (is_server t.state) _ (merged_may parts (Some t) h)).1
+
+pub waiting_has : (tag : List ℕ) (slot : Option Transaction) → is_waiting_invite tag slot ≡ true → has_tag (print_of tag) slot ≡ true
+unfolding is_waiting_invite
+waiting_has tag None h = absurd (false≢true h)
+waiting_has tag (Some t) h =
+    same_print (tag_print t.parts.from.params) (print_of tag) (ap print_by (text_is (tag_value t.parts.from.params) (Some tag) (and_parts (awaits_final t.state) _ h).1))

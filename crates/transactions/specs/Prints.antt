@@ -2,13 +2,12 @@
 -- at its parts. No answer depends on them.
 use Rattle.std.specs.Prelude.{ℕ, Bool, false, not, ◌&&◌, nat_eq, List, Option, Some, None}
 use Rattle.index.specs.Print.{print_of}
-use Rattle.sip_uri.specs.Binding.{same_text}
+use Rattle.sip_uri.specs.declared.uri.Param.{Param}
 use Rattle.sip_message.specs.declared.via.Via.{Via}
 use Rattle.sip_message.specs.Words.{top_branch, tag_value}
 use Rattle.transaction_machines.specs.Machines.{is_server}
 use Rattle.transactions.specs.declared.print.Print.{Print}
 use Rattle.transactions.specs.declared.transaction.Transaction.{Transaction}
-use Rattle.transactions.specs.Slots.{awaits_final}
 
 abbrev pub print_by : Option (List ℕ) → ℕ
 print_by None = 0
@@ -18,14 +17,18 @@ print_by (Some bytes) = print_of bytes
 abbrev pub branch_print : List Via → ℕ
 branch_print vias = print_by (top_branch vias)
 
--- of a place: a place without a transaction serves nobody, and waits for nothing
+-- of the tag of From
+abbrev pub tag_print : List Param → ℕ
+tag_print params = print_by (tag_value params)
+
+-- of a place: a place without a transaction serves nobody
 abbrev pub print_at : Option Transaction → Print
-print_at None = record { branch = 0; call = 0; serves = false; waits = false }
+print_at None = record { branch = 0; call = 0; tag = 0; serves = false }
 print_at (Some t) = record {
   branch = branch_print t.parts.vias;
   call = print_of t.parts.call_id;
+  tag = tag_print t.parts.from.params;
   serves = is_server t.state;
-  waits = awaits_final t.state;
 }
 
 -- ---- what a print leaves possible
@@ -41,9 +44,3 @@ may_ask branch print = not print.serves && nat_eq print.branch branch
 -- a server transaction with a Call-ID of this print
 abbrev pub may_merge : ℕ → Print → Bool
 may_merge call print = print.serves && nat_eq print.call call
-
--- ---- the test behind the print `waits`
-
-abbrev pub has_from_tag : List ℕ → Option Transaction → Bool
-has_from_tag tag None = false
-has_from_tag tag (Some t) = same_text (tag_value t.parts.from.params) (Some tag)

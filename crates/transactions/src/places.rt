@@ -5,14 +5,14 @@ ghost use Rattle.std.specs.Vec.{vec_capacity};
 ghost use Rattle.index.specs.Passing.{numbers_from};
 ghost use Rattle.transactions.specs.declared.transaction.Transaction.{Transaction};
 ghost use Rattle.transactions.specs.Contents.{placed};
-ghost use Rattle.transactions.specs.Places.{has_branch, has_call};
+ghost use Rattle.transactions.specs.Places.{has_branch, has_call, has_tag};
 ghost use Rattle.transactions.specs.Slots.{at, free_number, serving};
 ghost use Rattle.transactions.specs.Transactions.{went};
 
 use crate::slot::Slot;
 use crate::transaction::Transaction;
 use boxed::Boxed;
-use index::{Entry, Index};
+use index::{Buckets, Entry, Index};
 use std::alloc::{AllocError, Global};
 use std::marker::Model;
 use text::Text;
@@ -26,9 +26,11 @@ const FREE: u64 = 0;
 pub(crate) struct Places {
     slots: Vec<Slot>,
     /// Under the print of the branch of the top Via.
-    branches: Index,
+    branches: Buckets,
     /// Under the print of Call-ID.
-    calls: Index,
+    calls: Buckets,
+    /// Under the print of the tag of From.
+    tags: Buckets,
     free: Index,
     /// How many server transactions there are.
     serving: usize,
@@ -45,8 +47,8 @@ impl Model for Places {
 
     ghost view = { λ p. record { slots = p.slots.items; room = p.room } };
 
-    ghost invariant = { λ p. IsIndexed p.slots.items p.branches.entries p.calls.entries p.free.entries p.serving
-        × HasRoom (vec_len p.slots) (vec_capacity p.slots) p.branches p.calls p.free p.room };
+    ghost invariant = { λ p. IsIndexed p.slots.items p.branches.buckets p.calls.buckets p.tags.buckets p.free.entries p.serving
+        × HasRoom (vec_len p.slots) (vec_capacity p.slots) p.branches p.calls p.tags p.free p.room };
 }
 
 impl Places {
@@ -56,8 +58,9 @@ impl Places {
     {
         Places {
             slots: Vec::new(alloc),
-            branches: Index::new(alloc),
-            calls: Index::new(alloc),
+            branches: Buckets::new(alloc),
+            calls: Buckets::new(alloc),
+            tags: Buckets::new(alloc),
             free: Index::new(alloc),
             serving: 0,
             room: 0,
@@ -82,6 +85,13 @@ impl Places {
         ensures { map (λ e. e.number) result.now ≡ numbers_from (has_call print) 0 self.now.slots }
     {
         self.calls.numbers(print)
+    }
+
+    /// The transactions with a From tag of this print.
+    pub(crate) fn of_tag(&self, print: u64) -> &[Entry]
+        ensures { map (λ e. e.number) result.now ≡ numbers_from (has_tag print) 0 self.now.slots }
+    {
+        self.tags.numbers(print)
     }
 
     /// The least number that no transaction has.
@@ -124,6 +134,7 @@ impl Places {
         self.slots.reserve(n)?;
         self.branches.reserve(n)?;
         self.calls.reserve(n)?;
+        self.tags.reserve(n)?;
         let used = self.slots.len() - self.free.numbers(FREE).len();
         self.free.reserve(used + n)?;
         self.room = n;
@@ -142,6 +153,7 @@ impl Places {
         let print = slot.print();
         self.branches.put(print.branch, number);
         self.calls.put(print.call, number);
+        self.tags.put(print.tag, number);
         self.serving += count_of(print.serves);
         self.free.remove(FREE, number);
         place(&mut self.slots, number, slot);
@@ -183,6 +195,7 @@ impl Places {
         let print = self.slots[id].print();
         self.branches.remove(print.branch, id);
         self.calls.remove(print.call, id);
+        self.tags.remove(print.tag, id);
         self.serving -= count_of(print.serves);
         self.slots[id] = Slot::free();
         self.free.put(FREE, id);

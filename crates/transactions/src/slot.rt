@@ -3,16 +3,15 @@
 ghost use Rattle.std.specs.Prelude.{◌≡◌, Some, None, is_none, option_map};
 ghost use Rattle.std.specs.Option.{option_copied};
 ghost use Rattle.transactions.specs.Prints.{print_at};
-ghost use Rattle.transactions.specs.Slots.{awaits_final};
 ghost use Rattle.transactions.specs.Transactions.{went};
 
-use crate::print::{Print, branch_print};
+use crate::print::{Print, branch_print, tag_print};
 use crate::transaction::Transaction;
 use boxed::Boxed;
 use index::print_of;
 use std::marker::Model;
 use text::Text;
-use transaction_machines::{InviteClient, State, is_server};
+use transaction_machines::{State, is_server};
 
 /// A place of the table.
 #[derive(Drop)]
@@ -33,15 +32,6 @@ impl Model for Slot {
     ghost invariant = { λ s. s.print ≡ print_at s.transaction };
 }
 
-fn awaits_final(state: State) -> bool
-    ensures { result ≡ awaits_final state }
-{
-    matches!(
-        state,
-        State::InviteClient(InviteClient::Calling(..) | InviteClient::Proceeding)
-    )
-}
-
 impl Slot {
     /// A place without a transaction.
     pub(crate) fn free() -> Slot
@@ -51,8 +41,8 @@ impl Slot {
             print: Print {
                 branch: 0,
                 call: 0,
+                tag: 0,
                 serves: false,
-                waits: false,
             },
             transaction: None,
         }
@@ -65,8 +55,8 @@ impl Slot {
         let print = Print {
             branch: branch_print(&parts.vias),
             call: print_of(parts.call_id.as_bytes()),
+            tag: tag_print(parts.from.params.as_slice()),
             serves: is_server(*state),
-            waits: awaits_final(*state),
         };
         Slot {
             print,
@@ -104,6 +94,5 @@ impl Slot {
         };
         transaction.get_mut().advance(fresh, state);
         self.print.serves = is_server(state);
-        self.print.waits = awaits_final(state);
     }
 }

@@ -3,8 +3,7 @@
 ghost use Rattle.std.specs.Prelude.{◌≡◌, option_map, position};
 ghost use Rattle.std.specs.List.{find, list_any};
 ghost use Rattle.std.specs.Option.{option_copied};
-ghost use Rattle.transactions.specs.Slots.{at, is_asked, is_answered, is_named, is_named_invite, is_merged, is_waiting_invite, named, waiting_invite};
-ghost use Rattle.transactions.specs.Prints.{has_from_tag};
+ghost use Rattle.transactions.specs.Slots.{at, is_asked, is_answered, is_named, is_named_invite, is_merged, is_waiting_invite, awaits_final, named, waiting_invite};
 
 use crate::matching::{is_copy, is_merged_with, is_reply, same_top};
 use crate::places::Places;
@@ -15,7 +14,7 @@ use index::{Entry, print_of};
 use sip_message::{Parts, is_method, tag_value};
 use sip_uri::same_text;
 use text::Text;
-use transaction_machines::{State, is_server};
+use transaction_machines::{InviteClient, State, is_server};
 
 /// The transaction of a number.
 pub(crate) fn transaction_at(slots: &[Slot], id: usize) -> Option<&Transaction>
@@ -165,28 +164,44 @@ pub(crate) fn any_merged(places: &Places, parts: &Parts) -> bool
     merges_any(entries, places.slots(), parts)
 }
 
-fn has_from_tag(slot: &Slot, tag: &Text<'_>) -> bool
-    ensures { result ≡ has_from_tag tag.now slot.now }
+fn awaits_final(state: State) -> bool
+    ensures { result ≡ awaits_final state }
 {
-    match slot.transaction() {
-        None => false,
-        Some(transaction) => same_text(
-            tag_value(transaction.parts.from.params.as_slice()),
-            Some(tag),
-        ),
-    }
+    matches!(
+        state,
+        State::InviteClient(InviteClient::Calling(..) | InviteClient::Proceeding)
+    )
 }
 
 #[tactic(auto, unfolding(crate::specs::Slots::is_waiting_invite))]
-fn is_waiting_invite(slot: &Slot, tag: &Text<'_>) -> bool
-    ensures { result ≡ is_waiting_invite tag.now slot.now }
+fn is_waiting_invite(slots: &[Slot], number: usize, tag: &Text<'_>) -> bool
+    ensures { result ≡ is_waiting_invite tag.now (at slots.now number) }
 {
-    slot.print().waits && has_from_tag(slot, tag)
+    match transaction_at(slots, number) {
+        None => false,
+        Some(transaction) => {
+            awaits_final(transaction.state)
+                && same_text(
+                    tag_value(transaction.parts.from.params.as_slice()),
+                    Some(tag),
+                )
+        }
+    }
+}
+
+fn first_waiting(entries: &[Entry], slots: &[Slot], tag: &Text<'_>) -> Option<usize>
+    ensures { result ≡ option_map (λ e. e.number) (find (λ e. is_waiting_invite tag.now (at slots.now e.number)) entries.now) }
+{
+    entries
+        .iter()
+        .find(|entry| is_waiting_invite(slots, entry.number, tag))
+        .map(|entry| entry.number)
 }
 
 /// The INVITE of the server's own with this tag in From that has no final response.
-pub(crate) fn waiting_invite(slots: &[Slot], tag: &Text<'_>) -> Option<usize>
-    ensures { result ≡ waiting_invite slots.now tag.now }
+pub(crate) fn waiting_invite(places: &Places, tag: &Text<'_>) -> Option<usize>
+    ensures { result ≡ waiting_invite places.now.slots tag.now }
 {
-    slots.iter().position(|slot| is_waiting_invite(slot, tag))
+    let entries = places.of_tag(print_of(tag.as_bytes()));
+    first_waiting(entries, places.slots(), tag)
 }

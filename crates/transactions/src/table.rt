@@ -259,7 +259,7 @@ impl Table {
     pub fn waiting_invite(&self, tag: &Text<'_>) -> Option<usize>
         ensures { result ≡ waiting_invite self.now.slots tag.now }
     {
-        waiting_invite(self.places.slots(), tag)
+        waiting_invite(&self.places, tag)
     }
 
     /// Whether another server transaction has the tag of From, Call-ID, number and method of a request without tag in

@@ -21,7 +21,7 @@ put-requires c =
     let slots = c.self.inside.slots.items in
     let some : IsSome (at slots c.args.id) = subst (λ (v : Placed). IsSome (at v.slots c.args.id)) (sym c.self.view_is) c.requires in
     let p = c.self.inside in
-    end_fits slots p.branches.entries p.calls.entries p.free p.serving c.args.id p.slots.len p.slots.cap p.room p.branches p.calls c.self.invariant.0 c.self.invariant.1 p.slots.ok.0 some
+    end_fits slots p.branches.buckets p.calls.buckets p.tags.buckets p.free p.serving c.args.id p.slots.len p.slots.cap p.room p.branches p.calls p.tags c.self.invariant.0 c.self.invariant.1 p.slots.ok.0 some
 
 pub invariant_of-self : goal.invariant_of-self
 invariant_of-self c =
@@ -31,9 +31,9 @@ invariant_of-self c =
     c.count_of.ensures ∙ ap (λ b. cond b 1 0) (ap (λ p. p.serves) c.print-print.ensures ∙ serves_is c.index.result.now ∙ ap is_serving c.index.ensures) in
     let p = c.self.inside in
     let print = c.print-print.ensures ∙ ap print_at c.index.ensures in (
-      ended_all slots p.branches.entries p.calls.entries p.free.entries c.remove.new.self.entries c.remove-2.new.self.entries c.put.new.self.entries p.serving c.args.id c.count_of.result
-          c.print-print.result.now.branch c.print-print.result.now.call c.index.result.now c.free.result c.self.invariant.0 some c.free.ensures was
-          (ap (λ q. q.branch) print) (ap (λ q. q.call) print) c.remove.ensures.numbers c.remove-2.ensures.numbers c.put.ensures.numbers,
-      room_ended p.slots.len p.slots.cap p.room c.print-print.result.now.branch c.print-print.result.now.call c.args.id p.branches p.calls p.free c.remove.new.self c.remove-2.new.self c.put.new.self
-          c.self.invariant.1 c.remove.ensures.numbers c.remove-2.ensures.numbers c.put.ensures.numbers c.remove.ensures.room c.remove-2.ensures.room c.put.ensures.room,
+      ended_all slots p.branches.buckets p.calls.buckets p.tags.buckets p.free.entries c.remove.new.self.buckets c.remove-2.new.self.buckets c.remove-3.new.self.buckets c.put.new.self.entries p.serving c.args.id c.count_of.result
+          c.print-print.result.now.branch c.print-print.result.now.call c.print-print.result.now.tag c.index.result.now c.free.result c.self.invariant.0 some c.free.ensures was
+          (ap (λ q. q.branch) print) (ap (λ q. q.call) print) (ap (λ q. q.tag) print) c.remove.ensures.numbers c.remove-2.ensures.numbers c.remove-3.ensures.numbers c.put.ensures.numbers,
+      room_ended p.slots.len p.slots.cap p.room c.args.id p.branches p.calls p.tags c.remove.new.self c.remove-2.new.self c.remove-3.new.self p.free c.put.new.self
+          c.self.invariant.1 c.put.ensures.numbers c.remove.ensures.room c.remove-2.ensures.room c.remove-3.ensures.room c.put.ensures.room,
     )
