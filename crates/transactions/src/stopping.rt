@@ -10,7 +10,9 @@ ghost use Rattle.transactions.specs.Changes.{starts_count};
 
 use crate::transaction::TimerId;
 use timers::Timers;
-use transaction_machines::{Start, Starts, State, Stops, TimerKind};
+use transaction_machines::{
+    InviteClient, InviteServer, OtherClient, OtherServer, Start, Starts, State, Stops, TimerKind,
+};
 
 /// The moment of a timer, where it is set.
 pub(crate) fn moment(timers: &Timers<TimerId>, id: usize, kind: TimerKind) -> Option<u64>
@@ -45,25 +47,31 @@ fn stop_kinds(timers: &mut Timers<TimerId>, id: usize, kinds: &[TimerKind])
     }
 }
 
-/// The kinds of timers that the machine of this state has lines for.
+/// The kinds of timers that fire in a state (RFC 3261 section 17, RFC 6026).
 fn kinds_of(state: State) -> &'static [TimerKind]
     ensures { result.now ≡ kinds_of state }
 {
     match state {
-        State::InviteClient(_) => &[
-            TimerKind::A,
-            TimerKind::B,
-            TimerKind::D,
-            TimerKind::M,
-            TimerKind::N,
-        ],
-        State::InviteServer(_) => &[TimerKind::G, TimerKind::H, TimerKind::I, TimerKind::L],
-        State::OtherClient(_) => &[TimerKind::E, TimerKind::F, TimerKind::K],
-        State::OtherServer(_) => &[TimerKind::J],
+        State::InviteClient(InviteClient::Calling(..)) => {
+            &[TimerKind::A, TimerKind::B, TimerKind::N]
+        }
+        State::InviteClient(InviteClient::Proceeding) => &[TimerKind::N],
+        State::InviteClient(InviteClient::Completed) => &[TimerKind::D],
+        State::InviteClient(InviteClient::Accepted) => &[TimerKind::M],
+        State::InviteServer(InviteServer::Proceeding) => &[],
+        State::InviteServer(InviteServer::Completed(_)) => &[TimerKind::G, TimerKind::H],
+        State::InviteServer(InviteServer::Confirmed) => &[TimerKind::I],
+        State::InviteServer(InviteServer::Accepted) => &[TimerKind::L],
+        State::OtherClient(OtherClient::Trying(_) | OtherClient::Proceeding) => {
+            &[TimerKind::E, TimerKind::F]
+        }
+        State::OtherClient(OtherClient::Completed) => &[TimerKind::K],
+        State::OtherServer(OtherServer::Trying | OtherServer::Proceeding) => &[],
+        State::OtherServer(OtherServer::Completed) => &[TimerKind::J],
     }
 }
 
-// All timers of the transaction: no other kind than its machine's is set.
+// All timers of the transaction: no other kind than its state's is set.
 fn stop_every(timers: &mut Timers<TimerId>, id: usize, state: State)
     requires lines { HaveLines id state timers.old.timers }
     ensures timers { timers.new.timers ≡ stopped timers.old.timers id }
