@@ -139,13 +139,32 @@ fn put_through_via(out: &mut Output, request: &Request<'_>, via: &Via<'_>, tag: 
     }
 }
 
-fn put_built_of(out: &mut Output, request: &Request<'_>, server: Addr, token: &[u8], tag: &[u8]) {
+/// The server's own Via with this token.
+fn via_of(out: &mut Output, server: Addr, token: &[u8]) -> Option<Via<'static>> {
     match server_via(out.alloc(), server, token) {
-        Ok(via) => {
-            put_through_via(out, request, &via, tag);
-            let_go(via);
+        Ok(via) => Some(via),
+        Err(_) => {
+            out.no_memory();
+            None
         }
-        Err(_) => out.no_memory(),
+    }
+}
+
+fn put_built_of(out: &mut Output, request: &Request<'_>, server: Addr, token: &[u8], tag: &[u8]) {
+    if let Some(via) = via_of(out, server, token) {
+        put_through_via(out, request, &via, tag);
+        let_go(via);
+    }
+}
+
+/// The message, if it is a request.
+fn request_of<'m, 'a>(out: &mut Output, message: &'m Message<'a>) -> Option<&'m Request<'a>> {
+    match message {
+        Message::Request(request) => Some(request),
+        Message::Response(_) => {
+            out.put("no request");
+            None
+        }
     }
 }
 
@@ -159,9 +178,8 @@ pub(crate) fn put_built(
     tag: &[u8],
 ) {
     written_is_read();
-    match message {
-        Message::Request(request) => put_built_of(out, request, server, token, tag),
-        Message::Response(_) => out.put("no request"),
+    if let Some(request) = request_of(out, message) {
+        put_built_of(out, request, server, token, tag);
     }
 }
 
@@ -215,12 +233,9 @@ fn put_unkept_through<'m, 'a>(
 }
 
 fn put_unkept_of(out: &mut Output, request: &Request<'_>, server: Addr, token: &[u8], tag: &[u8]) {
-    match server_via(out.alloc(), server, token) {
-        Ok(via) => {
-            put_unkept_through(out, request, &via, tag);
-            let_go(via);
-        }
-        Err(_) => out.no_memory(),
+    if let Some(via) = via_of(out, server, token) {
+        put_unkept_through(out, request, &via, tag);
+        let_go(via);
     }
 }
 
@@ -233,8 +248,7 @@ pub(crate) fn put_unkept(
     token: &[u8],
     tag: &[u8],
 ) {
-    match message {
-        Message::Request(request) => put_unkept_of(out, request, server, token, tag),
-        Message::Response(_) => out.put("no request"),
+    if let Some(request) = request_of(out, message) {
+        put_unkept_of(out, request, server, token, tag);
     }
 }

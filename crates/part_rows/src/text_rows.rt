@@ -4,8 +4,8 @@ use crate::telling::{put_texts, word_or_none};
 use rows::{Output, byte_of, number, u32_of};
 use text::{
     Text, Texts, Within, cut, cut_piece, cut_word, is_blank, is_run_of_digits, is_run_of_token,
-    is_token_byte, lent, number_upto, pieces, put_number, put_pieces, same_without_case, trimmed,
-    without_blanks,
+    is_token_byte, lent, number_text, number_upto, pieces, put_number, put_pieces,
+    same_without_case, trimmed, without_blanks,
 };
 
 /// What stands before a mark, and what stands behind it.
@@ -106,6 +106,14 @@ fn put_with_number(out: &mut Output, front: &[u8], number: u64) {
     out.put_boxed(&text);
 }
 
+/// The text of a number.
+fn put_number_text(out: &mut Output, number: u64) {
+    match number_text(out.alloc(), number) {
+        Ok(text) => put_place(out, &text),
+        Err(_) => out.no_memory(),
+    }
+}
+
 /// Whether two texts are one byte by byte: one of its own and one that is lent.
 fn put_sameness(out: &mut Output, a: &[u8], b: &[u8]) {
     let mut bytes = out.list();
@@ -178,6 +186,7 @@ fn put_of_one(out: &mut Output, call: &str, text: &[u8]) {
         "is_run_of_token" => out.put_yes_or_no(is_run_of_token(text)),
         "lent" => put_lent(out, text),
         "keep" => put_kept(out, text),
+        "number_text" => put_number_text(out, number(text)),
         _ => out.no_such_row(),
     }
 }
