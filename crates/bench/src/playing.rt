@@ -179,7 +179,7 @@ fn play_script(
     Ok(())
 }
 
-/// Plays a script in which the server makes one token so many times at one moment, from the first user.
+/// Plays a script in which the server makes one token so many times, one a millisecond, from the first user.
 pub(crate) fn play_scripts(
     alloc: Global,
     agent: &mut Agent,
@@ -191,6 +191,7 @@ pub(crate) fn play_scripts(
         let filling = day.next_filling(alloc, 0)?;
         play_script(alloc, agent, day, script, &filling)?;
         day.count_tokens(1);
+        day.moment = day.moment.saturating_add(1);
     }
     Ok(())
 }

@@ -58,10 +58,18 @@ fn read_scripts<R: Files + AllocGlobal>(rt: &R) -> io::Result<Scripts> {
     })
 }
 
-fn print_outcome<R: Print>(rt: &R, task: &str, rounds: u32, outcome: Outcome) -> io::Result<()> {
+fn print_task<R: Print>(rt: &R, task: &str, amount: Amount) -> io::Result<()> {
+    let (rounds, transactions) = (amount.rounds, amount.transactions);
+    match transactions {
+        0 => print!(rt; "{task}, {rounds} times: "),
+        _ => print!(rt; "{task} beside {transactions} transactions, {rounds} times: "),
+    }
+}
+
+fn print_outcome<R: Print>(rt: &R, outcome: Outcome) -> io::Result<()> {
     let counts = outcome.counts;
     let (taken, fired, sent) = (counts.taken, counts.fired, counts.sent);
-    print!(rt; "{task}, {rounds} times: {taken} taken, {fired} fired, ")?;
+    print!(rt; "{taken} taken, {fired} fired, ")?;
     println!(rt; "{sent} sent, {} standing", outcome.standing)
 }
 
@@ -72,7 +80,8 @@ fn play<R: Print + AllocGlobal>(
     amount: Amount,
 ) -> io::Result<()> {
     let outcome = play_task(rt.alloc(), scripts, task, amount)?;
-    print_outcome(rt, task, amount.rounds, outcome)
+    print_task(rt, task, amount)?;
+    print_outcome(rt, outcome)
 }
 
 /// Does a task, and prints how many datagrams its rounds took, how many timers fired in them, how many datagrams they sent, and
