@@ -1,6 +1,7 @@
 pub mod SlotLaws
 pub mod StopLaws
 pub mod OnceLaws
+pub mod FreeLaws
 pub mod LastingLaws
 pub mod FireLaws
 pub mod ReplyLaws

@@ -1,5 +1,5 @@
 -- The places of the table: what is found by the index, and the index behind a change.
-use Rattle.std.proofs.Common.{◌≡◌, ℕ, ◌+◌, ◌-◌, ◌<◌, ◌≤◌, Bool, true, false, cond, ltb, eqb, List, [], ◌∷◌, ◌++◌, length, map, get_or, set, Option, Some, None, is_none, is_some, option_map, count_by, find, position, slice_get, refl, sym, ap, ◌∙◌, arith}
+use Rattle.std.proofs.Common.{◌≡◌, ℕ, ◌+◌, ◌-◌, ◌<◌, ◌≤◌, Bool, true, false, cond, ltb, eqb, List, [], ◌∷◌, ◌++◌, drop, length, map, get_or, set, Option, Some, None, is_none, is_some, option_map, count_by, find, position, slice_get, unwrap_or, refl, sym, ap, ◌∙◌, arith}
 use Rattle.std.specs.Prelude.{IsSome}
 use Rattle.std.specs.List.{list_any}
 use Rattle.std.proofs.lemmas.Bool.{false≢true, ne_eqb, eq-eqb, eqb-true, eqb-false}
@@ -7,13 +7,13 @@ use Rattle.std.proofs.lemmas.List.{get_or_default}
 use Rattle.std.proofs.lemmas.List.Sums.{sum_by-set, get_or-le-sum_by}
 use Rattle.index.specs.declared.index.Entry.{Entry}
 use Rattle.index.specs.Buckets.{Bucketed, numbers_in}
-use Rattle.index.specs.Entries.{numbers_of}
 use Rattle.index.specs.Numbers.{Indexed, put_number, remove_number}
 use Rattle.index.specs.Passing.{numbers_from}
 use Rattle.transaction_machines.specs.declared.state.State.{State}
 use Rattle.transaction_machines.specs.Machines.{is_server}
 use Rattle.transactions.specs.declared.transaction.Transaction.{Transaction}
 use Rattle.transactions.specs.Contents.{placed}
+use Rattle.transactions.specs.FreeNumbers.{Free}
 use Rattle.transactions.specs.Places.{has_branch, has_call, has_tag, IsIndexed, HasRoom}
 use Rattle.index.specs.Print.{print_of}
 use Rattle.transactions.specs.Prints.{branch_print, print_at, tag_print}
@@ -38,15 +38,17 @@ any_found f p has slots seen es same is = numbers.any_found p f (λ n. f (at see
 
 -- ---- the least free number
 
-pub first_free : (slots : Slots) (es : List Entry) (e : Entry) → slice_get es 0 ≡ Some e → map (λ x. x.number) es ≡ numbers_from is_none 0 slots → e.number ≡ free_number slots
-first_free slots [] e at_first is = cc
-first_free slots (x ∷ es) e at_first is =
-    let same : x ≡ e = cc in
-    sym (ap (λ (y : Entry). y.number) same) ∙ numbers.first_is is_none slots 0 x.number (map (λ y. y.number) es) (sym is) ∙ omega arith
+first_free : (slots : Slots) (n : ℕ) (ns : List ℕ) → n ∷ ns ≡ numbers_from is_none 0 slots → n ≡ free_number slots
+first_free slots n ns is = numbers.first_is is_none slots 0 n ns (sym is) ∙ omega arith
 
-pub none_free : (slots : Slots) (es : List Entry) → slice_get es 0 ≡ None → map (λ x. x.number) es ≡ numbers_from is_none 0 slots → length slots ≡ free_number slots
-none_free slots [] none is = numbers.none_is is_none slots 0 (sym is)
-none_free slots (x ∷ es) none is = cc
+pub least_or : (slots : Slots) (ns : List ℕ) (len : ℕ) → len ≡ length slots → ns ≡ numbers_from is_none 0 slots → unwrap_or (slice_get ns 0) len ≡ free_number slots
+least_or slots [] len all is = all ∙ numbers.none_is is_none slots 0 (sym is)
+least_or slots (n ∷ ns) len all is = first_free slots n ns is
+
+-- the least free number is taken away, if there is one
+least_taken : (slots : Slots) (ns : List ℕ) → ns ≡ numbers_from is_none 0 slots → drop 1 ns ≡ remove_number ns (free_number slots)
+least_taken slots [] is = refl
+least_taken slots (n ∷ ns) is = rw (← first_free slots n ns is, eq-eqb n n refl) refl
 
 -- ---- a transaction goes on
 
@@ -135,7 +137,7 @@ tag_none p = refl
 tag_some : (p : ℕ) (t : Transaction) → has_tag p (Some t) ≡ eqb (tag_print t.parts.from.params) p
 tag_some p t = refl
 
-pub advanced : (slots : Slots) (bs cs ts : List Indexed) (fs : List Entry) (n id was is : ℕ) (d new : Option Transaction) (fresh : Option (List ℕ)) (state : State)
+pub advanced : (slots : Slots) (bs cs ts : List Indexed) (fs : List ℕ) (n id was is : ℕ) (d new : Option Transaction) (fresh : Option (List ℕ)) (state : State)
     → IsIndexed slots bs cs ts fs n → IsSome (at slots id) → new ≡ option_map (λ t. went t fresh state) (get_or slots id d) → was ≡ cond (is_serving (get_or slots id d)) 1 0 → is ≡ cond (is_server state) 1 0
     → IsIndexed (set slots id new) bs cs ts fs (n - was + is)
 advanced slots bs cs ts fs n id was is d new fresh state h some e was_e is_e =
@@ -155,13 +157,13 @@ advanced slots bs cs ts fs n id was is d new fresh state h some e was_e is_e =
       servers = omega (arith, h.servers, count, fewer, counts, was_e);
     }
 
-pub ended_all : (slots : Slots) (bs cs ts : List Indexed) (fs : List Entry) (bs' cs' ts' : List Indexed) (fs' : List Entry) (n id was b c g : ℕ) (d new : Option Transaction)
+pub ended_all : (slots : Slots) (bs cs ts : List Indexed) (fs : List ℕ) (bs' cs' ts' : List Indexed) (fs' : List ℕ) (n id was b c g : ℕ) (d new : Option Transaction)
     → IsIndexed slots bs cs ts fs n → IsSome (at slots id) → new ≡ None → was ≡ cond (is_serving (get_or slots id d)) 1 0
     → b ≡ (print_at (get_or slots id d)).branch → c ≡ (print_at (get_or slots id d)).call → g ≡ (print_at (get_or slots id d)).tag
     → ((p : ℕ) → numbers_in bs' p ≡ cond (eqb p b) (remove_number (numbers_in bs b) id) (numbers_in bs p))
     → ((p : ℕ) → numbers_in cs' p ≡ cond (eqb p c) (remove_number (numbers_in cs c) id) (numbers_in cs p))
     → ((p : ℕ) → numbers_in ts' p ≡ cond (eqb p g) (remove_number (numbers_in ts g) id) (numbers_in ts p))
-    → ((p : ℕ) → numbers_of fs' p ≡ cond (eqb p 0) (put_number (numbers_of fs 0) id) (numbers_of fs p))
+    → fs' ≡ put_number fs id
     → IsIndexed (set slots id new) bs' cs' ts' fs' (n - was)
 ended_all slots bs cs ts fs bs' cs' ts' fs' n id was b c g d new h some is was_e b_e c_e g_e bs_e cs_e ts_e fs_e =
     let one = stands slots id some in
@@ -175,17 +177,17 @@ ended_all slots bs cs ts fs bs' cs' ts' fs' n id was b c g d new h some is was_e
       by_branch = ended has_branch (λ u. branch_print u.parts.vias) branch_none branch_some slots id b d t bs bs' less there (b_e ∙ ap (λ s. (print_at s).branch) there) h.by_branch bs_e;
       by_call = ended has_call (λ u. print_of u.parts.call_id) call_none call_some slots id c d t cs cs' less there (c_e ∙ ap (λ s. (print_at s).call) there) h.by_call cs_e;
       by_tag = ended has_tag (λ u. tag_print u.parts.from.params) tag_none tag_some slots id g d t ts ts' less there (g_e ∙ ap (λ s. (print_at s).tag) there) h.by_tag ts_e;
-      without = fs_e 0 ∙ ap (λ ns. put_number ns id) h.without ∙ sym put;
+      without = fs_e ∙ ap (λ ns. put_number ns id) h.without ∙ sym put;
       servers = omega (arith, h.servers, count, fewer, none_counts, was_e);
     })
 
-pub begun_all : (slots : Slots) (bs cs ts : List Indexed) (fs : List Entry) (bs' cs' ts' : List Indexed) (fs' : List Entry) (n is b c g id : ℕ) (t : Transaction) (slot : Option Transaction) (after : Slots)
+pub begun_all : (slots : Slots) (bs cs ts : List Indexed) (fs : List ℕ) (bs' cs' ts' : List Indexed) (fs' : List ℕ) (n is b c g id : ℕ) (t : Transaction) (slot : Option Transaction) (after : Slots)
     → IsIndexed slots bs cs ts fs n → id ≡ free_number slots → slot ≡ Some t → is ≡ cond (print_at slot).serves 1 0 → b ≡ (print_at slot).branch → c ≡ (print_at slot).call → g ≡ (print_at slot).tag
     → after ≡ cond (ltb id (length slots)) (set slots id slot) (slots ++ slot ∷ [])
     → ((p : ℕ) → numbers_in bs' p ≡ cond (eqb p b) (put_number (numbers_in bs b) id) (numbers_in bs p))
     → ((p : ℕ) → numbers_in cs' p ≡ cond (eqb p c) (put_number (numbers_in cs c) id) (numbers_in cs p))
     → ((p : ℕ) → numbers_in ts' p ≡ cond (eqb p g) (put_number (numbers_in ts g) id) (numbers_in ts p))
-    → ((p : ℕ) → numbers_of fs' p ≡ cond (eqb p 0) (remove_number (numbers_of fs 0) id) (numbers_of fs p))
+    → fs' ≡ drop 1 fs
     → IsIndexed after bs' cs' ts' fs' (n + is)
 begun_all slots bs cs ts fs bs' cs' ts' fs' n is b c g id t slot after h id_e slot_e is_e b_e c_e g_e after_e bs_e cs_e ts_e fs_e =
     let then : after ≡ placed slots (free_number slots) t = after_e ∙ rw (slot_e, id_e) refl in
@@ -195,15 +197,15 @@ begun_all slots bs cs ts fs bs' cs' ts' fs' n is b c g id t slot after h id_e sl
       by_branch = begun has_branch (λ u. branch_print u.parts.vias) branch_none branch_some slots b t bs bs' (b_e ∙ ap (λ s. (print_at s).branch) slot_e) h.by_branch (rw (← id_e) bs_e);
       by_call = begun has_call (λ u. print_of u.parts.call_id) call_none call_some slots c t cs cs' (c_e ∙ ap (λ s. (print_at s).call) slot_e) h.by_call (rw (← id_e) cs_e);
       by_tag = begun has_tag (λ u. tag_print u.parts.from.params) tag_none tag_some slots g t ts ts' (g_e ∙ ap (λ s. (print_at s).tag) slot_e) h.by_tag (rw (← id_e) ts_e);
-      without = fs_e 0 ∙ rw id_e (ap (λ ns. remove_number ns (free_number slots)) h.without ∙ sym (placed_remove t slots 0 (free_number slots) (omega arith)));
+      without = fs_e ∙ least_taken slots fs h.without ∙ ap (λ ns. remove_number ns (free_number slots)) h.without ∙ sym (placed_remove t slots 0 (free_number slots) (omega arith));
       servers = omega (arith, h.servers, count, counts);
     })
 
 -- ---- the room
 
 -- an end takes room that there is
-pub end_fits : (slots : Slots) (bs cs ts : List Indexed) (free : Indexed) (n id used capacity room : ℕ) (branches calls tags : Bucketed)
-    → IsIndexed slots bs cs ts free.entries n → HasRoom used capacity branches calls tags free room → used ≡ length slots → IsSome (at slots id) → 0 < free.room
+pub end_fits : (slots : Slots) (bs cs ts : List Indexed) (free : Free) (n id used capacity room : ℕ) (branches calls tags : Bucketed)
+    → IsIndexed slots bs cs ts free.numbers n → HasRoom used capacity branches calls tags free room → used ≡ length slots → IsSome (at slots id) → 0 < free.room
 end_fits slots bs cs ts free n id used capacity room branches calls tags h fits is some =
     let one = stands slots id some in
     let less = within slots id one.0 one.1 in
@@ -211,12 +213,12 @@ end_fits slots bs cs ts free n id used capacity room branches calls tags h fits 
     let same = ap length h.without in
     omega (arith, fits.for_ends, is, fewer, same)
 
-pub room_ended : (used capacity room id : ℕ) (branches calls tags branches' calls' tags' : Bucketed) (free free' : Indexed) → HasRoom used capacity branches calls tags free room
-    → ((p : ℕ) → numbers_of free'.entries p ≡ cond (eqb p 0) (put_number (numbers_of free.entries 0) id) (numbers_of free.entries p))
+pub room_ended : (used capacity room id : ℕ) (branches calls tags branches' calls' tags' : Bucketed) (free free' : Free) → HasRoom used capacity branches calls tags free room
+    → free'.numbers ≡ put_number free.numbers id
     → branches.room ≤ branches'.room → calls.room ≤ calls'.room → tags.room ≤ tags'.room → free.room ≤ free'.room + 1
     → HasRoom used capacity branches' calls' tags' free' room
 room_ended used capacity room id branches calls tags branches' calls' tags' free free' fits fs_e bs_r cs_r ts_r fs_r =
-    let fs_l = ap length (fs_e 0) ∙ numbers.put_length (numbers_of free.entries 0) id in
+    let fs_l = ap length fs_e ∙ numbers.put_length free.numbers id in
     record {
       for_slots = fits.for_slots;
       for_branches = omega (arith, fits.for_branches, bs_r);
@@ -225,9 +227,9 @@ room_ended used capacity room id branches calls tags branches' calls' tags' free
       for_ends = omega (arith, fits.for_ends, fs_l, fs_r);
     }
 
-pub room_begun : (used used' capacity capacity' room : ℕ) (branches calls tags branches' calls' tags' : Bucketed) (free free' : Indexed) → HasRoom used capacity branches calls tags free room → 0 < room
+pub room_begun : (used used' capacity capacity' room : ℕ) (branches calls tags branches' calls' tags' : Bucketed) (free free' : Free) → HasRoom used capacity branches calls tags free room → 0 < room
     → used' ≤ used + 1 → capacity ≤ capacity' → branches.room ≤ branches'.room + 1 → calls.room ≤ calls'.room + 1 → tags.room ≤ tags'.room + 1
-    → length (numbers_of free.entries 0) + free.room ≤ length (numbers_of free'.entries 0) + free'.room
+    → length free.numbers + free.room ≤ length free'.numbers + free'.room
     → HasRoom used' capacity' branches' calls' tags' free' (room - 1)
 room_begun used used' capacity capacity' room branches calls tags branches' calls' tags' free free' fits some more most bs_r cs_r ts_r fs_r =
     record {

@@ -12,6 +12,7 @@ pub mod Timing
 pub mod Transactions
 pub mod Calls
 pub mod Fireable
+pub mod FreeNumbers
 pub mod Kinds
 pub mod Once
 pub mod Servers

@@ -1,13 +1,12 @@
 -- The places of the table, and the index by which its transactions are looked up.
 use Rattle.std.specs.Prelude.{◌≡◌, ℕ, ◌+◌, ◌≤◌, Bool, false, List, length, Option, Some, None, is_none, nat_eq, count_by}
-use Rattle.index.specs.declared.index.Entry.{Entry}
 use Rattle.index.specs.Buckets.{Bucketed, numbers_in}
-use Rattle.index.specs.Entries.{numbers_of}
 use Rattle.index.specs.Numbers.{Indexed}
 use Rattle.index.specs.Passing.{numbers_from}
 use Rattle.transactions.specs.declared.transaction.Transaction.{Transaction}
 use Rattle.index.specs.Print.{print_of}
 use Rattle.transactions.specs.Prints.{branch_print, tag_print}
+use Rattle.transactions.specs.FreeNumbers.{Free}
 use Rattle.transactions.specs.Slots.{is_serving}
 
 -- The transactions by their numbers, and how many more can begin without memory.
@@ -30,18 +29,18 @@ abbrev pub has_tag : ℕ → Option Transaction → Bool
 has_tag print None = false
 has_tag print (Some t) = nat_eq (tag_print t.parts.from.params) print
 
--- Under each print are the numbers of the transactions that have it, and of no other. The free numbers are all under 0.
-pub record IsIndexed (slots : List (Option Transaction)) (branches calls tags : List Indexed) (free : List Entry) (serving : ℕ) : Type 0 where
+-- Under each print are the numbers of the transactions that have it, and of no other.
+pub record IsIndexed (slots : List (Option Transaction)) (branches calls tags : List Indexed) (free : List ℕ) (serving : ℕ) : Type 0 where
   pub by_branch : (print : ℕ) → numbers_in branches print ≡ numbers_from (has_branch print) 0 slots
   pub by_call : (print : ℕ) → numbers_in calls print ≡ numbers_from (has_call print) 0 slots
   pub by_tag : (print : ℕ) → numbers_in tags print ≡ numbers_from (has_tag print) 0 slots
-  pub without : numbers_of free 0 ≡ numbers_from is_none 0 slots
+  pub without : free ≡ numbers_from is_none 0 slots
   pub servers : serving ≡ count_by is_serving slots
 
 -- So many transactions more can begin, and all can end, without memory.
-pub record HasRoom (used capacity : ℕ) (branches calls tags : Bucketed) (free : Indexed) (room : ℕ) : Type 0 where
+pub record HasRoom (used capacity : ℕ) (branches calls tags : Bucketed) (free : Free) (room : ℕ) : Type 0 where
   pub for_slots : used + room ≤ capacity
   pub for_branches : room ≤ branches.room
   pub for_calls : room ≤ calls.room
   pub for_tags : room ≤ tags.room
-  pub for_ends : used + room ≤ length (numbers_of free.entries 0) + free.room
+  pub for_ends : used + room ≤ length free.numbers + free.room

@@ -7,6 +7,7 @@ mod applying;
 mod change;
 mod error;
 mod foreseeing;
+mod free_numbers;
 mod laws;
 mod matching;
 mod outcome;

@@ -9,17 +9,18 @@ ghost use Rattle.transactions.specs.Places.{has_branch, has_call, has_tag};
 ghost use Rattle.transactions.specs.Slots.{at, free_number, serving};
 ghost use Rattle.transactions.specs.Transactions.{went};
 
+use crate::free_numbers::FreeNumbers;
 use crate::slot::Slot;
 use crate::transaction::Transaction;
 use boxed::Boxed;
-use index::{Buckets, Entry, Index};
+use index::{Buckets, Entry};
 use std::alloc::{AllocError, Global};
 use std::marker::Model;
 use text::Text;
 use transaction_machines::{State, is_server};
 
-/// The print that all free numbers are under.
-const FREE: u64 = 0;
+/// For so many transactions there is room made at once, where room is asked for at all: so it is seldom asked for.
+const SPARE: usize = 16;
 
 /// The places of the table.
 #[derive(Drop)]
@@ -31,7 +32,7 @@ pub(crate) struct Places {
     calls: Buckets,
     /// Under the print of the tag of From.
     tags: Buckets,
-    free: Index,
+    free: FreeNumbers,
     /// How many server transactions there are.
     serving: usize,
     /// How many transactions can begin without memory.
@@ -47,7 +48,7 @@ impl Model for Places {
 
     ghost view = { λ p. record { slots = p.slots.items; room = p.room } };
 
-    ghost invariant = { λ p. IsIndexed p.slots.items p.branches.buckets p.calls.buckets p.tags.buckets p.free.entries p.serving
+    ghost invariant = { λ p. IsIndexed p.slots.items p.branches.buckets p.calls.buckets p.tags.buckets p.free.numbers p.serving
         × HasRoom (vec_len p.slots) (vec_capacity p.slots) p.branches p.calls p.tags p.free p.room };
 }
 
@@ -61,7 +62,7 @@ impl Places {
             branches: Buckets::new(alloc),
             calls: Buckets::new(alloc),
             tags: Buckets::new(alloc),
-            free: Index::new(alloc),
+            free: FreeNumbers::new(alloc),
             serving: 0,
             room: 0,
         }
@@ -98,10 +99,7 @@ impl Places {
     pub(crate) fn free_number(&self) -> usize
         ensures { result ≡ free_number self.now.slots }
     {
-        match self.free.numbers(FREE).first() {
-            Some(entry) => entry.number,
-            None => self.slots.len(),
-        }
+        self.free.least().unwrap_or(self.slots.len())
     }
 
     /// How many server transactions there are.
@@ -120,7 +118,7 @@ impl Places {
         ensures needed { OnErr result (0 < n) }
     {
         if n > self.room {
-            self.make_room(n)?;
+            self.make_room(n.max(SPARE))?;
         }
         Ok(())
     }
@@ -135,7 +133,7 @@ impl Places {
         self.branches.reserve(n)?;
         self.calls.reserve(n)?;
         self.tags.reserve(n)?;
-        let used = self.slots.len() - self.free.numbers(FREE).len();
+        let used = self.slots.len() - self.free.len();
         self.free.reserve(used + n)?;
         self.room = n;
         Ok(())
@@ -155,7 +153,7 @@ impl Places {
         self.calls.put(print.call, number);
         self.tags.put(print.tag, number);
         self.serving += count_of(print.serves);
-        self.free.remove(FREE, number);
+        self.free.take_least();
         place(&mut self.slots, number, slot);
         self.room -= 1;
         number
@@ -198,7 +196,7 @@ impl Places {
         self.tags.remove(print.tag, id);
         self.serving -= count_of(print.serves);
         self.slots[id] = Slot::free();
-        self.free.put(FREE, id);
+        self.free.put(id);
     }
 }
 

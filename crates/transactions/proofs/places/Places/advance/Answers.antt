@@ -30,7 +30,7 @@ invariant_of-self c =
     let was : c.count_of.result ≡ cond (is_serving (get_or slots id c.index_mut.result.now)) 1 0 =
     c.count_of.ensures ∙ ap (λ b. cond b 1 0) (ap (λ p. p.serves) c.print.ensures ∙ serves_is c.index.result.now ∙ ap is_serving (same ∙ c.index_mut.ensures.value)) in
     let is : c.count_of-2.result ≡ cond (is_server c.args.state) 1 0 = c.count_of-2.ensures ∙ ap (λ b. cond b 1 0) c.is_server.ensures in (
-      advanced slots c.self.inside.branches.buckets c.self.inside.calls.buckets c.self.inside.tags.buckets c.self.inside.free.entries c.self.inside.serving id c.count_of.result c.count_of-2.result
+      advanced slots c.self.inside.branches.buckets c.self.inside.calls.buckets c.self.inside.tags.buckets c.self.inside.free.numbers c.self.inside.serving id c.count_of.result c.count_of-2.result
           c.index_mut.result.now c.advance.new.self c.args.fresh c.args.state c.self.invariant.0 some (c.advance.ensures ∙ ap (option_map (λ t. went t c.args.fresh c.args.state)) c.index_mut.ensures.value) was is,
       c.self.invariant.1,
     )

@@ -31,7 +31,7 @@ invariant_of-self c =
     c.count_of.ensures ∙ ap (λ b. cond b 1 0) (ap (λ p. p.serves) c.print-print.ensures ∙ serves_is c.index.result.now ∙ ap is_serving c.index.ensures) in
     let p = c.self.inside in
     let print = c.print-print.ensures ∙ ap print_at c.index.ensures in (
-      ended_all slots p.branches.buckets p.calls.buckets p.tags.buckets p.free.entries c.remove.new.self.buckets c.remove-2.new.self.buckets c.remove-3.new.self.buckets c.put.new.self.entries p.serving c.args.id c.count_of.result
+      ended_all slots p.branches.buckets p.calls.buckets p.tags.buckets p.free.numbers c.remove.new.self.buckets c.remove-2.new.self.buckets c.remove-3.new.self.buckets c.put.new.self.numbers p.serving c.args.id c.count_of.result
           c.print-print.result.now.branch c.print-print.result.now.call c.print-print.result.now.tag c.index.result.now c.free.result c.self.invariant.0 some c.free.ensures was
           (ap (λ q. q.branch) print) (ap (λ q. q.call) print) (ap (λ q. q.tag) print) c.remove.ensures.numbers c.remove-2.ensures.numbers c.remove-3.ensures.numbers c.put.ensures.numbers,
       room_ended p.slots.len p.slots.cap p.room c.args.id p.branches p.calls p.tags c.remove.new.self c.remove-2.new.self c.remove-3.new.self p.free c.put.new.self

@@ -1,11 +1,13 @@
-use Rattle.std.proofs.Common.{◌∙◌, sym}
-use Rattle.transactions.proofs.PlaceLaws.{first_free, none_free}
+use Rattle.std.proofs.Common.{◌∙◌, ap, unwrap_or}
+use Rattle.transactions.specs.Places.{Placed}
+use Rattle.transactions.specs.Slots.{free_number}
+use Rattle.transactions.proofs.PlaceLaws.{least_or}
 use Rattle.transactions.proofs.places.Places.free_number.Goals as goal
 
-pub returns-in-Some : goal.returns-in-Some
-returns-in-Some c =
-    rw (← c.self.view_is) (first_free c.self.inside.slots.items c.numbers.result.now c.in-Some.entry.now (sym c.in-Some.ensures.value) (c.numbers.ensures.numbers ∙ c.self.invariant.0.without))
-
-pub returns-in-None : goal.returns-in-None
-returns-in-None c =
-    rw (← c.self.view_is) (c.len.ensures ∙ c.self.inside.slots.ok.0 ∙ none_free c.self.inside.slots.items c.numbers.result.now (sym c.in-None.ensures.value) (c.numbers.ensures.numbers ∙ c.self.invariant.0.without))
+pub returns : goal.returns
+returns c =
+    let p = c.self.inside in
+    c.unwrap_or.ensures
+    ∙ ap (λ o. unwrap_or o c.len.result) c.least.ensures
+    ∙ least_or p.slots.items p.free.numbers c.len.result (c.len.ensures ∙ p.slots.ok.0) c.self.invariant.0.without
+    ∙ ap (λ (v : Placed). free_number v.slots) c.self.view_is
