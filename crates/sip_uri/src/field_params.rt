@@ -1,15 +1,15 @@
 //! The parameters of a header field (RFC 3261 section 25.1, generic-param).
 
-ghost use Rattle.std.specs.Prelude.{◌≡◌, map, Some, IfOk};
-ghost use Rattle.std.specs.List.{list_all};
+ghost use Rattle.std.specs.Prelude.{◌≡◌, ◌∷◌, [], not, map, Some, IfOk, IfSome};
+ghost use Rattle.std.specs.List.{list_all, position};
 ghost use Rattle.std.specs.Option.{option_copied};
-ghost use Rattle.text.specs.Class.{is_run_of};
+ghost use Rattle.text.specs.Class.{is_run_of, is_token_byte};
 ghost use Rattle.sip_uri.specs.FieldParams.{is_bracket_byte, is_bracketed, is_field_value, field_param_read, field_params_read};
 
 use crate::quoted::is_quoted;
 use crate::uri::{Param, Params};
 use std::alloc::{AllocError, Global};
-use text::{Text, cut, cut_piece, is_run_of_token, trimmed};
+use text::{Text, cut, cut_piece, is_run_of_token, is_token_byte, trimmed};
 
 fn is_bracket_byte(b: u8) -> bool
     ensures { result ≡ is_bracket_byte b }
@@ -75,6 +75,31 @@ fn field_param(piece: &[u8]) -> Option<Param<'_>>
     })
 }
 
+/// Where the first byte stands that is in no token.
+fn token_end(text: &[u8]) -> Option<usize>
+    ensures { result ≡ position (λ b. not (is_token_byte b)) text.now }
+{
+    text.iter().position(|b| !is_token_byte(*b))
+}
+
+/// The parameter that a text is in whole, where it is a token, `=` and a token, as most are: then no byte of it is a separator or a blank.
+fn plain_param(text: &[u8]) -> Option<Param<'_>>
+    ensures { IfSome result (λ p. field_params_read (Some text.now) ≡ Some (p ∷ [])) }
+{
+    let at = token_end(text)?;
+    if at == 0 || text[at] != b'=' {
+        return None;
+    }
+    let value = &text[at + 1..];
+    if !is_run_of_token(value) {
+        return None;
+    }
+    Some(Param {
+        name: Text::lent(&text[..at]),
+        value: Some(Text::lent(value)),
+    })
+}
+
 /// The parameters of a text, if each piece of it is of its form.
 fn field_params(alloc: Global, text: &[u8]) -> Result<Option<Params<'_>>, AllocError>
     ensures { IfOk result (λ o. o ≡ field_params_read (Some text.now)) }
@@ -82,11 +107,16 @@ fn field_params(alloc: Global, text: &[u8]) -> Result<Option<Params<'_>>, AllocE
     let mut params = Vec::new(alloc);
     let mut left = Some(text);
     while let Some(text) = left {
+        params.reserve(1)?;
+        if let Some(param) = plain_param(text) {
+            params.push_reserved(param);
+            return Ok(Some(Params::from_vec(params)));
+        }
         let (piece, behind) = cut_piece(text, b';');
         let Some(param) = field_param(piece) else {
             return Ok(None);
         };
-        params.push(param)?;
+        params.push_reserved(param);
         left = behind;
     }
     Ok(Some(Params::from_vec(params)))

@@ -1,10 +1,11 @@
 //! The parts of a URI's text, behind its scheme (RFC 3261 section 25.1).
 
-ghost use Rattle.std.specs.Prelude.{◌≡◌, ◌==◌};
+ghost use Rattle.std.specs.Prelude.{◌≡◌, ◌==◌, ◌||◌, nat_lt};
 ghost use Rattle.std.specs.List.{list_all, slice_split};
+ghost use Rattle.std.specs.Option.{option_copied};
 ghost use Rattle.text.specs.Class.{is_run_of};
 ghost use Rattle.sip_uri.specs.Classes.{is_user_byte, is_param_byte, is_header_byte};
-ghost use Rattle.sip_uri.specs.RawUri.{is_param, is_params, is_header, is_headers, escapes_well};
+ghost use Rattle.sip_uri.specs.RawUri.{parts_from, is_param, is_params, is_header, is_headers, escapes_well};
 
 use crate::class::{is_header_byte, is_param_byte, is_user_byte};
 use crate::hosts::is_hostname;
@@ -46,19 +47,9 @@ impl<'a> Parts<'a> {
     pub fn of(text: &'a [u8]) -> Parts<'a>
         ensures { result ≡ raw_of text.now }
     {
-        let (user, rest) = match cut(text, b'@') {
-            (user, Some(rest)) => (Some(user), rest),
-            (_, None) => (None, text),
-        };
-        let (front, headers) = cut(rest, b'?');
-        let (place, params) = cut(front, b';');
-        let (host, port) = cut(place, b':');
-        Parts {
-            user,
-            host,
-            port,
-            params,
-            headers,
+        match cut(text, b'@') {
+            (user, Some(rest)) => parts_from(Some(user), rest),
+            (_, None) => parts_from(None, text),
         }
     }
 
@@ -92,6 +83,46 @@ impl<'a> Parts<'a> {
             None => true,
             Some(port) => number_upto(65535, port).unwrap_or(0) > 0,
         }
+    }
+}
+
+/// Whether the byte is none that begins a port, parameters or headers. Of `<`, `=` and `>` it need not tell so, which makes it
+/// one range.
+fn is_no_mark(b: u8) -> bool
+    ensures { result ≡ (nat_lt b 58 || nat_lt 63 b) }
+{
+    b < b':' || b > b'?'
+}
+
+/// Whether the text is a host alone, as in most URIs: no port, parameters or headers stand behind it.
+fn has_no_mark(text: &[u8]) -> bool
+    ensures { result ≡ list_all (λ b. nat_lt b 58 || nat_lt 63 b) text.now }
+{
+    text.iter().all(|b| is_no_mark(*b))
+}
+
+/// The parts behind a user.
+fn parts_from<'a>(user: Option<&'a [u8]>, rest: &'a [u8]) -> Parts<'a>
+    ensures { result ≡ parts_from (option_copied user.entry) rest.now }
+{
+    if has_no_mark(rest) {
+        return Parts {
+            user,
+            host: rest,
+            port: None,
+            params: None,
+            headers: None,
+        };
+    }
+    let (front, headers) = cut(rest, b'?');
+    let (place, params) = cut(front, b';');
+    let (host, port) = cut(place, b':');
+    Parts {
+        user,
+        host,
+        port,
+        params,
+        headers,
     }
 }
 
