@@ -102,7 +102,8 @@ fn add_line<'a>(
     let Some((name, begun)) = name_and_value(line) else {
         return Err(HeadError::Line);
     };
-    headers.push(header(name, begun))?;
+    headers.reserve(1)?;
+    headers.push_reserved(header(name, begun));
     Ok(behind_colon(rest, line, begun))
 }
 

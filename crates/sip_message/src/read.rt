@@ -18,7 +18,7 @@ use crate::headers::{Header, Headers};
 use crate::lines::{first_line, is_clean, next_line};
 use crate::message::{Message, Request, Response};
 use crate::start::{Start, read_start};
-use crate::values::{Values, read_values};
+use crate::values::{Values, read_hops_behind, read_parts};
 use std::alloc::Global;
 use text::Text;
 
@@ -35,7 +35,8 @@ pub(crate) struct Contents<'a> {
     pub body: Text<'a>,
 }
 
-#[tactic(auto, unfolding(crate::specs::Read::contents_of), using(crate::proofs::FaultLaws::failed_then))]
+/// The contents of a message. The faults come in the order of `HeaderName`, then the body's.
+#[tactic(auto, unfolding(crate::specs::Read::contents_of, crate::specs::Values::values_of), using(crate::proofs::FaultLaws::failed_then))]
 fn read_contents<'a>(
     alloc: Global,
     start: &Start<'_>,
@@ -44,8 +45,13 @@ fn read_contents<'a>(
 ) -> Result<Contents<'a>, MessageError>
     ensures { Gives result (contents_of start.now headers.now rest.now) }
 {
-    let values = read_values(alloc, start, headers)?;
+    let parts = read_parts(alloc, start, headers)?;
+    let max_forwards = read_hops_behind(alloc, start, &parts.cseq.method, headers)?;
     let body = read_body(alloc, headers, rest)?;
+    let values = Values {
+        parts,
+        max_forwards,
+    };
     Ok(Contents { values, body })
 }
 

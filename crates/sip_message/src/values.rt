@@ -2,7 +2,7 @@
 
 ghost use Rattle.sip_message.specs.Faults.{Gives};
 ghost use Rattle.sip_message.specs.declared.contact.ContactNeed.TheVariants.{AtMostOne};
-ghost use Rattle.sip_message.specs.Values.{from_for, to_of, call_id_of, cseq_for, one_address, contacts_for, contact_for, hops_of, type_of, ends_for, parts_of, hops_behind, values_of};
+ghost use Rattle.sip_message.specs.Values.{from_for, to_of, call_id_of, cseq_for, one_address, contacts_for, contact_for, hops_of, type_of, parts_of, hops_behind};
 
 use crate::call_id::is_call_id;
 use crate::contact::{ContactNeed, ContactValue, contact_need, contact_values};
@@ -13,8 +13,8 @@ use crate::headers::Header;
 use crate::lookup::{at_most_one, exactly_one};
 use crate::max_forwards::read_max_forwards;
 use crate::media_type::is_media_type;
-use crate::message::{Parts, parts_with};
-use crate::party::{Ends, Party, is_tagged_for, read_party};
+use crate::message::Parts;
+use crate::party::{Party, is_tagged_for, read_party};
 use crate::start::Start;
 use crate::via::read_vias;
 use std::alloc::Global;
@@ -148,22 +148,9 @@ fn check_contact(
     }
 }
 
-#[tactic(auto, using(crate::proofs::FaultLaws::failed_then))]
-fn read_ends<'a>(
-    alloc: Global,
-    start: &Start<'_>,
-    headers: &[Header<'a>],
-) -> Result<Ends<'a>, MessageError>
-    ensures { Gives result (ends_for start.now headers.now) }
-{
-    let from = read_from(alloc, start, headers)?;
-    let to = read_to(alloc, headers)?;
-    Ok(Ends { from, to })
-}
-
 /// What an answer repeats of the request.
 #[tactic(auto, unfolding(crate::specs::Values::parts_of), using(crate::proofs::FaultLaws::failed_then))]
-fn read_parts<'a>(
+pub(crate) fn read_parts<'a>(
     alloc: Global,
     start: &Start<'_>,
     headers: &[Header<'a>],
@@ -171,15 +158,25 @@ fn read_parts<'a>(
     ensures { Gives result (parts_of start.now headers.now) }
 {
     let vias = read_vias(alloc, headers)?;
-    let ends = read_ends(alloc, start, headers)?;
+    let from = read_from(alloc, start, headers)?;
+    let to = read_to(alloc, headers)?;
     let call_id = read_call_id(alloc, headers)?;
-    let cseq = read_cseq_for(alloc, start, headers)?;
-    Ok(parts_with(vias, ends, call_id, cseq))
+    let sequence = read_cseq_for(alloc, start, headers)?;
+    Ok(Parts {
+        vias,
+        from: from.name,
+        to: to.name,
+        call_id,
+        cseq: sequence.cseq,
+        from_text: from.text,
+        to_text: to.text,
+        cseq_text: sequence.text,
+    })
 }
 
 /// The hops of a message whose Contact and Content-Type can be read.
 #[tactic(auto, using(crate::proofs::FaultLaws::failed_then))]
-fn read_hops_behind(
+pub(crate) fn read_hops_behind(
     alloc: Global,
     start: &Start<'_>,
     method: &Text<'_>,
@@ -191,21 +188,4 @@ fn read_hops_behind(
     let max_forwards = read_hops(alloc, headers)?;
     let _content_type = read_type(alloc, headers)?;
     Ok(max_forwards)
-}
-
-/// The values of a message's header fields. The faults come in the order of `HeaderName`.
-#[tactic(auto, unfolding(crate::specs::Values::values_of), using(crate::proofs::FaultLaws::failed_then))]
-pub(crate) fn read_values<'a>(
-    alloc: Global,
-    start: &Start<'_>,
-    headers: &[Header<'a>],
-) -> Result<Values<'a>, MessageError>
-    ensures { Gives result (values_of start.now headers.now) }
-{
-    let parts = read_parts(alloc, start, headers)?;
-    let max_forwards = read_hops_behind(alloc, start, &parts.cseq.method, headers)?;
-    Ok(Values {
-        parts,
-        max_forwards,
-    })
 }

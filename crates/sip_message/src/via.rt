@@ -238,7 +238,8 @@ fn put_lent<'a>(alloc: Global, vias: &mut Vec<Via<'a>>, text: &'a [u8]) -> Resul
         let Some(via) = read_via(alloc, piece)? else {
             return Ok(false);
         };
-        vias.push(via)?;
+        vias.reserve(1)?;
+        vias.push_reserved(via);
         left = behind;
     }
     Ok(true)

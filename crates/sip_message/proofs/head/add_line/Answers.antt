@@ -1,7 +1,11 @@
-use Rattle.std.proofs.Common.{sym, ap, ◌∙◌, ◌++◌, ◌∷◌, []}
+use Rattle.std.proofs.Common.{◌≡◌, List, sym, ap, ◌∙◌, ◌++◌, ◌∷◌, []}
 use Rattle.sip_message.specs.declared.headers.Header.{Header}
 use Rattle.sip_message.proofs.HeadSteps.{blank_step, is_room, named_step, begun_within, not_nil}
 use Rattle.sip_message.proofs.head.add_line.Goals as goal
+
+-- one field more, behind room for it
+put : (old roomy new : List Header) (h field : Header) → roomy ≡ old → new ≡ roomy ++ h ∷ [] → h ≡ field → new ≡ old ++ field ∷ []
+put old roomy new h field same behind is = behind ∙ ap (λ (hs : List Header). hs ++ h ∷ []) same ∙ ap (λ (x : Header). old ++ x ∷ []) is
 
 pub upto-requires : goal.upto-requires
 upto-requires c = is_room c.args.headers.now.items c.args.field.now c.args.rest.now c.args.line.now c.args.after.now c.requires.parts c.requires.open (not_nil c.args.headers.now.items _ c.args.headers.now.ok.0 c.if-is_empty.ensures)
@@ -22,9 +26,9 @@ behind_colon-requires-clause-begun c = begun_within c.args.line.now _ c.in-Some.
 pub returns-clause-added : goal.returns-clause-added
 returns-clause-added c =
     (named_step c.args.headers.now.items _ c.args.rest.now c.args.line.now c.args.after.now _ c.in-Some.begun.now _ c.requires.parts c.requires.clean (sym c.if-begins_blank.ensures) (sym c.in-Some.ensures)
-    (c.in_ok-push.ensures.items ∙ ap (λ (h : Header). c.args.headers.now.items ++ h ∷ []) c.header.ensures) c.behind_colon.ensures).0
+    (put c.args.headers.now.items c.reserve.new.self.items c.push_reserved.new.self.items c.header.result _ c.in_ok-reserve.ensures.items c.push_reserved.ensures.items c.header.ensures) c.behind_colon.ensures).0
 
 pub returns-clause-open : goal.returns-clause-open
 returns-clause-open c =
     (named_step c.args.headers.now.items _ c.args.rest.now c.args.line.now c.args.after.now _ c.in-Some.begun.now _ c.requires.parts c.requires.clean (sym c.if-begins_blank.ensures) (sym c.in-Some.ensures)
-    (c.in_ok-push.ensures.items ∙ ap (λ (h : Header). c.args.headers.now.items ++ h ∷ []) c.header.ensures) c.behind_colon.ensures).1
+    (put c.args.headers.now.items c.reserve.new.self.items c.push_reserved.new.self.items c.header.result _ c.in_ok-reserve.ensures.items c.push_reserved.ensures.items c.header.ensures) c.behind_colon.ensures).1
