@@ -1,5 +1,5 @@
 -- A parameter that is a token, `=` and a token.
-use Rattle.std.proofs.Common.{◌≡◌, ℕ, zero, suc, ◌+◌, ◌-◌, ◌<◌, ◌≤◌, Bool, true, false, not, ◌&&◌, ◌||◌, cond, eqb, ltb, List, [], ◌∷◌, ◌++◌, length, get_or, take, drop, Option, Some, None, refl, sym, ap, ◌∙◌, arith}
+use Rattle.std.proofs.Common.{◌≡◌, ℕ, zero, suc, ◌+◌, ◌-◌, ◌<◌, ◌≤◌, Bool, true, false, not, ◌&&◌, ◌||◌, cond, eqb, ltb, List, [], ◌∷◌, ◌++◌, length, get_or, take, drop, Option, Some, refl, sym, ap, ◌∙◌, arith}
 use Rattle.std.specs.Borrow.{Bor}
 use Rattle.std.specs.List.{list_all, position, position_or_len, onto_first}
 use Rattle.std.specs.Option.{option_copied}
@@ -14,7 +14,7 @@ use Rattle.text.specs.declared.splitting.Within.TheVariants.{Nothing}
 use Rattle.text.proofs.CutSteps.{at_place}
 use Rattle.text.proofs.CutLaws.{differs, Lacks-from_class, before_at, after_at}
 use Rattle.sip_uri.specs.declared.uri.Param.{Param}
-use Rattle.sip_uri.specs.FieldParams.{is_field_value, is_field_param, is_field_params, field_param_of, field_params_of, field_params_read}
+use Rattle.sip_uri.specs.FieldParams.{is_field_value, is_field_param, is_field_params, field_params_of, field_params_read}
 use Rattle.sip_uri.proofs.FieldLaws.{resumed, read_behind}
 
 -- ---- the bytes of a token

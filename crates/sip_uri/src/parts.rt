@@ -47,10 +47,11 @@ impl<'a> Parts<'a> {
     pub fn of(text: &'a [u8]) -> Parts<'a>
         ensures { result ≡ raw_of text.now }
     {
-        match cut(text, b'@') {
-            (user, Some(rest)) => parts_from(Some(user), rest),
-            (_, None) => parts_from(None, text),
-        }
+        let (user, rest) = match cut(text, b'@') {
+            (user, Some(rest)) => (Some(user), rest),
+            (_, None) => (None, text),
+        };
+        parts_from(user, rest)
     }
 
     /// Whether each part is of its form, but for escapes and the port's number.

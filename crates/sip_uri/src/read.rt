@@ -1,6 +1,6 @@
 //! Reading of URIs.
 
-ghost use Rattle.std.specs.Prelude.{◌≡◌, ◌==◌, ◌≤◌, IsTrue, IfOk, IfErr, map, length};
+ghost use Rattle.std.specs.Prelude.{◌≡◌, ◌==◌, ◌≤◌, IsTrue, IfOk, IfErr, Some, map, length};
 ghost use Rattle.std.specs.List.{slice_split};
 ghost use Rattle.std.specs.Option.{option_copied};
 ghost use Rattle.percent_encoding.specs.Percent.{percent_decode};
@@ -61,13 +61,10 @@ fn list_of_params(alloc: Global, text: &[u8], separator: u8) -> Result<Vec<Param
 }
 
 /// The parameters of a part whose pieces stand between separators.
-fn params(alloc: Global, text: Option<&[u8]>, separator: u8) -> Result<Params<'_>, AllocError>
-    ensures { IfOk result (λ ps. ps ≡ fields_of separator (option_copied text.entry)) }
+fn params(alloc: Global, text: &[u8], separator: u8) -> Result<Params<'_>, AllocError>
+    ensures { IfOk result (λ ps. ps ≡ fields_of separator (Some text.now)) }
 {
-    match text {
-        Some(text) => Ok(Params::from_vec(list_of_params(alloc, text, separator)?)),
-        None => Ok(Params::from_vec(Vec::new(alloc))),
-    }
+    Ok(Params::from_vec(list_of_params(alloc, text, separator)?))
 }
 
 /// Whether the text has no `%`, and so is what it decodes to.
@@ -108,8 +105,14 @@ fn value<'a>(
         Some(port) => number_upto(65535, port).map(|n| n as u16),
         None => None,
     };
-    let list = params(alloc, parts.params, b';')?;
-    let headers = params(alloc, parts.headers, b'&')?;
+    let list = match parts.params {
+        Some(text) => params(alloc, text, b';')?,
+        None => Params::from_vec(Vec::new(alloc)),
+    };
+    let headers = match parts.headers {
+        Some(text) => params(alloc, text, b'&')?,
+        None => Params::from_vec(Vec::new(alloc)),
+    };
     Ok(Uri {
         user,
         host,
