@@ -2,6 +2,7 @@
 
 ghost use Rattle.std.specs.Prelude.{ℕ, ◌≡◌, ◌+◌, ◌%◌, ◌<◌, ◌≤◌, [], OnOk, IsOk, map, length, if◌then◌else◌, nat_eq};
 ghost use Rattle.index.specs.Buckets.{HaveRoom, bucket_at, bucket_count, numbers_in};
+ghost use Rattle.index.specs.Entries.{of_print};
 ghost use Rattle.index.specs.Numbers.{put_number, remove_number};
 
 use crate::index::{Entry, Index};
@@ -47,7 +48,8 @@ impl Buckets {
 
     /// The numbers of a print, the least first, with that print. Takes no memory.
     pub fn numbers(&self, print: u64) -> &[Entry]
-        ensures { map (λ e. e.number) result.now ≡ numbers_in self.now.buckets print }
+        ensures entries { result.now ≡ of_print (bucket_at self.now.buckets (print % bucket_count)).entries print }
+        ensures numbers { map (λ e. e.number) result.now ≡ numbers_in self.now.buckets print }
     {
         match self.buckets.get(bucket_of(print)) {
             Some(bucket) => bucket.numbers(print),
