@@ -1,68 +1,64 @@
 //! Rows of calls of `index`: on numbers in one list, and in buckets.
 
+use crate::telling::word;
 use index::{Buckets, Entry, Index, print_of};
 use rows::{Output, number, replace, usize_of};
 use std::alloc::{AllocError, Global};
 
 /// Numbers under prints, in one list or in buckets.
-pub(crate) trait Numbers {
-    fn clear(&mut self, alloc: Global);
+#[derive(Drop)]
+pub(crate) enum Numbers {
+    Listed(Index),
+    InBuckets(Buckets),
+}
 
-    fn numbers(&self, print: u64) -> &[Entry];
+fn put_in_list(index: &mut Index, print: u64, number: usize) -> Result<(), AllocError> {
+    index.reserve(1)?;
+    index.put(print, number);
+    Ok(())
+}
 
-    fn reserve(&mut self, n: usize) -> Result<(), AllocError>;
+fn put_in_buckets(buckets: &mut Buckets, print: u64, number: usize) -> Result<(), AllocError> {
+    buckets.reserve(1)?;
+    buckets.put(print, number);
+    Ok(())
+}
+
+impl Numbers {
+    fn clear(&mut self, alloc: Global) {
+        match self {
+            Numbers::Listed(index) => replace(index, Index::new(alloc)),
+            Numbers::InBuckets(buckets) => replace(buckets, Buckets::new(alloc)),
+        }
+    }
+
+    fn numbers(&self, print: u64) -> &[Entry] {
+        match self {
+            Numbers::Listed(index) => index.numbers(print),
+            Numbers::InBuckets(buckets) => buckets.numbers(print),
+        }
+    }
+
+    fn reserve(&mut self, n: usize) -> Result<(), AllocError> {
+        match self {
+            Numbers::Listed(index) => index.reserve(n),
+            Numbers::InBuckets(buckets) => buckets.reserve(n),
+        }
+    }
 
     /// Puts a number, for which it makes room.
-    fn put(&mut self, print: u64, number: usize) -> Result<(), AllocError>;
-
-    fn remove(&mut self, print: u64, number: usize);
-}
-
-impl Numbers for Index {
-    fn clear(&mut self, alloc: Global) {
-        replace(self, Index::new(alloc));
-    }
-
-    fn numbers(&self, print: u64) -> &[Entry] {
-        Index::numbers(self, print)
-    }
-
-    fn reserve(&mut self, n: usize) -> Result<(), AllocError> {
-        Index::reserve(self, n)
-    }
-
     fn put(&mut self, print: u64, number: usize) -> Result<(), AllocError> {
-        Index::reserve(self, 1)?;
-        Index::put(self, print, number);
-        Ok(())
+        match self {
+            Numbers::Listed(index) => put_in_list(index, print, number),
+            Numbers::InBuckets(buckets) => put_in_buckets(buckets, print, number),
+        }
     }
 
     fn remove(&mut self, print: u64, number: usize) {
-        Index::remove(self, print, number);
-    }
-}
-
-impl Numbers for Buckets {
-    fn clear(&mut self, alloc: Global) {
-        replace(self, Buckets::new(alloc));
-    }
-
-    fn numbers(&self, print: u64) -> &[Entry] {
-        Buckets::numbers(self, print)
-    }
-
-    fn reserve(&mut self, n: usize) -> Result<(), AllocError> {
-        Buckets::reserve(self, n)
-    }
-
-    fn put(&mut self, print: u64, number: usize) -> Result<(), AllocError> {
-        Buckets::reserve(self, 1)?;
-        Buckets::put(self, print, number);
-        Ok(())
-    }
-
-    fn remove(&mut self, print: u64, number: usize) {
-        Buckets::remove(self, print, number);
+        match self {
+            Numbers::Listed(index) => index.remove(print, number),
+            Numbers::InBuckets(buckets) => buckets.remove(print, number),
+        }
     }
 }
 
@@ -79,18 +75,18 @@ fn put_numbers(out: &mut Output, entries: &[Entry]) {
     }
 }
 
-fn empty<N: Numbers>(index: &mut N, out: &mut Output) {
+fn empty(index: &mut Numbers, out: &mut Output) {
     index.clear(out.alloc());
     out.put("done");
 }
 
-fn remove<N: Numbers>(index: &mut N, out: &mut Output, print: u64, number: usize) {
+fn remove(index: &mut Numbers, out: &mut Output, print: u64, number: usize) {
     index.remove(print, number);
     out.put("done");
 }
 
 /// What a call without words answers, if it is one.
-fn put_plain<N: Numbers>(index: &mut N, out: &mut Output, call: &str) {
+fn put_plain(index: &mut Numbers, out: &mut Output, call: &str) {
     match call {
         "new" => empty(index, out),
         _ => out.no_such_row(),
@@ -98,7 +94,7 @@ fn put_plain<N: Numbers>(index: &mut N, out: &mut Output, call: &str) {
 }
 
 /// What a call on a print, on how many numbers, or on a text, answers, if it is one.
-fn put_of_one<N: Numbers>(index: &mut N, out: &mut Output, call: &str, word: &[u8]) {
+fn put_of_one(index: &mut Numbers, out: &mut Output, call: &str, word: &[u8]) {
     match call {
         "numbers" => put_numbers(out, index.numbers(number(word))),
         "reserve" => out.put_done(index.reserve(usize_of(word))),
@@ -108,7 +104,7 @@ fn put_of_one<N: Numbers>(index: &mut N, out: &mut Output, call: &str, word: &[u
 }
 
 /// What a call on a print and a number answers, if it is one.
-fn put_of_two<N: Numbers>(index: &mut N, out: &mut Output, call: &str, print: u64, number: usize) {
+fn put_of_two(index: &mut Numbers, out: &mut Output, call: &str, print: u64, number: usize) {
     match call {
         "put" => out.put_done(index.put(print, number)),
         "remove" => remove(index, out, print, number),
@@ -117,11 +113,17 @@ fn put_of_two<N: Numbers>(index: &mut N, out: &mut Output, call: &str, print: u6
 }
 
 /// Writes what the row's call answers on the numbers that earlier rows left, if it is one of `index`.
-pub(crate) fn put_answer<N: Numbers>(index: &mut N, out: &mut Output, call: &str, args: &[&[u8]]) {
-    match args {
-        [] => put_plain(index, out, call),
-        [word] => put_of_one(index, out, call, word),
-        [print, word] => put_of_two(index, out, call, number(print), usize_of(word)),
+pub(crate) fn put_answer(index: &mut Numbers, out: &mut Output, call: &str, args: &[&[u8]]) {
+    match args.len() {
+        0 => put_plain(index, out, call),
+        1 => put_of_one(index, out, call, word(args, 0)),
+        2 => put_of_two(
+            index,
+            out,
+            call,
+            number(word(args, 0)),
+            usize_of(word(args, 1)),
+        ),
         _ => out.no_such_row(),
     }
 }

@@ -21,6 +21,7 @@ mod telling;
 mod text_rows;
 mod timers_rows;
 
+use crate::index_rows::Numbers;
 use index::{Buckets, Index};
 use port_pool::Pool;
 use registrar::Registrar;
@@ -32,8 +33,8 @@ use timers::Timers;
 /// What the calls of a crate leave for the rows behind them.
 #[derive(Drop)]
 struct PartRows {
-    buckets: Buckets,
-    index: Index,
+    buckets: Numbers,
+    index: Numbers,
     pool: Option<Pool>,
     registrar: Option<Registrar>,
     timers: Timers<u8>,
@@ -73,8 +74,8 @@ impl Rows for PartRows {
 
 fn main(rt: HostRuntime) -> io::Result<()> {
     let mut rows = PartRows {
-        buckets: Buckets::new(rt.alloc()),
-        index: Index::new(rt.alloc()),
+        buckets: Numbers::InBuckets(Buckets::new(rt.alloc())),
+        index: Numbers::Listed(Index::new(rt.alloc())),
         pool: None,
         registrar: None,
         timers: Timers::new(rt.alloc()),

@@ -2,9 +2,9 @@
 
 use crate::readdress_rows::{put_sent_read, put_sent_text};
 use crate::sdp_rows::put_fault;
-use crate::session_rows::put_session;
+use crate::session_rows::{Session, put_session};
 use crate::stream_words::put_streams;
-use crate::telling::word_or_none;
+use crate::telling::{word, word_or_none};
 use offer_answer::{
     OwnRange, alike_is_equivalence, check_answer, check_offer, destination, fewer_rows, held_call,
     hold_passes, joined_is_direct, meaning, plain_call, relayed_is_direct, rows_lead,
@@ -44,7 +44,7 @@ fn put_taken<E: Display + Drop>(out: &mut Output, outcome: Result<(), E>) {
 }
 
 /// What an offer and an answer mean, which have as many media.
-fn put_meaning(out: &mut Output, offer: &Description<'_>, answer: &Description<'_>) {
+fn put_meaning<'a>(out: &mut Output, offer: &Description<'a>, answer: &Description<'a>) {
     if offer.media.as_slice().len() != answer.media.as_slice().len() {
         return out.put("other number of media");
     }
@@ -57,7 +57,7 @@ fn put_meaning(out: &mut Output, offer: &Description<'_>, answer: &Description<'
     }
 }
 
-fn put_hold_checks(out: &mut Output, offer: &Description<'_>, answer: &Description<'_>) {
+fn put_hold_checks<'a>(out: &mut Output, offer: &Description<'a>, answer: &Description<'a>) {
     out.put("offer ");
     put_taken(out, check_offer(offer, None, HOLD_RANGE));
     out.put(", answer ");
@@ -84,7 +84,7 @@ fn put_of_one(out: &mut Output, call: &str, description: &Description<'_>) {
 }
 
 /// What a call on two descriptions answers: an offer and the one that its end gave before, or an offer and an answer.
-fn put_of_two(out: &mut Output, call: &str, offer: &Description<'_>, other: &Description<'_>) {
+fn put_of_two<'a>(out: &mut Output, call: &str, offer: &Description<'a>, other: &Description<'a>) {
     match call {
         "check_offer" => put_taken(out, check_offer(offer, Some(other), RANGE)),
         "check_answer" => put_taken(out, check_answer(offer, other, RANGE)),
@@ -93,22 +93,26 @@ fn put_of_two(out: &mut Output, call: &str, offer: &Description<'_>, other: &Des
     }
 }
 
+/// What a call on the four descriptions of a session answers.
+fn put_of_four_read(out: &mut Output, call: &str, descriptions: &[Description<'_>]) {
+    let [offer_taken, answer_sent, offer_sent, answer_taken] = descriptions else {
+        return out.put("no description");
+    };
+    let session = Session {
+        offer_taken,
+        answer_sent,
+        offer_sent,
+        answer_taken,
+    };
+    put_session(out, call, &session);
+}
+
 /// What a call on descriptions answers: one, two, or the four of a session.
 fn put_by(out: &mut Output, call: &str, descriptions: &[Description<'_>]) {
-    match descriptions {
-        [one] => put_of_one(out, call, one),
-        [offer, other] => put_of_two(out, call, offer, other),
-        [offer_taken, answer_sent, offer_sent, answer_taken] => {
-            put_session(
-                out,
-                call,
-                offer_taken,
-                answer_sent,
-                offer_sent,
-                answer_taken,
-            )
-        }
-        _ => out.put("no description"),
+    match descriptions.len() {
+        1 => put_of_one(out, call, &descriptions[0]),
+        2 => put_of_two(out, call, &descriptions[0], &descriptions[1]),
+        _ => put_of_four_read(out, call, descriptions),
     }
 }
 
@@ -175,19 +179,22 @@ fn put_pair(out: &mut Output, call: &str, at: &[u8], offer: &[u8], from: &[u8], 
 /// What a call on a session answers, of which the row has the connection and media of the offer, the media of what was sent
 /// on in place of the answer and of the offer, and connection and media of the answer.
 fn put_of_session(out: &mut Output, call: &str, args: &[&[u8]]) {
-    let [at, offer, for_answer, for_offer, from, answer] = args else {
+    if args.len() != 6 {
         return out.no_such_row();
-    };
+    }
     let mut texts = out.list();
-    push_text(out, &mut texts, at, offer);
-    push_text(out, &mut texts, SERVER, for_answer);
-    push_text(out, &mut texts, SERVER, for_offer);
-    push_text(out, &mut texts, from, answer);
+    push_text(out, &mut texts, word(args, 0), word(args, 1));
+    push_text(out, &mut texts, SERVER, word(args, 2));
+    push_text(out, &mut texts, SERVER, word(args, 3));
+    push_text(out, &mut texts, word(args, 4), word(args, 5));
     put_told(out, call, &texts);
 }
 
-/// Calls what has a law for its contract.
-fn put_laws(out: &mut Output) {
+/// Calls what has a law for its contract, if this is the call.
+fn put_laws(out: &mut Output, call: &str) {
+    if call != "laws" {
+        return out.no_such_row();
+    }
     alike_is_equivalence();
     joined_is_direct();
     rows_lead();
@@ -199,14 +206,6 @@ fn put_laws(out: &mut Output) {
     held_call();
     fewer_rows();
     out.put("called");
-}
-
-/// What a call without words answers, if it is one.
-fn put_plain(out: &mut Output, call: &str) {
-    match call {
-        "laws" => put_laws(out),
-        _ => out.no_such_row(),
-    }
 }
 
 /// What a call on media answers, if it is one: `hold_checks` is of an offer and an answer at 0.0.0.0, by a server there.
@@ -246,12 +245,13 @@ fn put_of_four(out: &mut Output, call: &str, one: &[u8], two: &[u8], three: &[u8
 
 /// What a call on so many words answers, if it is one.
 fn put_of_words(out: &mut Output, call: &str, args: &[&[u8]]) {
-    match args {
-        [] => put_plain(out, call),
-        [media] => put_of_media(out, call, media),
-        [at, media] => put_of_place(out, call, at, media),
-        [one, two, three] => put_of_three(out, call, one, two, three),
-        [one, two, three, four] => put_of_four(out, call, one, two, three, four),
+    let (one, two) = (word(args, 0), word(args, 1));
+    match args.len() {
+        0 => put_laws(out, call),
+        1 => put_of_media(out, call, one),
+        2 => put_of_place(out, call, one, two),
+        3 => put_of_three(out, call, one, two, word(args, 2)),
+        4 => put_of_four(out, call, one, two, word(args, 2), word(args, 3)),
         _ => out.no_such_row(),
     }
 }

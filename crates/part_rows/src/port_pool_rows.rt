@@ -2,6 +2,7 @@
 
 use crate::port_pool_words::{put_changes, put_fault, put_pairs, put_row};
 use crate::relay_line_rows::{put_changed, put_commit, put_kept, put_lines};
+use crate::telling::word;
 use port_pool::{Pair, Pool};
 use rows::{Output, number, replace, u16_of, usize_of};
 use std::alloc::{AllocError, Global};
@@ -60,18 +61,13 @@ fn hold(out: &mut Output, pool: &mut Pool, call: u64, pairs: usize, now: u64) {
     }
 }
 
-/// Calls what has a law for its contract.
-fn put_laws(out: &mut Output, pool: &Pool) {
+/// Calls what has a law for its contract, if this is the call.
+fn put_laws(out: &mut Output, pool: &Pool, call: &str) {
+    if call != "laws" {
+        return out.no_such_row();
+    }
     pool.pairs_never_meet();
     out.put("called");
-}
-
-/// What a call without words answers, if it is one.
-fn put_plain(out: &mut Output, pool: &Pool, call: &str) {
-    match call {
-        "laws" => put_laws(out, pool),
-        _ => out.no_such_row(),
-    }
 }
 
 /// What a call on a port, or on a call's number, answers, if it is one.
@@ -108,11 +104,12 @@ fn put_of_three(out: &mut Output, pool: &mut Pool, call: &str, now: u64, owner: 
 
 /// What a call of the pool answers that has so many words, if there is one.
 fn put_of_words(out: &mut Output, pool: &mut Pool, call: &str, args: &[&[u8]]) {
-    match args {
-        [] => put_plain(out, pool, call),
-        [word] => put_of_one(out, pool, call, word),
-        [now, word] => put_of_two(out, pool, call, number(now), word),
-        [now, owner, word] => put_of_three(out, pool, call, number(now), number(owner), word),
+    let first = number(word(args, 0));
+    match args.len() {
+        0 => put_laws(out, pool, call),
+        1 => put_of_one(out, pool, call, word(args, 0)),
+        2 => put_of_two(out, pool, call, first, word(args, 1)),
+        3 => put_of_three(out, pool, call, first, number(word(args, 1)), word(args, 2)),
         _ => out.no_such_row(),
     }
 }
@@ -144,8 +141,8 @@ fn make(pool: &mut Option<Pool>, out: &mut Output, first: u16, pairs: u16) {
 
 /// The same by the words of a row.
 fn put_new(pool: &mut Option<Pool>, out: &mut Output, args: &[&[u8]]) {
-    match args {
-        [first, pairs] => make(pool, out, u16_of(first), u16_of(pairs)),
+    match args.len() {
+        2 => make(pool, out, u16_of(word(args, 0)), u16_of(word(args, 1))),
         _ => out.no_such_row(),
     }
 }

@@ -4,6 +4,7 @@ ghost use Rattle.std.specs.Prelude.{IsTrue, ◌≡◌, length};
 ghost use Rattle.offer_answer.specs.Readdressing.{has_ports};
 
 use crate::sdp_rows::{put_description, put_fault};
+use crate::telling::name_of;
 use offer_answer::{ServerOrigin, readdress};
 use rows::{Output, let_go, u16_of};
 use sdp::{Description, Media, read_description, write_description};
@@ -162,9 +163,9 @@ fn put_read_again(out: &mut Output, text: &[u8], is_group: bool, ports: &[u8]) {
 
 /// What a server at the edge of the unicast addresses sends in place of a description, read and written again.
 pub(crate) fn put_sent_read(out: &mut Output, text: &[u8], server: &[u8], ports: &[u8]) {
-    match server {
-        b"223.255.255.255" => put_read_again(out, text, false, ports),
-        b"224.0.0.0" => put_read_again(out, text, true, ports),
+    match name_of(server) {
+        "223.255.255.255" => put_read_again(out, text, false, ports),
+        "224.0.0.0" => put_read_again(out, text, true, ports),
         _ => out.no_such_row(),
     }
 }

@@ -4,7 +4,7 @@ ghost use Rattle.std.specs.Prelude.{◌≡◌, ◌≤◌, ◌++◌, ◌∷◌, [
 
 use crate::registrar_words::put_bindings;
 use crate::sip_uri_words::put_uri;
-use crate::telling::word_or_none;
+use crate::telling::{name_of, word, word_or_none, words_behind};
 use registrar::{Contact, Contacts, Refusal, Register, Registrar, laws_of_bindings};
 use rows::{Output, let_go, number, outcome_after, replace, u32_of};
 use sip_uri::{Uri, UriError, read_uri};
@@ -81,8 +81,8 @@ fn uri_of(alloc: Global, word: &[u8]) -> Result<Option<Uri<'_>>, AllocError> {
 
 /// A number of seconds; none for a word that is empty or `-`.
 fn seconds_of(word: &[u8]) -> Option<u32> {
-    match word {
-        b"" | b"-" => None,
+    match name_of(word) {
+        "" | "-" => None,
         _ => Some(u32_of(word)),
     }
 }
@@ -97,7 +97,8 @@ fn push_contact<'a>(out: &mut Output, contacts: &mut Vec<Contact<'a>>, word: &'a
 }
 
 fn is_star(word: &[u8]) -> bool {
-    matches!(cut_word(word), (b"*", _))
+    let (first, _) = cut_word(word);
+    name_of(first) == "*"
 }
 
 /// The contacts of a row, each a URI and perhaps its own seconds, without the first `*` among them; a further one has no URI.
@@ -114,16 +115,17 @@ fn contacts_of<'a>(out: &mut Output, words: &[&'a [u8]]) -> Contacts<'a> {
     Contacts::from_vec(Contacts::from_vec(contacts).into_vec())
 }
 
-/// A REGISTER: its user, or `-` for none, its Call-ID, number, and Expires, and its contacts.
-fn register_of<'a>(out: &mut Output, head: &[&'a [u8]; 4], words: &[&'a [u8]]) -> Register<'a> {
+/// A REGISTER of the words behind its moment: its user, or `-` for none, its Call-ID, number, and Expires, and its contacts.
+fn register_of<'a>(out: &mut Output, args: &[&'a [u8]]) -> Register<'a> {
+    let words = words_behind(args, 5);
     let contacts = contacts_of(out, words);
     Register {
-        user: lent(word_or_none(head[0])),
+        user: lent(word_or_none(word(args, 1))),
         star: contacts.as_slice().len() < words.len(),
         contacts,
-        expires: seconds_of(head[3]),
-        call_id: Text::lent(head[1]),
-        cseq: u32_of(head[2]),
+        expires: seconds_of(word(args, 4)),
+        call_id: Text::lent(word(args, 2)),
+        cseq: u32_of(word(args, 3)),
     }
 }
 
@@ -141,28 +143,14 @@ fn put_reply(out: &mut Output, registrar: &mut Registrar, register: &Register<'_
     }
 }
 
-/// What the registrar answers to a REGISTER of these words.
-fn put_applied(
-    out: &mut Output,
-    registrar: &mut Registrar,
-    head: &[&[u8]; 4],
-    contacts: &[&[u8]],
-    now: u64,
-) {
-    let register = register_of(out, head, contacts);
-    put_reply(out, registrar, &register, now);
-    let_go(register);
-}
-
-/// What `apply` answers: its words are a moment, those of the head, and the contacts.
+/// What `apply` answers: its words are a moment, and those of a REGISTER.
 fn put_apply(out: &mut Output, registrar: &mut Registrar, args: &[&[u8]]) {
-    match args {
-        [now, user, call_id, cseq, expires, contacts @ ..] => {
-            let head = [*user, *call_id, *cseq, *expires];
-            put_applied(out, registrar, &head, contacts, number(now));
-        }
-        _ => out.no_such_row(),
+    if args.len() < 5 {
+        return out.no_such_row();
     }
+    let register = register_of(out, args);
+    put_reply(out, registrar, &register, number(word(args, 0)));
+    let_go(register);
 }
 
 /// The bindings of a user at a moment, as they are at another one.
@@ -212,18 +200,13 @@ fn put_user_of(out: &mut Output, registrar: &Registrar, to: &[u8]) {
     }
 }
 
-/// Calls what has a law for its contract.
-fn put_laws(out: &mut Output) {
+/// Calls what has a law for its contract, if this is the call.
+fn put_laws(out: &mut Output, call: &str) {
+    if call != "laws" {
+        return out.no_such_row();
+    }
     laws_of_bindings();
     out.put("called");
-}
-
-/// What a call of the registrar without words answers, if it is one.
-fn put_plain(out: &mut Output, call: &str) {
-    match call {
-        "laws" => put_laws(out),
-        _ => out.no_such_row(),
-    }
 }
 
 /// What a call of the registrar on a word answers, if it is one.
@@ -260,11 +243,19 @@ fn put_of_three(
 
 /// What a call of the registrar on so many words answers, if it is one.
 fn put_of_words(out: &mut Output, registrar: &mut Registrar, call: &str, args: &[&[u8]]) {
-    match args {
-        [] => put_plain(out, call),
-        [word] => put_of_one(out, registrar, call, word),
-        [user, now] => put_of_two(out, registrar, call, user, number(now)),
-        [user, now, then] => put_of_three(out, registrar, call, user, number(now), number(then)),
+    let now = number(word(args, 1));
+    match args.len() {
+        0 => put_laws(out, call),
+        1 => put_of_one(out, registrar, call, word(args, 0)),
+        2 => put_of_two(out, registrar, call, word(args, 0), now),
+        3 => put_of_three(
+            out,
+            registrar,
+            call,
+            word(args, 0),
+            now,
+            number(word(args, 2)),
+        ),
         _ => out.no_such_row(),
     }
 }
@@ -294,8 +285,8 @@ fn open(registrar: &mut Option<Registrar>, out: &mut Output, min_expires: u32) {
 
 /// The same by the words of a row.
 fn put_new(registrar: &mut Option<Registrar>, out: &mut Output, args: &[&[u8]]) {
-    match args {
-        [min_expires] => open(registrar, out, u32_of(min_expires)),
+    match args.len() {
+        1 => open(registrar, out, u32_of(word(args, 0))),
         _ => out.no_such_row(),
     }
 }

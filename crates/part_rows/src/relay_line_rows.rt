@@ -5,6 +5,7 @@ ghost use Rattle.port_pool.specs.Holdings.{even_of, is_among};
 ghost use Rattle.port_pool.specs.Pool.{AreOwn, StandOnce, hop_of};
 
 use crate::port_pool_words::{put_changes, put_row};
+use crate::telling::{word, words_behind};
 use port_pool::{Change, Hop, Pair, Pool, RelayLine, RelayTable};
 use rows::{Output, number, u16_of};
 use sip_uri::{Addr, ip4};
@@ -58,10 +59,10 @@ fn put_row_of(out: &mut Output, port: u16, words: &[&[u8]]) {
 
 /// What `changed` answers: its words are a port, and the changes.
 pub(crate) fn put_changed(out: &mut Output, args: &[&[u8]]) {
-    match args {
-        [port, words @ ..] => put_row_of(out, u16_of(port), words),
-        _ => out.no_such_row(),
+    if args.is_empty() {
+        return out.no_such_row();
     }
+    put_row_of(out, u16_of(word(args, 0)), words_behind(args, 1));
 }
 
 /// The lines of a call's rows.
@@ -199,12 +200,11 @@ fn put_kept_lines(
 
 /// What `free_others` answers: its words are a moment, a call, the pairs that it keeps, and its lines.
 pub(crate) fn put_kept(out: &mut Output, pool: &mut Pool, args: &[&[u8]]) {
-    match args {
-        [now, owner, kept, words @ ..] => {
-            put_kept_lines(out, pool, number(owner), kept, words, number(now))
-        }
-        _ => out.no_such_row(),
+    if args.len() < 3 {
+        return out.no_such_row();
     }
+    let (now, owner) = (number(word(args, 0)), number(word(args, 1)));
+    put_kept_lines(out, pool, owner, word(args, 2), words_behind(args, 3), now);
 }
 
 /// What the rows of a call would change, which is made.
@@ -250,30 +250,25 @@ fn put_ready(
     }
 }
 
-fn put_lines_of(
-    out: &mut Output,
-    pool: &mut Pool,
-    call: &str,
-    owner: u64,
-    words: &[&[u8]],
-    now: u64,
-) {
-    let lines = lines_of(out, words);
-    put_ready(out, pool, call, owner, &lines, now);
-}
-
 /// The same: the words are a call and its lines.
 pub(crate) fn put_lines(out: &mut Output, pool: &mut Pool, call: &str, now: u64, args: &[&[u8]]) {
-    match args {
-        [owner, words @ ..] => put_lines_of(out, pool, call, number(owner), words, now),
-        _ => out.no_such_row(),
+    if args.is_empty() {
+        return out.no_such_row();
     }
+    let lines = lines_of(out, words_behind(args, 1));
+    put_ready(out, pool, call, number(word(args, 0)), &lines, now);
 }
 
 /// The same, with a moment before these words.
 pub(crate) fn put_commit(out: &mut Output, pool: &mut Pool, call: &str, args: &[&[u8]]) {
-    match args {
-        [now, args @ ..] => put_lines(out, pool, call, number(now), args),
-        _ => out.no_such_row(),
+    if args.is_empty() {
+        return out.no_such_row();
     }
+    put_lines(
+        out,
+        pool,
+        call,
+        number(word(args, 0)),
+        words_behind(args, 1),
+    );
 }

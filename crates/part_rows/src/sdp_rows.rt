@@ -1,6 +1,7 @@
 //! Rows of calls of `sdp`.
 
 use crate::sdp_words::{put_connection, put_direction, put_medium, put_origin, put_session};
+use crate::telling::word;
 use rows::{Output, let_go, usize_of};
 use sdp::{
     Description, DescriptionError, Lines, MediaList, one_description, read_description,
@@ -114,18 +115,13 @@ fn put_between(out: &mut Output, call: &str, front: &[u8], value: &[u8], end: &[
     put_told(out, call, &text, 0);
 }
 
-/// Calls what has a law for its contract.
-fn put_laws(out: &mut Output) {
+/// Calls what has a law for its contract, if this is the call.
+fn put_laws(out: &mut Output, call: &str) {
+    if call != "laws" {
+        return out.no_such_row();
+    }
     one_description();
     out.put("called");
-}
-
-/// What a call without words answers, if it is one.
-fn put_plain(out: &mut Output, call: &str) {
-    match call {
-        "laws" => put_laws(out),
-        _ => out.no_such_row(),
-    }
 }
 
 /// What a call on the lines of a description answers, if it is one: `lines` behind v, o and s, and an `o=`, a `c=` or an `m=` line, the
@@ -159,10 +155,10 @@ fn put_of_medium(out: &mut Output, call: &str, text: &[u8], at: usize) {
 
 /// Writes what the row's call answers, if it is one of `sdp`.
 pub(crate) fn put_answer(out: &mut Output, call: &str, args: &[&[u8]]) {
-    match args {
-        [] => put_plain(out, call),
-        [text] => put_of_one(out, call, text),
-        [text, at] => put_of_medium(out, call, text, usize_of(at)),
+    match args.len() {
+        0 => put_laws(out, call),
+        1 => put_of_one(out, call, word(args, 0)),
+        2 => put_of_medium(out, call, word(args, 0), usize_of(word(args, 1))),
         _ => out.no_such_row(),
     }
 }

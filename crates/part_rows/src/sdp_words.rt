@@ -2,7 +2,7 @@
 
 use crate::telling::put_texts;
 use rows::Output;
-use sdp::{Address, Description, Line, Media, Way, place_of, way_of};
+use sdp::{Address, Description, Line, Media, Place, Way, place_of, way_of};
 use text::Text;
 
 fn put_named_text(out: &mut Output, name: &str, text: &[u8]) {
@@ -130,17 +130,24 @@ fn put_way(out: &mut Output, way: Way) {
     out.put_yes_or_no(way.receives());
 }
 
-fn put_address_and_port(out: &mut Output, address: &Address<'_>, port: u16) {
-    put_address(out, address);
-    out.put(" port ");
-    out.put_number(u64::from(port));
+/// An address and a port, if media are wanted anywhere.
+fn put_place(out: &mut Output, place: Option<Place<'_, '_>>) {
+    match place {
+        Some(place) => {
+            put_address(out, place.address);
+            out.put(" port ");
+            out.put_number(u64::from(place.port));
+        }
+        None => out.put("no place"),
+    }
 }
 
 /// Where a medium is wanted and which way it goes.
-pub(crate) fn put_direction(out: &mut Output, description: &Description<'_>, medium: &Media<'_>) {
-    match place_of(description, medium) {
-        Some(place) => put_address_and_port(out, place.address, place.port),
-        None => out.put("no place"),
-    }
+pub(crate) fn put_direction<'a>(
+    out: &mut Output,
+    description: &Description<'a>,
+    medium: &Media<'a>,
+) {
+    put_place(out, place_of(description, medium));
     put_way(out, way_of(description, medium));
 }

@@ -12,6 +12,15 @@ use rows::{Output, let_go, outcome_after};
 use sdp::Description;
 use std::alloc::{AllocError, Global};
 
+/// The offer and the answer taken of a session, and what was sent on in place of them.
+#[derive(Drop)]
+pub(crate) struct Session<'d, 'a> {
+    pub(crate) offer_taken: &'d Description<'a>,
+    pub(crate) answer_sent: &'d Description<'a>,
+    pub(crate) offer_sent: &'d Description<'a>,
+    pub(crate) answer_taken: &'d Description<'a>,
+}
+
 /// The call whose session it is.
 const CALL: u64 = 1;
 
@@ -70,20 +79,26 @@ fn put_each_line(out: &mut Output, lines: &[RelayLine]) {
 }
 
 /// The lines of a session.
-fn put_lines(
-    out: &mut Output,
-    offer_taken: &Description<'_>,
-    answer_sent: &Description<'_>,
-    offer_sent: &Description<'_>,
-    answer_taken: &Description<'_>,
-) -> Result<(), AllocError> {
+fn put_lines(out: &mut Output, session: &Session<'_, '_>) -> Result<(), AllocError> {
     let alloc = out.alloc();
-    let pairs = session_pairs(alloc, offer_taken, answer_sent, offer_sent, answer_taken)?;
+    let pairs = session_pairs(
+        alloc,
+        session.offer_taken,
+        session.answer_sent,
+        session.offer_sent,
+        session.answer_taken,
+    )?;
     if !have_above(&pairs) {
         out.put("no port above");
         return Ok(());
     }
-    let lines = session_lines(alloc, offer_taken, answer_sent, offer_sent, answer_taken)?;
+    let lines = session_lines(
+        alloc,
+        session.offer_taken,
+        session.answer_sent,
+        session.offer_sent,
+        session.answer_taken,
+    )?;
     put_each_line(out, &lines);
     Ok(())
 }
@@ -98,16 +113,15 @@ fn held_pool(alloc: Global) -> Result<Pool, PoolError> {
 }
 
 /// What the rows of a session change in a pool where the call holds four pairs.
-fn put_plan(
-    out: &mut Output,
-    pool: &Pool,
-    offer_taken: &Description<'_>,
-    answer_sent: &Description<'_>,
-    offer_sent: &Description<'_>,
-    answer_taken: &Description<'_>,
-) -> Result<(), AllocError> {
+fn put_plan(out: &mut Output, pool: &Pool, session: &Session<'_, '_>) -> Result<(), AllocError> {
     let alloc = out.alloc();
-    let pairs = session_pairs(alloc, offer_taken, answer_sent, offer_sent, answer_taken)?;
+    let pairs = session_pairs(
+        alloc,
+        session.offer_taken,
+        session.answer_sent,
+        session.offer_sent,
+        session.answer_taken,
+    )?;
     if !are_held(pool, &pairs) || !are_distinct(&pairs) {
         out.put("no pairs of the call");
         return Ok(());
@@ -118,33 +132,20 @@ fn put_plan(
             alloc,
             pool,
             CALL,
-            offer_taken,
-            answer_sent,
-            offer_sent,
-            answer_taken,
+            session.offer_taken,
+            session.answer_sent,
+            session.offer_sent,
+            session.answer_taken,
         ),
     );
     Ok(())
 }
 
 /// The same in such a pool of its own.
-fn put_plan_in_new(
-    out: &mut Output,
-    offer_taken: &Description<'_>,
-    answer_sent: &Description<'_>,
-    offer_sent: &Description<'_>,
-    answer_taken: &Description<'_>,
-) {
+fn put_plan_in_new(out: &mut Output, session: &Session<'_, '_>) {
     match held_pool(out.alloc()) {
         Ok(pool) => {
-            let done = put_plan(
-                out,
-                &pool,
-                offer_taken,
-                answer_sent,
-                offer_sent,
-                answer_taken,
-            );
+            let done = put_plan(out, &pool, session);
             out.note(done);
             let_go(pool);
         }
@@ -152,20 +153,13 @@ fn put_plan_in_new(
     }
 }
 
-/// What a call on a session answers, of the offer and the answer taken and what was sent on in place of them.
-pub(crate) fn put_session(
-    out: &mut Output,
-    call: &str,
-    offer_taken: &Description<'_>,
-    answer_sent: &Description<'_>,
-    offer_sent: &Description<'_>,
-    answer_taken: &Description<'_>,
-) {
+/// What a call on a session answers.
+pub(crate) fn put_session(out: &mut Output, call: &str, session: &Session<'_, '_>) {
     match call {
         "session_lines" => {
-            let done = put_lines(out, offer_taken, answer_sent, offer_sent, answer_taken);
+            let done = put_lines(out, session);
             out.note(done);
         }
-        _ => put_plan_in_new(out, offer_taken, answer_sent, offer_sent, answer_taken),
+        _ => put_plan_in_new(out, session),
     }
 }

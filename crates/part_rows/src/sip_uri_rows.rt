@@ -3,7 +3,7 @@
 use crate::sip_uri_words::{
     put_host_words, put_name, put_name_parts, put_parameters, put_uri, put_uri_parts,
 };
-use crate::telling::word_or_none;
+use crate::telling::{word, word_or_none};
 use rows::{Output, byte_of, let_go};
 use sip_uri::{
     Host, NameAddr, Param, Params, Uri, UriError, binding_is_equivalence, ip4, is_host, one_value,
@@ -155,9 +155,9 @@ fn put_first_named(out: &mut Output, params: &[Param<'_>], name: &[u8]) {
 
 /// What is told of the parameters of a header field: those that these marks stand before, the first of this name, or all.
 fn put_params_by(out: &mut Output, params: &[Param<'_>], words: &[&[u8]]) {
-    match words {
-        [first, next] => put_params_words(out, params, first, next),
-        [name] => put_first_named(out, params, name),
+    match words.len() {
+        2 => put_params_words(out, params, word(words, 0), word(words, 1)),
+        1 => put_first_named(out, params, word(words, 0)),
         _ => put_parameters(out, "parameters", params),
     }
 }
@@ -242,11 +242,11 @@ fn put_of_three(out: &mut Output, call: &str, text: &[u8], first: &[u8], next: &
 
 /// Writes what the row's call answers, if it is one of `sip_uri`.
 pub(crate) fn put_answer(out: &mut Output, call: &str, args: &[&[u8]]) {
-    match args {
-        [] => put_plain(out, call),
-        [text] => put_of_one(out, call, text),
-        [a, b] => put_of_two(out, call, a, b),
-        [text, first, next] => put_of_three(out, call, text, first, next),
+    match args.len() {
+        0 => put_plain(out, call),
+        1 => put_of_one(out, call, word(args, 0)),
+        2 => put_of_two(out, call, word(args, 0), word(args, 1)),
+        3 => put_of_three(out, call, word(args, 0), word(args, 1), word(args, 2)),
         _ => out.no_such_row(),
     }
 }

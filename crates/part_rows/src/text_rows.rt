@@ -1,6 +1,6 @@
 //! Rows of calls of `text`.
 
-use crate::telling::{put_texts, word_or_none};
+use crate::telling::{name_of, put_texts, word, word_or_none};
 use rows::{Output, byte_of, number, u32_of};
 use text::{
     Text, Texts, Within, cut, cut_piece, cut_word, is_blank, is_run_of_digits, is_run_of_token,
@@ -42,18 +42,18 @@ fn put_word(out: &mut Output, text: &[u8]) {
 }
 
 /// What stands in nothing, in angle brackets, in quotes, or behind a backslash in them, if a word names it.
-fn within_named(name: &[u8]) -> Option<Within> {
+fn within_named(name: &str) -> Option<Within> {
     match name {
-        b"nothing" => Some(Within::Nothing),
-        b"angles" => Some(Within::Angles),
-        b"quotes" => Some(Within::Quotes),
-        b"escape" => Some(Within::Escape),
+        "nothing" => Some(Within::Nothing),
+        "angles" => Some(Within::Angles),
+        "quotes" => Some(Within::Quotes),
+        "escape" => Some(Within::Escape),
         _ => None,
     }
 }
 
 /// The name of what a byte stands in.
-fn name_of(within: Within) -> &'static str {
+fn word_for(within: Within) -> &'static str {
     match within {
         Within::Nothing => "nothing",
         Within::Angles => "angles",
@@ -64,8 +64,8 @@ fn name_of(within: Within) -> &'static str {
 
 /// What a byte leads to.
 fn put_next(out: &mut Output, within: &[u8], byte: u8) {
-    match within_named(within) {
-        Some(within) => out.put(name_of(within.next(byte))),
+    match within_named(name_of(within)) {
+        Some(within) => out.put(word_for(within.next(byte))),
         None => out.no_such_row(),
     }
 }
@@ -216,11 +216,17 @@ fn put_of_three(out: &mut Output, call: &str, one: &[u8], other: &[u8], mark: u8
 
 /// What a call on so many words answers, if it is one.
 fn put_of_words(out: &mut Output, call: &str, args: &[&[u8]]) {
-    match args {
-        [] => put_plain(out, call),
-        [text] => put_of_one(out, call, text),
-        [text, word] => put_of_two(out, call, text, word),
-        [one, other, mark] => put_of_three(out, call, one, other, byte_of(mark)),
+    match args.len() {
+        0 => put_plain(out, call),
+        1 => put_of_one(out, call, word(args, 0)),
+        2 => put_of_two(out, call, word(args, 0), word(args, 1)),
+        3 => put_of_three(
+            out,
+            call,
+            word(args, 0),
+            word(args, 1),
+            byte_of(word(args, 2)),
+        ),
         _ => out.no_such_row(),
     }
 }

@@ -1,5 +1,6 @@
 //! Rows of calls of `timers`: keys are single letters.
 
+use crate::telling::{name_of, word};
 use rows::{Output, byte_of, number, replace, usize_of};
 use std::alloc::AllocError;
 use text::cut_word;
@@ -20,12 +21,12 @@ fn put_timer(out: &mut Output, timer: Option<Timer<u8>>) {
 }
 
 /// A call of a run that only asks, if it is one.
-fn look_of(name: &[u8], word: &[u8]) -> Option<Call<u8>> {
+fn look_of(name: &str, word: &[u8]) -> Option<Call<u8>> {
     match name {
-        b"first_due" => Some(Call::FirstDue(number(word))),
-        b"moment" => Some(Call::Moment(byte_of(word))),
-        b"next" => Some(Call::Next),
-        b"len" => Some(Call::Len),
+        "first_due" => Some(Call::FirstDue(number(word))),
+        "moment" => Some(Call::Moment(byte_of(word))),
+        "next" => Some(Call::Next),
+        "len" => Some(Call::Len),
         _ => None,
     }
 }
@@ -34,12 +35,12 @@ fn look_of(name: &[u8], word: &[u8]) -> Option<Call<u8>> {
 fn call_of(word: &[u8]) -> Option<Call<u8>> {
     let (name, rest) = cut_word(word);
     let (first, second) = cut_word(rest);
-    match name {
-        b"set" => Some(Call::Set(byte_of(first), number(second))),
-        b"cancel" => Some(Call::Cancel(byte_of(first))),
-        b"take_due" => Some(Call::TakeDue(number(first))),
-        b"reserve" => Some(Call::Reserve(usize_of(first))),
-        _ => look_of(name, first),
+    match name_of(name) {
+        "set" => Some(Call::Set(byte_of(first), number(second))),
+        "cancel" => Some(Call::Cancel(byte_of(first))),
+        "take_due" => Some(Call::TakeDue(number(first))),
+        "reserve" => Some(Call::Reserve(usize_of(first))),
+        name => look_of(name, first),
     }
 }
 
@@ -146,10 +147,16 @@ fn put_of_two(timers: &mut Timers<u8>, out: &mut Output, call: &str, key: u8, at
 
 /// What a call on so many words answers, if it is one.
 fn put_of_words(timers: &mut Timers<u8>, out: &mut Output, call: &str, args: &[&[u8]]) {
-    match args {
-        [] => put_plain(timers, out, call),
-        [word] => put_of_one(timers, out, call, word),
-        [key, at] => put_of_two(timers, out, call, byte_of(key), number(at)),
+    match args.len() {
+        0 => put_plain(timers, out, call),
+        1 => put_of_one(timers, out, call, word(args, 0)),
+        2 => put_of_two(
+            timers,
+            out,
+            call,
+            byte_of(word(args, 0)),
+            number(word(args, 1)),
+        ),
         _ => out.no_such_row(),
     }
 }
