@@ -75,11 +75,6 @@ fn put_numbers(out: &mut Output, entries: &[Entry]) {
     }
 }
 
-fn empty(index: &mut Numbers, out: &mut Output) {
-    index.clear(out.alloc());
-    out.put("done");
-}
-
 fn remove(index: &mut Numbers, out: &mut Output, print: u64, number: usize) {
     index.remove(print, number);
     out.put("done");
@@ -87,10 +82,11 @@ fn remove(index: &mut Numbers, out: &mut Output, print: u64, number: usize) {
 
 /// What a call without words answers, if it is one.
 fn put_plain(index: &mut Numbers, out: &mut Output, call: &str) {
-    match call {
-        "new" => empty(index, out),
-        _ => out.no_such_row(),
+    if call != "new" {
+        return out.no_such_row();
     }
+    index.clear(out.alloc());
+    out.put("done");
 }
 
 /// What a call on a print, on how many numbers, or on a text, answers, if it is one.

@@ -2,7 +2,7 @@
 
 use crate::readdress_rows::{put_sent_read, put_sent_text};
 use crate::sdp_rows::put_fault;
-use crate::session_rows::{Session, put_session};
+use crate::session_rows::put_session;
 use crate::stream_words::put_streams;
 use crate::telling::{word, word_or_none};
 use offer_answer::{
@@ -93,26 +93,12 @@ fn put_of_two<'a>(out: &mut Output, call: &str, offer: &Description<'a>, other: 
     }
 }
 
-/// What a call on the four descriptions of a session answers.
-fn put_of_four_read(out: &mut Output, call: &str, descriptions: &[Description<'_>]) {
-    let [offer_taken, answer_sent, offer_sent, answer_taken] = descriptions else {
-        return out.put("no description");
-    };
-    let session = Session {
-        offer_taken,
-        answer_sent,
-        offer_sent,
-        answer_taken,
-    };
-    put_session(out, call, &session);
-}
-
 /// What a call on descriptions answers: one, two, or the four of a session.
 fn put_by(out: &mut Output, call: &str, descriptions: &[Description<'_>]) {
     match descriptions.len() {
         1 => put_of_one(out, call, &descriptions[0]),
         2 => put_of_two(out, call, &descriptions[0], &descriptions[1]),
-        _ => put_of_four_read(out, call, descriptions),
+        _ => put_session(out, call, descriptions),
     }
 }
 

@@ -124,9 +124,12 @@ fn put_of_pool(out: &mut Output, pool: &mut Pool, call: &str, args: &[&[u8]]) {
     }
 }
 
-/// Makes a pool of so many pairs from this port on.
-fn make(pool: &mut Option<Pool>, out: &mut Output, first: u16, pairs: u16) {
-    match pool_of(out.alloc(), first, pairs) {
+/// Makes a pool, by the words of a row: its first port, and how many pairs it has.
+fn put_new(pool: &mut Option<Pool>, out: &mut Output, args: &[&[u8]]) {
+    if args.len() != 2 {
+        return out.no_such_row();
+    }
+    match pool_of(out.alloc(), u16_of(word(args, 0)), u16_of(word(args, 1))) {
         Ok(made) => {
             out.put(if made.is_some() {
                 "made"
@@ -136,14 +139,6 @@ fn make(pool: &mut Option<Pool>, out: &mut Output, first: u16, pairs: u16) {
             replace(pool, made);
         }
         Err(_) => out.no_memory(),
-    }
-}
-
-/// The same by the words of a row.
-fn put_new(pool: &mut Option<Pool>, out: &mut Output, args: &[&[u8]]) {
-    match args.len() {
-        2 => make(pool, out, u16_of(word(args, 0)), u16_of(word(args, 1))),
-        _ => out.no_such_row(),
     }
 }
 

@@ -12,15 +12,6 @@ use rows::{Output, let_go, outcome_after};
 use sdp::Description;
 use std::alloc::{AllocError, Global};
 
-/// The offer and the answer taken of a session, and what was sent on in place of them.
-#[derive(Drop)]
-pub(crate) struct Session<'d, 'a> {
-    pub(crate) offer_taken: &'d Description<'a>,
-    pub(crate) answer_sent: &'d Description<'a>,
-    pub(crate) offer_sent: &'d Description<'a>,
-    pub(crate) answer_taken: &'d Description<'a>,
-}
-
 /// The call whose session it is.
 const CALL: u64 = 1;
 
@@ -79,26 +70,18 @@ fn put_each_line(out: &mut Output, lines: &[RelayLine]) {
 }
 
 /// The lines of a session.
-fn put_lines(out: &mut Output, session: &Session<'_, '_>) -> Result<(), AllocError> {
+fn put_lines(out: &mut Output, session: &[Description<'_>]) -> Result<(), AllocError> {
+    let [offer_taken, answer_sent, offer_sent, answer_taken] = session else {
+        out.put("no description");
+        return Ok(());
+    };
     let alloc = out.alloc();
-    let pairs = session_pairs(
-        alloc,
-        session.offer_taken,
-        session.answer_sent,
-        session.offer_sent,
-        session.answer_taken,
-    )?;
+    let pairs = session_pairs(alloc, offer_taken, answer_sent, offer_sent, answer_taken)?;
     if !have_above(&pairs) {
         out.put("no port above");
         return Ok(());
     }
-    let lines = session_lines(
-        alloc,
-        session.offer_taken,
-        session.answer_sent,
-        session.offer_sent,
-        session.answer_taken,
-    )?;
+    let lines = session_lines(alloc, offer_taken, answer_sent, offer_sent, answer_taken)?;
     put_each_line(out, &lines);
     Ok(())
 }
@@ -113,15 +96,13 @@ fn held_pool(alloc: Global) -> Result<Pool, PoolError> {
 }
 
 /// What the rows of a session change in a pool where the call holds four pairs.
-fn put_plan(out: &mut Output, pool: &Pool, session: &Session<'_, '_>) -> Result<(), AllocError> {
+fn put_plan(out: &mut Output, pool: &Pool, session: &[Description<'_>]) -> Result<(), AllocError> {
+    let [offer_taken, answer_sent, offer_sent, answer_taken] = session else {
+        out.put("no description");
+        return Ok(());
+    };
     let alloc = out.alloc();
-    let pairs = session_pairs(
-        alloc,
-        session.offer_taken,
-        session.answer_sent,
-        session.offer_sent,
-        session.answer_taken,
-    )?;
+    let pairs = session_pairs(alloc, offer_taken, answer_sent, offer_sent, answer_taken)?;
     if !are_held(pool, &pairs) || !are_distinct(&pairs) {
         out.put("no pairs of the call");
         return Ok(());
@@ -132,17 +113,17 @@ fn put_plan(out: &mut Output, pool: &Pool, session: &Session<'_, '_>) -> Result<
             alloc,
             pool,
             CALL,
-            session.offer_taken,
-            session.answer_sent,
-            session.offer_sent,
-            session.answer_taken,
+            offer_taken,
+            answer_sent,
+            offer_sent,
+            answer_taken,
         ),
     );
     Ok(())
 }
 
 /// The same in such a pool of its own.
-fn put_plan_in_new(out: &mut Output, session: &Session<'_, '_>) {
+fn put_plan_in_new(out: &mut Output, session: &[Description<'_>]) {
     match held_pool(out.alloc()) {
         Ok(pool) => {
             let done = put_plan(out, &pool, session);
@@ -153,8 +134,8 @@ fn put_plan_in_new(out: &mut Output, session: &Session<'_, '_>) {
     }
 }
 
-/// What a call on a session answers.
-pub(crate) fn put_session(out: &mut Output, call: &str, session: &Session<'_, '_>) {
+/// What a call on a session answers, of the offer taken, the answer sent, the offer sent and the answer taken.
+pub(crate) fn put_session(out: &mut Output, call: &str, session: &[Description<'_>]) {
     match call {
         "session_lines" => {
             let done = put_lines(out, session);
