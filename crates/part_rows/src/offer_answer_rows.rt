@@ -10,7 +10,7 @@ use offer_answer::{
     hold_passes, joined_is_direct, meaning, plain_call, relayed_is_direct, rows_lead,
     rows_of_session_stand, sent_is_read,
 };
-use rows::{Output, let_go, number};
+use rows::{Output, number};
 use sdp::{Description, read_description};
 use std::fmt::Display;
 
@@ -49,10 +49,7 @@ fn put_meaning<'a>(out: &mut Output, offer: &Description<'a>, answer: &Descripti
         return out.put("other number of media");
     }
     match meaning(out.alloc(), offer, answer) {
-        Ok(streams) => {
-            put_streams(out, &streams);
-            let_go(streams);
-        }
+        Ok(streams) => put_streams(out, &streams),
         Err(_) => out.no_memory(),
     }
 }
@@ -124,7 +121,6 @@ fn put_told(out: &mut Output, call: &str, texts: &[Vec<u8>]) {
     let mut found = out.list();
     push_descriptions(out, &mut found, texts);
     put_by_all(out, call, &found, texts.len());
-    let_go(found);
 }
 
 /// The text of a description of 192.0.2.10 with this connection line and these media lines.

@@ -6,7 +6,7 @@ ghost use Rattle.offer_answer.specs.Readdressing.{has_ports};
 use crate::sdp_rows::{put_description, put_fault};
 use crate::telling::name_of;
 use offer_answer::{ServerOrigin, readdress};
-use rows::{Output, let_go, u16_of};
+use rows::{Output, u16_of};
 use sdp::{Description, Media, read_description, write_description};
 use std::alloc::{AllocError, Global};
 use text::pieces;
@@ -82,10 +82,7 @@ fn put_sent(out: &mut Output, description: &Description<'_>, ports: &[u16], id: 
         return out.put("no port for each medium");
     }
     match sent_for(out.alloc(), description, ports, id, version) {
-        Ok(sent) => {
-            put_description(out, &sent);
-            let_go(sent);
-        }
+        Ok(sent) => put_description(out, &sent),
         Err(_) => out.no_memory(),
     }
 }
@@ -94,10 +91,7 @@ fn put_sent(out: &mut Output, description: &Description<'_>, ports: &[u16], id: 
 pub(crate) fn put_sent_text(out: &mut Output, text: &[u8], id: u64, version: u64, ports: &[u8]) {
     let ports = ports_between(out, ports);
     match read_description(out.alloc(), text) {
-        Ok(description) => {
-            put_sent(out, &description, &ports, id, version);
-            let_go(description);
-        }
+        Ok(description) => put_sent(out, &description, &ports, id, version),
         Err(fault) => put_fault(out, fault),
     }
 }
@@ -120,10 +114,7 @@ fn sent_at_edge(
 /// A text, read and written again.
 fn put_again(out: &mut Output, text: &[u8]) {
     match read_description(out.alloc(), text) {
-        Ok(description) => {
-            put_description(out, &description);
-            let_go(description);
-        }
+        Ok(description) => put_description(out, &description),
         Err(fault) => put_fault(out, fault),
     }
 }
@@ -142,10 +133,7 @@ fn put_read(out: &mut Output, description: &Description<'_>, ports: &[u16], is_g
         return out.put("no port for each medium");
     }
     match sent_at_edge(out.alloc(), description, ports, is_group) {
-        Ok(sent) => {
-            put_written_again(out, &sent);
-            let_go(sent);
-        }
+        Ok(sent) => put_written_again(out, &sent),
         Err(_) => out.no_memory(),
     }
 }
@@ -153,10 +141,7 @@ fn put_read(out: &mut Output, description: &Description<'_>, ports: &[u16], is_g
 fn put_read_again(out: &mut Output, text: &[u8], is_group: bool, ports: &[u8]) {
     let ports = ports_between(out, ports);
     match read_description(out.alloc(), text) {
-        Ok(description) => {
-            put_read(out, &description, &ports, is_group);
-            let_go(description);
-        }
+        Ok(description) => put_read(out, &description, &ports, is_group),
         Err(fault) => put_fault(out, fault),
     }
 }

@@ -6,7 +6,7 @@ use crate::registrar_words::put_bindings;
 use crate::sip_uri_words::put_uri;
 use crate::telling::{name_of, word, word_or_none, words_behind};
 use registrar::{Contact, Contacts, Refusal, Register, Registrar, laws_of_bindings};
-use rows::{Output, let_go, number, outcome_after, replace, u32_of};
+use rows::{Output, number, outcome_after, replace, u32_of};
 use sip_uri::{Uri, UriError, read_uri};
 use std::alloc::{AllocError, Global};
 use text::{Text, Texts, cut_word, lent};
@@ -135,10 +135,7 @@ fn put_reply(out: &mut Output, registrar: &mut Registrar, register: &Register<'_
         return out.put("no such moment");
     }
     match registrar.apply(register, now) {
-        Ok(bindings) => {
-            put_bindings(out, &bindings, now);
-            let_go(bindings);
-        }
+        Ok(bindings) => put_bindings(out, &bindings, now),
         Err(refusal) => put_refusal(out, refusal),
     }
 }
@@ -150,7 +147,6 @@ fn put_apply(out: &mut Output, registrar: &mut Registrar, args: &[&[u8]]) {
     }
     let register = register_of(out, args);
     put_reply(out, registrar, &register, number(word(args, 0)));
-    let_go(register);
 }
 
 /// The bindings of a user at a moment, as they are at another one.
@@ -162,10 +158,7 @@ fn put_bindings_then(
     then: u64,
 ) {
     match registrar.bindings(&Text::lent(user), now) {
-        Ok(bindings) => {
-            put_bindings(out, &bindings, then);
-            let_go(bindings);
-        }
+        Ok(bindings) => put_bindings(out, &bindings, then),
         Err(_) => out.no_memory(),
     }
 }
@@ -191,10 +184,7 @@ fn put_user(out: &mut Output, user: Option<&Text<'_>>) {
 /// The user that a To names.
 fn put_user_of(out: &mut Output, registrar: &Registrar, to: &[u8]) {
     match uri_of(out.alloc(), to) {
-        Ok(Some(to)) => {
-            put_user(out, registrar.user_of(&to));
-            let_go(to);
-        }
+        Ok(Some(to)) => put_user(out, registrar.user_of(&to)),
         Ok(None) => out.put("no URI"),
         Err(_) => out.no_memory(),
     }

@@ -2,7 +2,7 @@
 
 use crate::sdp_words::{put_connection, put_direction, put_medium, put_origin, put_session};
 use crate::telling::word;
-use rows::{Output, let_go, usize_of};
+use rows::{Output, usize_of};
 use sdp::{
     Description, DescriptionError, Lines, MediaList, one_description, read_description,
     write_description,
@@ -67,7 +67,6 @@ fn put_remade(out: &mut Output, text: &[u8]) {
         Ok(description) => {
             let description = remade(out.alloc(), description);
             put_description(out, &description);
-            let_go(description);
         }
         Err(fault) => put_fault(out, fault),
     }
@@ -76,10 +75,7 @@ fn put_remade(out: &mut Output, text: &[u8]) {
 /// A description as it is kept, written.
 fn put_kept(out: &mut Output, description: &Description<'_>) {
     match description.keep(out.alloc()) {
-        Ok(kept) => {
-            put_description(out, &kept);
-            let_go(kept);
-        }
+        Ok(kept) => put_description(out, &kept),
         Err(_) => out.no_memory(),
     }
 }
@@ -98,10 +94,7 @@ fn put_by(out: &mut Output, call: &str, description: &Description<'_>, at: usize
 
 fn put_told(out: &mut Output, call: &str, text: &[u8], at: usize) {
     match read_description(out.alloc(), text) {
-        Ok(description) => {
-            put_by(out, call, &description, at);
-            let_go(description);
-        }
+        Ok(description) => put_by(out, call, &description, at),
         Err(fault) => put_fault(out, fault),
     }
 }

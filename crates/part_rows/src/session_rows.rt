@@ -8,7 +8,7 @@ ghost use Rattle.offer_answer.specs.Session.{HasAbove};
 use crate::port_pool_words::{put_changes, put_fault, put_row};
 use offer_answer::{plan_session, session_lines, session_pairs};
 use port_pool::{Pool, PoolError, RelayLine};
-use rows::{Output, let_go, outcome_after};
+use rows::{Output, outcome_after};
 use sdp::Description;
 use std::alloc::{AllocError, Global};
 
@@ -128,7 +128,6 @@ fn put_plan_in_new(out: &mut Output, session: &[Description<'_>]) {
         Ok(pool) => {
             let done = put_plan(out, &pool, session);
             out.note(done);
-            let_go(pool);
         }
         Err(fault) => put_fault(out, fault),
     }

@@ -4,7 +4,7 @@ use crate::sip_uri_words::{
     put_host_words, put_name, put_name_parts, put_parameters, put_uri, put_uri_parts,
 };
 use crate::telling::{word, word_or_none};
-use rows::{Output, byte_of, let_go};
+use rows::{Output, byte_of};
 use sip_uri::{
     Host, NameAddr, Param, Params, Uri, UriError, binding_is_equivalence, ip4, is_host, one_value,
     param_named, put_display_and_uri, put_param, put_params, read_field_params, read_host,
@@ -23,10 +23,7 @@ fn put_fault(out: &mut Output, fault: UriError) {
 /// The parts of a URI as it is kept.
 fn put_kept_uri(out: &mut Output, uri: &Uri<'_>) {
     match uri.keep(out.alloc()) {
-        Ok(kept) => {
-            put_uri_parts(out, &kept);
-            let_go(kept);
-        }
+        Ok(kept) => put_uri_parts(out, &kept),
         Err(_) => out.no_memory(),
     }
 }
@@ -42,10 +39,7 @@ fn put_uri_by(out: &mut Output, call: &str, uri: &Uri<'_>) {
 
 fn put_told_uri(out: &mut Output, call: &str, text: &[u8]) {
     match read_uri(out.alloc(), text) {
-        Ok(uri) => {
-            put_uri_by(out, call, &uri);
-            let_go(uri);
-        }
+        Ok(uri) => put_uri_by(out, call, &uri),
         Err(fault) => put_fault(out, fault),
     }
 }
@@ -53,10 +47,7 @@ fn put_told_uri(out: &mut Output, call: &str, text: &[u8]) {
 /// The parts of a name and an address as they are kept.
 fn put_kept_name(out: &mut Output, name: &NameAddr<'_>) {
     match name.keep(out.alloc()) {
-        Ok(kept) => {
-            put_name_parts(out, &kept);
-            let_go(kept);
-        }
+        Ok(kept) => put_name_parts(out, &kept),
         Err(_) => out.no_memory(),
     }
 }
@@ -80,10 +71,7 @@ fn put_name_by(out: &mut Output, call: &str, name: &NameAddr<'_>) {
 
 fn put_told_name(out: &mut Output, call: &str, text: &[u8]) {
     match read_name_addr(out.alloc(), text) {
-        Ok(name) => {
-            put_name_by(out, call, &name);
-            let_go(name);
-        }
+        Ok(name) => put_name_by(out, call, &name),
         Err(fault) => put_fault(out, fault),
     }
 }
@@ -91,10 +79,7 @@ fn put_told_name(out: &mut Output, call: &str, text: &[u8]) {
 /// Whether a URI and that of a text are one binding.
 fn put_is_bound(out: &mut Output, one: &Uri<'_>, other: &[u8]) {
     match read_uri(out.alloc(), other) {
-        Ok(other) => {
-            out.put_yes_or_no(same_binding(one, &other));
-            let_go(other);
-        }
+        Ok(other) => out.put_yes_or_no(same_binding(one, &other)),
         Err(fault) => put_fault(out, fault),
     }
 }
@@ -102,10 +87,7 @@ fn put_is_bound(out: &mut Output, one: &Uri<'_>, other: &[u8]) {
 /// Whether the URIs of two texts are one binding.
 fn put_same_binding(out: &mut Output, one: &[u8], other: &[u8]) {
     match read_uri(out.alloc(), one) {
-        Ok(one) => {
-            put_is_bound(out, &one, other);
-            let_go(one);
-        }
+        Ok(one) => put_is_bound(out, &one, other),
         Err(fault) => put_fault(out, fault),
     }
 }
