@@ -1,5 +1,6 @@
 //! Rows of header fields alone: `Headers`, and how they are looked up.
 
+use crate::call::Call;
 use crate::message_texts::{put_contacts, put_headers, put_value};
 use rows::{Output, let_go};
 use sip_message::{FieldValue, Header, Headers, contact_values, first_value, values_named};
@@ -25,16 +26,24 @@ fn headers_of(out: &mut Output, words: &[&[u8]]) -> Vec<Header<'static>> {
     headers
 }
 
+/// A header field put behind these.
+fn push_one(alloc: Global, headers: &mut Headers<'static>) -> Result<(), AllocError> {
+    match Header::of(alloc, b"Pushed", b"1") {
+        Ok(header) => headers.push(header),
+        Err(fault) => Err(fault),
+    }
+}
+
 /// Two header fields put behind these, the second one as name and value.
-fn add_two(alloc: Global, headers: &mut Headers<'static>) -> Result<(), AllocError> {
-    headers.push(Header::of(alloc, b"Pushed", b"1")?)?;
-    headers.add(alloc, b"Added", b"2")
+fn add_two(out: &mut Output, headers: &mut Headers<'static>) {
+    out.note(push_one(out.alloc(), headers));
+    out.note(headers.add(out.alloc(), b"Added", b"2"));
 }
 
 /// The header fields, put into a list, two more behind them, and taken out again.
 fn put_added(out: &mut Output, words: &[&[u8]]) {
     let mut headers = Headers::from_vec(headers_of(out, words));
-    out.note(add_two(out.alloc(), &mut headers));
+    add_two(out, &mut headers);
     let headers = headers.into_vec();
     put_headers(out, &headers);
     let_go(headers);
@@ -46,20 +55,16 @@ fn put_listed(out: &mut Output, words: &[&[u8]]) {
     let_go(headers);
 }
 
-fn put_each_value(out: &mut Output, values: &[&FieldValue<'_>]) {
+fn put_each_value_or_none(out: &mut Output, values: &[&FieldValue<'_>]) {
+    if values.is_empty() {
+        out.put("none");
+    }
     for (at, value) in values.iter().enumerate() {
         if at > 0 {
             out.put(" ");
         }
         put_value(out, value);
         out.put(";");
-    }
-}
-
-fn put_each_value_or_none(out: &mut Output, values: &[&FieldValue<'_>]) {
-    match values {
-        [] => out.put("none"),
-        _ => put_each_value(out, values),
     }
 }
 
@@ -78,24 +83,24 @@ fn put_first(out: &mut Output, headers: &[Header<'_>], name: &[u8]) {
 }
 
 /// What is told of the header fields with a name: the first of them, or all.
-fn put_by(out: &mut Output, call: &str, headers: &[Header<'_>], name: &[u8]) {
-    match call {
-        "first_value" => put_first(out, headers, name),
-        _ => put_values(out, headers, name),
+fn put_by(out: &mut Output, call: &Call<'_>, headers: &[Header<'_>]) {
+    match call.name {
+        "first_value" => put_first(out, headers, call.word(0)),
+        _ => put_values(out, headers, call.word(0)),
     }
 }
 
-fn put_named_of(out: &mut Output, call: &str, name: &[u8], words: &[&[u8]]) {
+fn put_named_of(out: &mut Output, call: &Call<'_>, words: &[&[u8]]) {
     let headers = headers_of(out, words);
-    put_by(out, call, &headers, name);
+    put_by(out, call, &headers);
     let_go(headers);
 }
 
 /// What a call on the header fields with a name answers, of which the first word is.
-pub(crate) fn put_named(out: &mut Output, call: &str, args: &[&[u8]]) {
-    match args {
-        [name, words @ ..] => put_named_of(out, call, name, words),
-        [] => out.no_such_row(),
+pub(crate) fn put_named(out: &mut Output, call: &Call<'_>) {
+    match call.words.get(1..) {
+        Some(words) => put_named_of(out, call, words),
+        None => out.no_such_row(),
     }
 }
 
@@ -123,18 +128,18 @@ fn put_tag_of(out: &mut Output, tag: &[u8]) {
 }
 
 /// The parameter of a tag.
-pub(crate) fn put_tag(out: &mut Output, args: &[&[u8]]) {
-    match args {
-        [tag] => put_tag_of(out, tag),
+pub(crate) fn put_tag(out: &mut Output, call: &Call<'_>) {
+    match call.words.len() {
+        1 => put_tag_of(out, call.word(0)),
         _ => out.no_such_row(),
     }
 }
 
 /// What a call on header fields that the words write answers.
-pub(crate) fn put_of_headers(out: &mut Output, call: &str, words: &[&[u8]]) {
-    match call {
-        "added" => put_added(out, words),
-        "listed" => put_listed(out, words),
-        _ => put_contact_values(out, words),
+pub(crate) fn put_of_headers(out: &mut Output, call: &Call<'_>) {
+    match call.name {
+        "added" => put_added(out, call.words),
+        "listed" => put_listed(out, call.words),
+        _ => put_contact_values(out, call.words),
     }
 }

@@ -1,14 +1,14 @@
 //! Histories of a table of transactions.
 
-ghost use Rattle.std.specs.Prelude.{◌<◌, ◌^◌};
-
+use crate::call::Call;
 use crate::machines::timer_kind;
+use crate::message_texts::put_labelled;
 use crate::table_texts::{PLACE, put_before, put_id, put_refusal, put_verdict};
-use rows::{Output, let_go, number, outcome_after, replace};
+use crate::words_rows::put_request;
+use rows::{Output, address_of, let_go, replace};
 use sip_message::{Message, Request, Response};
 use sip_uri::Addr;
-use sip_writing::write_request;
-use std::alloc::{AllocError, Global};
+use std::alloc::Global;
 use text::cut;
 use transactions::{
     Change, Fired, Outgoing, Reception, Started, Table, TimerId, Transaction, answers_are_repeated,
@@ -22,18 +22,6 @@ pub(crate) struct History {
     pub(crate) sent: Vec<u8>,
 }
 
-/// The moment of a word, in milliseconds.
-pub(crate) fn moment(word: &[u8]) -> u64
-    ensures { result < 2 ^ 60 }
-{
-    let moment = number(word);
-    if moment < 1_152_921_504_606_846_976 {
-        moment
-    } else {
-        0
-    }
-}
-
 /// Calls what has a law for its contract.
 pub(crate) fn put_laws(out: &mut Output) {
     once();
@@ -44,10 +32,12 @@ pub(crate) fn put_laws(out: &mut Output) {
     out.put("hold");
 }
 
-/// The bytes of a request.
-fn put_request(out: &mut Output, request: &Request<'_>) {
-    let text = write_request(out.alloc(), request);
-    out.put_written(text);
+/// Where the message of a call comes from or goes to: to the place of its third word, if it has one.
+fn place_in(call: &Call<'_>) -> Addr {
+    match call.words.get(2) {
+        Some(word) => address_of(word),
+        None => PLACE,
+    }
 }
 
 /// A request that is let go behind it, if there is one.
@@ -69,23 +59,20 @@ fn put_cancel_of(out: &mut Output, transaction: &Transaction) {
     }
 }
 
-/// A request of the server's own, and that it is abandoned.
-fn push_changes(
-    alloc: Global,
-    changes: &mut Vec<Change>,
-    request: &Request<'_>,
-) -> Result<(), AllocError> {
-    changes.push(Change::starts(alloc, request, PLACE)?)?;
-    changes.push(Change::abandons(0))?;
-    Ok(())
+/// A request of the server's own, put behind what is to be changed.
+fn push_start(out: &mut Output, changes: &mut Vec<Change>, request: &Request<'_>) {
+    match Change::starts(out.alloc(), request, PLACE) {
+        Ok(change) => out.push(changes, change),
+        Err(_) => out.no_memory(),
+    }
 }
 
-fn changes_of(alloc: Global, request: &Request<'_>) -> Result<Vec<Change>, AllocError> {
-    let mut changes = Vec::new(alloc);
-    match push_changes(alloc, &mut changes, request) {
-        Ok(()) => Ok(changes),
-        Err(fault) => outcome_after(changes, Err(fault)),
-    }
+/// A request of the server's own, and that it is abandoned.
+fn changes_of(out: &mut Output, request: &Request<'_>) -> Vec<Change> {
+    let mut changes = out.list();
+    push_start(out, &mut changes, request);
+    out.push(&mut changes, Change::abandons(0));
+    changes
 }
 
 impl History {
@@ -104,18 +91,16 @@ impl History {
     /// What is sent, whose bytes are kept.
     fn put_send(&mut self, out: &mut Output, send: &Outgoing) {
         let bytes = send.bytes.as_bytes();
-        let mut sent = out.list();
-        out.extend(&mut sent, bytes);
-        replace(&mut self.sent, sent);
-        out.put("sends ");
-        out.put_shown(cut(bytes, b'\r').0);
+        self.sent.clear();
+        out.extend(&mut self.sent, bytes);
+        put_labelled(out, "sends ", cut(bytes, b'\r').0);
         out.put(" to ");
         out.put_address(send.to)
     }
 
     fn put_reception(&mut self, out: &mut Output, reception: &Reception) {
         put_verdict(out, reception.verdict);
-        put_before(out, reception.before);
+        put_before(out, &reception.before);
         match &reception.send {
             Some(send) => self.put_send(out, send),
             None => out.put("sends nothing"),
@@ -136,16 +121,8 @@ impl History {
         }
     }
 
-    pub(crate) fn receive(
-        &mut self,
-        out: &mut Output,
-        message: &Message<'_>,
-        source: Addr,
-        now: u64,
-    )
-        requires { now < 2 ^ 60 }
-    {
-        match self.table.receive(message, source, now) {
+    pub(crate) fn receive(&mut self, out: &mut Output, message: &Message<'_>, call: &Call<'_>) {
+        match self.table.receive(message, place_in(call), call.moment(1)) {
             Ok(reception) => {
                 self.put_reception(out, &reception);
                 let_go(reception);
@@ -154,10 +131,8 @@ impl History {
         }
     }
 
-    pub(crate) fn start(&mut self, out: &mut Output, request: &Request<'_>, to: Addr, now: u64)
-        requires { now < 2 ^ 60 }
-    {
-        match self.table.start(request, to, now) {
+    pub(crate) fn start(&mut self, out: &mut Output, request: &Request<'_>, call: &Call<'_>) {
+        match self.table.start(request, place_in(call), call.moment(1)) {
             Ok(started) => {
                 self.put_started(out, &started);
                 let_go(started);
@@ -166,23 +141,17 @@ impl History {
         }
     }
 
-    fn put_entered(&mut self, out: &mut Output, changes: Vec<Change>, now: u64)
-        requires { now < 2 ^ 60 }
-    {
-        match self.table.apply(changes, now) {
+    fn put_entered(&mut self, out: &mut Output, changes: Vec<Change>, call: &Call<'_>) {
+        match self.table.apply(changes, call.moment(1)) {
             Ok(()) => out.put("entered"),
             Err(_) => out.no_memory(),
         }
     }
 
     /// A request of the server's own, abandoned at once: two changes that are entered together.
-    pub(crate) fn apply(&mut self, out: &mut Output, request: &Request<'_>, now: u64)
-        requires { now < 2 ^ 60 }
-    {
-        match changes_of(out.alloc(), request) {
-            Ok(changes) => self.put_entered(out, changes, now),
-            Err(_) => out.no_memory(),
-        }
+    pub(crate) fn apply(&mut self, out: &mut Output, request: &Request<'_>, call: &Call<'_>) {
+        let changes = changes_of(out, request);
+        self.put_entered(out, changes, call);
     }
 
     pub(crate) fn put_state(&self, out: &mut Output, id: usize) {
@@ -199,14 +168,8 @@ impl History {
         }
     }
 
-    pub(crate) fn put_timer_count(&self, out: &mut Output) {
-        out.put_usize(self.table.timer_count());
-    }
-
-    pub(crate) fn reply(&mut self, out: &mut Output, id: usize, response: &Response<'_>, now: u64)
-        requires { now < 2 ^ 60 }
-    {
-        match self.table.answer(id, response, now) {
+    pub(crate) fn reply(&mut self, out: &mut Output, response: &Response<'_>, call: &Call<'_>) {
+        match self.table.answer(call.id(1), response, call.moment(2)) {
             Ok(send) => {
                 self.put_send(out, &send);
                 let_go(send);
@@ -215,19 +178,15 @@ impl History {
         }
     }
 
-    pub(crate) fn abandon(&mut self, out: &mut Output, id: usize, now: u64)
-        requires { now < 2 ^ 60 }
-    {
-        match self.table.abandon(id, now) {
+    pub(crate) fn abandon(&mut self, out: &mut Output, call: &Call<'_>) {
+        match self.table.abandon(call.id(0), call.moment(1)) {
             Ok(()) => out.put("abandoned"),
             Err(fault) => put_refusal(out, fault),
         }
     }
 
-    fn fire(&mut self, out: &mut Output, timer: TimerId, now: u64)
-        requires { now < 2 ^ 60 }
-    {
-        match self.table.fire(timer, now) {
+    fn fire(&mut self, out: &mut Output, timer: TimerId, call: &Call<'_>) {
+        match self.table.fire(timer, call.moment(2)) {
             Ok(fired) => {
                 self.put_fired(out, &fired);
                 let_go(fired);
@@ -236,11 +195,10 @@ impl History {
         }
     }
 
-    pub(crate) fn fire_named(&mut self, out: &mut Output, id: usize, kind: &[u8], now: u64)
-        requires { now < 2 ^ 60 }
-    {
-        match timer_kind(kind) {
-            Some(kind) => self.fire(out, TimerId { id, kind }, now),
+    pub(crate) fn fire_named(&mut self, out: &mut Output, call: &Call<'_>) {
+        let id = call.id(0);
+        match timer_kind(call.word(1)) {
+            Some(kind) => self.fire(out, TimerId { id, kind }, call),
             None => out.no_such_row(),
         }
     }

@@ -1,5 +1,6 @@
 //! Rows of the machines of transactions: what an input does in a state.
 
+use crate::call::Call;
 use rows::{Output, beside, number};
 use sip_message::Class;
 use text::cut;
@@ -62,6 +63,13 @@ const OTHER_SERVER: [(&[u8], State); 3] = [
     (b"Completed", State::OtherServer(OtherServer::Completed)),
 ];
 
+const MACHINES: [(&[u8], &[(&[u8], State)]); 4] = [
+    (b"INVITE client", &INVITE_CLIENT),
+    (b"INVITE server", &INVITE_SERVER),
+    (b"other client", &OTHER_CLIENT),
+    (b"other server", &OTHER_SERVER),
+];
+
 /// The inputs by their words, but for the timers.
 const INPUTS: [(&[u8], Input); 9] = [
     (b"again", Input::Repeat),
@@ -82,13 +90,7 @@ pub(crate) fn timer_kind(word: &[u8]) -> Option<TimerKind> {
 
 /// The state of a machine that has this name.
 fn state_named(machine: &[u8], name: &[u8]) -> Option<State> {
-    match machine {
-        b"INVITE client" => beside(&INVITE_CLIENT, name),
-        b"INVITE server" => beside(&INVITE_SERVER, name),
-        b"other client" => beside(&OTHER_CLIENT, name),
-        b"other server" => beside(&OTHER_SERVER, name),
-        _ => None,
-    }
+    beside(beside(&MACHINES, machine)?, name)
 }
 
 /// The state with this interval, if it has one.
@@ -122,13 +124,13 @@ fn input(word: &[u8]) -> Option<Input> {
     }
 }
 
-fn put_start(out: &mut Output, start: Start) {
+fn put_start(out: &mut Output, start: &Start) {
     out.put_debug(&start.kind);
     out.put(" ");
     out.put_number(start.after);
 }
 
-fn put_starts(out: &mut Output, starts: Starts) {
+fn put_starts(out: &mut Output, starts: &Starts) {
     match starts {
         Starts::NoTimer => out.put("none"),
         Starts::One(start) => put_start(out, start),
@@ -140,16 +142,16 @@ fn put_starts(out: &mut Output, starts: Starts) {
     }
 }
 
-fn put_next(out: &mut Output, next: Option<State>) {
+fn put_next(out: &mut Output, next: &Option<State>) {
     match next {
-        Some(next) => out.put_debug(&next),
+        Some(next) => out.put_debug(next),
         None => out.put("ended"),
     }
 }
 
 /// A step: the next state, what is sent and told, which timers stop and which start.
 fn put_step(out: &mut Output, step: &Step) {
-    put_next(out, step.next);
+    put_next(out, &step.next);
     out.put(", sends ");
     out.put_debug(&step.send);
     out.put(", tells ");
@@ -157,7 +159,7 @@ fn put_step(out: &mut Output, step: &Step) {
     out.put(", stops ");
     out.put_debug(&step.stops);
     out.put(", starts ");
-    put_starts(out, step.starts);
+    put_starts(out, &step.starts);
 }
 
 fn put_step_of(out: &mut Output, step: Option<Step>) {
@@ -167,9 +169,9 @@ fn put_step_of(out: &mut Output, step: Option<Step>) {
     }
 }
 
-/// What the input does in the state of the machine, if there are such.
-pub(crate) fn put_advance(out: &mut Output, machine: &[u8], before: &[u8], comes: &[u8]) {
-    match (state(machine, before), input(comes)) {
+/// What the input does in the state of the machine, if the words of the call name such.
+pub(crate) fn put_advance(out: &mut Output, call: &Call<'_>) {
+    match (state(call.word(0), call.word(1)), input(call.word(2))) {
         (Some(state), Some(input)) => put_step_of(out, advance(state, input)),
         _ => out.no_such_row(),
     }

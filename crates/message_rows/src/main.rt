@@ -2,6 +2,7 @@
 //! histories of a table; and behind them what becomes of each message that the words of the command line name, a file each.
 #![tactic(auto)]
 
+mod call;
 mod header_rows;
 mod history;
 mod history_calls;
@@ -12,50 +13,41 @@ mod table_texts;
 mod torture;
 mod words_rows;
 
+use crate::call::Call;
 use crate::history::History;
 use crate::torture::tell_outcome;
 use rows::{Output, Rows, outcome_after, play_lines};
 use std::alloc::{AllocError, Global};
 use std::{env, io};
 
-/// What the rows of a table leave for those behind them.
-#[derive(Drop)]
-struct MessageRows {
-    history: History,
-}
-
-impl MessageRows {
-    /// Writes what a call answers, if there is such a call.
-    fn put_answer(&mut self, out: &mut Output, crate_name: &str, call: &str, args: &[&[u8]]) {
-        match crate_name {
-            "sip_message" => sip_message_rows::put_answer(out, call, args),
-            "transactions" => self.history.put_answer(out, call, args),
-            _ => out.no_such_row(),
-        }
+/// Writes what a call answers, if there is such a call.
+fn put_answer(out: &mut Output, history: &mut History, crate_name: &str, call: &Call<'_>) {
+    match crate_name {
+        "sip_message" => sip_message_rows::put_answer(out, call),
+        "transactions" => history.put_answer(out, call),
+        _ => out.no_such_row(),
     }
 }
 
-impl Rows for MessageRows {
+impl Rows for History {
     fn answer(
         &mut self,
         alloc: Global,
         crate_name: &str,
-        call: &str,
-        args: &[&[u8]],
+        name: &str,
+        words: &[&[u8]],
     ) -> Result<Option<String>, AllocError> {
         let mut out = Output::new(alloc);
-        self.put_answer(&mut out, crate_name, call, args);
+        put_answer(&mut out, self, crate_name, &Call { name, words });
         out.end()
     }
 }
 
 /// Plays the lines of standard input from an empty table on.
 fn play_rows<R: Input + Print + AllocGlobal>(rt: &R) -> io::Result<()> {
-    let mut rows = MessageRows {
-        history: History::new(rt.alloc()),
-    };
-    let outcome = play_lines(rt, &mut rows);
-    outcome_after(rows, outcome)
+    let mut history = History::new(rt.alloc());
+    let outcome = play_lines(rt, &mut history);
+    outcome_after(history, outcome)
 }
 
 fn main(rt: HostRuntime) -> io::Result<()> {

@@ -8,12 +8,33 @@ use sip_message::{
 use sip_uri::{Host, NameAddr, Param, Uri, put_host, put_params, write_name_addr, write_uri};
 use std::alloc::AllocError;
 
+/// What an answer to the message repeats.
+pub(crate) fn parts_in<'m, 'a>(message: &'m Message<'a>) -> &'m Parts<'a> {
+    match message {
+        Message::Request(request) => &request.parts,
+        Message::Response(response) => &response.parts,
+    }
+}
+
+pub(crate) fn headers_in<'m, 'a>(message: &'m Message<'a>) -> &'m [Header<'a>] {
+    match message {
+        Message::Request(request) => request.headers.as_slice(),
+        Message::Response(response) => response.headers.as_slice(),
+    }
+}
+
 /// A fault in its words, or want of memory.
 pub(crate) fn put_fault(out: &mut Output, fault: MessageError) {
     match fault_text(out.alloc(), fault) {
         Ok(text) => out.put(text.as_str()),
         Err(_) => out.no_memory(),
     }
+}
+
+/// Words, and behind them bytes as a row writes them.
+pub(crate) fn put_labelled(out: &mut Output, words: &str, bytes: &[u8]) {
+    out.put(words);
+    out.put_shown(bytes);
 }
 
 fn put_uri(out: &mut Output, uri: &Uri<'_>) {
@@ -30,8 +51,7 @@ fn put_lengths(out: &mut Output, headers: &[Header<'_>], body: &[u8]) {
 }
 
 fn put_request(out: &mut Output, request: &Request<'_>) {
-    out.put("request ");
-    out.put_shown(request.method.as_bytes());
+    put_labelled(out, "request ", request.method.as_bytes());
     out.put(" ");
     put_uri(out, &request.uri);
     out.put(" with ");
@@ -43,8 +63,7 @@ fn put_request(out: &mut Output, request: &Request<'_>) {
 fn put_response(out: &mut Output, response: &Response<'_>) {
     out.put("response ");
     out.put_number(u64::from(response.status));
-    out.put(" '");
-    out.put_shown(response.reason.as_bytes());
+    put_labelled(out, " '", response.reason.as_bytes());
     out.put("', ");
     put_lengths(out, response.headers.as_slice(), response.body.as_bytes());
 }
@@ -80,8 +99,7 @@ fn put_via_params(out: &mut Output, params: &[Param<'_>]) {
 
 /// A Via value: sent-by, host, port and parameters.
 fn put_via(out: &mut Output, via: &Via<'_>) {
-    out.put("via ");
-    out.put_shown(via.sent_by.as_bytes());
+    put_labelled(out, "via ", via.sent_by.as_bytes());
     out.put(", host ");
     put_place(out, &via.host, via.port);
     out.put(", params ");
@@ -110,21 +128,16 @@ fn put_named_parts(out: &mut Output, parts: &Parts<'_>) {
     put_name(out, &parts.from);
     out.put("; to ");
     put_name(out, &parts.to);
-    out.put("; call ");
-    out.put_shown(parts.call_id.as_bytes());
+    put_labelled(out, "; call ", parts.call_id.as_bytes());
     out.put("; number ");
     out.put_number(u64::from(parts.cseq.number));
-    out.put(" ");
-    out.put_shown(parts.cseq.method.as_bytes())
+    put_labelled(out, " ", parts.cseq.method.as_bytes())
 }
 
 fn put_texts_received(out: &mut Output, parts: &Parts<'_>) {
-    out.put("; as ");
-    out.put_shown(parts.from_text.as_bytes());
-    out.put("; ");
-    out.put_shown(parts.to_text.as_bytes());
-    out.put("; ");
-    out.put_shown(parts.cseq_text.as_bytes())
+    put_labelled(out, "; as ", parts.from_text.as_bytes());
+    put_labelled(out, "; ", parts.to_text.as_bytes());
+    put_labelled(out, "; ", parts.cseq_text.as_bytes())
 }
 
 /// What an answer repeats: the values, and behind `as` the texts of From, To and CSeq as received.
@@ -166,20 +179,16 @@ fn put_contact(out: &mut Output, contact: &ContactValue<'_>) {
     }
 }
 
-fn put_each_contact(out: &mut Output, contacts: &[ContactValue<'_>]) {
+/// Contact values in order.
+fn put_contacts_of(out: &mut Output, contacts: &[ContactValue<'_>]) {
+    if contacts.is_empty() {
+        out.put("none");
+    }
     for (at, contact) in contacts.iter().enumerate() {
         if at > 0 {
             out.put(" ");
         }
         put_contact(out, contact);
-    }
-}
-
-/// Contact values in order.
-fn put_contacts_of(out: &mut Output, contacts: &[ContactValue<'_>]) {
-    match contacts {
-        [] => out.put("none"),
-        _ => put_each_contact(out, contacts),
     }
 }
 

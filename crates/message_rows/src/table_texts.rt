@@ -1,5 +1,6 @@
 //! Answers of a table of transactions as a row writes them, and the filling of one.
 
+use crate::call::Call;
 use rows::{Output, outcome_after};
 use sip_message::{Message, read_message};
 use sip_uri::Addr;
@@ -38,14 +39,14 @@ pub(crate) fn put_verdict(out: &mut Output, verdict: Verdict) {
     }
 }
 
-fn put_was(out: &mut Output, before: State) {
+fn put_was(out: &mut Output, before: &State) {
     out.put(", was ");
-    out.put_debug(&before);
+    out.put_debug(before);
     out.put(", ");
 }
 
 /// Writes the state before, of the transaction that a message belongs to.
-pub(crate) fn put_before(out: &mut Output, before: Option<State>) {
+pub(crate) fn put_before(out: &mut Output, before: &Option<State>) {
     match before {
         Some(before) => put_was(out, before),
         None => out.put(", was nothing, "),
@@ -97,11 +98,11 @@ fn begun(out: &mut Output, table: &mut Table, bytes: &[u8]) -> u64 {
     }
 }
 
-/// As many requests come as is said, each with its number at each `#` of the text.
-pub(crate) fn put_filled(out: &mut Output, table: &mut Table, text: &[u8], count: u64) {
+/// As many requests come as the second word says, each with its number at each `#` of the first.
+pub(crate) fn put_filled(out: &mut Output, table: &mut Table, call: &Call<'_>) {
     let mut new = 0u64;
-    for number in 0..count {
-        let bytes = numbered(out, text, number);
+    for number in 0..call.number(1) {
+        let bytes = numbered(out, call.word(0), number);
         new = begun(out, table, &bytes).saturating_add(new);
     }
     out.put_number(new);

@@ -1,11 +1,13 @@
 //! Rows of words on messages, and of requests that are built.
 
+use crate::call::Call;
+use crate::message_texts::{headers_in, parts_in, put_labelled};
 use rows::{Output, let_go};
 use sip_message::{
     Class, Header, Message, Parts, Request, Via, class_of, content_type, is_method, tag_text,
     top_branch,
 };
-use sip_uri::{Addr, NameAddr, address_of};
+use sip_uri::{NameAddr, address_of};
 use sip_writing::{
     Draft, EndName, Unkept, build_request, name_with_tag, server_via, write_request, write_unkept,
     written_is_read,
@@ -20,21 +22,19 @@ fn class_text(class: Class) -> &'static str {
     }
 }
 
-/// The class of a response, and the place that a request's URI leads to.
-fn put_kind(out: &mut Output, message: &Message<'_>) {
-    match message {
-        Message::Request(request) => match address_of(&request.uri) {
-            Some(address) => out.put_address(address),
-            None => out.put("nowhere"),
-        },
-        Message::Response(response) => out.put(class_text(class_of(response.status))),
+/// The place that a request's URI leads to.
+fn put_place(out: &mut Output, request: &Request<'_>) {
+    match address_of(&request.uri) {
+        Some(address) => out.put_address(address),
+        None => out.put("nowhere"),
     }
 }
 
-fn put_branch(out: &mut Output, parts: &Parts<'_>) {
-    match top_branch(&parts.vias) {
-        Some(branch) => out.put_shown(branch.as_bytes()),
-        None => out.put("none"),
+/// The class of a response, and the place that a request's URI leads to.
+fn put_kind(out: &mut Output, message: &Message<'_>) {
+    match message {
+        Message::Request(request) => put_place(out, request),
+        Message::Response(response) => out.put(class_text(class_of(response.status))),
     }
 }
 
@@ -52,44 +52,57 @@ fn put_type(out: &mut Output, headers: &[Header<'_>]) {
     }
 }
 
-/// The tags of From and To, and whether the method is INVITE.
-fn put_tags(out: &mut Output, parts: &Parts<'_>) {
-    out.put_shown(tag_text(parts.from.params.as_slice()));
-    out.put("/");
-    out.put_shown(tag_text(parts.to.params.as_slice()));
-    out.put(if is_method(parts, b"INVITE") {
+fn put_whether_invite(out: &mut Output, parts: &Parts<'_>) {
+    let method = if is_method(parts, b"INVITE") {
         "; INVITE"
     } else {
         "; other"
-    });
+    };
+    out.put(method);
+}
+
+/// The tags of From and To, and whether the method is INVITE.
+fn put_tags(out: &mut Output, parts: &Parts<'_>) {
+    put_labelled(out, "; tags ", tag_text(parts.from.params.as_slice()));
+    put_labelled(out, "/", tag_text(parts.to.params.as_slice()));
+    put_whether_invite(out, parts);
+}
+
+fn put_words_of_parts(out: &mut Output, parts: &Parts<'_>) {
+    out.put("; branch ");
+    put_text_or_none(out, top_branch(&parts.vias));
+    put_tags(out, parts);
+    out.put("; type ");
 }
 
 /// Kind, branch, tags, whether the method is INVITE, and type of the body.
-pub(crate) fn put_words(
-    out: &mut Output,
-    message: &Message<'_>,
-    parts: &Parts<'_>,
-    headers: &[Header<'_>],
-) {
+pub(crate) fn put_words(out: &mut Output, message: &Message<'_>) {
     put_kind(out, message);
-    out.put("; branch ");
-    put_branch(out, parts);
-    out.put("; tags ");
-    put_tags(out, parts);
-    out.put("; type ");
-    put_type(out, headers)
+    put_words_of_parts(out, parts_in(message));
+    put_type(out, headers_in(message))
+}
+
+/// The bytes of a request.
+pub(crate) fn put_request(out: &mut Output, request: &Request<'_>) {
+    let text = write_request(out.alloc(), request);
+    out.put_written(text);
 }
 
 /// A request that the server makes, written.
 fn put_draft(out: &mut Output, draft: &Draft<'_, '_>) {
     match build_request(out.alloc(), draft) {
         Ok(built) => {
-            let text = write_request(out.alloc(), &built);
-            out.put_written(text);
+            put_request(out, &built);
             let_go(built);
         }
         Err(_) => out.no_memory(),
     }
+}
+
+/// The header fields from the seventh on.
+fn further_in<'m, 'a>(request: &'m Request<'a>) -> &'m [Header<'a>] {
+    let headers = request.headers.as_slice();
+    &headers[headers.len().min(6)..]
 }
 
 /// A request to this URI between these ends, written.
@@ -109,78 +122,36 @@ fn put_between<'m, 'a>(
         to,
         call_id: request.parts.call_id.as_bytes(),
         number: request.parts.cseq.number,
-        further: request.headers.as_slice().get(6..).unwrap_or(&[]),
+        further: further_in(request),
         body: request.body.as_bytes(),
     };
     put_draft(out, &draft)
 }
 
-/// A request through this Via from this end to one without a tag, written.
-fn put_from_end(out: &mut Output, request: &Request<'_>, via: &Via<'_>, from: &NameAddr<'_>) {
-    let party = &request.parts.to;
-    match name_with_tag(out.alloc(), &party.display, &party.uri, b"") {
-        Ok(to) => {
-            put_between(out, request, via, from, &to);
-            let_go(to);
-        }
-        Err(_) => out.no_memory(),
-    }
-}
-
-/// A request through this Via from an end with this tag, written.
-fn put_through_via(out: &mut Output, request: &Request<'_>, via: &Via<'_>, tag: &[u8]) {
-    let party = &request.parts.from;
+/// The end of a request that this party has with this tag.
+fn push_end(out: &mut Output, ends: &mut Vec<NameAddr<'static>>, party: &NameAddr<'_>, tag: &[u8]) {
     match name_with_tag(out.alloc(), &party.display, &party.uri, tag) {
-        Ok(from) => {
-            put_from_end(out, request, via, &from);
-            let_go(from);
-        }
+        Ok(end) => out.push(ends, end),
         Err(_) => out.no_memory(),
     }
 }
 
-/// The server's own Via with this token.
-fn via_of(out: &mut Output, server: Addr, token: &[u8]) -> Option<Via<'static>> {
-    match server_via(out.alloc(), server, token) {
-        Ok(via) => Some(via),
-        Err(_) => {
-            out.no_memory();
-            None
-        }
+/// A request through this Via between these two ends, written.
+fn put_between_ends(out: &mut Output, request: &Request<'_>, via: &Via<'_>, ends: &[NameAddr<'_>]) {
+    match (ends.first(), ends.get(1)) {
+        (Some(from), Some(to)) => put_between(out, request, via, from, to),
+        _ => out.no_memory(),
     }
 }
 
-fn put_built_of(out: &mut Output, request: &Request<'_>, server: Addr, token: &[u8], tag: &[u8]) {
-    if let Some(via) = via_of(out, server, token) {
-        put_through_via(out, request, &via, tag);
-        let_go(via);
-    }
-}
-
-/// The message, if it is a request.
-fn request_of<'m, 'a>(out: &mut Output, message: &'m Message<'a>) -> Option<&'m Request<'a>> {
-    match message {
-        Message::Request(request) => Some(request),
-        Message::Response(_) => {
-            out.put("no request");
-            None
-        }
-    }
-}
-
-/// The request as one that the server makes of it, with its header fields from the seventh on: From has this tag, and To
-/// none.
-pub(crate) fn put_built(
-    out: &mut Output,
-    message: &Message<'_>,
-    server: Addr,
-    token: &[u8],
-    tag: &[u8],
-) {
+/// The request as one that the server makes of it through this Via: From has this tag, and To none.
+fn put_built(out: &mut Output, request: &Request<'_>, via: &Via<'_>, tag: &[u8]) {
     written_is_read();
-    if let Some(request) = request_of(out, message) {
-        put_built_of(out, request, server, token, tag);
-    }
+    let mut ends = out.list();
+    push_end(out, &mut ends, &request.parts.from, tag);
+    push_end(out, &mut ends, &request.parts.to, b"");
+    put_between_ends(out, request, via, &ends);
+    let_go(ends);
 }
 
 fn end_of<'m, 'a>(name: &'m NameAddr<'a>, tag: &'m [u8]) -> EndName<'m, 'a> {
@@ -191,14 +162,13 @@ fn end_of<'m, 'a>(name: &'m NameAddr<'a>, tag: &'m [u8]) -> EndName<'m, 'a> {
     }
 }
 
-/// A request with these further header fields between these ends, of which nothing but its bytes is kept.
+/// A request through this Via between these ends, of which nothing but its bytes is kept.
 fn put_unkept_between<'m, 'a>(
     out: &mut Output,
     request: &'m Request<'a>,
     via: &'m Via<'a>,
     from: EndName<'m, 'a>,
     to: EndName<'m, 'a>,
-    further: &'m [Header<'a>],
 ) {
     let unkept = Unkept {
         method: request.method.as_bytes(),
@@ -209,46 +179,48 @@ fn put_unkept_between<'m, 'a>(
         to,
         call_id: request.parts.call_id.as_bytes(),
         number: request.parts.cseq.number,
-        further,
+        further: further_in(request),
         body: request.body.as_bytes(),
     };
     let text = write_unkept(out.alloc(), &unkept);
     out.put_written(text);
 }
 
-/// The same through this Via from an end with this tag.
-fn put_unkept_through<'m, 'a>(
-    out: &mut Output,
-    request: &'m Request<'a>,
-    via: &'m Via<'a>,
-    tag: &'m [u8],
-) {
+/// The request as one that the server makes of it through this Via and doesn't keep: From has this tag, and To its own.
+fn put_unkept<'m, 'a>(out: &mut Output, request: &'m Request<'a>, via: &'m Via<'a>, tag: &'m [u8]) {
+    let to = &request.parts.to;
     let from = end_of(&request.parts.from, tag);
-    let to = end_of(
-        &request.parts.to,
-        tag_text(request.parts.to.params.as_slice()),
+    put_unkept_between(
+        out,
+        request,
+        via,
+        from,
+        end_of(to, tag_text(to.params.as_slice())),
     );
-    let further = request.headers.as_slice().get(6..).unwrap_or(&[]);
-    put_unkept_between(out, request, via, from, to, further);
 }
 
-fn put_unkept_of(out: &mut Output, request: &Request<'_>, server: Addr, token: &[u8], tag: &[u8]) {
-    if let Some(via) = via_of(out, server, token) {
-        put_unkept_through(out, request, &via, tag);
-        let_go(via);
+fn put_through_via(out: &mut Output, request: &Request<'_>, via: &Via<'_>, call: &Call<'_>) {
+    match call.name {
+        "build" => put_built(out, request, via, call.word(3)),
+        _ => put_unkept(out, request, via, call.word(3)),
     }
 }
 
-/// The request as one that the server makes of it and doesn't keep, with its header fields from the seventh on: From has this tag,
-/// and To its own.
-pub(crate) fn put_unkept(
-    out: &mut Output,
-    message: &Message<'_>,
-    server: Addr,
-    token: &[u8],
-    tag: &[u8],
-) {
-    if let Some(request) = request_of(out, message) {
-        put_unkept_of(out, request, server, token, tag);
+/// The request as one that the server makes of it through its own Via with the token of the call.
+fn put_from_server(out: &mut Output, request: &Request<'_>, call: &Call<'_>) {
+    match server_via(out.alloc(), call.address(1), call.word(2)) {
+        Ok(via) => {
+            put_through_via(out, request, &via, call);
+            let_go(via);
+        }
+        Err(_) => out.no_memory(),
+    }
+}
+
+/// The message as a request that the server makes of it with its header fields from the seventh on, if it is a request.
+pub(crate) fn put_of_request(out: &mut Output, message: &Message<'_>, call: &Call<'_>) {
+    match message {
+        Message::Request(request) => put_from_server(out, request, call),
+        Message::Response(_) => out.put("no request"),
     }
 }
