@@ -13,6 +13,16 @@ pub(crate) struct Call<'r> {
 }
 
 impl Call<'_> {
+    /// What a table of calls, each with how many words it has, has beside this one, if this is one of them.
+    pub(crate) fn beside<T: Copy>(&self, table: &[(&str, usize, T)]) -> Option<T> {
+        for (name, count, value) in table {
+            if *name == self.name && *count == self.words.len() {
+                return Some(*value);
+            }
+        }
+        None
+    }
+
     /// The word at this place; an empty one where there is none.
     pub(crate) fn word(&self, at: usize) -> &[u8] {
         match self.words.get(at) {

@@ -16,7 +16,7 @@ mod words_rows;
 use crate::call::Call;
 use crate::history::History;
 use crate::torture::tell_outcome;
-use rows::{Output, Rows, outcome_after, play_lines};
+use rows::{Output, Rows, let_go, outcome_after, play_lines};
 use std::alloc::{AllocError, Global};
 use std::{env, io};
 
@@ -52,7 +52,9 @@ fn play_rows<R: Input + Print + AllocGlobal>(rt: &R) -> io::Result<()> {
 
 fn main(rt: HostRuntime) -> io::Result<()> {
     play_rows(&rt)?;
-    for name in env::args(&rt)?.skip(1) {
+    let mut names = env::args(&rt)?;
+    let_go(names.next());
+    for name in names {
         tell_outcome(&rt, name.as_str())?;
     }
     Ok(())

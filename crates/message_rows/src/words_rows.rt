@@ -137,7 +137,12 @@ fn push_end(out: &mut Output, ends: &mut Vec<NameAddr<'static>>, party: &NameAdd
 }
 
 /// A request through this Via between these two ends, written.
-fn put_between_ends(out: &mut Output, request: &Request<'_>, via: &Via<'_>, ends: &[NameAddr<'_>]) {
+fn put_between_ends<'m, 'a>(
+    out: &mut Output,
+    request: &'m Request<'a>,
+    via: &'m Via<'a>,
+    ends: &'m [NameAddr<'static>],
+) {
     match (ends.first(), ends.get(1)) {
         (Some(from), Some(to)) => put_between(out, request, via, from, to),
         _ => out.no_memory(),
@@ -145,7 +150,7 @@ fn put_between_ends(out: &mut Output, request: &Request<'_>, via: &Via<'_>, ends
 }
 
 /// The request as one that the server makes of it through this Via: From has this tag, and To none.
-fn put_built(out: &mut Output, request: &Request<'_>, via: &Via<'_>, tag: &[u8]) {
+fn put_built<'m, 'a>(out: &mut Output, request: &'m Request<'a>, via: &'m Via<'a>, tag: &'m [u8]) {
     written_is_read();
     let mut ends = out.list();
     push_end(out, &mut ends, &request.parts.from, tag);
@@ -199,7 +204,12 @@ fn put_unkept<'m, 'a>(out: &mut Output, request: &'m Request<'a>, via: &'m Via<'
     );
 }
 
-fn put_through_via(out: &mut Output, request: &Request<'_>, via: &Via<'_>, call: &Call<'_>) {
+fn put_through_via<'m, 'a>(
+    out: &mut Output,
+    request: &'m Request<'a>,
+    via: &'m Via<'a>,
+    call: &'m Call<'_>,
+) {
     match call.name {
         "build" => put_built(out, request, via, call.word(3)),
         _ => put_unkept(out, request, via, call.word(3)),
