@@ -1,3 +1,4 @@
 pub mod KeptLaws
 mod CarryLaws
+mod TagLaws
 mod TimingLaws

@@ -1,4 +1,5 @@
 pub mod State
+pub mod Tags
 pub mod Finding
 pub mod Carrying
 pub mod Timing

@@ -9,6 +9,7 @@ ghost use Rattle.calls.specs.Changes.{beside, with_last, with_leg, with_taken_if
 use crate::change::{Beside, LegDialog};
 use crate::standing_call::{StandingCall, TakenOffer, offerer_of};
 use crate::state::Calls;
+use crate::tags::prints_of;
 use events::Sent;
 
 fn let_go<T: Drop>(_value: T) {}
@@ -85,5 +86,6 @@ impl Calls {
         }
         let LegDialog { end, dialog } = leg;
         self.calls[place].call.put_dialog(end, dialog.into_inner());
+        self.tags[place] = prints_of(&self.calls[place]);
     }
 }

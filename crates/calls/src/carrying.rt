@@ -1,6 +1,6 @@
 //! Plans that are carried out. Nothing here takes memory.
 
-ghost use Rattle.std.specs.Prelude.{◌≡◌, ◌+◌, ◌<◌, ◌≤◌, ◌^◌, length, Some, slice_get, vec_len};
+ghost use Rattle.std.specs.Prelude.{◌≡◌, ◌+◌, ◌<◌, ◌≤◌, ◌^◌, ◌∷◌, ◌++◌, [], length, map, Some, slice_get, vec_len};
 ghost use Rattle.std.specs.Vec.{vec_capacity};
 ghost use Rattle.port_pool.specs.Changes.{LeadFrom};
 ghost use Rattle.call_core.specs.Calls.{IsServed};
@@ -9,11 +9,13 @@ ghost use Rattle.call_media.specs.Serving.{SparesOthers};
 ghost use Rattle.calls.specs.Carrying.{Did, IsPlannedAt, pushed, with_step, without_gone};
 ghost use Rattle.calls.specs.Changes.{after_first_step, beside, carries};
 ghost use Rattle.calls.specs.State.{standing};
+ghost use Rattle.calls.specs.Tags.{prints_of};
 
 use crate::beside::put_beside;
 use crate::change::Beside;
 use crate::standing_call::StandingCall;
 use crate::state::Calls;
+use crate::tags::{TagPrints, prints_of};
 use crate::timing::take_plan;
 use boxed::Boxed;
 use call_core::{Done, Plan, spared_call_is_served};
@@ -70,19 +72,35 @@ fn carry_out_there(
     changes
 }
 
-/// Takes the call at this place off the list where it stands nowhere any more.
-fn take_off(calls: &mut Vec<StandingCall>, place: usize)
-    requires { place < vec_len calls.old }
-    ensures { calls.new.items ≡ without_gone calls.old.items place (slice_get calls.old.items place) }
+/// Takes the call at this place off the list, with its tags, where it stands nowhere any more.
+fn take_off(calls: &mut Vec<StandingCall>, tags: &mut Vec<TagPrints>, place: usize)
+    requires there { place < vec_len calls.old }
+    requires noted { tags.old.items ≡ map prints_of calls.old.items }
+    ensures calls { calls.new.items ≡ without_gone calls.old.items place (slice_get calls.old.items place) }
+    ensures noted { tags.new.items ≡ map prints_of calls.new.items }
 {
     if calls[place].call.standing().is_none() {
         let_go(calls.remove(place));
+        tags.remove(place);
     }
+}
+
+/// Puts a call behind the others, and its tags, for which there is room.
+fn put_behind(calls: &mut Vec<StandingCall>, tags: &mut Vec<TagPrints>, call: StandingCall)
+    requires room { vec_len calls.old < vec_capacity calls.old }
+    requires tag_room { vec_len tags.old < vec_capacity tags.old }
+    requires noted { tags.old.items ≡ map prints_of calls.old.items }
+    ensures calls { calls.new.items ≡ calls.old.items ++ call ∷ [] }
+    ensures noted { tags.new.items ≡ map prints_of calls.new.items }
+{
+    tags.push_reserved(prints_of(&call));
+    calls.push_reserved(call);
 }
 
 /// A call that begins, with its plan carried out, behind the others.
 fn begin_in(
     calls: &mut Vec<StandingCall>,
+    tags: &mut Vec<TagPrints>,
     pool: &mut Pool,
     alloc: Global,
     mut call: StandingCall,
@@ -90,9 +108,12 @@ fn begin_in(
     now: u64,
 ) -> Vec<Change>
     requires room { vec_len calls.old < vec_capacity calls.old }
+    requires tag_room { vec_len tags.old < vec_capacity tags.old }
+    requires noted { tags.old.items ≡ map prints_of calls.old.items }
     requires serves { IsServed call.call pool.old }
     requires planned { IsPlanned call.call pool.old now plan }
     ensures calls { calls.new.items ≡ pushed (with_step call (carried call.call pool.old now plan)) calls.old.items }
+    ensures noted { tags.new.items ≡ map prints_of calls.new.items }
     ensures pool { pool.new ≡ (carried call.call pool.old now plan).pool }
     ensures changes { result.items ≡ (carried call.call pool.old now plan).changes }
     ensures leads { LeadFrom pool.old.rows pool.new.rows result.items }
@@ -104,9 +125,7 @@ fn begin_in(
         let_go(call);
         return changes;
     }
-    let pushed = calls.push(call);
-    prove!(pushed.is_ok());
-    let_go(pushed);
+    put_behind(calls, tags, call);
     changes
 }
 
@@ -147,7 +166,8 @@ impl Calls {
             plan,
             now,
         );
-        take_off(&mut self.calls, place);
+        self.tags[place] = prints_of(&self.calls[place]);
+        take_off(&mut self.calls, &mut self.tags, place);
         changes
     }
 
@@ -175,6 +195,7 @@ impl Calls {
         take_plan(&mut self.timers, now, call.get().call.number(), plan.get());
         let changes = begin_in(
             &mut self.calls,
+            &mut self.tags,
             &mut self.pool,
             alloc,
             call.into_inner(),

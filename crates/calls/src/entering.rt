@@ -22,6 +22,7 @@ impl Calls {
             CallChange::Unchanged | CallChange::Puts { .. } => Ok(()),
             CallChange::Begins(_, plan) => {
                 self.calls.reserve(1)?;
+                self.tags.reserve(1)?;
                 self.timers.reserve(plan.get().actions.as_slice().len())
             }
             CallChange::Carries { plan, .. } => {

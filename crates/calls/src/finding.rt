@@ -1,15 +1,18 @@
 //! Which call a message or a timer is for. Nothing here takes memory.
 
-ghost use Rattle.std.specs.Prelude.{◌≡◌};
+ghost use Rattle.std.specs.Prelude.{◌≡◌, map};
 ghost use Rattle.std.specs.Option.{option_copied};
 ghost use Rattle.call_core.specs.Calls.{holds_in};
+ghost use Rattle.calls.specs.Tags.{prints_of};
 ghost use Rattle.calls.specs.Finding.{awaits_ack, awaits_this_ack, has_number, has_open_offer, has_tag, is_cancellable, is_of_end, is_tag_in, place_by_ack, place_by_end, place_by_number, place_by_offer, place_by_tag};
 
 use crate::standing_call::StandingCall;
 use crate::state::Calls;
+use crate::tags::{TagPrints, place_at, place_of};
 use call_core::{End, Stage, Standing};
 use dialogs::Dialog;
-use sip_message::Request;
+use index::print_of;
+use sip_message::{Request, tag_text};
 
 fn is_of_end(call: &StandingCall, end: End, request: &Request<'_>) -> bool
     ensures { result ≡ is_of_end end request.now.parts call.now }
@@ -108,12 +111,42 @@ fn place_by_number(calls: &[StandingCall], number: u64) -> Option<usize>
     calls.iter().position(|call| has_number(call, number))
 }
 
+/// The same, where a tag that has the print of a request's To is looked for first.
+fn first_of_end(
+    calls: &[StandingCall],
+    tags: &[TagPrints],
+    end: End,
+    request: &Request<'_>,
+) -> Option<usize>
+    requires { tags.now ≡ map prints_of calls.now }
+    ensures { result ≡ place_by_end end request.now.parts calls.now }
+{
+    let print = print_of(tag_text(request.parts.to.params.as_slice()));
+    let place = place_at(tags, end, print)?;
+    match calls.get(place) {
+        Some(call) if is_of_end(call, end, request) => Some(place),
+        _ => place_by_end(calls, end, request),
+    }
+}
+
+/// The same, where a tag of this print is looked for first.
+fn first_of_tag(calls: &[StandingCall], tags: &[TagPrints], tag: &[u8]) -> Option<usize>
+    requires { tags.now ≡ map prints_of calls.now }
+    ensures { result ≡ place_by_tag tag.now calls.now }
+{
+    let place = place_of(tags, print_of(tag))?;
+    match calls.get(place) {
+        Some(call) if has_tag(call, tag) => Some(place),
+        _ => place_by_tag(calls, tag),
+    }
+}
+
 impl Calls {
     /// The place of the call in whose dialog with this end a request stands (RFC 3261 section 12.2.2).
     pub fn place_by_end(&self, end: End, request: &Request<'_>) -> Option<usize>
         ensures { result ≡ place_by_end end request.now.parts self.now.calls }
     {
-        place_by_end(&self.calls, end, request)
+        first_of_end(&self.calls, &self.tags, end, request)
     }
 
     /// The place of the call whose INVITE came with this transaction and has no final response: a CANCEL of it changes something
@@ -136,7 +169,7 @@ impl Calls {
     pub fn place_by_tag(&self, tag: &[u8]) -> Option<usize>
         ensures { result ≡ place_by_tag tag.now self.now.calls }
     {
-        place_by_tag(&self.calls, tag)
+        first_of_tag(&self.calls, &self.tags, tag)
     }
 
     /// The place of the call with this number.

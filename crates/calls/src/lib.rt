@@ -10,6 +10,7 @@ mod entering;
 mod finding;
 mod standing_call;
 mod state;
+mod tags;
 mod timer_id;
 mod timing;
 

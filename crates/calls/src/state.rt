@@ -7,6 +7,7 @@ ghost use Rattle.port_pool.specs.Pool.{is_port_of, new_pool};
 ghost use Rattle.call_core.specs.Calls.{IsServed};
 
 use crate::standing_call::StandingCall;
+use crate::tags::TagPrints;
 use crate::timer_id::CallTimerId;
 use port_pool::Pool;
 use std::alloc::{AllocError, Global};
@@ -16,6 +17,8 @@ use timers::Timers;
 /// The calls that stand, in the order in which they began, and the pool that serves them.
 pub struct Calls {
     pub(crate) calls: Vec<StandingCall>,
+    /// The prints of the tags of each, in the same order.
+    pub(crate) tags: Vec<TagPrints>,
     pub(crate) pool: Pool,
     /// How many calls began.
     pub(crate) begun: u64,
@@ -26,6 +29,7 @@ impl Drop for Calls {
     fn drop(self) {
         let Calls {
             calls: _,
+            tags: _,
             pool: _,
             begun: _,
             timers: _,
@@ -34,19 +38,20 @@ impl Drop for Calls {
 }
 
 impl Model for Calls {
-    ghost use Rattle.std.specs.Prelude.{◌-◌, vec_len};
+    ghost use Rattle.std.specs.Prelude.{◌≡◌, ◌-◌, map, min, vec_len};
     ghost use Rattle.std.specs.Coded.{codes};
     ghost use Rattle.std.specs.Vec.{vec_capacity};
     ghost use Rattle.port_pool.specs.Pool.{coded_contents};
     ghost use Rattle.calls.specs.State.{AreKept, Contents};
+    ghost use Rattle.calls.specs.Tags.{prints_of};
 
     ghost Value = { Contents };
 
     ghost coded = { Prim.hlevel (codes, coded_contents) };
 
-    ghost view = { λ c. record { calls = c.calls.items; pool = c.pool; begun = c.begun; timers = c.timers.timers; room = vec_capacity c.calls - vec_len c.calls; timer_room = c.timers.room } };
+    ghost view = { λ c. record { calls = c.calls.items; pool = c.pool; begun = c.begun; timers = c.timers.timers; room = min (vec_capacity c.calls - vec_len c.calls) (vec_capacity c.tags - vec_len c.tags); timer_room = c.timers.room } };
 
-    ghost invariant = { λ c. AreKept c.calls.items c.pool c.begun };
+    ghost invariant = { λ c. AreKept c.calls.items c.pool c.begun × (c.tags.items ≡ map prints_of c.calls.items) };
 }
 
 fn call_at(calls: &[StandingCall], place: usize) -> Option<&StandingCall>
@@ -71,6 +76,7 @@ impl Calls {
         let pool = Pool::new(alloc, first, pairs)?;
         Ok(Calls {
             calls: Vec::new(alloc),
+            tags: Vec::new(alloc),
             pool,
             begun: 0,
             timers: Timers::new(alloc),

@@ -1,0 +1,132 @@
+-- The prints of tags stand for the tags: who has a tag has its print, so that the first with a print is looked for in place of the first with a tag.
+use Rattle.std.proofs.Common.{◌≡◌, ◌∙◌, ◌<◌, ◌≤◌, ◌+◌, ℕ, zero, suc, Bool, true, false, not, cond, is_some, List, [], ◌∷◌, length, get_or, map, set, Option, Some, None, refl, sym, ap, subst, ltb, arith}
+use Rattle.std.specs.Prelude.{◌||◌, ◌&&◌, nat_eq, slice_get}
+use Rattle.std.specs.List.{position, position_or_len, remove}
+use Rattle.std.specs.Cmp.Lexicographic.{bytes_decides}
+use Rattle.index.specs.Print.{print_of}
+use Rattle.sip_message.specs.declared.message.Parts.{Parts}
+use Rattle.sip_message.specs.Words.{tag_text}
+use Rattle.call_media.specs.declared.end.End.{End}
+use Rattle.call_media.specs.declared.end.End.TheVariants.{Caller, Callee}
+use Rattle.dialogs.specs.declared.state.Dialog.{Dialog}
+use Rattle.calls.specs.declared.standing_call.StandingCall.{StandingCall}
+use Rattle.calls.specs.declared.tags.TagPrints.{TagPrints}
+use Rattle.calls.specs.Carrying.{without_gone}
+use Rattle.calls.specs.Finding.{has_tag, is_of_dialog, is_of_end, is_text}
+use Rattle.calls.specs.Tags.{has_print, has_print_at, prints_of, tag_print}
+use Rattle.calls.proofs.KeptLaws.{read_at, same_read, set_read}
+use Rattle.std.proofs.lemmas.List.{length-set, map-set}
+use Rattle.std.proofs.lemmas.Bool.{eq-eqb, ltb-true, ltb-false}
+
+-- ---- the first that passes, by a test of what stands for it
+
+both_first : (b c : Bool) (m n : ℕ) → (b ≡ true → c ≡ true) → m ≤ n → cond (not c) (1 + m) 0 ≤ cond (not b) (1 + n) 0
+both_first true true m n passes less = omega arith
+both_first true false m n passes less = absurd (let passed = passes refl in cc)
+both_first false true m n passes less = omega arith
+both_first false false m n passes less = omega (arith, less)
+
+none_there : (m n : ℕ) (b : Bool) → ltb m n ≡ b → cond b (Some m) None ≡ None → n ≤ m
+none_there m n true is none = absurd cc
+none_there m n false is none = ltb-false m n is
+
+some_there : (m n i : ℕ) (b : Bool) → ltb m n ≡ b → cond b (Some m) None ≡ Some i → (m ≡ i) × (m < n)
+some_there m n i true is some = (cc, ltb-true m n is)
+some_there m n i false is some = absurd cc
+
+not_there : (m n : ℕ) (b : Bool) → ltb m n ≡ b → n ≤ m → cond b (Some m) None ≡ None
+not_there m n true is above = absurd (omega (arith, ltb-true m n is, above))
+not_there m n false is above = refl
+
+there : (m n i : ℕ) (b : Bool) → ltb m n ≡ b → m ≡ i → m < n → cond b (Some m) None ≡ Some i
+there m n i true is same less = ap Some same
+there m n i false is same less = absurd (omega (arith, ltb-false m n is, less))
+
+at_once : (b : Bool) (n k : ℕ) → b ≡ true → cond (not b) (1 + n) 0 ≤ k
+at_once true n k is = omega arith
+at_once false n k is = absurd cc
+
+one_later : (b : Bool) (n k : ℕ) → n ≤ k → cond (not b) (1 + n) 0 ≤ suc k
+one_later true n k less = omega arith
+one_later false n k less = omega (arith, less)
+
+same_length : {X Y : Type 0} (f : X → Y) (xs : List X) → length (map f xs) ≡ length xs
+same_length f [] = refl
+same_length f (x ∷ xs) = ap suc (same_length f xs)
+
+module _ {X Y : Type 0} (f : X → Y) (p : X → Bool) (q : Y → Bool) (passes : (x : X) → p x ≡ true → q (f x) ≡ true) where
+  before : (xs : List X) → position_or_len q (map f xs) ≤ position_or_len p xs
+  before [] = omega arith
+  before (x ∷ xs) = both_first (p x) (q (f x)) (position_or_len q (map f xs)) (position_or_len p xs) (passes x) (before xs)
+
+  at_most : (xs : List X) (i : ℕ) (x : X) → slice_get xs i ≡ Some x → p x ≡ true → position_or_len p xs ≤ i
+  at_most [] i x is passed = absurd cc
+  at_most (y ∷ ys) zero x is passed = let same : y ≡ x = cc in at_once (p y) (position_or_len p ys) 0 (ap p same ∙ passed)
+  at_most (y ∷ ys) (suc k) x is passed = one_later (p y) (position_or_len p ys) k (at_most ys k x is passed)
+
+  pub none_passes : (xs : List X) (ys : List Y) → ys ≡ map f xs → position q ys ≡ None → position p xs ≡ None
+  none_passes xs ys is none =
+      let m = position_or_len q (map f xs) in
+      let n = length (map f xs) in
+      let above = none_there m n (ltb m n) refl (ap (position q) (sym is) ∙ none) in
+      not_there (position_or_len p xs) (length xs) (ltb (position_or_len p xs) (length xs)) refl (omega (arith, above, before xs, same_length f xs))
+
+  pub first_passes : (xs : List X) (ys : List Y) (i : ℕ) (x : X) → ys ≡ map f xs → position q ys ≡ Some i → slice_get xs i ≡ Some x → p x ≡ true → position p xs ≡ Some i
+  first_passes xs ys i x is some read passed =
+      let m = position_or_len q (map f xs) in
+      let n = length (map f xs) in
+      let found = some_there m n i (ltb m n) refl (ap (position q) (sym is) ∙ some) in
+      let least = before xs in
+      let most = at_most xs i x read passed in
+      there (position_or_len p xs) (length xs) i (ltb (position_or_len p xs) (length xs)) refl (omega (arith, found.0, least, most)) (omega (arith, found.0, found.1, most, same_length f xs))
+
+-- ---- who has a tag has its print
+
+same_print : (one tag : List ℕ) → is_text one tag ≡ true → nat_eq (print_of one) (print_of tag) ≡ true
+same_print one tag is = eq-eqb (print_of one) (print_of tag) (ap print_of ((bytes_decides one tag).0 is))
+
+either : (a b x y : Bool) → (a ≡ true → x ≡ true) → (b ≡ true → y ≡ true) → (a || b) ≡ true → (x || y) ≡ true
+either true b x y one other is = let so = one refl in cc
+either false b true y one other is = refl
+either false b false y one other is = other is
+
+pub tag_passes : (tag : List ℕ) (c : StandingCall) → has_tag tag c ≡ true → has_print (print_of tag) (prints_of c) ≡ true
+tag_passes tag c = either (is_text c.callee_tag tag) (is_text c.call.caller.id.ours tag) _ _ (same_print c.callee_tag tag) (same_print c.call.caller.id.ours tag)
+
+middle : (a b c : Bool) → (a && b && c) ≡ true → b ≡ true
+middle true true c is = refl
+middle true false c is = absurd cc
+middle false b c is = absurd cc
+
+dialog_passes : (parts : Parts) (d : Option Dialog) → is_of_dialog parts d ≡ true → nat_eq (tag_print d) (print_of (tag_text parts.to.params)) ≡ true
+dialog_passes parts None is = absurd cc
+dialog_passes parts (Some d) is = same_print d.id.ours (tag_text parts.to.params) (middle _ _ _ is)
+
+pub end_passes : (end : End) (parts : Parts) (c : StandingCall) → is_of_end end parts c ≡ true
+    → has_print_at end (print_of (tag_text parts.to.params)) (prints_of c) ≡ true
+end_passes Caller parts c = dialog_passes parts (Some c.call.caller)
+end_passes Callee parts c = dialog_passes parts c.call.callee
+
+-- ---- the prints of calls that change
+
+pub noted : (cs after : List StandingCall) (place : ℕ) (new now : StandingCall) (tags : List TagPrints) → place < length cs → tags ≡ map prints_of cs
+    → after ≡ set cs place new → now ≡ get_or after place now → set tags place (prints_of now) ≡ map prints_of after
+noted cs after place new now tags within stood changed read =
+    let there : place < length (set cs place new) = omega (arith, within, length-set cs place new) in
+    let is = read_at (set cs place new) place now there (subst (λ (all : List StandingCall). now ≡ get_or all place now) changed read) in
+    let same : now ≡ new = same_read now new (slice_get (set cs place new) place) is (set_read cs place new within) in
+    ap (λ (ts : List TagPrints). set ts place (prints_of now)) stood ∙ ap (λ c. set (map prints_of cs) place (prints_of c)) same
+    ∙ sym (map-set prints_of cs place new) ∙ ap (map prints_of) (sym changed)
+
+pub map_removed : (cs : List StandingCall) (place : ℕ) → map prints_of (remove cs place) ≡ remove (map prints_of cs) place
+map_removed [] zero = refl
+map_removed [] (suc k) = refl
+map_removed (c ∷ cs) zero = refl
+map_removed (c ∷ cs) (suc k) = ap (λ ts. prints_of c ∷ ts) (map_removed cs k)
+
+kept_if : (stands : Bool) (cs gone : List StandingCall) → stands ≡ true → cond stands cs gone ≡ cs
+kept_if true cs gone is = refl
+kept_if false cs gone is = absurd cc
+
+pub stays : (cs : List StandingCall) (place : ℕ) (c : StandingCall) → is_some c.call.standing ≡ true → without_gone cs place (Some c) ≡ cs
+stays cs place c is = kept_if (is_some c.call.standing) cs (remove cs place) is
