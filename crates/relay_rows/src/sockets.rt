@@ -32,11 +32,11 @@ pub(crate) enum Failing {
 #[derive(Drop)]
 pub(crate) struct Sockets {
     alloc: Global,
-    inbox: Vec<Incoming>,
-    next: usize,
-    outbox: Vec<Outgoing>,
+    pub(crate) inbox: Vec<Incoming>,
+    pub(crate) next: usize,
+    pub(crate) outbox: Vec<Outgoing>,
     pub(crate) failing: Failing,
-    failed: bool,
+    pub(crate) failed: bool,
     ghost within: { next ≤ length inbox.items },
 }
 
@@ -57,6 +57,15 @@ impl Sockets {
         let bytes = Vec::from_slice(self.alloc, bytes)?;
         self.inbox.push(Incoming { port, bytes })?;
         Ok(())
+    }
+
+    /// The place of the datagram that comes next, counted from 1, if one is to come.
+    pub(crate) fn coming(&self) -> Option<usize> {
+        if self.next < self.inbox.len() {
+            Some(self.next + 1)
+        } else {
+            None
+        }
     }
 
     pub(crate) fn sent(&self) -> &[Outgoing] {

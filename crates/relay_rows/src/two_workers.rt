@@ -3,7 +3,8 @@
 //! The same with each receive and each send failing in turn: a receive that fails loses nothing, and a send its datagram alone.
 
 use crate::boards::open_board;
-use crate::gate::{Failing, Flags, Gate, Outgoing};
+use crate::gate::{Failure, Flags, Gate};
+use crate::sockets::{Failing, Outgoing};
 use port_pool::{Change, Hop};
 use relay::{Board, TurnFault, Viewer, Worker, serve_media};
 use rows::{Output, outcome_after};
@@ -35,16 +36,41 @@ const CALLER_AGAIN: Addr = Addr {
 struct Case {
     words: &'static str,
     port: u16,
-    failing: Failing,
+    failure: Failure,
 }
+
+const NOTHING: Failure = Failure {
+    failing: Failing::Nothing,
+    place: 0,
+};
+
+const FIRST_RECEIVE: Failure = Failure {
+    failing: Failing::Receive,
+    place: 1,
+};
+
+const SECOND_RECEIVE: Failure = Failure {
+    failing: Failing::Receive,
+    place: 2,
+};
+
+const FIRST_SEND: Failure = Failure {
+    failing: Failing::Send,
+    place: 1,
+};
+
+const SECOND_SEND: Failure = Failure {
+    failing: Failing::Send,
+    place: 2,
+};
 
 impl Case {
     /// What fails at the worker of this port.
-    fn at(&self, port: u16) -> Failing {
+    fn at(&self, port: u16) -> Failure {
         if port == self.port {
-            self.failing
+            self.failure
         } else {
-            Failing::Nothing
+            NOTHING
         }
     }
 }
@@ -64,7 +90,7 @@ fn put_sent(out: &mut Output, sent: &Outgoing) {
 
 /// What a worker sent, a line each.
 fn put_worker<R: Clock>(out: &mut Output, worker: &Worker<Gate<R>>) {
-    for sent in worker.socket.sent() {
+    for sent in worker.socket.sockets.sent() {
         put_sent(out, sent);
     }
 }
@@ -77,7 +103,7 @@ fn worker_of<R: Clock + AllocGlobal + Clone + Drop>(
     case: Case,
 ) -> Result<Worker<Gate<R>>, AllocError> {
     let mut gate = Gate::new(rt.clone()?, rt.alloc(), flags?, case.at(port));
-    gate.put(port, b"abc")?;
+    gate.sockets.put(port, b"abc")?;
     match Worker::new(rt.alloc(), viewer, gate) {
         Ok(worker) => Ok(worker),
         Err(refused) => outcome_after(refused, Err(AllocError)),
@@ -155,7 +181,7 @@ fn publish<R: Wait>(rt: &R, out: &mut Output, board: &mut Board, changes: &[Chan
 
 /// A worker takes one more datagram, in its next turn where it can't receive.
 fn take_more<R: Clock>(out: &mut Output, worker: &mut Worker<Gate<R>>) {
-    out.note(worker.socket.put(40_002, b"de"));
+    out.note(worker.socket.sockets.put(40_002, b"de"));
     if matches!(worker.turn(), Err(TurnFault::Receive)) {
         let _ = worker.turn();
     }
@@ -222,37 +248,37 @@ const CASES: [Case; 7] = [
     Case {
         words: "nothing fails",
         port: 40_000,
-        failing: Failing::Nothing,
+        failure: NOTHING,
     },
     Case {
         words: "40000: receive 1 fails",
         port: 40_000,
-        failing: Failing::Receive(1),
+        failure: FIRST_RECEIVE,
     },
     Case {
         words: "40000: send 1 fails",
         port: 40_000,
-        failing: Failing::Send(1),
+        failure: FIRST_SEND,
     },
     Case {
         words: "40002: receive 1 fails",
         port: 40_002,
-        failing: Failing::Receive(1),
+        failure: FIRST_RECEIVE,
     },
     Case {
         words: "40002: send 1 fails",
         port: 40_002,
-        failing: Failing::Send(1),
+        failure: FIRST_SEND,
     },
     Case {
         words: "40002: receive 2 fails",
         port: 40_002,
-        failing: Failing::Receive(2),
+        failure: SECOND_RECEIVE,
     },
     Case {
         words: "40002: send 2 fails",
         port: 40_002,
-        failing: Failing::Send(2),
+        failure: SECOND_SEND,
     },
 ];
 
