@@ -1,6 +1,7 @@
 //! Rows of calls of `call_core`.
 
 use crate::call_words::{end_of, signal_of, standing_of};
+use crate::row_call::RowCall;
 use crate::whole_calls::put_call_of_words;
 use call_core::{
     Action, Clash, End, Row, Signal, Standing, clash_at, clash_without_offer, first_row, row_at,
@@ -38,20 +39,13 @@ fn put_row(out: &mut Output, row: &Row) {
 }
 
 /// A row that is let go behind it, or that the signal has no line.
-fn put_line(out: &mut Output, row: Option<Row>) {
+fn put_line(out: &mut Output, row: Result<Option<Row>, AllocError>) {
     match row {
-        None => out.put("no line"),
-        Some(row) => {
+        Ok(Some(row)) => {
             put_row(out, &row);
             let_go(row);
         }
-    }
-}
-
-/// The same of a row that was made.
-fn put_line_made(out: &mut Output, row: Result<Option<Row>, AllocError>) {
-    match row {
-        Ok(row) => put_line(out, row),
+        Ok(None) => out.put("no line"),
         Err(_) => out.no_memory(),
     }
 }
@@ -63,41 +57,38 @@ pub(crate) fn put_clash(out: &mut Output, clash: Option<Clash>) {
     }
 }
 
-/// The row of a signal, where a call stands so.
-fn put_row_at(out: &mut Output, standing: Standing, signal: Signal) {
-    let row = row_at(out.alloc(), standing, signal);
-    put_line_made(out, row);
-}
-
 /// What a signal does where a call stands so, if the call asks for it.
-fn put_of_signal(out: &mut Output, standing: Standing, call: &str, signal: Signal) {
-    match call {
-        "row_at" => put_row_at(out, standing, signal),
-        _ => out.no_such_row(),
+fn put_of_signal(out: &mut Output, standing: Standing, call: &RowCall<'_>, signal: Signal) {
+    if call.name != "row_at" {
+        return out.no_such_row();
     }
+    put_line(out, row_at(out.alloc(), standing, signal))
 }
 
 /// What an offer of an end would clash with where a call stands so, if the call asks for it.
-fn put_of_end(out: &mut Output, standing: Standing, call: &str, end: End) {
-    match call {
-        "clash_at" => put_clash(out, clash_at(standing, end)),
-        "clash_without_offer" => put_clash(out, clash_without_offer(standing, end)),
-        _ => out.no_such_row(),
-    }
+fn put_of_end(out: &mut Output, standing: Standing, call: &RowCall<'_>, end: End) {
+    let clash = match call.name {
+        "clash_at" => clash_at(standing, end),
+        "clash_without_offer" => clash_without_offer(standing, end),
+        _ => return out.no_such_row(),
+    };
+    put_clash(out, clash)
 }
 
 /// What a call of the table answers where a call stands so.
-fn put_at(out: &mut Output, standing: Standing, call: &str, word: &[u8]) {
-    match signal_of(word) {
+fn put_of_standing(out: &mut Output, standing: Standing, call: &RowCall<'_>) {
+    match signal_of(call.word(2)) {
         Some(signal) => put_of_signal(out, standing, call, signal),
-        None => put_of_end(out, standing, call, end_of(word)),
+        None => put_of_end(out, standing, call, end_of(call.word(2))),
     }
 }
 
-/// The row of the first offer.
-fn put_first_row(out: &mut Output) {
-    let row = first_row(out.alloc());
-    put_line_made(out, row);
+/// The same of the offerer and the stage that the first words name.
+fn put_at(out: &mut Output, call: &RowCall<'_>) {
+    match standing_of(call.word(0), call.word(1)) {
+        Some(standing) => put_of_standing(out, standing, call),
+        None => out.no_such_row(),
+    }
 }
 
 /// Calls what has a law for its contract.
@@ -108,45 +99,37 @@ fn put_laws(out: &mut Output) {
     out.put("hold");
 }
 
-/// What a call without words answers, if it is one.
-fn put_plain(out: &mut Output, call: &str) {
-    match call {
-        "first_row" => put_first_row(out),
+/// What a call of the table that names no standing answers, if it is one.
+fn put_plain(out: &mut Output, call: &RowCall<'_>) {
+    match call.name {
+        "first_row" => put_line(out, first_row(out.alloc())),
         "laws" => put_laws(out),
         _ => out.no_such_row(),
     }
 }
 
 /// What a call on a status answers, if it is one.
-fn put_of_status(out: &mut Output, call: &str, status: u16) {
-    match call {
-        "status_passed_on" => out.put_number(u64::from(status_passed_on(status))),
+fn put_status(out: &mut Output, call: &RowCall<'_>) {
+    match call.name {
+        "status_passed_on" => out.put_number(u64::from(status_passed_on(u16_of(call.word(0))))),
         _ => out.no_such_row(),
     }
 }
 
-/// What a call on where a call stands answers, if it is one.
-fn put_of_standing(out: &mut Output, call: &str, offerer: &[u8], stage: &[u8], word: &[u8]) {
-    match standing_of(offerer, stage) {
-        Some(standing) => put_at(out, standing, call, word),
-        None => out.no_such_row(),
-    }
-}
-
 /// What a call of `call_core` with so many words answers, if there is one.
-fn put_of_words(out: &mut Output, call: &str, args: &[&[u8]]) {
-    match args {
-        [] => put_plain(out, call),
-        [status] => put_of_status(out, call, u16_of(status)),
-        [offerer, stage, word] => put_of_standing(out, call, offerer, stage, word),
+fn put_of_words(out: &mut Output, call: &RowCall<'_>) {
+    match call.words.len() {
+        0 => put_plain(out, call),
+        1 => put_status(out, call),
+        3 => put_at(out, call),
         _ => out.no_such_row(),
     }
 }
 
 /// Writes what a call of `call_core` answers: a whole call has any number of words.
-pub(crate) fn put_answer(out: &mut Output, call: &str, args: &[&[u8]]) {
-    match call {
-        "call" => put_call_of_words(out, args),
-        _ => put_of_words(out, call, args),
+pub(crate) fn put_answer(out: &mut Output, call: &RowCall<'_>) {
+    match call.name {
+        "call" => put_call_of_words(out, call.words),
+        _ => put_of_words(out, call),
     }
 }

@@ -20,14 +20,18 @@ fn put_port(out: &mut Output, port: u16) {
 
 /// The number of the last request in the dialog with an end.
 fn put_number(out: &mut Output, call: &Call, end: End) {
-    match call.dialog(end).and_then(|dialog| dialog.local_number) {
+    let number = match call.dialog(end) {
+        Some(dialog) => dialog.local_number,
+        None => None,
+    };
+    match number {
         Some(number) => put_behind_space(out, u64::from(number)),
         None => out.put(" none"),
     }
 }
 
 /// The id and the version of a description, and the ports of its media.
-fn put_description(out: &mut Output, d: &Description<'_>) {
+fn put_description(out: &mut Output, d: &Description<'static>) {
     out.put(" (");
     out.put_shown(d.origin.id.as_bytes());
     out.put(".");
@@ -86,7 +90,7 @@ fn put_resting(out: &mut Output, even: u16) {
 fn put_pair(out: &mut Output, pool: &Pool, free: &[Pair], even: u16) {
     if pool.holder(even).is_some() {
         put_port(out, even);
-    } else if !free.iter().any(|pair| pair.even == even) {
+    } else if !free.contains(&Pair { even }) {
         put_resting(out, even);
     }
 }

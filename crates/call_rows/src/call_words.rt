@@ -30,27 +30,20 @@ fn has_rung(word: &[u8]) -> bool {
     word == b"rung".as_slice()
 }
 
-/// The stage of a word for a call whose first offer was answered, and of what stands behind it.
-fn later_stage_of(name: &[u8], first: &[u8], second: &[u8]) -> Option<Stage> {
-    match readable(name) {
-        "settled" => Some(Stage::Settled),
-        "reasked" => Some(Stage::Reasked(has_rung(first), cancelled_of(second))),
-        "reanswered" => Some(Stage::Reanswered(number(first))),
-        "updating" => Some(Stage::Updating),
-        _ => None,
-    }
-}
-
 /// The stage of a word and of what stands behind it.
 fn stage_of(word: &[u8]) -> Option<Stage> {
     let (name, rest) = cut_word(word);
     let (first, second) = cut_word(rest);
     match readable(name) {
         "asked" => Some(Stage::Asked(has_rung(first))),
-        "cancelling" => Some(Stage::Cancelling(first == b"sent".as_slice())),
+        "cancelling" => Some(Stage::Cancelling(readable(first) == "sent")),
         "answered" => Some(Stage::Answered(number(first))),
         "ending" => Some(Stage::Ending(number(first))),
-        _ => later_stage_of(name, first, second),
+        "settled" => Some(Stage::Settled),
+        "reasked" => Some(Stage::Reasked(has_rung(first), cancelled_of(second))),
+        "reanswered" => Some(Stage::Reanswered(number(first))),
+        "updating" => Some(Stage::Updating),
+        _ => None,
     }
 }
 
@@ -70,25 +63,18 @@ fn offer_of(rest: &[u8]) -> Signal {
     }
 }
 
-/// The signal of a word for a timer of the call.
-fn clock_signal_of(name: &[u8]) -> Option<Signal> {
-    match readable(name) {
-        "limit" => Some(Signal::Limit),
-        "repeat" => Some(Signal::Repeat),
-        "wait" => Some(Signal::Wait),
-        _ => None,
-    }
-}
-
 /// The signal of a word that nothing stands behind.
-fn one_word_signal_of(name: &[u8]) -> Option<Signal> {
-    match readable(name) {
+fn one_word_signal_of(name: &str) -> Option<Signal> {
+    match name {
         "fit_answer" => Some(Signal::FitAnswer),
         "unfit_answer" => Some(Signal::UnfitAnswer),
         "timed_out" => Some(Signal::TimedOut),
         "ack" => Some(Signal::Ack),
         "cancel" => Some(Signal::Cancel),
-        _ => clock_signal_of(name),
+        "limit" => Some(Signal::Limit),
+        "repeat" => Some(Signal::Repeat),
+        "wait" => Some(Signal::Wait),
+        _ => None,
     }
 }
 
@@ -100,7 +86,7 @@ pub(crate) fn signal_of(word: &[u8]) -> Option<Signal> {
         "provisional" => Some(Signal::Provisional(u16_of(rest))),
         "refusal" => Some(Signal::Refusal(u16_of(rest))),
         "bye" => Some(Signal::Bye(end_of(rest))),
-        _ => one_word_signal_of(name),
+        name => one_word_signal_of(name),
     }
 }
 

@@ -7,51 +7,43 @@ mod call_told;
 mod call_trace_rows;
 mod call_words;
 mod reading_rows;
+mod row_call;
 mod trace_tables;
 mod whole_calls;
 
 use crate::call_trace_rows::CallTraceRows;
+use crate::row_call::RowCall;
 use rows::{Output, Rows, outcome_after, play_lines};
 use std::alloc::{AllocError, Global};
 use std::io;
 
-/// What the rows of traces leave for those behind them.
-#[derive(Drop)]
-struct CallRows {
-    traces: CallTraceRows,
-}
-
-impl CallRows {
-    /// Writes what a call answers, if there is such a call.
-    fn put_answer(&mut self, out: &mut Output, crate_name: &str, call: &str, args: &[&[u8]]) {
-        match crate_name {
-            "call_core" => call_core_rows::put_answer(out, call, args),
-            "call_media" => call_media_rows::put_answer(out, call, args),
-            "call_trace" => self.traces.put_of_trace(out, call, args),
-            "trace_reading" => self.traces.put_of_reading(out, call, args),
-            _ => out.no_such_row(),
-        }
+/// Writes what a call answers, if there is such a call.
+fn put_answer(out: &mut Output, traces: &mut CallTraceRows, crate_name: &str, call: &RowCall<'_>) {
+    match crate_name {
+        "call_core" => call_core_rows::put_answer(out, call),
+        "call_media" => call_media_rows::put_answer(out, call),
+        "call_trace" => traces.put_of_trace(out, call),
+        "trace_reading" => traces.put_of_reading(out, call),
+        _ => out.no_such_row(),
     }
 }
 
-impl Rows for CallRows {
+impl Rows for CallTraceRows {
     fn answer(
         &mut self,
         alloc: Global,
         crate_name: &str,
-        call: &str,
-        args: &[&[u8]],
+        name: &str,
+        words: &[&[u8]],
     ) -> Result<Option<String>, AllocError> {
         let mut out = Output::new(alloc);
-        self.put_answer(&mut out, crate_name, call, args);
+        put_answer(&mut out, self, crate_name, &RowCall { name, words });
         out.end()
     }
 }
 
 fn main(rt: HostRuntime) -> io::Result<()> {
-    let mut rows = CallRows {
-        traces: CallTraceRows::new(rt.alloc()),
-    };
+    let mut rows = CallTraceRows::new(rt.alloc());
     let outcome = play_lines(&rt, &mut rows);
     outcome_after(rows, outcome)
 }

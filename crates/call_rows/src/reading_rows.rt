@@ -1,34 +1,24 @@
 //! Rows of `trace_reading`.
 
-use call_trace::{Datagram, Direction, Kind, Message};
-use rows::{Output, let_go, number};
+use crate::row_call::RowCall;
+use call_trace::{Kind, Message};
+use rows::{Output, let_go};
 use sip_message::MessageError;
-use std::alloc::Global;
 use trace_reading::{
     bodies_describe, bytes_say_all, dialogs_agree, methods_agree, read_trace_message, replies_agree,
 };
 
-fn put_laws(out: &mut Output) {
+/// What a call of `trace_reading` without words answers, if it is one: that which calls what has a law for its contract.
+pub(crate) fn put_reading_laws(out: &mut Output, call: &RowCall<'_>) {
+    if call.name != "laws" {
+        return out.no_such_row();
+    }
     replies_agree();
     dialogs_agree();
     methods_agree();
     bodies_describe();
     bytes_say_all();
-    out.put("hold");
-}
-
-/// The datagram of an event.
-pub(crate) fn datagram(
-    alloc: Global,
-    direction: Direction,
-    event: &[u8],
-    bytes: &[u8],
-) -> Result<Datagram, MessageError> {
-    Ok(Datagram {
-        event: number(event),
-        direction,
-        message: read_trace_message(alloc, bytes)?,
-    })
+    out.put("hold")
 }
 
 /// A fault in its words, or want of memory.
@@ -78,29 +68,16 @@ fn put_message(out: &mut Output, message: &Message) {
     out.put(" bytes");
 }
 
-/// What a trace sees of the bytes, or the words of their fault.
-fn put_read(out: &mut Output, bytes: &[u8]) {
-    match read_trace_message(out.alloc(), bytes) {
+/// What a call of `trace_reading` on bytes answers, if it is one: what a trace sees of them, or the words of their fault.
+pub(crate) fn put_of_bytes(out: &mut Output, call: &RowCall<'_>) {
+    if call.name != "read" {
+        return out.no_such_row();
+    }
+    match read_trace_message(out.alloc(), call.word(0)) {
         Ok(message) => {
             put_message(out, &message);
             let_go(message);
         }
         Err(fault) => put_message_fault(out, fault),
-    }
-}
-
-/// What a call of `trace_reading` without words answers, if it is one.
-pub(crate) fn put_plain_of_reading(out: &mut Output, call: &str) {
-    match call {
-        "laws" => put_laws(out),
-        _ => out.no_such_row(),
-    }
-}
-
-/// What a call of `trace_reading` on bytes answers, if it is one.
-pub(crate) fn put_of_bytes(out: &mut Output, call: &str, bytes: &[u8]) {
-    match call {
-        "read" => put_read(out, bytes),
-        _ => out.no_such_row(),
     }
 }

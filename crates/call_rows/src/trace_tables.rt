@@ -1,183 +1,94 @@
 //! Traces as tables: a line for each datagram, with the number of its event, `<` for one taken and `>` for one sent, method or
 //! status, branch, Call-ID, tag of From, tag of To, number and method of CSeq, and the name of its description.
 
+use crate::call_media_rows::put_fault;
+use crate::call_words::readable;
 use call_trace::{Datagram, Dialog, Direction, Kind, Message};
-use rows::outcome_after;
+use rows::{Output, outcome_after};
 use sdp::{Description, DescriptionError, read_description};
-use std::alloc::{AllocError, Global};
-use text::{Text, Texts, both};
+use std::alloc::Global;
+use text::{Text, Texts, cut_word};
 
-/// A description with a name.
+/// A description with a name, which tables may name.
 #[derive(Drop)]
-struct Named {
+pub(crate) struct Named {
     name: Text<'static>,
     bytes: Text<'static>,
 }
 
-/// The descriptions that tables may name.
-#[derive(Drop)]
-pub(crate) struct Descriptions {
-    entries: Vec<Named>,
+impl Named {
+    pub(crate) fn new(out: &mut Output, name: &[u8], bytes: &[u8]) -> Named {
+        Named {
+            name: copied(out, name),
+            bytes: copied(out, bytes),
+        }
+    }
 }
 
-impl Descriptions {
-    pub(crate) fn new(alloc: Global) -> Descriptions {
-        Descriptions {
-            entries: Vec::new(alloc),
+/// The bytes as a text of its own.
+fn copied(out: &mut Output, bytes: &[u8]) -> Text<'static> {
+    match Text::from_slice(out.alloc(), bytes) {
+        Ok(text) => text,
+        Err(_) => {
+            out.no_memory();
+            Text::lent(b"".as_slice())
         }
     }
+}
 
-    /// Notes a description under a name, for the tables behind.
-    pub(crate) fn add(
-        &mut self,
-        alloc: Global,
-        name: &[u8],
-        bytes: &[u8],
-    ) -> Result<(), AllocError> {
-        let (name, bytes) = both(
-            Text::from_slice(alloc, name),
-            Text::from_slice(alloc, bytes),
-        )?;
-        Ok(self.entries.push(Named { name, bytes })?)
+/// A word as a text of its own, which `-` leaves empty.
+fn text(out: &mut Output, word: &[u8]) -> Text<'static> {
+    match readable(word) {
+        "-" => Text::lent(b"".as_slice()),
+        _ => copied(out, word),
     }
+}
 
-    fn described(
-        &self,
-        alloc: Global,
-        name: &str,
-    ) -> Result<Option<Description<'static>>, DescriptionError> {
-        for named in self.entries.as_slice() {
-            if named.name.as_bytes() == name.as_bytes() {
-                return Ok(Some(description_of(alloc, named.bytes.as_bytes())?));
-            }
-        }
-        Ok(None)
+/// The dialog of three words: Call-ID, our tag and theirs.
+pub(crate) fn dialog(out: &mut Output, words: &[u8]) -> Dialog {
+    let (call_id, tags) = cut_word(words);
+    let (ours, theirs) = cut_word(tags);
+    Dialog {
+        call_id: text(out, call_id),
+        ours: text(out, ours),
+        theirs: text(out, theirs),
     }
+}
 
-    fn from_words(
-        &self,
-        alloc: Global,
-        line: &str,
-        words: &[&str],
-    ) -> Result<Message, DescriptionError> {
-        match *words {
-            [
-                first,
-                branch,
-                call_id,
-                from_tag,
-                to_tag,
-                number,
-                method,
-                description,
-            ] => {
-                let found = self.described(alloc, description)?;
-                let place = both(word(alloc, branch), word(alloc, call_id));
-                let tags = both(word(alloc, from_tag), word(alloc, to_tag));
-                let said = both(word(alloc, method), word(alloc, line));
-                let rest = both(said, Ok(found));
-                let (((branch, call_id), (from_tag, to_tag)), ((method, bytes), description)) =
-                    both(both(place, tags), rest)?;
-                Ok(Message {
-                    kind: kind(first),
-                    branch,
-                    call_id,
-                    from_tag,
-                    to_tag,
-                    number: number.parse::<u32>().unwrap_or(0),
-                    method,
-                    description,
-                    bytes,
-                })
-            }
-            _ => Err(DescriptionError::Order),
+/// INVITE and UPDATE may carry an offer.
+pub(crate) fn methods(out: &mut Output) -> Texts<'static> {
+    let mut methods = out.list();
+    out.push(&mut methods, Text::lent(b"INVITE".as_slice()));
+    out.push(&mut methods, Text::lent(b"UPDATE".as_slice()));
+    Texts::from_vec(methods)
+}
+
+/// The bytes of the description with a name, if there is one.
+fn bytes_named<'d>(descriptions: &'d [Named], name: &str) -> Option<&'d [u8]> {
+    for named in descriptions {
+        if named.name.as_bytes() == name.as_bytes() {
+            return Some(named.bytes.as_bytes());
         }
     }
-
-    /// The message of a line behind its mark.
-    fn message(&self, alloc: Global, line: &str) -> Result<Message, DescriptionError> {
-        let words: Vec<&str> = line.split_whitespace().collect(alloc)?;
-        self.from_words(alloc, line, &words)
-    }
-
-    /// The datagram of a line, of what stands before its mark and behind it.
-    fn datagram_of(
-        &self,
-        alloc: Global,
-        event: &str,
-        direction: Direction,
-        rest: &str,
-    ) -> Result<Datagram, DescriptionError> {
-        let message = self.message(alloc, rest)?;
-        Ok(Datagram {
-            event: event.parse::<u64>().unwrap_or(0),
-            direction,
-            message,
-        })
-    }
-
-    fn sent(&self, alloc: Global, line: &str) -> Result<Datagram, DescriptionError> {
-        match line.split_once('>') {
-            Some((event, rest)) => self.datagram_of(alloc, event, Direction::Sent, rest),
-            None => Err(DescriptionError::Order),
-        }
-    }
-
-    fn datagram(&self, alloc: Global, line: &str) -> Result<Datagram, DescriptionError> {
-        match line.split_once('<') {
-            Some((event, rest)) => self.datagram_of(alloc, event, Direction::Taken, rest),
-            None => self.sent(alloc, line),
-        }
-    }
-
-    fn put(
-        &self,
-        alloc: Global,
-        trace: &mut Vec<Datagram>,
-        table: &str,
-    ) -> Result<(), DescriptionError> {
-        for line in table.lines() {
-            trace.push(self.datagram(alloc, line)?)?;
-        }
-        Ok(())
-    }
-
-    fn put_tables(
-        &self,
-        alloc: Global,
-        trace: &mut Vec<Datagram>,
-        tables: &[&[u8]],
-    ) -> Result<(), DescriptionError> {
-        for table in tables {
-            self.put(alloc, trace, readable(table))?;
-        }
-        Ok(())
-    }
-
-    /// The tables, one behind the other.
-    pub(crate) fn trace_of(
-        &self,
-        alloc: Global,
-        tables: &[&[u8]],
-    ) -> Result<Vec<Datagram>, DescriptionError> {
-        let mut trace = Vec::new(alloc);
-        match self.put_tables(alloc, &mut trace, tables) {
-            Ok(()) => Ok(trace),
-            Err(fault) => outcome_after(trace, Err(fault)),
-        }
-    }
+    None
 }
 
 /// A description that borrows nothing.
-fn kept(alloc: Global, lent: &Description<'_>) -> Result<Description<'static>, DescriptionError> {
+fn kept(
+    alloc: Global,
+    lent: &Description<'_>,
+) -> Result<Option<Description<'static>>, DescriptionError> {
     match lent.keep(alloc) {
-        Ok(kept) => Ok(kept),
+        Ok(kept) => Ok(Some(kept)),
         Err(_) => Err(DescriptionError::OutOfMemory),
     }
 }
 
 /// A description of these bytes, which it does not borrow.
-fn description_of(alloc: Global, bytes: &[u8]) -> Result<Description<'static>, DescriptionError> {
+fn description_of(
+    alloc: Global,
+    bytes: &[u8],
+) -> Result<Option<Description<'static>>, DescriptionError> {
     match read_description(alloc, bytes) {
         Ok(lent) => {
             let kept = kept(alloc, &lent);
@@ -187,18 +98,26 @@ fn description_of(alloc: Global, bytes: &[u8]) -> Result<Description<'static>, D
     }
 }
 
-/// The bytes as a text, empty where they are none.
-fn readable(bytes: &[u8]) -> &str {
-    str::from_utf8(bytes).unwrap_or("")
+/// The same of the bytes of a description, if there are any.
+fn described(
+    alloc: Global,
+    bytes: Option<&[u8]>,
+) -> Result<Option<Description<'static>>, DescriptionError> {
+    match bytes {
+        Some(bytes) => description_of(alloc, bytes),
+        None => Ok(None),
+    }
 }
 
-/// A text, which `-` leaves empty.
-fn word(alloc: Global, word: &str) -> Result<Text<'static>, AllocError> {
-    if word == "-" {
-        Text::from_slice(alloc, b"")
-    } else {
-        Text::from_slice(alloc, word.as_bytes())
+fn word_at<'t>(words: &[&'t str], at: usize) -> &'t str {
+    match words.get(at) {
+        Some(word) => word,
+        None => "",
     }
+}
+
+fn text_at(out: &mut Output, words: &[&str], at: usize) -> Text<'static> {
+    text(out, word_at(words, at).as_bytes())
 }
 
 fn kind(word: &str) -> Kind {
@@ -208,22 +127,139 @@ fn kind(word: &str) -> Kind {
     }
 }
 
-/// The dialog of three words: Call-ID, our tag and theirs.
-pub(crate) fn dialog(alloc: Global, words: &[u8]) -> Result<Dialog, AllocError> {
-    let (call_id, tags) = readable(words).split_once(' ').unwrap_or(("-", "- -"));
-    let (ours, theirs) = tags.split_once(' ').unwrap_or(("-", "-"));
-    let tags = both(word(alloc, ours), word(alloc, theirs));
-    let (call_id, (ours, theirs)) = both(word(alloc, call_id), tags)?;
-    Ok(Dialog {
-        call_id,
-        ours,
-        theirs,
+/// The message of a line behind its mark, and of its words.
+fn message(
+    out: &mut Output,
+    line: &str,
+    words: &[&str],
+    description: Option<Description<'static>>,
+) -> Message {
+    Message {
+        kind: kind(word_at(words, 0)),
+        branch: text_at(out, words, 1),
+        call_id: text_at(out, words, 2),
+        from_tag: text_at(out, words, 3),
+        to_tag: text_at(out, words, 4),
+        number: word_at(words, 5).parse::<u32>().unwrap_or(0),
+        method: text_at(out, words, 6),
+        description,
+        bytes: copied(out, line.as_bytes()),
+    }
+}
+
+/// A line of a table: what stands before its mark, the mark, and what stands behind it.
+#[derive(Drop)]
+struct Line<'t> {
+    event: &'t str,
+    direction: Direction,
+    rest: &'t str,
+}
+
+fn line_of(line: &str) -> Option<Line<'_>> {
+    if let Some((event, rest)) = line.split_once('<') {
+        return Some(Line {
+            event,
+            direction: Direction::Taken,
+            rest,
+        });
+    }
+    let (event, rest) = line.split_once('>')?;
+    Some(Line {
+        event,
+        direction: Direction::Sent,
+        rest,
     })
 }
 
-/// INVITE and UPDATE may carry an offer.
-pub(crate) fn methods(alloc: Global) -> Result<Texts<'static>, AllocError> {
-    let (invite, update) = both(word(alloc, "INVITE"), word(alloc, "UPDATE"))?;
-    let methods = vec![in alloc; invite, update]?;
-    Ok(Texts::from_vec(methods))
+/// The words of a line behind its mark.
+fn words_of<'t>(out: &mut Output, line: &Line<'t>) -> Vec<&'t str> {
+    let mut words = out.list();
+    for word in line.rest.split_whitespace() {
+        out.push(&mut words, word);
+    }
+    words
+}
+
+/// Puts the datagram of a line with these words and this description behind those of a trace.
+fn push_described(
+    out: &mut Output,
+    trace: &mut Vec<Datagram>,
+    line: &Line<'_>,
+    words: &[&str],
+    description: Option<Description<'static>>,
+) {
+    let datagram = Datagram {
+        event: line.event.parse::<u64>().unwrap_or(0),
+        direction: line.direction,
+        message: message(out, line.rest, words, description),
+    };
+    out.push(trace, datagram);
+}
+
+/// Writes why a line is no datagram.
+fn put_unread(out: &mut Output, fault: DescriptionError) -> bool {
+    put_fault(out, fault);
+    false
+}
+
+/// Puts the datagram of a line behind those of a trace, if its description can be read; else why not is written.
+fn push_of_words(
+    out: &mut Output,
+    descriptions: &[Named],
+    trace: &mut Vec<Datagram>,
+    line: &Line<'_>,
+    words: &[&str],
+) -> bool {
+    match described(out.alloc(), bytes_named(descriptions, word_at(words, 7))) {
+        Ok(description) => {
+            push_described(out, trace, line, words, description);
+            true
+        }
+        Err(fault) => put_unread(out, fault),
+    }
+}
+
+/// The same of a line that has eight words.
+fn push_line(
+    out: &mut Output,
+    descriptions: &[Named],
+    trace: &mut Vec<Datagram>,
+    line: &Line<'_>,
+) -> bool {
+    let words = words_of(out, line);
+    if words.len() == 8 {
+        push_of_words(out, descriptions, trace, line, &words)
+    } else {
+        put_unread(out, DescriptionError::Order)
+    }
+}
+
+/// The same of a line that has a mark.
+fn push_marked(
+    out: &mut Output,
+    descriptions: &[Named],
+    trace: &mut Vec<Datagram>,
+    line: &str,
+) -> bool {
+    match line_of(line) {
+        Some(line) => push_line(out, descriptions, trace, &line),
+        None => put_unread(out, DescriptionError::Order),
+    }
+}
+
+/// Puts the datagrams of tables behind those of a trace, up to a line that is none: whether all are.
+pub(crate) fn push_tables(
+    out: &mut Output,
+    descriptions: &[Named],
+    trace: &mut Vec<Datagram>,
+    tables: &[&[u8]],
+) -> bool {
+    for table in tables {
+        for line in readable(table).lines() {
+            if !push_marked(out, descriptions, trace, line) {
+                return false;
+            }
+        }
+    }
+    true
 }

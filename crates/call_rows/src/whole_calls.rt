@@ -146,15 +146,6 @@ impl WholeCall {
         }
     }
 
-    fn ask_first(&mut self, out: &mut Output, offer: &Description<'_>)
-        requires serves { IsServed self.old.call self.old.pool }
-        requires nowhere { self.old.call.standing ≡ None }
-        ensures { IsServed self.new.call self.new.pool }
-    {
-        let outcome = self.ask(out.alloc(), offer);
-        self.tell(out, outcome);
-    }
-
     /// What the first offer does; there is no second one.
     fn put_asked(&mut self, out: &mut Output, offer: &Description<'_>)
         requires { IsServed self.old.call self.old.pool }
@@ -163,31 +154,22 @@ impl WholeCall {
         if self.call.standing().is_some() {
             out.put("no first offer");
         } else {
-            self.ask_first(out, offer);
+            let outcome = self.ask(out.alloc(), offer);
+            self.tell(out, outcome);
         }
     }
 
-    /// The same of a description, if there is one, which is let go behind it.
-    fn put_asked_by(&mut self, out: &mut Output, offer: Option<Description<'_>>)
-        requires { IsServed self.old.call self.old.pool }
-        ensures { IsServed self.new.call self.new.pool }
-    {
-        match offer {
-            Some(offer) => {
-                self.put_asked(out, &offer);
-                let_go(offer);
-            }
-            None => out.put("no description"),
-        }
-    }
-
-    /// The same of the description behind the word.
+    /// The same of the description behind the word, if there is one.
     fn put_ask(&mut self, out: &mut Output, body: Option<&[u8]>)
         requires { IsServed self.old.call self.old.pool }
         ensures { IsServed self.new.call self.new.pool }
     {
         match described(out.alloc(), body) {
-            Ok(offer) => self.put_asked_by(out, offer),
+            Ok(Some(offer)) => {
+                self.put_asked(out, &offer);
+                let_go(offer);
+            }
+            Ok(None) => out.put("no description"),
             Err(_) => out.no_memory(),
         }
     }

@@ -1,11 +1,12 @@
 //! How a dialog begins, and what the rows behind ask of it.
 
-use crate::calls::put_of_dialog;
+use crate::call::Call;
+use crate::calls::{Asked, CALLS, put_of_dialog};
 use crate::messages::put_fault;
 use dialogs::{Dialog, contact_uri, contacts_are_read, dialogs_are_sound, invites_name_a_contact};
-use rows::{Output, outcome_after};
+use rows::{Output, let_go};
 use sip_message::{Message, MessageError, Parts, Request, Response, read_message};
-use std::alloc::Global;
+use std::alloc::{AllocError, Global};
 
 /// The dialog that the rows before have left, if there is one.
 #[derive(Drop)]
@@ -17,82 +18,9 @@ fn is_invite(parts: &Parts<'_>) -> bool {
     parts.cseq.method.as_bytes() == b"INVITE".as_slice()
 }
 
-/// The dialog with the sender of an INVITE.
-fn callee_of(alloc: Global, invite: &Request<'_>, tag: &[u8]) -> Result<Dialog, MessageError> {
-    if is_invite(&invite.parts) {
-        if let Some(target) = contact_uri(alloc, invite.headers.as_slice())? {
-            return Ok(Dialog::as_callee(alloc, invite, tag, target)?);
-        }
-    }
-    Err(MessageError::StartLine)
-}
-
-/// The same of a message, which is no response.
-fn callee_by(alloc: Global, message: &Message<'_>, tag: &[u8]) -> Result<Dialog, MessageError> {
-    match message {
-        Message::Request(invite) => callee_of(alloc, invite, tag),
-        Message::Response(_) => Err(MessageError::StartLine),
-    }
-}
-
-fn callee(alloc: Global, bytes: &[u8], tag: &[u8]) -> Result<Dialog, MessageError> {
-    let message = read_message(alloc, bytes)?;
-    let dialog = callee_by(alloc, &message, tag);
-    outcome_after(message, dialog)
-}
-
-/// The dialog with the sender of a 2xx to an INVITE.
-fn caller_of(
-    alloc: Global,
-    invite: &Request<'_>,
-    answer: &Response<'_>,
-) -> Result<Dialog, MessageError> {
-    if is_invite(&invite.parts)
-        && is_invite(&answer.parts)
-        && 200 <= answer.status
-        && answer.status <= 299
-    {
-        if let Some(target) = contact_uri(alloc, answer.headers.as_slice())? {
-            return Ok(Dialog::as_caller(alloc, &invite.parts, answer, target)?);
-        }
-    }
-    Err(MessageError::StartLine)
-}
-
-/// The same of a message, which is no request.
-fn caller_by(
-    alloc: Global,
-    invite: &Request<'_>,
-    message: &Message<'_>,
-) -> Result<Dialog, MessageError> {
-    match message {
-        Message::Request(_) => Err(MessageError::StartLine),
-        Message::Response(answer) => caller_of(alloc, invite, answer),
-    }
-}
-
-fn caller_of_taken(
-    alloc: Global,
-    invite: &Request<'_>,
-    taken: &[u8],
-) -> Result<Dialog, MessageError> {
-    let message = read_message(alloc, taken)?;
-    let dialog = caller_by(alloc, invite, &message);
-    outcome_after(message, dialog)
-}
-
-/// The dialog with the sender of what was taken, where what was sent is its INVITE.
-fn caller_of_sent(alloc: Global, sent: &Message<'_>, taken: &[u8]) -> Result<Dialog, MessageError> {
-    match sent {
-        Message::Request(invite) => caller_of_taken(alloc, invite, taken),
-        Message::Response(_) => Err(MessageError::StartLine),
-    }
-}
-
-fn caller(alloc: Global, sent: &[u8], taken: &[u8]) -> Result<Dialog, MessageError> {
-    let message = read_message(alloc, sent)?;
-    let dialog = caller_of_sent(alloc, &message, taken);
-    outcome_after(message, dialog)
+/// Whether a response is a 2xx to an INVITE.
+fn is_okay(answer: &Response<'_>) -> bool {
+    is_invite(&answer.parts) && 200 <= answer.status && answer.status <= 299
 }
 
 /// Calls what has a law for its contract.
@@ -111,53 +39,128 @@ impl History {
     }
 
     /// The dialog is kept for the rows behind.
-    fn keep(&mut self, out: &mut Output, dialog: Dialog) {
-        self.dialogs.clear();
-        out.push(&mut self.dialogs, dialog);
-        out.put("begun");
+    fn keep(&mut self, out: &mut Output, dialog: Result<Dialog, AllocError>) {
+        match dialog {
+            Ok(dialog) => {
+                self.dialogs.clear();
+                out.push(&mut self.dialogs, dialog);
+                out.put("begun");
+            }
+            Err(_) => out.no_memory(),
+        }
     }
 
-    /// The dialog is kept for the rows behind, if there is one.
-    fn begin(&mut self, out: &mut Output, dialog: Result<Dialog, MessageError>) {
-        match dialog {
-            Ok(dialog) => self.keep(out, dialog),
+    /// Begins the dialog with the sender of this 2xx to an INVITE, if it says where it is reached.
+    fn begin_with_answer(&mut self, out: &mut Output, invite: &Parts<'_>, answer: &Response<'_>) {
+        match contact_uri(out.alloc(), answer.headers.as_slice()) {
+            Ok(Some(target)) => {
+                let dialog = Dialog::as_caller(out.alloc(), invite, answer, target);
+                self.keep(out, dialog);
+            }
+            Ok(None) => put_fault(out, MessageError::StartLine),
+            Err(_) => out.no_memory(),
+        }
+    }
+
+    /// The same with what was taken, if that is a 2xx, where what was sent is its INVITE.
+    fn begin_with_taken(&mut self, out: &mut Output, sent: &Parts<'_>, taken: &Response<'_>) {
+        if is_invite(sent) && is_okay(taken) {
+            self.begin_with_answer(out, sent, taken);
+        } else {
+            put_fault(out, MessageError::StartLine);
+        }
+    }
+
+    /// The same, if it is a response.
+    fn begin_with_second(&mut self, out: &mut Output, sent: &Parts<'_>, taken: &Message<'_>) {
+        match taken {
+            Message::Request(_) => put_fault(out, MessageError::StartLine),
+            Message::Response(answer) => self.begin_with_taken(out, sent, answer),
+        }
+    }
+
+    fn begin_as_caller(&mut self, out: &mut Output, sent: &Parts<'_>, taken: &[u8]) {
+        match read_message(out.alloc(), taken) {
+            Ok(message) => {
+                self.begin_with_second(out, sent, &message);
+                let_go(message);
+            }
             Err(fault) => put_fault(out, fault),
         }
     }
 
-    fn begin_as_callee(&mut self, out: &mut Output, bytes: &[u8], tag: &[u8]) {
-        let dialog = callee(out.alloc(), bytes, tag);
-        self.begin(out, dialog);
+    /// Begins the dialog with the sender of this INVITE, if it says where it is reached.
+    fn begin_as_callee(&mut self, out: &mut Output, invite: &Request<'_>, tag: &[u8]) {
+        match contact_uri(out.alloc(), invite.headers.as_slice()) {
+            Ok(Some(target)) => {
+                let dialog = Dialog::as_callee(out.alloc(), invite, tag, target);
+                self.keep(out, dialog);
+            }
+            Ok(None) => put_fault(out, MessageError::StartLine),
+            Err(_) => out.no_memory(),
+        }
     }
 
-    fn begin_as_caller(&mut self, out: &mut Output, sent: &[u8], taken: &[u8]) {
-        let dialog = caller(out.alloc(), sent, taken);
-        self.begin(out, dialog);
+    /// Begins a dialog with this request, if it is an INVITE.
+    fn begin_with(
+        &mut self,
+        out: &mut Output,
+        request: &Request<'_>,
+        call: &Call<'_>,
+        asked: Asked,
+    ) {
+        match asked {
+            Asked::AsCaller => self.begin_as_caller(out, &request.parts, call.word(1)),
+            _ if is_invite(&request.parts) => self.begin_as_callee(out, request, call.word(1)),
+            _ => put_fault(out, MessageError::StartLine),
+        }
+    }
+
+    /// The same with a message, if it is a request.
+    fn begin_with_first(
+        &mut self,
+        out: &mut Output,
+        message: &Message<'_>,
+        call: &Call<'_>,
+        asked: Asked,
+    ) {
+        match message {
+            Message::Request(request) => self.begin_with(out, request, call, asked),
+            Message::Response(_) => put_fault(out, MessageError::StartLine),
+        }
+    }
+
+    fn begin(&mut self, out: &mut Output, call: &Call<'_>, asked: Asked) {
+        match read_message(out.alloc(), call.word(0)) {
+            Ok(message) => {
+                self.begin_with_first(out, &message, call, asked);
+                let_go(message);
+            }
+            Err(fault) => put_fault(out, fault),
+        }
     }
 
     /// What a call on the dialog answers, if there is one.
-    fn put_of_last(&mut self, out: &mut Output, call: &str, args: &[&[u8]]) {
+    fn put_of_last(&mut self, out: &mut Output, call: &Call<'_>, asked: Asked) {
         match self.dialogs.first_mut() {
-            Some(dialog) => put_of_dialog(out, dialog, call, args),
+            Some(dialog) => put_of_dialog(out, dialog, call, asked),
             None => out.no_such_row(),
         }
     }
 
-    /// What a call with two words answers, if it is one that begins a dialog, or else one on the dialog.
-    fn put_of_two(&mut self, out: &mut Output, call: &str, one: &[u8], two: &[u8]) {
-        match call {
-            "as_callee" => self.begin_as_callee(out, one, two),
-            "as_caller" => self.begin_as_caller(out, one, two),
-            _ => self.put_of_last(out, call, &[one, two]),
+    fn put_asked(&mut self, out: &mut Output, call: &Call<'_>, asked: Asked) {
+        match asked {
+            Asked::Laws => put_laws(out),
+            Asked::AsCallee | Asked::AsCaller => self.begin(out, call, asked),
+            _ => self.put_of_last(out, call, asked),
         }
     }
 
     /// Writes what the row's call answers, if it is one of `dialogs`.
-    pub(crate) fn put_answer(&mut self, out: &mut Output, call: &str, args: &[&[u8]]) {
-        match (call, args) {
-            ("laws", []) => put_laws(out),
-            (_, [one, two]) => self.put_of_two(out, call, one, two),
-            _ => self.put_of_last(out, call, args),
+    pub(crate) fn put_answer(&mut self, out: &mut Output, call: &Call<'_>) {
+        match call.asked(&CALLS) {
+            Some(asked) => self.put_asked(out, call, asked),
+            None => out.no_such_row(),
         }
     }
 }

@@ -3,42 +3,55 @@
 ghost use Rattle.std.specs.Prelude.{◌≡◌, nat_lt};
 ghost use Rattle.std.specs.List.{list_all};
 
+use crate::call::Call;
 use crate::fields::put_given;
 use registrar::Binding;
 use responses::contact_headers;
-use rows::{Output, let_go, number, outcome_after};
+use rows::{Output, let_go, number};
 use sip_uri::{Uri, UriError, read_uri};
-use std::alloc::{AllocError, Global};
 use text::{Text, cut_word};
 
-/// A binding of this contact until a moment in milliseconds.
-fn binding_of(alloc: Global, uri: &Uri<'_>, expires_at: u64) -> Result<Binding, AllocError> {
-    let uri = uri.keep(alloc)?;
-    Ok(Binding {
-        uri,
-        expires_at,
-        call_id: Text::lent(b"r1@192.0.2.10"),
-        cseq: 1,
-        refreshed: 0,
-    })
-}
-
-fn binding_by(alloc: Global, word: &[u8]) -> Result<Binding, UriError> {
-    let (uri, moment) = cut_word(word);
-    let uri = read_uri(alloc, uri)?;
-    let binding = binding_of(alloc, &uri, number(moment));
-    Ok(outcome_after(uri, binding)?)
-}
-
-fn push_bindings(
-    alloc: Global,
-    bindings: &mut Vec<Binding>,
-    words: &[&[u8]],
-) -> Result<(), UriError> {
-    for word in words {
-        bindings.push(binding_by(alloc, word)?)?;
+/// Puts a binding of this contact until a moment in milliseconds at the end of a list.
+fn push_binding(out: &mut Output, bindings: &mut Vec<Binding>, uri: &Uri<'_>, expires_at: u64) {
+    match uri.keep(out.alloc()) {
+        Ok(uri) => {
+            let binding = Binding {
+                uri,
+                expires_at,
+                call_id: Text::lent(b"r1@192.0.2.10"),
+                cseq: 1,
+                refreshed: 0,
+            };
+            out.push(bindings, binding);
+        }
+        Err(_) => out.no_memory(),
     }
-    Ok(())
+}
+
+fn note_fault(out: &mut Output, fault: UriError) {
+    if fault == UriError::OutOfMemory {
+        out.no_memory();
+    }
+}
+
+fn push_word(out: &mut Output, bindings: &mut Vec<Binding>, word: &[u8]) {
+    let (uri, moment) = cut_word(word);
+    match read_uri(out.alloc(), uri) {
+        Ok(uri) => {
+            push_binding(out, bindings, &uri, number(moment));
+            let_go(uri);
+        }
+        Err(fault) => note_fault(out, fault),
+    }
+}
+
+/// The bindings of the words, each a URI and the moment at which it is over; words without a URI have none.
+fn bindings_of(out: &mut Output, words: &[&[u8]]) -> Vec<Binding> {
+    let mut bindings = out.list();
+    for word in words {
+        push_word(out, &mut bindings, word);
+    }
+    bindings
 }
 
 fn all_last(bindings: &[Binding], now: u64) -> bool
@@ -57,25 +70,19 @@ fn put_told(out: &mut Output, bindings: &[Binding], now: u64) {
     }
 }
 
-fn put_fault(out: &mut Output, fault: UriError) {
-    match fault {
-        UriError::OutOfMemory => out.no_memory(),
-        _ => out.put("no URI"),
+/// The same of the bindings of so many words, each of which has to have one.
+fn put_of_words(out: &mut Output, bindings: &[Binding], now: u64, count: usize) {
+    if bindings.len() == count {
+        put_told(out, bindings, now);
+    } else {
+        out.put("no URI");
     }
 }
 
-/// The same of bindings that were put into a list, or why they were not.
-fn put_pushed(out: &mut Output, outcome: Result<(), UriError>, bindings: &[Binding], now: u64) {
-    match outcome {
-        Ok(()) => put_told(out, bindings, now),
-        Err(fault) => put_fault(out, fault),
-    }
-}
-
-/// The bindings of the words, each a URI and the moment at which it is over, at a moment in milliseconds.
-pub(crate) fn put_contacts(out: &mut Output, now: u64, words: &[&[u8]]) {
-    let mut bindings: Vec<Binding> = out.list();
-    let outcome = push_bindings(out.alloc(), &mut bindings, words);
-    put_pushed(out, outcome, &bindings, now);
+/// The bindings of the words behind the first, which is a moment in milliseconds, at this moment.
+pub(crate) fn put_contacts(out: &mut Output, call: &Call<'_>) {
+    let words = call.words_from(1);
+    let bindings = bindings_of(out, words);
+    put_of_words(out, &bindings, call.number(0), words.len());
     let_go(bindings);
 }

@@ -1,11 +1,47 @@
 //! Calls on a dialog that stands.
 
+use crate::call::{Call, Entry};
 use crate::messages::put_of_message;
-use crate::requests::{put_ack, put_next};
+use crate::requests::put_from_server;
 use crate::texts::{put_dialog, put_refusal};
 use dialogs::{Dialog, Method};
-use rows::{Output, beside, let_go, u32_of};
+use rows::{Output, beside, let_go};
 use sip_uri::{Uri, UriError, read_uri};
+
+/// What a row of `dialogs` asks for.
+#[derive(Clone, Copy)]
+pub(crate) enum Asked {
+    Laws,
+    AsCallee,
+    AsCaller,
+    Shown,
+    Copied,
+    NextNumber,
+    Next,
+    Ack,
+    RefreshTarget,
+    Admit,
+    ContactUri,
+    IsOfRequest,
+    IsOfAnswer,
+}
+
+/// The calls of `dialogs`.
+pub(crate) const CALLS: [Entry<Asked>; 13] = [
+    ("laws", 0, 0, Asked::Laws),
+    ("as_callee", 2, 2, Asked::AsCallee),
+    ("as_caller", 2, 2, Asked::AsCaller),
+    ("shown", 0, 0, Asked::Shown),
+    ("copied", 0, 0, Asked::Copied),
+    ("next_number", 1, 1, Asked::NextNumber),
+    ("next", 2, 3, Asked::Next),
+    ("ack", 1, 1, Asked::Ack),
+    ("refresh_target", 1, 1, Asked::RefreshTarget),
+    ("admit", 1, 1, Asked::Admit),
+    ("contact_uri", 1, 1, Asked::ContactUri),
+    ("is_of_request", 1, 1, Asked::IsOfRequest),
+    ("is_of_answer", 1, 1, Asked::IsOfAnswer),
+];
 
 /// The methods of requests in a dialog by their names.
 const METHODS: [(&[u8], Method); 3] = [
@@ -14,14 +50,22 @@ const METHODS: [(&[u8], Method); 3] = [
     (b"BYE", Method::Bye),
 ];
 
-fn method(word: &[u8]) -> Option<Method> {
-    beside(&METHODS, word)
+/// The method that the first word of a call names.
+pub(crate) fn method_of(call: &Call<'_>) -> Option<Method> {
+    beside(&METHODS, call.word(0))
 }
 
-fn put_next_number(out: &mut Output, dialog: &Dialog, method: Method) {
+fn put_number_for(out: &mut Output, dialog: &Dialog, method: Method) {
     match dialog.next_number(method) {
         Ok(number) => out.put_number(u64::from(number)),
         Err(fault) => put_refusal(out, fault),
+    }
+}
+
+fn put_next_number(out: &mut Output, dialog: &Dialog, call: &Call<'_>) {
+    match method_of(call) {
+        Some(method) => put_number_for(out, dialog, method),
+        None => out.no_such_row(),
     }
 }
 
@@ -43,8 +87,8 @@ fn put_fault(out: &mut Output, fault: UriError) {
     }
 }
 
-fn put_refreshed(out: &mut Output, dialog: &mut Dialog, bytes: &[u8]) {
-    match read_uri(out.alloc(), bytes) {
+fn put_refreshed(out: &mut Output, dialog: &mut Dialog, call: &Call<'_>) {
+    match read_uri(out.alloc(), call.word(0)) {
         Ok(target) => {
             put_retargeted(out, dialog, &target);
             let_go(target);
@@ -63,79 +107,14 @@ fn put_copied(out: &mut Output, dialog: &Dialog) {
     }
 }
 
-/// What a call on a dialog without words answers, if it is one.
-fn put_plain(out: &mut Output, dialog: &Dialog, call: &str) {
-    match call {
-        "shown" => put_dialog(out, dialog),
-        "copied" => put_copied(out, dialog),
-        _ => out.no_such_row(),
-    }
-}
-
-/// What a call on a dialog with a method alone answers, if it is one.
-fn put_of_method_alone(out: &mut Output, dialog: &Dialog, call: &str, method: Method) {
-    match call {
-        "next_number" => put_next_number(out, dialog, method),
-        _ => out.no_such_row(),
-    }
-}
-
-/// What a call on a dialog with a method, hops and a body answers, if it is one.
-fn put_of_hops(
-    out: &mut Output,
-    dialog: &mut Dialog,
-    call: &str,
-    method: Method,
-    hops: &[u8],
-    body: &[u8],
-) {
-    match call {
-        "next" => put_next(out, dialog, method, hops, body),
-        _ => out.no_such_row(),
-    }
-}
-
-/// What a call on a dialog with a method, and maybe more words, answers.
-fn put_of_method(
-    out: &mut Output,
-    dialog: &mut Dialog,
-    call: &str,
-    method: Method,
-    more: &[&[u8]],
-) {
-    match more {
-        [] => put_of_method_alone(out, dialog, call, method),
-        [hops] => put_of_hops(out, dialog, call, method, hops, b""),
-        [hops, body] => put_of_hops(out, dialog, call, method, hops, body),
-        _ => out.no_such_row(),
-    }
-}
-
-/// The same with a word that may be no method.
-fn put_of_words(out: &mut Output, dialog: &mut Dialog, call: &str, word: &[u8], more: &[&[u8]]) {
-    match method(word) {
-        Some(method) => put_of_method(out, dialog, call, method, more),
-        None => out.no_such_row(),
-    }
-}
-
-/// What a call on a dialog with one word answers.
-fn put_of_one(out: &mut Output, dialog: &mut Dialog, call: &str, word: &[u8]) {
-    match call {
-        "admit" | "contact_uri" | "is_of_request" | "is_of_answer" => {
-            put_of_message(out, dialog, call, word);
-        }
-        "refresh_target" => put_refreshed(out, dialog, word),
-        "ack" => put_ack(out, dialog, u32_of(word)),
-        _ => put_of_words(out, dialog, call, word, &[]),
-    }
-}
-
 /// What a call on a dialog answers.
-pub(crate) fn put_of_dialog(out: &mut Output, dialog: &mut Dialog, call: &str, args: &[&[u8]]) {
-    match args {
-        [] => put_plain(out, dialog, call),
-        [word] => put_of_one(out, dialog, call, word),
-        [word, more @ ..] => put_of_words(out, dialog, call, word, more),
+pub(crate) fn put_of_dialog(out: &mut Output, dialog: &mut Dialog, call: &Call<'_>, asked: Asked) {
+    match asked {
+        Asked::Shown => put_dialog(out, dialog),
+        Asked::Copied => put_copied(out, dialog),
+        Asked::NextNumber => put_next_number(out, dialog, call),
+        Asked::Next | Asked::Ack => put_from_server(out, dialog, call, asked),
+        Asked::RefreshTarget => put_refreshed(out, dialog, call),
+        _ => put_of_message(out, dialog, call, asked),
     }
 }

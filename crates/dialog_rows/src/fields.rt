@@ -35,16 +35,12 @@ fn put_field(out: &mut Output, field: &Header<'_>) {
     out.put("\\r\\n");
 }
 
-fn put_each_field(out: &mut Output, fields: &[Header<'_>]) {
+fn put_fields(out: &mut Output, fields: &[Header<'_>]) {
+    if fields.is_empty() {
+        out.put("none");
+    }
     for field in fields {
         put_field(out, field);
-    }
-}
-
-fn put_fields(out: &mut Output, fields: &[Header<'_>]) {
-    match fields {
-        [] => out.put("none"),
-        _ => put_each_field(out, fields),
     }
 }
 

@@ -1,17 +1,18 @@
 //! Calls on a dialog with a message: it is read in one place, and let go there, whatever is asked of it.
 
+use crate::call::Call;
+use crate::calls::Asked;
 use crate::texts::{put_refusal, put_uri};
 use dialogs::{Dialog, contact_uri};
-use row_messages::fault_text;
 use rows::{Output, let_go};
 use sip_message::{Message, MessageError, Request, Response, read_message};
 use sip_uri::Uri;
 
 /// A fault in its words, or want of memory.
 pub(crate) fn put_fault(out: &mut Output, fault: MessageError) {
-    match fault_text(out.alloc(), fault) {
-        Ok(text) => out.put(text.as_str()),
-        Err(_) => out.no_memory(),
+    match fault {
+        MessageError::OutOfMemory => out.no_memory(),
+        fault => out.put_fault(fault),
     }
 }
 
@@ -26,7 +27,7 @@ fn put_admission(out: &mut Output, dialog: &mut Dialog, request: &Request<'_>) {
 fn put_uri_or_none(out: &mut Output, uri: Option<Uri<'_>>) {
     match uri {
         Some(uri) => {
-            put_uri(out, &uri);
+            put_uri(out, "", &uri);
             let_go(uri);
         }
         None => out.put("none"),
@@ -42,36 +43,36 @@ fn put_contact(out: &mut Output, request: &Request<'_>) {
 }
 
 /// What a call with a request that was read answers.
-fn put_of_request(out: &mut Output, dialog: &mut Dialog, call: &str, request: &Request<'_>) {
-    match call {
-        "admit" => put_admission(out, dialog, request),
-        "contact_uri" => put_contact(out, request),
-        "is_of_request" => out.put_truth(dialog.id.is_of_request(request)),
+fn put_of_request(out: &mut Output, dialog: &mut Dialog, request: &Request<'_>, asked: Asked) {
+    match asked {
+        Asked::Admit => put_admission(out, dialog, request),
+        Asked::ContactUri => put_contact(out, request),
+        Asked::IsOfRequest => out.put_truth(dialog.id.is_of_request(request)),
         _ => put_fault(out, MessageError::StartLine),
     }
 }
 
 /// What a call with a response that was read answers.
-fn put_of_response(out: &mut Output, dialog: &Dialog, call: &str, response: &Response<'_>) {
-    match call {
-        "is_of_answer" => out.put_truth(dialog.id.is_of_answer(response)),
+fn put_of_response(out: &mut Output, dialog: &Dialog, response: &Response<'_>, asked: Asked) {
+    match asked {
+        Asked::IsOfAnswer => out.put_truth(dialog.id.is_of_answer(response)),
         _ => put_fault(out, MessageError::StartLine),
     }
 }
 
 /// What a call with a message that was read answers.
-fn put_of_kind(out: &mut Output, dialog: &mut Dialog, call: &str, message: &Message<'_>) {
+fn put_of_kind(out: &mut Output, dialog: &mut Dialog, message: &Message<'_>, asked: Asked) {
     match message {
-        Message::Request(request) => put_of_request(out, dialog, call, request),
-        Message::Response(response) => put_of_response(out, dialog, call, response),
+        Message::Request(request) => put_of_request(out, dialog, request, asked),
+        Message::Response(response) => put_of_response(out, dialog, response, asked),
     }
 }
 
 /// What a call with a message answers.
-pub(crate) fn put_of_message(out: &mut Output, dialog: &mut Dialog, call: &str, bytes: &[u8]) {
-    match read_message(out.alloc(), bytes) {
+pub(crate) fn put_of_message(out: &mut Output, dialog: &mut Dialog, call: &Call<'_>, asked: Asked) {
+    match read_message(out.alloc(), call.word(0)) {
         Ok(message) => {
-            put_of_kind(out, dialog, call, &message);
+            put_of_kind(out, dialog, &message, asked);
             let_go(message);
         }
         Err(fault) => put_fault(out, fault),

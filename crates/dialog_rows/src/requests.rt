@@ -1,13 +1,14 @@
 //! Requests in a dialog, as they are sent.
 
+use crate::call::Call;
+use crate::calls::{Asked, method_of};
+use crate::fields::fields_of;
 use crate::texts::put_refusal;
-use dialogs::{Dialog, DialogError, Extras, Method, NextRequest};
-use rows::{Output, let_go, number, outcome_after};
-use sip_message::{Header, Via};
+use dialogs::{Dialog, Extras, Method};
+use rows::{Output, let_go};
+use sip_message::Via;
 use sip_uri::Addr;
 use sip_writing::server_via;
-use std::alloc::{AllocError, Global};
-use text::Text;
 
 /// The server of the rows.
 const SERVER: Addr = Addr {
@@ -15,68 +16,23 @@ const SERVER: Addr = Addr {
     port: 5060,
 };
 
-/// The Via of the rows.
-fn via_of_rows(alloc: Global) -> Result<Via<'static>, AllocError> {
-    server_via(alloc, SERVER, b"2.7")
-}
+/// The header fields that a request with a body has behind those that each has.
+const FIELDS_OF_BODY: [&[u8]; 2] = [
+    b"Contact: <sip:192.0.2.1:5060>",
+    b"Content-Type: application/sdp",
+];
 
-/// The header fields of a body.
-fn fields_of_body(alloc: Global) -> Result<Vec<Header<'static>>, AllocError> {
-    let mut fields = Vec::new(alloc);
-    fields.push(Header::of(alloc, b"Contact", b"<sip:192.0.2.1:5060>")?)?;
-    fields.push(Header::of(alloc, b"Content-Type", b"application/sdp")?)?;
-    Ok(fields)
-}
-
-/// The header fields behind those that each request has, where there is a body.
-fn further_of(alloc: Global, body: &[u8]) -> Result<Vec<Header<'static>>, AllocError> {
+fn further_words(body: &[u8]) -> &'static [&'static [u8]] {
     if body.is_empty() {
-        return Ok(Vec::new(alloc));
+        &[]
+    } else {
+        &FIELDS_OF_BODY
     }
-    fields_of_body(alloc)
 }
 
-/// The next request by this Via, with so many hops and this body.
-fn next_by(
-    alloc: Global,
-    dialog: &Dialog,
-    method: Method,
-    via: &Via<'_>,
-    hops: &[u8],
-    body: &[u8],
-) -> Result<NextRequest, DialogError> {
-    let further = further_of(alloc, body)?;
-    let extras = Extras {
-        via,
-        max_forwards: u8::try_from(number(hops)).unwrap_or(0),
-        further: &further,
-        body,
-    };
-    dialog.next_request(alloc, method, &extras)
-}
-
-/// The next request, with so many hops and this body.
-fn next(
-    alloc: Global,
-    dialog: &Dialog,
-    method: Method,
-    hops: &[u8],
-    body: &[u8],
-) -> Result<NextRequest, DialogError> {
-    let via = via_of_rows(alloc)?;
-    let next = next_by(alloc, dialog, method, &via, hops, body);
-    outcome_after(via, next)
-}
-
-/// The next request as it is sent, with so many hops and this body; its number is kept.
-pub(crate) fn put_next(
-    out: &mut Output,
-    dialog: &mut Dialog,
-    method: Method,
-    hops: &[u8],
-    body: &[u8],
-) {
-    match next(out.alloc(), dialog, method, hops, body) {
+/// The next request with what it has besides, whose number is kept.
+fn put_next_with(out: &mut Output, dialog: &mut Dialog, method: Method, extras: &Extras<'_, '_>) {
+    match dialog.next_request(out.alloc(), method, extras) {
         Ok(next) => {
             out.put_shown(next.bytes.as_bytes());
             dialog.keep_number(next.number);
@@ -86,21 +42,70 @@ pub(crate) fn put_next(
     }
 }
 
-/// The ACK of the INVITE with this number.
-fn ack(alloc: Global, dialog: &Dialog, number: u32) -> Result<Text<'static>, AllocError> {
-    let via = via_of_rows(alloc)?;
+/// The next request of this method through this Via, with the hops and the body that the call says.
+fn put_next_of<'m, 'a>(
+    out: &mut Output,
+    dialog: &mut Dialog,
+    method: Method,
+    via: &'m Via<'a>,
+    call: &'m Call<'_>,
+) {
+    let body = call.word(2);
+    let further = fields_of(out, further_words(body));
     let extras = Extras {
-        via: &via,
+        via,
+        max_forwards: u8::try_from(call.number(1)).unwrap_or(0),
+        further: &further,
+        body,
+    };
+    put_next_with(out, dialog, method, &extras);
+    let_go(further);
+}
+
+fn put_next<'m, 'a>(out: &mut Output, dialog: &mut Dialog, via: &'m Via<'a>, call: &'m Call<'_>) {
+    match method_of(call) {
+        Some(method) => put_next_of(out, dialog, method, via, call),
+        None => out.no_such_row(),
+    }
+}
+
+/// The ACK of the INVITE whose number the call says.
+fn put_ack(out: &mut Output, dialog: &Dialog, via: &Via<'_>, call: &Call<'_>) {
+    let extras = Extras {
+        via,
         max_forwards: 70,
         further: &[],
         body: b"",
     };
-    let bytes = dialog.ack(alloc, number, &extras);
-    outcome_after(via, bytes)
+    let bytes = dialog.ack(out.alloc(), call.small_number(0), &extras);
+    out.put_written(bytes);
 }
 
-/// The ACK of the INVITE with this number, as it is sent.
-pub(crate) fn put_ack(out: &mut Output, dialog: &Dialog, number: u32) {
-    let bytes = ack(out.alloc(), dialog, number);
-    out.put_written(bytes);
+fn put_through<'m, 'a>(
+    out: &mut Output,
+    dialog: &mut Dialog,
+    via: &'m Via<'a>,
+    call: &'m Call<'_>,
+    asked: Asked,
+) {
+    match asked {
+        Asked::Ack => put_ack(out, dialog, via, call),
+        _ => put_next(out, dialog, via, call),
+    }
+}
+
+/// A request that the server sends, through its own Via.
+pub(crate) fn put_from_server(
+    out: &mut Output,
+    dialog: &mut Dialog,
+    call: &Call<'_>,
+    asked: Asked,
+) {
+    match server_via(out.alloc(), SERVER, b"2.7") {
+        Ok(via) => {
+            put_through(out, dialog, &via, call, asked);
+            let_go(via);
+        }
+        Err(_) => out.no_memory(),
+    }
 }

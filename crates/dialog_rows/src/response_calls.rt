@@ -1,15 +1,53 @@
 //! The calls of `responses`.
 
 use crate::bindings::put_contacts;
+use crate::call::{ANY, Call, Entry};
 use crate::fields::{fields_of, put_given};
 use crate::refusals::{put_headers, put_status};
 use crate::request_calls::put_of_bytes;
 use responses::{STATELESS, allow_header, token, unsupported_header};
-use rows::{Output, let_go, number, u32_of};
+use rows::{Output, let_go};
 
-/// The token of this salt and count.
-fn put_token(out: &mut Output, salt: u64, count: u64) {
-    let token = token(out.alloc(), salt, count);
+/// What a row of `responses` asks for.
+#[derive(Clone, Copy)]
+pub(crate) enum Asked {
+    Stateless,
+    Token,
+    StatusOf,
+    AllowHeader,
+    UnsupportedHeader,
+    ContactHeaders,
+    RefusalHeaders,
+    ResponseWith,
+    RegisterOf,
+    HasFitBranch,
+    IsDeclinedMethod,
+    IsOfferedMethod,
+    IsMethod,
+    HasHeader,
+}
+
+/// The calls of `responses`.
+const CALLS: [Entry<Asked>; 14] = [
+    ("stateless", 0, 0, Asked::Stateless),
+    ("token", 2, 2, Asked::Token),
+    ("status_of", 1, 1, Asked::StatusOf),
+    ("allow_header", 0, 0, Asked::AllowHeader),
+    ("unsupported_header", 0, ANY, Asked::UnsupportedHeader),
+    ("contact_headers", 1, ANY, Asked::ContactHeaders),
+    ("refusal_headers", 2, 2, Asked::RefusalHeaders),
+    ("response_with", 4, ANY, Asked::ResponseWith),
+    ("register_of", 1, 1, Asked::RegisterOf),
+    ("has_fit_branch", 1, 1, Asked::HasFitBranch),
+    ("is_declined_method", 1, 1, Asked::IsDeclinedMethod),
+    ("is_offered_method", 1, 1, Asked::IsOfferedMethod),
+    ("is_method", 2, 2, Asked::IsMethod),
+    ("has_header", 2, 2, Asked::HasHeader),
+];
+
+/// The token of the salt and the count that the call says.
+fn put_token(out: &mut Output, call: &Call<'_>) {
+    let token = token(out.alloc(), call.number(0), call.number(1));
     out.put_written(token);
 }
 
@@ -26,70 +64,30 @@ fn put_unsupported(out: &mut Output, words: &[&[u8]]) {
     let_go(fields);
 }
 
-/// What a call without words answers, if it is one.
-fn put_plain(out: &mut Output, call: &str) {
-    match call {
-        "stateless" => out.put_shown(STATELESS),
-        "allow_header" => put_allow(out),
-        _ => out.no_such_row(),
+/// Which header fields are given, or else what a call on a request answers.
+fn put_fields(out: &mut Output, call: &Call<'_>, asked: Asked) {
+    match asked {
+        Asked::AllowHeader => put_allow(out),
+        Asked::UnsupportedHeader => put_unsupported(out, call.words),
+        Asked::ContactHeaders => put_contacts(out, call),
+        Asked::RefusalHeaders => put_headers(out, call),
+        _ => put_of_bytes(out, call, asked),
     }
 }
 
-/// What a call with one word answers, if it is one.
-fn put_of_one(out: &mut Output, call: &str, word: &[u8]) {
-    match call {
-        "status_of" => put_status(out, word),
-        _ => out.no_such_row(),
+fn put_asked(out: &mut Output, call: &Call<'_>, asked: Asked) {
+    match asked {
+        Asked::Stateless => out.put_shown(STATELESS),
+        Asked::Token => put_token(out, call),
+        Asked::StatusOf => put_status(out, call),
+        _ => put_fields(out, call, asked),
     }
 }
 
-/// What a call with two words answers, if it is one.
-fn put_of_two(out: &mut Output, call: &str, one: &[u8], two: &[u8]) {
-    match call {
-        "token" => put_token(out, number(one), number(two)),
-        "refusal_headers" => put_headers(out, u32_of(one), two),
-        _ => out.no_such_row(),
-    }
-}
-
-/// What a call with so many words answers, if it is one.
-fn put_of_words(out: &mut Output, call: &str, args: &[&[u8]]) {
-    match args {
-        [] => put_plain(out, call),
-        [word] => put_of_one(out, call, word),
-        [one, two] => put_of_two(out, call, one, two),
-        _ => out.no_such_row(),
-    }
-}
-
-/// What a call on a request answers, of which the first word is.
-fn put_on_request(out: &mut Output, call: &str, args: &[&[u8]]) {
-    match args {
-        [bytes, more @ ..] => put_of_bytes(out, bytes, call, more),
-        [] => out.no_such_row(),
-    }
-}
-
-/// What a call on bindings at a moment answers, which is the first word.
-fn put_at(out: &mut Output, args: &[&[u8]]) {
-    match args {
-        [now, words @ ..] => put_contacts(out, number(now), words),
-        [] => out.no_such_row(),
-    }
-}
-
-/// Writes what the row's call answers, if it is one of `responses`: those with any number of words first.
-pub(crate) fn put_answer(out: &mut Output, call: &str, args: &[&[u8]]) {
-    match call {
-        "response_with"
-        | "register_of"
-        | "has_fit_branch"
-        | "is_method"
-        | "has_header"
-        | "is_declined_method"
-        | "is_offered_method" => put_on_request(out, call, args),
-        "unsupported_header" => put_unsupported(out, args),
-        "contact_headers" => put_at(out, args),
-        _ => put_of_words(out, call, args),
+/// Writes what the row's call answers, if it is one of `responses`.
+pub(crate) fn put_answer(out: &mut Output, call: &Call<'_>) {
+    match call.asked(&CALLS) {
+        Some(asked) => put_asked(out, call, asked),
+        None => out.no_such_row(),
     }
 }

@@ -3,16 +3,16 @@
 ghost use Rattle.std.specs.Prelude.{◌<◌, ◌^◌};
 
 use crate::actions::actions_of;
+use crate::call::Call;
 use call_core::Action;
 use dialogs::Dialog;
 use events::Sent;
 use legs::{Asker, Dressed, Scene, new_leg};
 use row_messages::message_of;
-use rows::{Output, let_go, outcome_after, u32_of};
-use sdp::{Description, read_description};
-use sip_message::{Message, Parts};
+use rows::{Output, let_go};
+use sdp::{Description, DescriptionError, read_description};
+use sip_message::{Message, MessageError, Parts};
 use sip_uri::{Addr, Uri, read_uri};
-use std::alloc::{AllocError, Global};
 use text::Text;
 
 /// The server of the rows.
@@ -47,68 +47,128 @@ fn parts_of<'m, 'a>(message: &'m Message<'a>) -> &'m Parts<'a> {
 }
 
 fn asker_of<'m, 'a>(id: usize, messages: &'m [Message<'a>]) -> Option<Asker<'m, 'a>> {
-    Some(Asker {
-        id,
-        parts: parts_of(messages.first()?),
-        source: CALLER,
-        tag: TAG,
-    })
-}
-
-/// The leg after the request with this number, if any, with this tag of theirs.
-fn put_request(alloc: Global, leg: &mut Dialog, tag: &[u8], number: u32) -> Result<(), AllocError> {
-    if number > 0 {
-        leg.id.theirs = Text::from_slice(alloc, tag)?;
-        leg.local_number = Some(number);
+    match messages.first() {
+        Some(message) => Some(Asker {
+            id,
+            parts: parts_of(message),
+            source: CALLER,
+            tag: TAG,
+        }),
+        None => None,
     }
-    Ok(())
 }
 
-/// The callee's leg to this target: new where the number is 0, and else after the request with that number, with this tag of
-/// theirs.
-fn leg_to(
-    alloc: Global,
+fn put_tag(out: &mut Output, leg: &mut Dialog, tag: &[u8]) {
+    match Text::from_slice(out.alloc(), tag) {
+        Ok(tag) => leg.id.theirs = tag,
+        Err(_) => out.no_memory(),
+    }
+}
+
+/// The leg after the request with the number that the call says, if any, with the tag of theirs that it says.
+fn put_request(out: &mut Output, leg: &mut Dialog, call: &Call<'_>) {
+    let number = call.small_number(4);
+    if number > 0 {
+        leg.local_number = Some(number);
+        put_tag(out, leg, call.word(3));
+    }
+}
+
+/// The callee's leg to this target: new where the number of the call is 0, and else after the request with that number.
+fn push_leg(
+    out: &mut Output,
+    legs: &mut Vec<Dialog>,
     caller: &Parts<'_>,
     target: &Uri<'_>,
-    tag: &[u8],
-    number: u32,
-) -> Result<Vec<Dialog>, AllocError> {
-    let leg = new_leg(alloc, SERVER, caller, target, TOKEN, OUR_TAG)?;
-    let mut legs = vec![in alloc; leg]?;
-    for leg in &mut legs {
-        put_request(alloc, leg, tag, number)?;
-    }
-    Ok(legs)
-}
-
-/// The same to the callee's telephone; none where there is no caller.
-fn leg_of(
-    alloc: Global,
-    messages: &[Message<'_>],
-    tag: &[u8],
-    number: u32,
-) -> Result<Vec<Dialog>, AllocError> {
-    match (messages.first(), read_uri(alloc, CALLEE)) {
-        (Some(message), Ok(target)) => {
-            let legs = leg_to(alloc, parts_of(message), &target, tag, number);
-            outcome_after(target, legs)
+    call: &Call<'_>,
+) {
+    match new_leg(out.alloc(), SERVER, caller, target, TOKEN, OUR_TAG) {
+        Ok(mut leg) => {
+            put_request(out, &mut leg, call);
+            out.push(legs, leg);
         }
-        _ => Ok(Vec::new(alloc)),
+        Err(_) => out.no_memory(),
     }
 }
 
-fn descriptions_of<'a>(alloc: Global, bytes: &'a [u8]) -> Result<Vec<Description<'a>>, AllocError> {
-    match read_description(alloc, bytes) {
-        Ok(description) => Ok(vec![in alloc; description]?),
-        Err(_) => Ok(Vec::new(alloc)),
+/// The same to the callee's telephone.
+fn push_leg_to_callee(
+    out: &mut Output,
+    legs: &mut Vec<Dialog>,
+    caller: &Parts<'_>,
+    call: &Call<'_>,
+) {
+    match read_uri(out.alloc(), CALLEE) {
+        Ok(target) => {
+            push_leg(out, legs, caller, &target, call);
+            let_go(target);
+        }
+        Err(_) => out.no_memory(),
     }
+}
+
+/// The callee's leg, in a list of one; none where there is no caller.
+fn legs_of(out: &mut Output, offers: &[Message<'_>], call: &Call<'_>) -> Vec<Dialog> {
+    let mut legs = out.list();
+    if let Some(offer) = offers.first() {
+        push_leg_to_callee(out, &mut legs, parts_of(offer), call);
+    }
+    legs
+}
+
+/// A description in a list of one; none where the bytes are no description.
+fn descriptions_of<'a>(out: &mut Output, bytes: &'a [u8]) -> Vec<Description<'a>> {
+    let mut descriptions = out.list();
+    match read_description(out.alloc(), bytes) {
+        Ok(description) => out.push(&mut descriptions, description),
+        Err(DescriptionError::OutOfMemory) => out.no_memory(),
+        Err(_) => {}
+    }
+    descriptions
 }
 
 /// A message in a list of one; none where the bytes are no message.
-fn messages_of<'a>(alloc: Global, bytes: &'a [u8]) -> Vec<Message<'a>> {
-    match message_of(alloc, bytes) {
+fn messages_of<'a>(out: &mut Output, bytes: &'a [u8]) -> Vec<Message<'a>> {
+    match message_of(out.alloc(), bytes) {
         Ok(messages) => messages,
-        Err(_) => Vec::new(alloc),
+        Err(fault) => {
+            if fault == MessageError::OutOfMemory {
+                out.no_memory();
+            }
+            out.list()
+        }
+    }
+}
+
+/// What a row's scene has, each in a list of one or of none.
+struct Cast<'a> {
+    offers: Vec<Message<'a>>,
+    requests: Vec<Message<'a>>,
+    descriptions: Vec<Description<'a>>,
+    legs: Vec<Dialog>,
+}
+
+impl Drop for Cast<'_> {
+    fn drop(self) {
+        let Cast {
+            offers: _,
+            requests: _,
+            descriptions: _,
+            legs: _,
+        } = self;
+    }
+}
+
+/// What the first words of a call say: the offer, the request that is answered, the description, and of the callee's leg the tag of
+/// theirs and the number of the last request.
+fn cast_of<'a>(out: &mut Output, call: &'a Call<'_>) -> Cast<'a> {
+    let offers = messages_of(out, call.word(0));
+    let legs = legs_of(out, &offers, call);
+    Cast {
+        offers,
+        requests: messages_of(out, call.word(1)),
+        descriptions: descriptions_of(out, call.word(2)),
+        legs,
     }
 }
 
@@ -129,25 +189,18 @@ fn put_dressed(out: &mut Output, dressed: &Dressed) {
     }
 }
 
-/// The scene, with this salt, and so many tokens made so far.
-fn scene_of<'m, 'a>(
-    offers: &'m [Message<'a>],
-    requests: &'m [Message<'a>],
-    descriptions: &'m [Description<'a>],
-    legs: &'m [Dialog],
-    counted: (u64, u64),
-) -> Scene<'m, 'a> {
-    let (salt, tokens) = counted;
+/// The scene with this cast, and the salt and the tokens made so far that the call says.
+fn scene_of<'m, 'a>(cast: &'m Cast<'a>, call: &Call<'_>) -> Scene<'m, 'a> {
     Scene {
         server: SERVER,
-        salt,
-        tokens,
-        offer: asker_of(0, offers),
-        request: asker_of(1, requests),
+        salt: u64::from(call.small_number(5)),
+        tokens: u64::from(call.small_number(6)),
+        offer: asker_of(0, &cast.offers),
+        request: asker_of(1, &cast.requests),
         caller: None,
-        callee: legs.first(),
+        callee: cast.legs.first(),
         passed: None,
-        description: descriptions.first(),
+        description: cast.descriptions.first(),
         again: None,
         hops: 70,
     }
@@ -176,115 +229,30 @@ fn put_words(out: &mut Output, scene: &Scene<'_, '_>, words: &[&[u8]]) {
     }
 }
 
-/// What a row has besides messages and a description: the callee's tag and the number of the last request to it, the salt and
-/// the tokens made so far; and then the actions.
-#[derive(Drop)]
-struct Rest<'r> {
-    tag: &'r [u8],
-    number: u32,
-    counted: (u64, u64),
-    words: &'r [&'r [u8]],
+/// What the actions of these words come to with this cast.
+fn put_with(out: &mut Output, cast: &Cast<'_>, call: &Call<'_>, words: &[&[u8]]) {
+    let scene = scene_of(cast, call);
+    put_words(out, &scene, words);
 }
 
-/// What a row answers with these messages and descriptions, and this leg.
-fn put_with_leg(
-    out: &mut Output,
-    offers: &[Message<'_>],
-    requests: &[Message<'_>],
-    descriptions: &[Description<'_>],
-    legs: &[Dialog],
-    rest: &Rest<'_>,
-) {
-    let scene = scene_of(offers, requests, descriptions, legs, rest.counted);
-    put_words(out, &scene, rest.words);
+/// What the actions of a scene come to, which are the words behind those of the cast, the salt and the tokens.
+fn dress(out: &mut Output, call: &Call<'_>, words: &[&[u8]]) {
+    let cast = cast_of(out, call);
+    put_with(out, &cast, call, words);
+    let_go(cast);
 }
 
-/// What a row answers with these messages and descriptions.
-fn put_with(
-    out: &mut Output,
-    offers: &[Message<'_>],
-    requests: &[Message<'_>],
-    descriptions: &[Description<'_>],
-    rest: &Rest<'_>,
-) {
-    match leg_of(out.alloc(), offers, rest.tag, rest.number) {
-        Ok(legs) => {
-            put_with_leg(out, offers, requests, descriptions, &legs, rest);
-            let_go(legs);
-        }
-        Err(_) => out.no_memory(),
-    }
-}
-
-fn put_with_description(
-    out: &mut Output,
-    offers: &[Message<'_>],
-    requests: &[Message<'_>],
-    description: &[u8],
-    rest: &Rest<'_>,
-) {
-    match descriptions_of(out.alloc(), description) {
-        Ok(descriptions) => {
-            put_with(out, offers, requests, &descriptions, rest);
-            let_go(descriptions);
-        }
-        Err(_) => out.no_memory(),
-    }
-}
-
-fn put_with_request(
-    out: &mut Output,
-    offers: &[Message<'_>],
-    request: &[u8],
-    description: &[u8],
-    rest: &Rest<'_>,
-) {
-    let requests = messages_of(out.alloc(), request);
-    put_with_description(out, offers, &requests, description, rest);
-    let_go(requests);
-}
-
-fn put_with_offer(
-    out: &mut Output,
-    offer: &[u8],
-    request: &[u8],
-    description: &[u8],
-    rest: &Rest<'_>,
-) {
-    let offers = messages_of(out.alloc(), offer);
-    put_with_request(out, &offers, request, description, rest);
-    let_go(offers);
-}
-
-/// What the actions of a scene come to: the words are the offer, the request that is answered, the description, and the rest.
-fn dress(out: &mut Output, args: &[&[u8]]) {
-    match args {
-        [
-            offer,
-            request,
-            description,
-            tag,
-            number,
-            salt,
-            tokens,
-            words @ ..,
-        ] => {
-            let rest = Rest {
-                tag,
-                number: u32_of(number),
-                counted: (u64::from(u32_of(salt)), u64::from(u32_of(tokens))),
-                words,
-            };
-            put_with_offer(out, offer, request, description, &rest);
-        }
-        _ => out.no_such_row(),
+fn put_dress(out: &mut Output, call: &Call<'_>) {
+    match call.words.get(7..) {
+        Some(words) => dress(out, call, words),
+        None => out.no_such_row(),
     }
 }
 
 /// Writes what the row's call answers.
-pub(crate) fn put_answer(out: &mut Output, call: &str, args: &[&[u8]]) {
-    match call {
-        "dress" => dress(out, args),
+pub(crate) fn put_answer(out: &mut Output, call: &Call<'_>) {
+    match call.name {
+        "dress" => put_dress(out, call),
         _ => out.no_such_row(),
     }
 }

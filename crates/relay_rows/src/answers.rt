@@ -133,6 +133,9 @@ fn put_outgoing(out: &mut Output, sent: &Outgoing) {
 
 /// The datagram that sockets sent behind so many, if they did.
 fn put_last(out: &mut Output, sockets: &Sockets, before: usize) {
+    if sockets.refused {
+        out.no_memory();
+    }
     match sockets.sent().get(before) {
         Some(sent) => put_outgoing(out, sent),
         None => {}

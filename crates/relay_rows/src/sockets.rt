@@ -37,6 +37,8 @@ pub(crate) struct Sockets {
     pub(crate) outbox: Vec<Outgoing>,
     pub(crate) failing: Failing,
     pub(crate) failed: bool,
+    /// Whether memory was refused for what was sent.
+    pub(crate) refused: bool,
     ghost within: { next ≤ length inbox.items },
 }
 
@@ -49,6 +51,7 @@ impl Sockets {
             outbox: Vec::new(alloc),
             failing: Failing::Nothing,
             failed: false,
+            refused: false,
         }
     }
 
@@ -110,6 +113,7 @@ impl MediaSocket for Sockets {
                     return Ok(());
                 }
             }
+            self.refused = true;
         }
         self.failed = true;
         Err(SocketFault)

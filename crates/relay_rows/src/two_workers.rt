@@ -90,6 +90,9 @@ fn put_sent(out: &mut Output, sent: &Outgoing) {
 
 /// What a worker sent, a line each.
 fn put_worker<R: Clock>(out: &mut Output, worker: &Worker<Gate<R>>) {
+    if worker.socket.sockets.refused {
+        out.no_memory();
+    }
     for sent in worker.socket.sockets.sent() {
         put_sent(out, sent);
     }

@@ -9,16 +9,16 @@
 //! after how many receives and waits; `stopped`, the same with the stop flag set; and `salts`, the first two of a key of zeros.
 
 use crate::days::put_day;
-use crate::playing::{Played, play};
+use crate::memory_wire::{Faults, NO_FAULTS};
+use crate::playing::{Played, Serving, Task, play};
 use crate::printed::Printed;
 use crate::receiving::put_receives;
-use crate::serving::{put_salts, put_served};
+use crate::serving::put_salts;
 use events::Event;
-use rows::let_go;
+use rows::{beside, let_go};
 use scripts::{ScriptError, read_script};
 use std::alloc::{AllocError, Global};
 use std::fs::Files;
-use std::io::Write;
 use std::sync::Wait;
 use std::{fs, io};
 
@@ -37,44 +37,47 @@ fn events_of<R: Files + AllocGlobal>(rt: &R, name: &str) -> io::Result<Vec<Event
     events_in(rt.alloc(), &script)
 }
 
-/// All of a run.
-fn put_played(out: &mut Printed, played: &Played) {
-    out.put_printed(&played.sent);
-    out.put("failed ");
-    out.put_number(played.failed as u64);
+/// Turns of a script, of whose sends the one at this place fails; none for 0.
+fn played<R: Wait>(rt: &R, alloc: Global, events: &[Event], send: u64) -> Played {
+    let faults = Faults { send, ..NO_FAULTS };
+    play(rt, alloc, faults, Task::Events(events))
+}
+
+/// All of such a run.
+fn put_played<R: Wait>(rt: &R, out: &mut Printed, events: &[Event], failing: u64) {
+    let played = played(rt, out.alloc(), events, failing);
+    out.put_printed(&played.told);
+    out.put_count("failed ", played.failed as u64);
     out.put("\n");
     out.put_printed(&played.states);
 }
 
 /// A run in which the send at this place fails, beside the one in which none does.
-fn put_compared<R: Wait + AllocGlobal>(
+fn put_compared<R: Wait>(
     rt: &R,
     out: &mut Printed,
     events: &[Event],
-    undisturbed: &Played,
+    undisturbed: &Printed,
     place: u64,
 ) {
-    let played = play(rt, events, Some(place));
-    let is_same = out.compare(&played.states, &undisturbed.states);
-    out.put("send ");
-    out.put_number(place);
+    let played = played(rt, out.alloc(), events, place);
+    let is_same = out.compare(&played.states, undisturbed);
+    out.put_count("send ", place);
     out.put_likeness(is_same);
 }
 
 /// The same of each place in turn.
-fn put_each<R: Wait + AllocGlobal>(rt: &R, out: &mut Printed, events: &[Event]) {
-    let undisturbed = play(rt, events, None);
+fn put_each<R: Wait>(rt: &R, out: &mut Printed, events: &[Event]) {
+    let undisturbed = played(rt, out.alloc(), events, 0);
     out.note_whole(&undisturbed.states);
     for place in 0..undisturbed.sends {
-        put_compared(rt, out, events, &undisturbed, place.saturating_add(1));
-    }
-}
-
-/// A run in which the send at the place of a word fails.
-fn put_failing<R: Wait + AllocGlobal>(rt: &R, out: &mut Printed, events: &[Event], place: &str) {
-    match place.parse::<u64>() {
-        Ok(place) => put_played(out, &play(rt, events, Some(place))),
-        Err(_) => put_no_such_row(out),
+        put_compared(
+            rt,
+            out,
+            events,
+            &undisturbed.states,
+            place.saturating_add(1),
+        );
     }
 }
 
@@ -83,33 +86,75 @@ fn put_no_such_row(out: &mut Printed) {
 }
 
 /// Live turns of a script, of whose sends this one fails.
-fn put_live<R: Wait + AllocGlobal>(rt: &R, out: &mut Printed, events: &[Event], which: &str) {
+fn put_live<R: Wait>(rt: &R, out: &mut Printed, events: &[Event], which: &str) {
     match which {
         "each" => put_each(rt, out, events),
-        "none" => put_played(out, &play(rt, events, None)),
-        _ => put_failing(rt, out, events, which),
+        "none" => put_played(rt, out, events, 0),
+        _ => match which.parse::<u64>() {
+            Ok(place) => put_played(rt, out, events, place),
+            Err(_) => put_no_such_row(out),
+        },
+    }
+}
+
+/// How many turns, and how many receives in a row fail.
+fn serving_of(words: &str) -> Option<(u64, u32)> {
+    let (turns, receives) = words.split_once('|')?;
+    match (turns.parse::<u64>(), receives.parse::<u32>()) {
+        (Ok(turns), Ok(receives)) => Some((turns, receives)),
+        _ => None,
+    }
+}
+
+/// How the signalling ends.
+fn put_served<R: Wait>(rt: &R, out: &mut Printed, words: &str, is_stopped: bool) {
+    let Some((turns, receives)) = serving_of(words) else {
+        return put_no_such_row(out);
+    };
+    let faults = Faults {
+        receives,
+        ..NO_FAULTS
+    };
+    let serving = Serving {
+        events: &[],
+        turns,
+        is_stopped,
+    };
+    let played = play(rt, out.alloc(), faults, Task::Turns(serving));
+    out.put_printed(&played.told);
+}
+
+/// What a row asks for.
+#[derive(Clone, Copy)]
+enum Asked {
+    Day,
+    Receives,
+    Serve,
+    Stopped,
+    Live,
+}
+
+/// What rows ask for by their first word. Any other is the name of a script that is played live.
+const ASKED: [(&[u8], Asked); 4] = [
+    (b"day", Asked::Day),
+    (b"receives", Asked::Receives),
+    (b"serve", Asked::Serve),
+    (b"stopped", Asked::Stopped),
+];
+
+fn put_events<R: Wait>(rt: &R, out: &mut Printed, asked: Asked, events: &[Event], which: &str) {
+    match asked {
+        Asked::Day => put_day(out, events),
+        Asked::Receives => put_receives(rt, out, events),
+        _ => put_live(rt, out, events, which),
     }
 }
 
 /// The name of the script of a row.
-fn script_name<'a>(first: &'a str, rest: &'a str) -> &'a str {
-    match first {
-        "day" | "receives" => rest,
-        _ => first,
-    }
-}
-
-fn put_events<R: Wait + AllocGlobal>(
-    rt: &R,
-    out: &mut Printed,
-    events: &[Event],
-    first: &str,
-    rest: &str,
-) {
-    match first {
-        "day" => put_day(out, events),
-        "receives" => put_receives(rt, out, events),
-        _ => put_live(rt, out, events, rest),
+fn script_name<'a>(asked: Asked, first: &'a str, rest: &'a str) -> &'a str {
+    match asked {
+        Asked::Live => first,
+        _ => rest,
     }
 }
 
@@ -117,29 +162,14 @@ fn put_events<R: Wait + AllocGlobal>(
 fn put_script<R: Files + Wait + AllocGlobal>(
     rt: &R,
     out: &mut Printed,
+    asked: Asked,
     first: &str,
     rest: &str,
 ) -> io::Result<()> {
-    let events = events_of(rt, script_name(first, rest))?;
-    put_events(rt, out, &events, first, rest);
+    let events = events_of(rt, script_name(asked, first, rest))?;
+    put_events(rt, out, asked, &events, rest);
     let_go(events);
     Ok(())
-}
-
-/// How many turns, and how many receives in a row fail.
-fn serving_of(words: &str) -> Option<(u64, u32)> {
-    let (turns, failing) = words.split_once('|')?;
-    match (turns.parse::<u64>(), failing.parse::<u32>()) {
-        (Ok(turns), Ok(failing)) => Some((turns, failing)),
-        _ => None,
-    }
-}
-
-fn put_serving<R: Wait>(rt: &R, out: &mut Printed, words: &str, is_stopped: bool) {
-    match serving_of(words) {
-        Some((turns, failing)) => put_served(rt, out, turns, failing, is_stopped),
-        None => put_no_such_row(out),
-    }
 }
 
 fn put_words<R: Files + Wait + AllocGlobal>(
@@ -148,10 +178,11 @@ fn put_words<R: Files + Wait + AllocGlobal>(
     first: &str,
     rest: &str,
 ) -> io::Result<()> {
-    match first {
-        "serve" => put_serving(rt, out, rest, false),
-        "stopped" => put_serving(rt, out, rest, true),
-        _ => return put_script(rt, out, first, rest),
+    let asked = beside(&ASKED, first.as_bytes()).unwrap_or(Asked::Live);
+    match asked {
+        Asked::Serve => put_served(rt, out, rest, false),
+        Asked::Stopped => put_served(rt, out, rest, true),
+        _ => return put_script(rt, out, asked, first, rest),
     }
     Ok(())
 }
@@ -168,8 +199,9 @@ fn put_row<R: Files + Wait + AllocGlobal>(rt: &R, out: &mut Printed, row: &str) 
 
 /// Prints a row, and behind it what it comes to.
 pub(crate) fn play_row<R: Files + Print + Wait + AllocGlobal>(rt: &R, row: &str) -> io::Result<()> {
-    println!(rt; "{row}")?;
     let mut out = Printed::new(rt.alloc());
+    out.put(row);
+    out.put("\n");
     put_row(rt, &mut out, row)?;
-    io::writer(rt).write_all(out.whole()?)
+    out.print(rt)
 }

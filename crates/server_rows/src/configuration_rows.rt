@@ -1,6 +1,6 @@
-//! Rows of calls of `configuration`. A file is its pieces, one behind the other.
+//! Rows of calls of `configuration`.
 
-use crate::words::joined;
+use crate::words::{joined, word};
 use configuration::{Config, ConfigError, check, example_config, read_config};
 use rows::{Output, let_go, u16_of, u32_of};
 use sip_uri::{Addr, ip4};
@@ -14,11 +14,10 @@ fn put_fault(out: &mut Output, fault: ConfigError) {
     }
 }
 
+/// Users in brackets, each behind a space.
 fn put_users(out: &mut Output, users: &[Text<'_>]) {
-    for (at, user) in users.iter().enumerate() {
-        if at > 0 {
-            out.put(" ");
-        }
+    for user in users {
+        out.put(" ");
         out.put_boxed(user.as_bytes());
     }
 }
@@ -32,11 +31,11 @@ fn domain_word(config: &Config) -> &'static str {
 }
 
 fn put_domain(out: &mut Output, config: &Config) {
+    let domain = config.domain_text(out.alloc());
     out.put(domain_word(config));
-    match config.domain_text(out.alloc()) {
-        Ok(domain) => out.put_boxed(domain.as_bytes()),
-        Err(_) => out.no_memory(),
-    }
+    out.put("[");
+    out.put_written(domain);
+    out.put("]");
 }
 
 fn put_key(out: &mut Output, key: &[u8]) {
@@ -61,7 +60,7 @@ fn put_places(out: &mut Output, config: &Config) {
 /// The values of a configuration.
 fn put_config(out: &mut Output, config: &Config) {
     put_places(out, config);
-    out.put(", users ");
+    out.put(", users");
     put_users(out, config.users.as_slice());
     out.put(", ");
     out.put_number(u64::from(config.min_expires));
@@ -73,20 +72,16 @@ fn put_config(out: &mut Output, config: &Config) {
     put_key(out, config.random_key.as_slice());
 }
 
-/// What a file says.
-fn put_read(out: &mut Output, file: &[u8]) {
-    match read_config(out.alloc(), file) {
+/// What a file says, whose pieces stand one behind the other.
+pub(crate) fn put_file(out: &mut Output, pieces: &[&[u8]]) {
+    let file = joined(out, pieces);
+    match read_config(out.alloc(), &file) {
         Ok(config) => {
             put_config(out, &config);
             let_go(config);
         }
         Err(fault) => put_fault(out, fault),
     }
-}
-
-fn put_file(out: &mut Output, pieces: &[&[u8]]) {
-    let file = joined(out, pieces);
-    put_read(out, &file);
 }
 
 fn put_if_kept(out: &mut Output, config: &Config) {
@@ -97,7 +92,7 @@ fn put_if_kept(out: &mut Output, config: &Config) {
 }
 
 /// The example's values.
-fn put_example(out: &mut Output) {
+pub(crate) fn put_example(out: &mut Output) {
     match example_config(out.alloc()) {
         Ok(config) => {
             put_if_kept(out, &config);
@@ -114,46 +109,42 @@ fn push_user(out: &mut Output, users: &mut Vec<Text<'static>>, user: &[u8]) {
     }
 }
 
-fn is_space(byte: &u8) -> bool {
-    *byte == b' '
-}
-
 /// The users of a word, with spaces between them.
 fn users_of(out: &mut Output, word: &[u8]) -> Texts<'static> {
     let mut users = out.list();
-    for user in word.split(is_space) {
-        push_user(out, &mut users, user);
+    match str::from_utf8(word) {
+        Ok(word) => {
+            for user in word.split(' ') {
+                push_user(out, &mut users, user.as_bytes());
+            }
+        }
+        Err(_) => out.no_such_row(),
     }
     Texts::from_vec(users)
 }
 
-fn text_of(out: &mut Output, word: &[u8]) -> Option<Text<'static>> {
-    let text = Text::from_slice(out.alloc(), word);
-    if text.is_err() {
-        out.no_memory();
-    }
-    text.ok()
-}
-
 /// The domain of a word; none for `-`.
 fn domain_of(out: &mut Output, word: &[u8]) -> Option<Text<'static>> {
-    match word {
-        b"-" => None,
-        _ => text_of(out, word),
+    if word == b"-".as_slice() {
+        return None;
     }
+    let domain = Text::from_slice(out.alloc(), word);
+    if domain.is_err() {
+        out.no_memory();
+    }
+    domain.ok()
 }
 
-/// A configuration of these words.
-fn config_of(out: &mut Output, words: &[&[u8]; 7]) -> Config {
-    let [first, pairs, ip, port, users, least, domain] = *words;
+/// A configuration of the words of a row.
+fn config_of(out: &mut Output, args: &[&[u8]]) -> Config {
     Config {
-        relay_first: u16_of(first),
-        relay_pairs: u16_of(pairs),
-        ip: ip4(ip).unwrap_or([0, 0, 0, 0]),
-        sip_port: u16_of(port),
-        users: users_of(out, users),
-        min_expires: u32_of(least),
-        domain: domain_of(out, domain),
+        relay_first: u16_of(word(args, 0)),
+        relay_pairs: u16_of(word(args, 1)),
+        ip: ip4(word(args, 2)).unwrap_or([0, 0, 0, 0]),
+        sip_port: u16_of(word(args, 3)),
+        users: users_of(out, word(args, 4)),
+        min_expires: u32_of(word(args, 5)),
+        domain: domain_of(out, word(args, 6)),
         workers: 2,
         random_key: [0; 32],
     }
@@ -167,47 +158,8 @@ fn put_outcome(out: &mut Output, outcome: Result<(), ConfigError>) {
 }
 
 /// Whether a configuration keeps the rules, or which it breaks first.
-fn put_checked(out: &mut Output, words: &[&[u8]; 7]) {
-    let config = config_of(out, words);
+pub(crate) fn put_checked(out: &mut Output, args: &[&[u8]]) {
+    let config = config_of(out, args);
     put_outcome(out, check(&config));
     let_go(config);
-}
-
-/// What a call without words answers, if it is one.
-fn put_plain(out: &mut Output, call: &str) {
-    match call {
-        "example_config" => put_example(out),
-        _ => out.no_such_row(),
-    }
-}
-
-/// What a call on the values of a configuration answers, if it is one.
-fn put_of_values(out: &mut Output, call: &str, words: &[&[u8]; 7]) {
-    match call {
-        "check" => put_checked(out, words),
-        _ => out.no_such_row(),
-    }
-}
-
-/// What a call with so many words answers, if there is one.
-fn put_of_words(out: &mut Output, call: &str, args: &[&[u8]]) {
-    match args {
-        [] => put_plain(out, call),
-        [first, pairs, ip, port, users, least, domain] => {
-            put_of_values(
-                out,
-                call,
-                &[*first, *pairs, *ip, *port, *users, *least, *domain],
-            );
-        }
-        _ => out.no_such_row(),
-    }
-}
-
-/// Writes what a call of `configuration` answers: a file has any number of words.
-pub(crate) fn put_answer(out: &mut Output, call: &str, args: &[&[u8]]) {
-    match call {
-        "read_config" => put_file(out, args),
-        _ => put_of_words(out, call, args),
-    }
 }

@@ -6,10 +6,12 @@ mod agent_rows;
 mod configuration_rows;
 mod days;
 mod memory_wire;
+mod offices;
 mod playing;
 mod printed;
 mod receiving;
 mod replay_rows;
+mod row_calls;
 mod run_rows;
 mod scripts_rows;
 mod serve_rows;
@@ -20,7 +22,8 @@ mod streams;
 mod words;
 
 use crate::agent_rows::play_row;
-use rows::{Output, Rows, play_lines};
+use crate::row_calls::{call_named, put_answer};
+use rows::{Output, Rows, let_go, play_lines};
 use std::alloc::{AllocError, Global};
 use std::{env, io};
 
@@ -37,11 +40,9 @@ impl Rows for ServerRows {
         args: &[&[u8]],
     ) -> Result<Option<String>, AllocError> {
         let mut out = Output::new(alloc);
-        match crate_name {
-            "configuration" => configuration_rows::put_answer(&mut out, call, args),
-            "scripts" => scripts_rows::put_answer(&mut out, call, args),
-            "server" => server_rows::put_answer(&mut out, call, args),
-            _ => out.no_such_row(),
+        match call_named(crate_name, call, args.len()) {
+            Some(wanted) => put_answer(&mut out, wanted, args),
+            None => out.no_such_row(),
         }
         out.end()
     }
@@ -49,7 +50,9 @@ impl Rows for ServerRows {
 
 fn main(rt: HostRuntime) -> io::Result<()> {
     play_lines(&rt, &mut ServerRows)?;
-    for row in env::args(&rt)?.skip(1) {
+    let mut args = env::args(&rt)?;
+    let_go(args.next());
+    for row in args {
         play_row(&rt, row.as_str())?;
     }
     Ok(())

@@ -1,7 +1,7 @@
 //! A wire in memory.
 ghost use Rattle.std.specs.Prelude.{◌≤◌, length, take, map};
 
-use events::Sent;
+use events::{Event, Sent, What};
 use live::{Wire, WireFault};
 use sip_uri::Addr;
 use std::alloc::{AllocError, Global};
@@ -14,6 +14,24 @@ struct Incoming {
     bytes: Vec<u8>,
 }
 
+/// What fails at a wire.
+#[derive(Clone, Copy)]
+pub(crate) struct Faults {
+    /// The send at this place, counted from 1; none for 0.
+    pub(crate) send: u64,
+    /// Once, the receive of the datagram at this place, counted from 1; of none for 0.
+    pub(crate) datagram: usize,
+    /// So many receives in a row, before one doesn't.
+    pub(crate) receives: u32,
+}
+
+/// A wire at which nothing fails.
+pub(crate) const NO_FAULTS: Faults = Faults {
+    send: 0,
+    datagram: 0,
+    receives: 0,
+};
+
 /// A wire that gives what is in a list, and keeps what is sent. One send may fail, and receives may.
 #[derive(Drop)]
 pub(crate) struct MemoryWire {
@@ -21,28 +39,16 @@ pub(crate) struct MemoryWire {
     pub(crate) outbox: Vec<Sent>,
     /// How many datagrams were to be sent.
     pub(crate) count: u64,
-    /// Which of them fails, counted from 1.
-    failing: Option<u64>,
-    /// Whether memory was refused for one.
+    faults: Faults,
+    /// Whether memory was refused for one, or for one that comes.
     pub(crate) refused: bool,
     /// How many receives and waits were made.
     pub(crate) receives: u64,
     pub(crate) waits: u64,
-    /// So many receives in a row fail, and then one doesn't.
-    pub(crate) failing_receives: u32,
-    /// Of which datagram the receive fails, once, counted from 1.
-    pub(crate) failing_datagram: Option<usize>,
     inbox: Vec<Incoming>,
     next: usize,
     failed: bool,
     ghost within: { next ≤ length inbox.items },
-}
-
-fn is_at(failing: Option<u64>, count: u64) -> bool {
-    match failing {
-        Some(place) => place == count,
-        None => false,
-    }
 }
 
 // Whether this one comes behind so many others.
@@ -51,34 +57,41 @@ fn is_last_of(count: u64, others: u32) -> bool {
 }
 
 impl MemoryWire {
-    /// Nothing comes, and nothing fails. Takes no memory.
-    pub(crate) fn new(alloc: Global) -> MemoryWire {
+    /// Nothing came yet. Takes no memory.
+    pub(crate) fn new(alloc: Global, faults: Faults) -> MemoryWire {
         MemoryWire {
             alloc,
             outbox: Vec::new(alloc),
             count: 0,
-            failing: None,
+            faults,
             refused: false,
             receives: 0,
             waits: 0,
-            failing_receives: 0,
-            failing_datagram: None,
             inbox: Vec::new(alloc),
             next: 0,
             failed: false,
         }
     }
 
-    /// The send at this place fails, if there is one.
-    pub(crate) fn fail_send(&mut self, place: Option<u64>) {
-        self.failing = place;
-    }
-
-    /// A datagram comes.
-    pub(crate) fn put(&mut self, source: Addr, bytes: &[u8]) -> Result<(), AllocError> {
+    fn keep(&mut self, source: Addr, bytes: &[u8]) -> Result<(), AllocError> {
         let bytes = Vec::from_slice(self.alloc, bytes)?;
         self.inbox.push(Incoming { source, bytes })?;
         Ok(())
+    }
+
+    fn put(&mut self, event: &Event) {
+        if let What::Datagram { source, bytes } = &event.what {
+            if self.keep(*source, bytes.as_bytes()).is_err() {
+                self.refused = true;
+            }
+        }
+    }
+
+    /// The datagrams of these events come.
+    pub(crate) fn put_all(&mut self, events: &[Event]) {
+        for event in events {
+            self.put(event);
+        }
     }
 }
 
@@ -93,15 +106,15 @@ impl Wire for MemoryWire {
 
     fn receive(&mut self, buffer: &mut [u8]) -> Result<Option<(Addr, usize)>, WireFault> {
         self.receives = self.receives.saturating_add(1);
-        self.failed = !is_last_of(self.receives, self.failing_receives);
+        self.failed = !is_last_of(self.receives, self.faults.receives);
         if self.failed {
             return Err(WireFault);
         }
         if self.next >= self.inbox.len() {
             return Ok(None);
         }
-        if matches!(self.failing_datagram, Some(place) if place == self.next + 1) {
-            self.failing_datagram = None;
+        if self.faults.datagram == self.next + 1 {
+            self.faults.datagram = 0;
             self.failed = true;
             return Err(WireFault);
         }
@@ -119,7 +132,7 @@ impl Wire for MemoryWire {
     fn send(&mut self, to: Addr, bytes: &[u8]) -> Result<(), WireFault> {
         self.count = self.count.saturating_add(1);
         self.failed = false;
-        if !is_at(self.failing, self.count) {
+        if self.faults.send != self.count {
             if let Ok(bytes) = Text::from_slice(self.alloc, bytes) {
                 if self.outbox.push(Sent { to, bytes }).is_ok() {
                     return Ok(());

@@ -5,6 +5,8 @@ use events::Sent;
 use port_pool::Hop;
 use scripts::{put_call, put_hop, put_sent};
 use std::alloc::{AllocError, Global};
+use std::io;
+use std::io::Write;
 use text::put_number;
 
 /// Bytes that are written part by part.
@@ -40,6 +42,11 @@ impl Printed {
         }
     }
 
+    /// Prints what was written.
+    pub(crate) fn print<R: Print>(&self, rt: &R) -> io::Result<()> {
+        io::writer(rt).write_all(self.whole()?)
+    }
+
     /// Where what is written finds memory.
     pub(crate) fn alloc(&self) -> Global {
         *self.bytes.allocator()
@@ -73,20 +80,17 @@ impl Printed {
         self.note(outcome);
     }
 
-    /// Writes a port.
-    pub(crate) fn put_port(&mut self, port: u16) {
-        self.put_number(u64::from(port));
-    }
-
-    fn put_datagram(&mut self, sent: &Sent) {
-        let outcome = put_sent(&mut self.bytes, sent);
-        self.note(outcome);
+    /// Writes words and a number.
+    pub(crate) fn put_count(&mut self, words: &str, number: u64) {
+        self.put(words);
+        self.put_number(number);
     }
 
     /// Writes what was sent, in order.
     pub(crate) fn put_sent(&mut self, sent: &[Sent]) {
         for datagram in sent {
-            self.put_datagram(datagram);
+            let outcome = put_sent(&mut self.bytes, datagram);
+            self.note(outcome);
         }
     }
 

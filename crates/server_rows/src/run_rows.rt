@@ -2,9 +2,26 @@
 
 use crate::serve_rows::put_serve_asked;
 use crate::streams::{Hall, SlowReader, TwoFiles, slow};
-use crate::words::{command_words, put_ending, put_error_told, put_shown_or_nothing};
+use crate::words::{put_count, put_ending, put_shown_or_nothing, put_told, word, words_behind};
 use rows::{Output, let_go};
 use server::{Asked, CommandError, Ending, Fault, command, run};
+
+fn push_word<'a>(out: &mut Output, words: &mut Vec<&'a str>, word: &'a [u8]) {
+    match str::from_utf8(word) {
+        Ok(word) => out.push(words, word),
+        Err(_) => out.no_such_row(),
+    }
+}
+
+/// The words of a row behind the program's own, which are texts.
+fn command_words<'a>(out: &mut Output, args: &[&'a [u8]]) -> Vec<&'a str> {
+    let mut words = out.list();
+    out.push(&mut words, "office");
+    for arg in args {
+        push_word(out, &mut words, arg);
+    }
+    words
+}
 
 fn put_replay_asked(out: &mut Output, config: Option<&str>, script: &str) {
     out.put("replay ");
@@ -21,24 +38,14 @@ fn put_asked(out: &mut Output, asked: Asked<'_>) {
     }
 }
 
-fn put_error(out: &mut Output, error: CommandError) {
-    match error {
-        CommandError::OutOfMemory => out.no_memory(),
-        error => put_error_told(out, error),
-    }
-}
-
-fn put_command_of(out: &mut Output, words: &[&str]) {
-    match command(out.alloc(), words) {
-        Ok(asked) => put_asked(out, asked),
-        Err(error) => put_error(out, error),
-    }
-}
-
 /// What the words of a command line ask for.
 pub(crate) fn put_command(out: &mut Output, args: &[&[u8]]) {
     let words = command_words(out, args);
-    put_command_of(out, &words);
+    match command(out.alloc(), &words) {
+        Ok(asked) => put_asked(out, asked),
+        Err(CommandError::OutOfMemory) => out.no_memory(),
+        Err(error) => put_told(out, error, error.status()),
+    }
 }
 
 /// How a run ended. Want of memory is noted.
@@ -67,31 +74,26 @@ fn put_run(
     written
 }
 
-/// A whole run over this input, and two empty files.
-pub(crate) fn put_input_run(out: &mut Output, input: &[u8], words: &[&[u8]]) {
+/// A whole run over two empty files: an input, and behind it the words of the command line.
+pub(crate) fn put_input_run(out: &mut Output, args: &[&[u8]]) {
     let files = TwoFiles {
         config: &[],
         script: &[],
     };
-    let mut reader = slow(input, 100, 0);
-    let written = put_run(out, &files, &mut reader, words);
-    out.put(", ");
-    out.put_usize(reader.left.len());
-    out.put(" bytes left, ");
+    let mut reader = slow(word(args, 0), 100, 0);
+    let written = put_run(out, &files, &mut reader, words_behind(args, 1));
+    put_count(out, ", ", reader.left.len() as u64, " bytes left, ");
     put_shown_or_nothing(out, &written);
 }
 
-fn put_files_run(out: &mut Output, files: &TwoFiles<'_>, words: &[&[u8]]) {
+/// A whole run over an empty input: a configuration and a script, and behind them the words of the command line.
+pub(crate) fn put_run_of_files(out: &mut Output, args: &[&[u8]]) {
+    let files = TwoFiles {
+        config: word(args, 0),
+        script: word(args, 1),
+    };
     let mut reader = slow(&[], 100, 0);
-    let written = put_run(out, files, &mut reader, words);
+    let written = put_run(out, &files, &mut reader, words_behind(args, 2));
     out.put(", ");
     put_shown_or_nothing(out, &written);
-}
-
-/// A whole run over two files and an empty input: behind the configuration stand the script and the words.
-pub(crate) fn put_run_of_files(out: &mut Output, config: &[u8], words: &[&[u8]]) {
-    match words {
-        [script, words @ ..] => put_files_run(out, &TwoFiles { config, script }, words),
-        [] => out.no_such_row(),
-    }
 }

@@ -1,5 +1,6 @@
 //! Rows of calls of `scripts`.
 
+use crate::words::word;
 use events::{Event, Sent, What};
 use port_pool::Hop;
 use rows::{Output, address_of, let_go, number, u16_of};
@@ -34,7 +35,10 @@ fn put_event(out: &mut Output, event: &Event) {
     put_what(out, &event.what);
 }
 
-fn put_each_event(out: &mut Output, events: &[Event]) {
+fn put_events(out: &mut Output, events: &[Event]) {
+    if events.is_empty() {
+        out.put("no events");
+    }
     for (at, event) in events.iter().enumerate() {
         if at > 0 {
             out.put("; ");
@@ -43,16 +47,9 @@ fn put_each_event(out: &mut Output, events: &[Event]) {
     }
 }
 
-fn put_events(out: &mut Output, events: &[Event]) {
-    match events {
-        [] => out.put("no events"),
-        _ => put_each_event(out, events),
-    }
-}
-
 /// The events of a script.
-fn put_script(out: &mut Output, text: &[u8]) {
-    match read_script(out.alloc(), text) {
+pub(crate) fn put_script(out: &mut Output, args: &[&[u8]]) {
+    match read_script(out.alloc(), word(args, 0)) {
         Ok(events) => {
             put_events(out, &events);
             let_go(events);
@@ -68,11 +65,11 @@ fn put_datagram(out: &mut Output, sent: &Sent) {
 }
 
 /// What is printed of a datagram that is sent.
-fn put_sent_of(out: &mut Output, to: &[u8], bytes: &[u8]) {
-    match Text::from_slice(out.alloc(), bytes) {
+pub(crate) fn put_sent_of(out: &mut Output, args: &[&[u8]]) {
+    match Text::from_slice(out.alloc(), word(args, 1)) {
         Ok(bytes) => {
             let sent = Sent {
-                to: address_of(to),
+                to: address_of(word(args, 0)),
                 bytes,
             };
             put_datagram(out, &sent);
@@ -82,53 +79,20 @@ fn put_sent_of(out: &mut Output, to: &[u8], bytes: &[u8]) {
     }
 }
 
-fn put_call_of(out: &mut Output, count: &[u8], phase: &[u8]) {
+/// The words are the number of a call, and its phase.
+pub(crate) fn put_call_of(out: &mut Output, args: &[&[u8]]) {
     let mut text = out.list();
-    out.note(put_call(&mut text, number(count), phase));
+    out.note(put_call(&mut text, number(word(args, 0)), word(args, 1)));
     out.put_boxed(&text);
 }
 
-fn put_hop_of(out: &mut Output, port: &[u8], to: &[u8], from: &[u8]) {
+/// The words are a port, and its row: where it sends to, and from which port.
+pub(crate) fn put_hop_of(out: &mut Output, args: &[&[u8]]) {
     let hop = Hop {
-        to: address_of(to),
-        from: u16_of(from),
+        to: address_of(word(args, 1)),
+        from: u16_of(word(args, 2)),
     };
     let mut text = out.list();
-    out.note(put_hop(&mut text, u16_of(port), hop));
+    out.note(put_hop(&mut text, u16_of(word(args, 0)), hop));
     out.put_boxed(&text);
-}
-
-/// What a call on a text answers, if it is one.
-fn put_of_one(out: &mut Output, call: &str, text: &[u8]) {
-    match call {
-        "read_script" => put_script(out, text),
-        _ => out.no_such_row(),
-    }
-}
-
-/// What a call on two words answers, if it is one.
-fn put_of_two(out: &mut Output, call: &str, first: &[u8], second: &[u8]) {
-    match call {
-        "put_sent" => put_sent_of(out, first, second),
-        "put_call" => put_call_of(out, first, second),
-        _ => out.no_such_row(),
-    }
-}
-
-/// What a call on the row of a port answers, if it is one.
-fn put_of_three(out: &mut Output, call: &str, port: &[u8], to: &[u8], from: &[u8]) {
-    match call {
-        "put_hop" => put_hop_of(out, port, to, from),
-        _ => out.no_such_row(),
-    }
-}
-
-/// Writes what a call of `scripts` answers.
-pub(crate) fn put_answer(out: &mut Output, call: &str, args: &[&[u8]]) {
-    match args {
-        [text] => put_of_one(out, call, text),
-        [first, second] => put_of_two(out, call, first, second),
-        [port, to, from] => put_of_three(out, call, port, to, from),
-        _ => out.no_such_row(),
-    }
 }

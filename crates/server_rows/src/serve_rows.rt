@@ -1,7 +1,7 @@
 //! Rows of `serve`, over a host without sockets.
 
 use crate::streams::{Hall, slow};
-use crate::words::put_fault_told;
+use crate::words::{put_count, put_told, word};
 use rows::{Output, beside, let_go};
 use server::{Fault, HostFault, serve};
 
@@ -12,9 +12,7 @@ const HOST_FAULTS: [(&[u8], HostFault); 2] = [
 ];
 
 fn put_turns(out: &mut Output, turns: u64) {
-    out.put(" for ");
-    out.put_number(turns);
-    out.put(" turns");
+    put_count(out, " for ", turns, " turns");
 }
 
 /// What the words ask to serve.
@@ -36,9 +34,9 @@ fn put_place(out: &mut Output, port: u16, turns: Option<u64>) {
 }
 
 /// What the host was asked.
-fn put_asked(out: &mut Output, asked: Option<(u16, Option<u64>)>) {
-    match asked {
-        Some((port, turns)) => put_place(out, port, turns),
+fn put_asked(out: &mut Output, hall: &Hall) {
+    match hall.port {
+        Some(port) => put_place(out, port, hall.turns),
         None => out.put(", not asked"),
     }
 }
@@ -47,22 +45,23 @@ fn put_asked(out: &mut Output, asked: Option<(u16, Option<u64>)>) {
 fn put_unserved(out: &mut Output, fault: Fault, is_asked: bool) {
     match fault {
         Fault::OutOfMemory if !is_asked => out.no_memory(),
-        _ => put_fault_told(out, fault),
+        _ => put_told(out, fault, fault.status()),
     }
 }
 
 fn put_outcome(out: &mut Output, outcome: Result<(), Fault>, hall: &Hall) {
     match outcome {
         Ok(()) => out.put("served"),
-        Err(fault) => put_unserved(out, fault, hall.asked.is_some()),
+        Err(fault) => put_unserved(out, fault, hall.port.is_some()),
     }
-    put_asked(out, hall.asked);
+    put_asked(out, hall);
 }
 
 /// What `serve` says of a configuration, for 3 turns, over a host that fails as it is told.
-pub(crate) fn put_serve(out: &mut Output, text: &[u8], told: &[u8]) {
-    let mut hall = Hall::new(beside(&HOST_FAULTS, told));
-    let outcome = serve(out.alloc(), slow(text, 100, 0), &mut hall, Some(3));
+pub(crate) fn put_serve(out: &mut Output, args: &[&[u8]]) {
+    let mut hall = Hall::new(beside(&HOST_FAULTS, word(args, 1)));
+    let config = slow(word(args, 0), 100, 0);
+    let outcome = serve(out.alloc(), config, &mut hall, Some(3));
     put_outcome(out, outcome, &hall);
     let_go(hall);
 }

@@ -28,13 +28,6 @@ pub(crate) fn put_calls(out: &mut Printed, calls: &[StandingCall]) {
     }
 }
 
-/// The row at a port, if there is one.
-pub(crate) fn put_hop_at(out: &mut Printed, relay: &RelayTable, port: u16) {
-    if let Some(hop) = relay.hop(port) {
-        out.put_hop(port, hop);
-    }
-}
-
 /// How many lists were published.
 fn lists_seen(viewer: &mut Viewer) -> u64 {
     match viewer.route(41000) {
@@ -44,37 +37,35 @@ fn lists_seen(viewer: &mut Viewer) -> u64 {
 }
 
 fn put_moment(out: &mut Printed, viewer: &mut Viewer, now: u64) {
-    out.put("at ");
-    out.put_number(now);
-    out.put(", lists ");
-    out.put_number(lists_seen(viewer));
+    out.put_count("at ", now);
+    out.put_count(", lists ", lists_seen(viewer));
     out.put("\n");
 }
 
-fn is_seen(viewer: &mut Viewer, port: u16, hop: Option<Hop>) -> bool {
-    match viewer.route(port) {
+/// Whether a look-up gave this row.
+fn is_seen(seen: Option<(u64, Option<Hop>)>, hop: Option<Hop>) -> bool {
+    match seen {
         Some((_, seen)) => seen == hop,
         None => false,
     }
 }
 
-fn put_unseen(out: &mut Printed, port: u16) {
-    out.put("media see another row at ");
-    out.put_port(port);
-    out.put("\n");
-}
-
 /// The row at a port, and whether media threads see another.
-fn put_seen_hop(out: &mut Printed, relay: &RelayTable, viewer: &mut Viewer, port: u16) {
-    put_hop_at(out, relay, port);
-    if !is_seen(viewer, port, relay.hop(port)) {
-        put_unseen(out, port);
+fn put_seen_hop(out: &mut Printed, port: u16, hop: Option<Hop>, is_seen: bool) {
+    if let Some(hop) = hop {
+        out.put_hop(port, hop);
+    }
+    if !is_seen {
+        out.put_count("media see another row at ", u64::from(port));
+        out.put("\n");
     }
 }
 
 fn put_seen_hops(out: &mut Printed, relay: &RelayTable, viewer: &mut Viewer) {
     for port in 41000..41008 {
-        put_seen_hop(out, relay, viewer, port);
+        let hop = relay.hop(port);
+        let is_seen = is_seen(viewer.route(port), hop);
+        put_seen_hop(out, port, hop, is_seen);
     }
 }
 

@@ -6,13 +6,14 @@ use std::io;
 use std::io::{ErrorKind, Read, Write};
 use std::snapshot::Snapshot;
 
-/// Gives a text with so many bytes a read at most, and fails at one of the reads, if there are as many.
+/// Gives a text with so many bytes a read at most, and fails at one of the reads, if there are as many; or gives a text again and again.
 #[derive(Drop)]
 pub(crate) struct SlowReader<'a> {
     pub(crate) left: &'a [u8],
     size: usize,
-    reads: u64,
+    pub(crate) reads: u64,
     failing: u64,
+    is_endless: bool,
 }
 
 impl Read for SlowReader<'_> {
@@ -23,25 +24,10 @@ impl Read for SlowReader<'_> {
         }
         let count = self.size.min(buf.len()).min(self.left.len());
         buf[..count].copy_from_slice(&self.left[..count]);
-        self.left = &self.left[count..];
-        Ok(count)
-    }
-}
-
-/// Gives a byte a read, and never ends.
-#[derive(Drop)]
-pub(crate) struct EndlessReader {
-    pub(crate) reads: u64,
-}
-
-impl Read for EndlessReader {
-    fn read(&mut self, buf: &mut [u8]) -> io::Result<usize> {
-        self.reads = self.reads.saturating_add(1);
-        if buf.is_empty() {
-            return Ok(0);
+        if !self.is_endless {
+            self.left = &self.left[count..];
         }
-        buf[0] = b'A';
-        Ok(1)
+        Ok(count)
     }
 }
 
@@ -75,6 +61,18 @@ pub(crate) fn slow(text: &[u8], size: usize, failing: u64) -> SlowReader<'_> {
         size,
         reads: 0,
         failing,
+        is_endless: false,
+    }
+}
+
+/// Gives a byte a read, and never ends.
+pub(crate) fn endless() -> SlowReader<'static> {
+    SlowReader {
+        left: b"A",
+        size: 1,
+        reads: 0,
+        failing: 0,
+        is_endless: true,
     }
 }
 
@@ -107,18 +105,21 @@ impl<'a> Shelf for TwoFiles<'a> {
 #[derive(Drop)]
 pub(crate) struct Hall {
     fault: Option<HostFault>,
-    /// The port for SIP, and the turns, of what was asked last.
-    pub(crate) asked: Option<(u16, Option<u64>)>,
-    /// What was asked last. Only clauses read it.
-    request: Option<(Snapshot<Config>, Option<u64>)>,
+    /// The port for SIP of what was asked last, if anything was.
+    pub(crate) port: Option<u16>,
+    /// For how many turns that was.
+    pub(crate) turns: Option<u64>,
+    /// The configuration of that. Only clauses read it.
+    config: Option<Snapshot<Config>>,
 }
 
 impl Hall {
     pub(crate) fn new(fault: Option<HostFault>) -> Hall {
         Hall {
             fault,
-            asked: None,
-            request: None,
+            port: None,
+            turns: None,
+            config: None,
         }
     }
 }
@@ -126,11 +127,12 @@ impl Hall {
 impl Host for Hall {
     ghost use Rattle.std.specs.Prelude.{option_map};
 
-    ghost asked = { λ h. option_map (λ p. (p.0.value, p.1)) h.request };
+    ghost asked = { λ h. option_map (λ c. (c.value, h.turns)) h.config };
 
     fn serve(&mut self, config: &Config, turns: Option<u64>) -> Result<(), HostFault> {
-        self.request = Some((Snapshot::of(config), turns));
-        self.asked = Some((config.sip_port, turns));
+        self.config = Some(Snapshot::of(config));
+        self.port = Some(config.sip_port);
+        self.turns = turns;
         match self.fault {
             None => Ok(()),
             Some(fault) => Err(fault),
