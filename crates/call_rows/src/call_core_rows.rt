@@ -1,13 +1,12 @@
 //! Rows of calls of `call_core`.
 
 use crate::call_words::{end_of, signal_of, standing_of};
-use crate::row_call::RowCall;
 use crate::whole_calls::put_call_of_words;
 use call_core::{
     Action, Clash, End, Row, Signal, Standing, clash_at, clash_without_offer, first_row, row_at,
     session_is_direct, session_is_of_its_exchange, spared_call_is_served, status_passed_on,
 };
-use rows::{Output, let_go, u16_of};
+use rows::{Output, RowCall, let_go, u16_of};
 use std::alloc::AllocError;
 
 fn put_standing(out: &mut Output, standing: Standing) {

@@ -1,12 +1,11 @@
 //! Rows of calls of `call_media`.
 
 use crate::call_words::readable;
-use crate::row_call::RowCall;
 use call_media::{
     Seat, pairs_needed, ports_to_answerer, ports_to_offerer, seated, seats_are_apart, seats_in_use,
 };
 use port_pool::Pair;
-use rows::{Output, let_go, u16_of};
+use rows::{Output, RowCall, let_go, u16_of};
 use sdp::{Description, DescriptionError, Media, read_description};
 use std::alloc::AllocError;
 use text::cut;

@@ -1,7 +1,6 @@
 //! Rows of calls of `call_trace` on traces that are written as tables, or read from the bytes of their datagrams.
 
 use crate::reading_rows::{put_message_fault, put_of_bytes, put_reading_laws};
-use crate::row_call::RowCall;
 use crate::trace_tables::{Named, dialog, methods, push_tables};
 use call_trace::{
     Datagram, Dialog, Direction, Places, are_last, are_passed_together, calls_are_moves,
@@ -9,7 +8,7 @@ use call_trace::{
     has_ended, is_call, is_exchange, is_last, is_live, is_named, is_open, is_passed_on,
     moves_are_promised, moves_keep, relayed_is_promised, replies, standing_is_promised,
 };
-use rows::{Output, let_go, number, replace, usize_of};
+use rows::{Output, RowCall, let_go, number, replace, usize_of};
 use std::alloc::Global;
 use text::{Texts, cut_word};
 use trace_reading::read_trace_message;

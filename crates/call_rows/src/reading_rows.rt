@@ -1,8 +1,7 @@
 //! Rows of `trace_reading`.
 
-use crate::row_call::RowCall;
 use call_trace::{Kind, Message};
-use rows::{Output, let_go};
+use rows::{Output, RowCall, let_go};
 use sip_message::MessageError;
 use trace_reading::{
     bodies_describe, bytes_say_all, dialogs_agree, methods_agree, read_trace_message, replies_agree,

@@ -1,10 +1,9 @@
 //! How a dialog begins, and what the rows behind ask of it.
 
-use crate::call::Call;
 use crate::calls::{Asked, CALLS, put_of_dialog};
 use crate::messages::put_fault;
 use dialogs::{Dialog, contact_uri, contacts_are_read, dialogs_are_sound, invites_name_a_contact};
-use rows::{Output, let_go};
+use rows::{Output, RowCall, let_go};
 use sip_message::{Message, MessageError, Parts, Request, Response, read_message};
 use std::alloc::{AllocError, Global};
 
@@ -106,7 +105,7 @@ impl History {
         &mut self,
         out: &mut Output,
         request: &Request<'_>,
-        call: &Call<'_>,
+        call: &RowCall<'_>,
         asked: Asked,
     ) {
         match asked {
@@ -121,7 +120,7 @@ impl History {
         &mut self,
         out: &mut Output,
         message: &Message<'_>,
-        call: &Call<'_>,
+        call: &RowCall<'_>,
         asked: Asked,
     ) {
         match message {
@@ -130,7 +129,7 @@ impl History {
         }
     }
 
-    fn begin(&mut self, out: &mut Output, call: &Call<'_>, asked: Asked) {
+    fn begin(&mut self, out: &mut Output, call: &RowCall<'_>, asked: Asked) {
         match read_message(out.alloc(), call.word(0)) {
             Ok(message) => {
                 self.begin_with_first(out, &message, call, asked);
@@ -141,14 +140,14 @@ impl History {
     }
 
     /// What a call on the dialog answers, if there is one.
-    fn put_of_last(&mut self, out: &mut Output, call: &Call<'_>, asked: Asked) {
+    fn put_of_last(&mut self, out: &mut Output, call: &RowCall<'_>, asked: Asked) {
         match self.dialogs.first_mut() {
             Some(dialog) => put_of_dialog(out, dialog, call, asked),
             None => out.no_such_row(),
         }
     }
 
-    fn put_asked(&mut self, out: &mut Output, call: &Call<'_>, asked: Asked) {
+    fn put_asked(&mut self, out: &mut Output, call: &RowCall<'_>, asked: Asked) {
         match asked {
             Asked::Laws => put_laws(out),
             Asked::AsCallee | Asked::AsCaller => self.begin(out, call, asked),
@@ -157,7 +156,7 @@ impl History {
     }
 
     /// Writes what the row's call answers, if it is one of `dialogs`.
-    pub(crate) fn put_answer(&mut self, out: &mut Output, call: &Call<'_>) {
+    pub(crate) fn put_of_dialogs(&mut self, out: &mut Output, call: &RowCall<'_>) {
         match call.asked(&CALLS) {
             Some(asked) => self.put_asked(out, call, asked),
             None => out.no_such_row(),

@@ -3,11 +3,10 @@
 ghost use Rattle.std.specs.Prelude.{◌≡◌, nat_lt};
 ghost use Rattle.std.specs.List.{list_all};
 
-use crate::call::Call;
 use crate::fields::put_given;
 use registrar::Binding;
 use responses::contact_headers;
-use rows::{Output, let_go, number};
+use rows::{Output, RowCall, let_go, number};
 use sip_uri::{Uri, UriError, read_uri};
 use text::{Text, cut_word};
 
@@ -80,7 +79,7 @@ fn put_of_words(out: &mut Output, bindings: &[Binding], now: u64, count: usize) 
 }
 
 /// The bindings of the words behind the first, which is a moment in milliseconds, at this moment.
-pub(crate) fn put_contacts(out: &mut Output, call: &Call<'_>) {
+pub(crate) fn put_contacts(out: &mut Output, call: &RowCall<'_>) {
     let words = call.words_from(1);
     let bindings = bindings_of(out, words);
     put_of_words(out, &bindings, call.number(0), words.len());

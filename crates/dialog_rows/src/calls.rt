@@ -1,11 +1,10 @@
 //! Calls on a dialog that stands.
 
-use crate::call::{Call, Entry};
 use crate::messages::put_of_message;
 use crate::requests::put_from_server;
 use crate::texts::{put_dialog, put_refusal};
 use dialogs::{Dialog, Method};
-use rows::{Output, beside, let_go};
+use rows::{Entry, Output, RowCall, beside, let_go};
 use sip_uri::{Uri, UriError, read_uri};
 
 /// What a row of `dialogs` asks for.
@@ -51,7 +50,7 @@ const METHODS: [(&[u8], Method); 3] = [
 ];
 
 /// The method that the first word of a call names.
-pub(crate) fn method_of(call: &Call<'_>) -> Option<Method> {
+pub(crate) fn method_of(call: &RowCall<'_>) -> Option<Method> {
     beside(&METHODS, call.word(0))
 }
 
@@ -62,7 +61,7 @@ fn put_number_for(out: &mut Output, dialog: &Dialog, method: Method) {
     }
 }
 
-fn put_next_number(out: &mut Output, dialog: &Dialog, call: &Call<'_>) {
+fn put_next_number(out: &mut Output, dialog: &Dialog, call: &RowCall<'_>) {
     match method_of(call) {
         Some(method) => put_number_for(out, dialog, method),
         None => out.no_such_row(),
@@ -87,7 +86,7 @@ fn put_fault(out: &mut Output, fault: UriError) {
     }
 }
 
-fn put_refreshed(out: &mut Output, dialog: &mut Dialog, call: &Call<'_>) {
+fn put_refreshed(out: &mut Output, dialog: &mut Dialog, call: &RowCall<'_>) {
     match read_uri(out.alloc(), call.word(0)) {
         Ok(target) => {
             put_retargeted(out, dialog, &target);
@@ -108,7 +107,12 @@ fn put_copied(out: &mut Output, dialog: &Dialog) {
 }
 
 /// What a call on a dialog answers.
-pub(crate) fn put_of_dialog(out: &mut Output, dialog: &mut Dialog, call: &Call<'_>, asked: Asked) {
+pub(crate) fn put_of_dialog(
+    out: &mut Output,
+    dialog: &mut Dialog,
+    call: &RowCall<'_>,
+    asked: Asked,
+) {
     match asked {
         Asked::Shown => put_dialog(out, dialog),
         Asked::Copied => put_copied(out, dialog),

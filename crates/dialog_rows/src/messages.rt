@@ -1,10 +1,9 @@
 //! Calls on a dialog with a message: it is read in one place, and let go there, whatever is asked of it.
 
-use crate::call::Call;
 use crate::calls::Asked;
 use crate::texts::{put_refusal, put_uri};
 use dialogs::{Dialog, contact_uri};
-use rows::{Output, let_go};
+use rows::{Output, RowCall, let_go};
 use sip_message::{Message, MessageError, Request, Response, read_message};
 use sip_uri::Uri;
 
@@ -69,7 +68,12 @@ fn put_of_kind(out: &mut Output, dialog: &mut Dialog, message: &Message<'_>, ask
 }
 
 /// What a call with a message answers.
-pub(crate) fn put_of_message(out: &mut Output, dialog: &mut Dialog, call: &Call<'_>, asked: Asked) {
+pub(crate) fn put_of_message(
+    out: &mut Output,
+    dialog: &mut Dialog,
+    call: &RowCall<'_>,
+    asked: Asked,
+) {
     match read_message(out.alloc(), call.word(0)) {
         Ok(message) => {
             put_of_kind(out, dialog, &message, asked);

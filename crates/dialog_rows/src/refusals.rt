@@ -1,10 +1,9 @@
 //! Rows of REGISTERs that are refused.
 
-use crate::call::Call;
 use crate::fields::put_given;
 use registrar::Refusal;
 use responses::{refusal_headers, status_of};
-use rows::{Output, beside};
+use rows::{Output, RowCall, beside};
 
 /// The refusals by their letters; `memory` for want of it.
 const REFUSALS: [(&[u8], Refusal); 7] = [
@@ -18,7 +17,7 @@ const REFUSALS: [(&[u8], Refusal); 7] = [
 ];
 
 /// The status of a refusal.
-pub(crate) fn put_status(out: &mut Output, call: &Call<'_>) {
+pub(crate) fn put_status(out: &mut Output, call: &RowCall<'_>) {
     match beside(&REFUSALS, call.word(0)) {
         Some(refusal) => out.put_number(u64::from(status_of(refusal))),
         None => out.put("no such refusal"),
@@ -31,7 +30,7 @@ fn put_headers_of(out: &mut Output, least: u32, refusal: Refusal) {
 }
 
 /// What a refusal has besides, where a binding has to last for so many seconds at least.
-pub(crate) fn put_headers(out: &mut Output, call: &Call<'_>) {
+pub(crate) fn put_headers(out: &mut Output, call: &RowCall<'_>) {
     match beside(&REFUSALS, call.word(1)) {
         Some(refusal) => put_headers_of(out, call.small_number(0), refusal),
         None => out.put("no such refusal"),

@@ -1,6 +1,5 @@
 //! Calls on a request: it is read in one place, and let go there, whatever is asked of it.
 
-use crate::call::Call;
 use crate::fields::fields_of;
 use crate::messages::put_fault;
 use crate::registers::put_register;
@@ -8,11 +7,11 @@ use crate::response_calls::Asked;
 use responses::{
     has_fit_branch, has_header, is_declined_method, is_method, is_offered_method, response_with,
 };
-use rows::{Output, address_of, let_go, u16_of};
+use rows::{Output, RowCall, address_of, let_go, u16_of};
 use sip_message::{Message, MessageError, Parts, Request, read_message};
 
 /// The response to the source, with the status and the tag of the call, and the header fields of its further words, as it is sent.
-fn put_response(out: &mut Output, parts: &Parts<'_>, call: &Call<'_>) {
+fn put_response(out: &mut Output, parts: &Parts<'_>, call: &RowCall<'_>) {
     let further = fields_of(out, call.words_from(4));
     let bytes = response_with(
         out.alloc(),
@@ -27,7 +26,7 @@ fn put_response(out: &mut Output, parts: &Parts<'_>, call: &Call<'_>) {
 }
 
 /// What a call that is answered by yes or no says of a request.
-fn holds(request: &Request<'_>, call: &Call<'_>, asked: Asked) -> bool {
+fn holds(request: &Request<'_>, call: &RowCall<'_>, asked: Asked) -> bool {
     match asked {
         Asked::HasFitBranch => has_fit_branch(&request.parts.vias),
         Asked::IsDeclinedMethod => is_declined_method(request),
@@ -38,7 +37,7 @@ fn holds(request: &Request<'_>, call: &Call<'_>, asked: Asked) -> bool {
 }
 
 /// What a call on a request that was read answers.
-fn put_of_request(out: &mut Output, request: &Request<'_>, call: &Call<'_>, asked: Asked) {
+fn put_of_request(out: &mut Output, request: &Request<'_>, call: &RowCall<'_>, asked: Asked) {
     match asked {
         Asked::ResponseWith => put_response(out, &request.parts, call),
         Asked::RegisterOf => put_register(out, request),
@@ -46,7 +45,7 @@ fn put_of_request(out: &mut Output, request: &Request<'_>, call: &Call<'_>, aske
     }
 }
 
-fn put_of_message(out: &mut Output, message: &Message<'_>, call: &Call<'_>, asked: Asked) {
+fn put_of_message(out: &mut Output, message: &Message<'_>, call: &RowCall<'_>, asked: Asked) {
     match message {
         Message::Request(request) => put_of_request(out, request, call, asked),
         Message::Response(_) => put_fault(out, MessageError::StartLine),
@@ -54,7 +53,7 @@ fn put_of_message(out: &mut Output, message: &Message<'_>, call: &Call<'_>, aske
 }
 
 /// What a call on the bytes of a request answers.
-pub(crate) fn put_of_bytes(out: &mut Output, call: &Call<'_>, asked: Asked) {
+pub(crate) fn put_of_bytes(out: &mut Output, call: &RowCall<'_>, asked: Asked) {
     match read_message(out.alloc(), call.word(0)) {
         Ok(message) => {
             put_of_message(out, &message, call, asked);

@@ -1,11 +1,10 @@
 //! Requests in a dialog, as they are sent.
 
-use crate::call::Call;
 use crate::calls::{Asked, method_of};
 use crate::fields::fields_of;
 use crate::texts::put_refusal;
 use dialogs::{Dialog, Extras, Method};
-use rows::{Output, let_go};
+use rows::{Output, RowCall, let_go};
 use sip_message::Via;
 use sip_uri::Addr;
 use sip_writing::server_via;
@@ -48,7 +47,7 @@ fn put_next_of<'m, 'a>(
     dialog: &mut Dialog,
     method: Method,
     via: &'m Via<'a>,
-    call: &'m Call<'_>,
+    call: &'m RowCall<'_>,
 ) {
     let body = call.word(2);
     let further = fields_of(out, further_words(body));
@@ -62,7 +61,12 @@ fn put_next_of<'m, 'a>(
     let_go(further);
 }
 
-fn put_next<'m, 'a>(out: &mut Output, dialog: &mut Dialog, via: &'m Via<'a>, call: &'m Call<'_>) {
+fn put_next<'m, 'a>(
+    out: &mut Output,
+    dialog: &mut Dialog,
+    via: &'m Via<'a>,
+    call: &'m RowCall<'_>,
+) {
     match method_of(call) {
         Some(method) => put_next_of(out, dialog, method, via, call),
         None => out.no_such_row(),
@@ -70,7 +74,7 @@ fn put_next<'m, 'a>(out: &mut Output, dialog: &mut Dialog, via: &'m Via<'a>, cal
 }
 
 /// The ACK of the INVITE whose number the call says.
-fn put_ack(out: &mut Output, dialog: &Dialog, via: &Via<'_>, call: &Call<'_>) {
+fn put_ack(out: &mut Output, dialog: &Dialog, via: &Via<'_>, call: &RowCall<'_>) {
     let extras = Extras {
         via,
         max_forwards: 70,
@@ -85,7 +89,7 @@ fn put_through<'m, 'a>(
     out: &mut Output,
     dialog: &mut Dialog,
     via: &'m Via<'a>,
-    call: &'m Call<'_>,
+    call: &'m RowCall<'_>,
     asked: Asked,
 ) {
     match asked {
@@ -98,7 +102,7 @@ fn put_through<'m, 'a>(
 pub(crate) fn put_from_server(
     out: &mut Output,
     dialog: &mut Dialog,
-    call: &Call<'_>,
+    call: &RowCall<'_>,
     asked: Asked,
 ) {
     match server_via(out.alloc(), SERVER, b"2.7") {

@@ -1,12 +1,11 @@
 //! The calls of `responses`.
 
 use crate::bindings::put_contacts;
-use crate::call::{ANY, Call, Entry};
 use crate::fields::{fields_of, put_given};
 use crate::refusals::{put_headers, put_status};
 use crate::request_calls::put_of_bytes;
 use responses::{STATELESS, allow_header, token, unsupported_header};
-use rows::{Output, let_go};
+use rows::{ANY, Entry, Output, RowCall, let_go};
 
 /// What a row of `responses` asks for.
 #[derive(Clone, Copy)]
@@ -46,7 +45,7 @@ const CALLS: [Entry<Asked>; 14] = [
 ];
 
 /// The token of the salt and the count that the call says.
-fn put_token(out: &mut Output, call: &Call<'_>) {
+fn put_token(out: &mut Output, call: &RowCall<'_>) {
     let token = token(out.alloc(), call.number(0), call.number(1));
     out.put_written(token);
 }
@@ -65,7 +64,7 @@ fn put_unsupported(out: &mut Output, words: &[&[u8]]) {
 }
 
 /// Which header fields are given, or else what a call on a request answers.
-fn put_fields(out: &mut Output, call: &Call<'_>, asked: Asked) {
+fn put_fields(out: &mut Output, call: &RowCall<'_>, asked: Asked) {
     match asked {
         Asked::AllowHeader => put_allow(out),
         Asked::UnsupportedHeader => put_unsupported(out, call.words),
@@ -75,7 +74,7 @@ fn put_fields(out: &mut Output, call: &Call<'_>, asked: Asked) {
     }
 }
 
-fn put_asked(out: &mut Output, call: &Call<'_>, asked: Asked) {
+fn put_asked(out: &mut Output, call: &RowCall<'_>, asked: Asked) {
     match asked {
         Asked::Stateless => out.put_shown(STATELESS),
         Asked::Token => put_token(out, call),
@@ -85,7 +84,7 @@ fn put_asked(out: &mut Output, call: &Call<'_>, asked: Asked) {
 }
 
 /// Writes what the row's call answers, if it is one of `responses`.
-pub(crate) fn put_answer(out: &mut Output, call: &Call<'_>) {
+pub(crate) fn put_answer(out: &mut Output, call: &RowCall<'_>) {
     match call.asked(&CALLS) {
         Some(asked) => put_asked(out, call, asked),
         None => out.no_such_row(),

@@ -3,13 +3,12 @@
 ghost use Rattle.std.specs.Prelude.{◌<◌, ◌^◌};
 
 use crate::actions::actions_of;
-use crate::call::Call;
 use call_core::Action;
 use dialogs::Dialog;
 use events::Sent;
 use legs::{Asker, Dressed, Scene, new_leg};
 use row_messages::message_of;
-use rows::{Output, let_go};
+use rows::{Output, RowCall, let_go};
 use sdp::{Description, DescriptionError, read_description};
 use sip_message::{Message, MessageError, Parts};
 use sip_uri::{Addr, Uri, read_uri};
@@ -66,7 +65,7 @@ fn put_tag(out: &mut Output, leg: &mut Dialog, tag: &[u8]) {
 }
 
 /// The leg after the request with the number that the call says, if any, with the tag of theirs that it says.
-fn put_request(out: &mut Output, leg: &mut Dialog, call: &Call<'_>) {
+fn put_request(out: &mut Output, leg: &mut Dialog, call: &RowCall<'_>) {
     let number = call.small_number(4);
     if number > 0 {
         leg.local_number = Some(number);
@@ -80,7 +79,7 @@ fn push_leg(
     legs: &mut Vec<Dialog>,
     caller: &Parts<'_>,
     target: &Uri<'_>,
-    call: &Call<'_>,
+    call: &RowCall<'_>,
 ) {
     match new_leg(out.alloc(), SERVER, caller, target, TOKEN, OUR_TAG) {
         Ok(mut leg) => {
@@ -96,7 +95,7 @@ fn push_leg_to_callee(
     out: &mut Output,
     legs: &mut Vec<Dialog>,
     caller: &Parts<'_>,
-    call: &Call<'_>,
+    call: &RowCall<'_>,
 ) {
     match read_uri(out.alloc(), CALLEE) {
         Ok(target) => {
@@ -108,7 +107,7 @@ fn push_leg_to_callee(
 }
 
 /// The callee's leg, in a list of one; none where there is no caller.
-fn legs_of(out: &mut Output, offers: &[Message<'_>], call: &Call<'_>) -> Vec<Dialog> {
+fn legs_of(out: &mut Output, offers: &[Message<'_>], call: &RowCall<'_>) -> Vec<Dialog> {
     let mut legs = out.list();
     if let Some(offer) = offers.first() {
         push_leg_to_callee(out, &mut legs, parts_of(offer), call);
@@ -161,7 +160,7 @@ impl Drop for Cast<'_> {
 
 /// What the first words of a call say: the offer, the request that is answered, the description, and of the callee's leg the tag of
 /// theirs and the number of the last request.
-fn cast_of<'a>(out: &mut Output, call: &'a Call<'_>) -> Cast<'a> {
+fn cast_of<'a>(out: &mut Output, call: &'a RowCall<'_>) -> Cast<'a> {
     let offers = messages_of(out, call.word(0));
     let legs = legs_of(out, &offers, call);
     Cast {
@@ -190,7 +189,7 @@ fn put_dressed(out: &mut Output, dressed: &Dressed) {
 }
 
 /// The scene with this cast, and the salt and the tokens made so far that the call says.
-fn scene_of<'m, 'a>(cast: &'m Cast<'a>, call: &Call<'_>) -> Scene<'m, 'a> {
+fn scene_of<'m, 'a>(cast: &'m Cast<'a>, call: &RowCall<'_>) -> Scene<'m, 'a> {
     Scene {
         server: SERVER,
         salt: u64::from(call.small_number(5)),
@@ -230,19 +229,19 @@ fn put_words(out: &mut Output, scene: &Scene<'_, '_>, words: &[&[u8]]) {
 }
 
 /// What the actions of these words come to with this cast.
-fn put_with(out: &mut Output, cast: &Cast<'_>, call: &Call<'_>, words: &[&[u8]]) {
+fn put_with(out: &mut Output, cast: &Cast<'_>, call: &RowCall<'_>, words: &[&[u8]]) {
     let scene = scene_of(cast, call);
     put_words(out, &scene, words);
 }
 
 /// What the actions of a scene come to, which are the words behind those of the cast, the salt and the tokens.
-fn dress(out: &mut Output, call: &Call<'_>, words: &[&[u8]]) {
+fn dress(out: &mut Output, call: &RowCall<'_>, words: &[&[u8]]) {
     let cast = cast_of(out, call);
     put_with(out, &cast, call, words);
     let_go(cast);
 }
 
-fn put_dress(out: &mut Output, call: &Call<'_>) {
+fn put_dress(out: &mut Output, call: &RowCall<'_>) {
     match call.words.get(7..) {
         Some(words) => dress(out, call, words),
         None => out.no_such_row(),
@@ -250,7 +249,7 @@ fn put_dress(out: &mut Output, call: &Call<'_>) {
 }
 
 /// Writes what the row's call answers.
-pub(crate) fn put_answer(out: &mut Output, call: &Call<'_>) {
+pub(crate) fn put_answer(out: &mut Output, call: &RowCall<'_>) {
     match call.name {
         "dress" => put_dress(out, call),
         _ => out.no_such_row(),

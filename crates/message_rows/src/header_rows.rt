@@ -1,8 +1,7 @@
 //! Rows of header fields alone: `Headers`, and how they are looked up.
 
-use crate::call::Call;
 use crate::message_texts::{put_contacts, put_headers, put_value};
-use rows::{Output, let_go};
+use rows::{Output, RowCall, let_go};
 use sip_message::{FieldValue, Header, Headers, contact_values, first_value, values_named};
 use sip_uri::{Param, put_param};
 use sip_writing::tag_param;
@@ -83,21 +82,21 @@ fn put_first(out: &mut Output, headers: &[Header<'_>], name: &[u8]) {
 }
 
 /// What is told of the header fields with a name: the first of them, or all.
-fn put_by(out: &mut Output, call: &Call<'_>, headers: &[Header<'_>]) {
+fn put_by(out: &mut Output, call: &RowCall<'_>, headers: &[Header<'_>]) {
     match call.name {
         "first_value" => put_first(out, headers, call.word(0)),
         _ => put_values(out, headers, call.word(0)),
     }
 }
 
-fn put_named_of(out: &mut Output, call: &Call<'_>, words: &[&[u8]]) {
+fn put_named_of(out: &mut Output, call: &RowCall<'_>, words: &[&[u8]]) {
     let headers = headers_of(out, words);
     put_by(out, call, &headers);
     let_go(headers);
 }
 
 /// What a call on the header fields with a name answers, of which the first word is.
-pub(crate) fn put_named(out: &mut Output, call: &Call<'_>) {
+pub(crate) fn put_named(out: &mut Output, call: &RowCall<'_>) {
     match call.words.get(1..) {
         Some(words) => put_named_of(out, call, words),
         None => out.no_such_row(),
@@ -128,7 +127,7 @@ fn put_tag_of(out: &mut Output, tag: &[u8]) {
 }
 
 /// The parameter of a tag.
-pub(crate) fn put_tag(out: &mut Output, call: &Call<'_>) {
+pub(crate) fn put_tag(out: &mut Output, call: &RowCall<'_>) {
     match call.words.len() {
         1 => put_tag_of(out, call.word(0)),
         _ => out.no_such_row(),
@@ -136,7 +135,7 @@ pub(crate) fn put_tag(out: &mut Output, call: &Call<'_>) {
 }
 
 /// What a call on header fields that the words write answers.
-pub(crate) fn put_of_headers(out: &mut Output, call: &Call<'_>) {
+pub(crate) fn put_of_headers(out: &mut Output, call: &RowCall<'_>) {
     match call.name {
         "added" => put_added(out, call.words),
         "listed" => put_listed(out, call.words),

@@ -1,11 +1,12 @@
 //! Histories of a table of transactions.
 
-use crate::call::Call;
+ghost use Rattle.std.specs.Prelude.{◌<◌, ◌^◌};
+
 use crate::machines::timer_kind;
 use crate::message_texts::put_labelled;
 use crate::table_texts::{PLACE, put_before, put_id, put_refusal, put_verdict};
 use crate::words_rows::put_request;
-use rows::{Output, address_of, let_go, replace};
+use rows::{Output, RowCall, address_of, let_go, replace};
 use sip_message::{Message, Request, Response};
 use sip_uri::Addr;
 use std::alloc::Global;
@@ -32,8 +33,20 @@ pub(crate) fn put_laws(out: &mut Output) {
     out.put("hold");
 }
 
+/// The moment of the word at a place, in milliseconds.
+fn moment(call: &RowCall<'_>, at: usize) -> u64
+    ensures { result < 2 ^ 60 }
+{
+    let moment = call.number(at);
+    if moment < 1_152_921_504_606_846_976 {
+        moment
+    } else {
+        0
+    }
+}
+
 /// Where the message of a call comes from or goes to: to the place of its third word, if it has one.
-fn place_in(call: &Call<'_>) -> Addr {
+fn place_in(call: &RowCall<'_>) -> Addr {
     match call.words.get(2) {
         Some(word) => address_of(word),
         None => PLACE,
@@ -121,8 +134,8 @@ impl History {
         }
     }
 
-    pub(crate) fn receive(&mut self, out: &mut Output, message: &Message<'_>, call: &Call<'_>) {
-        match self.table.receive(message, place_in(call), call.moment(1)) {
+    pub(crate) fn receive(&mut self, out: &mut Output, message: &Message<'_>, call: &RowCall<'_>) {
+        match self.table.receive(message, place_in(call), moment(call, 1)) {
             Ok(reception) => {
                 self.put_reception(out, &reception);
                 let_go(reception);
@@ -131,8 +144,8 @@ impl History {
         }
     }
 
-    pub(crate) fn start(&mut self, out: &mut Output, request: &Request<'_>, call: &Call<'_>) {
-        match self.table.start(request, place_in(call), call.moment(1)) {
+    pub(crate) fn start(&mut self, out: &mut Output, request: &Request<'_>, call: &RowCall<'_>) {
+        match self.table.start(request, place_in(call), moment(call, 1)) {
             Ok(started) => {
                 self.put_started(out, &started);
                 let_go(started);
@@ -141,15 +154,15 @@ impl History {
         }
     }
 
-    fn put_entered(&mut self, out: &mut Output, changes: Vec<Change>, call: &Call<'_>) {
-        match self.table.apply(changes, call.moment(1)) {
+    fn put_entered(&mut self, out: &mut Output, changes: Vec<Change>, call: &RowCall<'_>) {
+        match self.table.apply(changes, moment(call, 1)) {
             Ok(()) => out.put("entered"),
             Err(_) => out.no_memory(),
         }
     }
 
     /// A request of the server's own, abandoned at once: two changes that are entered together.
-    pub(crate) fn apply(&mut self, out: &mut Output, request: &Request<'_>, call: &Call<'_>) {
+    pub(crate) fn apply(&mut self, out: &mut Output, request: &Request<'_>, call: &RowCall<'_>) {
         let changes = changes_of(out, request);
         self.put_entered(out, changes, call);
     }
@@ -168,8 +181,8 @@ impl History {
         }
     }
 
-    pub(crate) fn reply(&mut self, out: &mut Output, response: &Response<'_>, call: &Call<'_>) {
-        match self.table.answer(call.id(1), response, call.moment(2)) {
+    pub(crate) fn reply(&mut self, out: &mut Output, response: &Response<'_>, call: &RowCall<'_>) {
+        match self.table.answer(call.place(1), response, moment(call, 2)) {
             Ok(send) => {
                 self.put_send(out, &send);
                 let_go(send);
@@ -178,15 +191,15 @@ impl History {
         }
     }
 
-    pub(crate) fn abandon(&mut self, out: &mut Output, call: &Call<'_>) {
-        match self.table.abandon(call.id(0), call.moment(1)) {
+    pub(crate) fn abandon(&mut self, out: &mut Output, call: &RowCall<'_>) {
+        match self.table.abandon(call.place(0), moment(call, 1)) {
             Ok(()) => out.put("abandoned"),
             Err(fault) => put_refusal(out, fault),
         }
     }
 
-    fn fire(&mut self, out: &mut Output, timer: TimerId, call: &Call<'_>) {
-        match self.table.fire(timer, call.moment(2)) {
+    fn fire(&mut self, out: &mut Output, timer: TimerId, call: &RowCall<'_>) {
+        match self.table.fire(timer, moment(call, 2)) {
             Ok(fired) => {
                 self.put_fired(out, &fired);
                 let_go(fired);
@@ -195,8 +208,8 @@ impl History {
         }
     }
 
-    pub(crate) fn fire_named(&mut self, out: &mut Output, call: &Call<'_>) {
-        let id = call.id(0);
+    pub(crate) fn fire_named(&mut self, out: &mut Output, call: &RowCall<'_>) {
+        let id = call.place(0);
         match timer_kind(call.word(1)) {
             Some(kind) => self.fire(out, TimerId { id, kind }, call),
             None => out.no_such_row(),

@@ -1,11 +1,10 @@
 //! Which call of a history a row asks for.
 
-use crate::call::Call;
 use crate::history::{History, put_laws};
 use crate::machines::put_advance;
 use crate::message_texts::put_fault;
 use crate::table_texts::{put_filled, put_id, put_moment, put_timer};
-use rows::{Output, let_go};
+use rows::{Entry, Output, RowCall, let_go};
 use sip_message::{Message, Request, Response, read_message};
 use transactions::Table;
 
@@ -33,29 +32,27 @@ enum Asked {
     Answer,
 }
 
-/// The calls by their names, with how many words each has.
-const CALLS: [(&str, usize, Asked); 21] = [
-    ("laws", 0, Asked::Laws),
-    ("new", 0, Asked::Anew),
-    ("timer_count", 0, Asked::TimerCount),
-    ("next", 0, Asked::Next),
-    ("sent", 0, Asked::Sent),
-    ("transaction", 1, Asked::State),
-    ("cancel_of", 1, Asked::Cancel),
-    ("first_due", 1, Asked::FirstDue),
-    ("abandon", 2, Asked::Abandon),
-    ("may_answer", 2, Asked::MayAnswer),
-    ("fill", 2, Asked::Fill),
-    ("advance", 3, Asked::Advance),
-    ("fire", 3, Asked::Fire),
-    ("receive", 2, Asked::Receive),
-    ("receive", 3, Asked::Receive),
-    ("start", 2, Asked::Start),
-    ("start", 3, Asked::Start),
-    ("apply", 2, Asked::Apply),
-    ("cancels", 1, Asked::Cancels),
-    ("merged", 1, Asked::Merged),
-    ("answer", 3, Asked::Answer),
+/// The calls by their names, with how many words each has at least and at most.
+const CALLS: [Entry<Asked>; 19] = [
+    ("laws", 0, 0, Asked::Laws),
+    ("new", 0, 0, Asked::Anew),
+    ("timer_count", 0, 0, Asked::TimerCount),
+    ("next", 0, 0, Asked::Next),
+    ("sent", 0, 0, Asked::Sent),
+    ("transaction", 1, 1, Asked::State),
+    ("cancel_of", 1, 1, Asked::Cancel),
+    ("first_due", 1, 1, Asked::FirstDue),
+    ("abandon", 2, 2, Asked::Abandon),
+    ("may_answer", 2, 2, Asked::MayAnswer),
+    ("fill", 2, 2, Asked::Fill),
+    ("advance", 3, 3, Asked::Advance),
+    ("fire", 3, 3, Asked::Fire),
+    ("receive", 2, 3, Asked::Receive),
+    ("start", 2, 3, Asked::Start),
+    ("apply", 2, 2, Asked::Apply),
+    ("cancels", 1, 1, Asked::Cancels),
+    ("merged", 1, 1, Asked::Merged),
+    ("answer", 3, 3, Asked::Answer),
 ];
 
 /// What a call that only asks about a request answers, if it is one.
@@ -73,7 +70,7 @@ impl History {
         &mut self,
         out: &mut Output,
         request: &Request<'_>,
-        call: &Call<'_>,
+        call: &RowCall<'_>,
         asked: Asked,
     ) {
         match asked {
@@ -88,7 +85,7 @@ impl History {
         &mut self,
         out: &mut Output,
         response: &Response<'_>,
-        call: &Call<'_>,
+        call: &RowCall<'_>,
         asked: Asked,
     ) {
         match asked {
@@ -102,7 +99,7 @@ impl History {
         &mut self,
         out: &mut Output,
         message: &Message<'_>,
-        call: &Call<'_>,
+        call: &RowCall<'_>,
         asked: Asked,
     ) {
         match message {
@@ -116,7 +113,7 @@ impl History {
         &mut self,
         out: &mut Output,
         message: &Message<'_>,
-        call: &Call<'_>,
+        call: &RowCall<'_>,
         asked: Asked,
     ) {
         match asked {
@@ -126,7 +123,7 @@ impl History {
     }
 
     /// What a call with the bytes of a message answers.
-    fn put_of_bytes(&mut self, out: &mut Output, call: &Call<'_>, asked: Asked) {
+    fn put_of_bytes(&mut self, out: &mut Output, call: &RowCall<'_>, asked: Asked) {
         match read_message(out.alloc(), call.word(0)) {
             Ok(message) => {
                 self.put_of_message(out, &message, call, asked);
@@ -137,11 +134,11 @@ impl History {
     }
 
     /// What a call on a transaction or a timer answers, or else one with the bytes of a message.
-    fn put_of_transaction(&mut self, out: &mut Output, call: &Call<'_>, asked: Asked) {
+    fn put_of_transaction(&mut self, out: &mut Output, call: &RowCall<'_>, asked: Asked) {
         match asked {
-            Asked::State => self.put_state(out, call.id(0)),
-            Asked::Cancel => self.put_cancel(out, call.id(0)),
-            Asked::MayAnswer => out.put_truth(self.table.may_answer(call.id(0), call.status(1))),
+            Asked::State => self.put_state(out, call.place(0)),
+            Asked::Cancel => self.put_cancel(out, call.place(0)),
+            Asked::MayAnswer => out.put_truth(self.table.may_answer(call.place(0), call.status(1))),
             Asked::Abandon => self.abandon(out, call),
             Asked::Fire => self.fire_named(out, call),
             _ => self.put_of_bytes(out, call, asked),
@@ -149,7 +146,7 @@ impl History {
     }
 
     /// What a call with words that are no message answers, or else one on a transaction.
-    fn put_of_words(&mut self, out: &mut Output, call: &Call<'_>, asked: Asked) {
+    fn put_of_words(&mut self, out: &mut Output, call: &RowCall<'_>, asked: Asked) {
         match asked {
             Asked::Advance => put_advance(out, call),
             Asked::FirstDue => put_timer(out, self.table.first_due(call.number(0))),
@@ -159,7 +156,7 @@ impl History {
     }
 
     /// What a call without words answers, or else one with words.
-    fn put_asked(&mut self, out: &mut Output, call: &Call<'_>, asked: Asked) {
+    fn put_asked(&mut self, out: &mut Output, call: &RowCall<'_>, asked: Asked) {
         match asked {
             Asked::Laws => put_laws(out),
             Asked::Anew => self.empty(out),
@@ -171,8 +168,8 @@ impl History {
     }
 
     /// Writes what the row's call answers, if it is one of `transactions`.
-    pub(crate) fn put_answer(&mut self, out: &mut Output, call: &Call<'_>) {
-        match call.beside(&CALLS) {
+    pub(crate) fn put_of_transactions(&mut self, out: &mut Output, call: &RowCall<'_>) {
+        match call.asked(&CALLS) {
             Some(asked) => self.put_asked(out, call, asked),
             None => out.no_such_row(),
         }

@@ -1,7 +1,6 @@
 //! Rows of the machines of transactions: what an input does in a state.
 
-use crate::call::Call;
-use rows::{Output, beside, number};
+use rows::{Output, RowCall, beside, number};
 use sip_message::Class;
 use text::cut;
 use transaction_machines::{
@@ -170,7 +169,7 @@ fn put_step_of(out: &mut Output, step: Option<Step>) {
 }
 
 /// What the input does in the state of the machine, if the words of the call name such.
-pub(crate) fn put_advance(out: &mut Output, call: &Call<'_>) {
+pub(crate) fn put_advance(out: &mut Output, call: &RowCall<'_>) {
     match (state(call.word(0), call.word(1)), input(call.word(2))) {
         (Some(state), Some(input)) => put_step_of(out, advance(state, input)),
         _ => out.no_such_row(),

@@ -2,7 +2,6 @@
 //! histories of a table; and behind them what becomes of each message that the words of the command line name, a file each.
 #![tactic(auto)]
 
-mod call;
 mod header_rows;
 mod history;
 mod history_calls;
@@ -13,33 +12,18 @@ mod table_texts;
 mod torture;
 mod words_rows;
 
-use crate::call::Call;
 use crate::history::History;
 use crate::torture::tell_outcome;
-use rows::{Output, Rows, let_go, outcome_after, play_lines};
-use std::alloc::{AllocError, Global};
+use rows::{Output, RowCall, Rows, let_go, outcome_after, play_lines};
 use std::{env, io};
 
-/// Writes what a call answers, if there is such a call.
-fn put_answer(out: &mut Output, history: &mut History, crate_name: &str, call: &Call<'_>) {
-    match crate_name {
-        "sip_message" => sip_message_rows::put_answer(out, call),
-        "transactions" => history.put_answer(out, call),
-        _ => out.no_such_row(),
-    }
-}
-
 impl Rows for History {
-    fn answer(
-        &mut self,
-        alloc: Global,
-        crate_name: &str,
-        name: &str,
-        words: &[&[u8]],
-    ) -> Result<Option<String>, AllocError> {
-        let mut out = Output::new(alloc);
-        put_answer(&mut out, self, crate_name, &Call { name, words });
-        out.end()
+    fn put_answer(&mut self, out: &mut Output, call: &RowCall<'_>) {
+        match call.crate_name {
+            "sip_message" => sip_message_rows::put_answer(out, call),
+            "transactions" => self.put_of_transactions(out, call),
+            _ => out.no_such_row(),
+        }
     }
 }
 

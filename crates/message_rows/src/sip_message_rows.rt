@@ -1,12 +1,11 @@
 //! Rows of calls of `sip_message`.
 
-use crate::call::Call;
 use crate::header_rows::{put_named, put_of_headers, put_tag};
 use crate::message_texts::{
     headers_in, parts_in, put_contacts, put_fault, put_headers, put_message, put_parts, put_vias,
 };
 use crate::words_rows::{put_of_request, put_request, put_words};
-use rows::{Output, let_go};
+use rows::{Output, RowCall, let_go};
 use sip_message::{
     Message, Parts, Response, Via, Vias, answerable, contacts, one_message, read_message,
 };
@@ -43,7 +42,7 @@ fn put_reply_with(out: &mut Output, parts: &Parts<'_>, source: Addr, status: u16
 }
 
 /// The same where the tag is a token.
-fn put_reply(out: &mut Output, parts: &Parts<'_>, call: &Call<'_>) {
+fn put_reply(out: &mut Output, parts: &Parts<'_>, call: &RowCall<'_>) {
     if is_run_of_token(call.word(3)) {
         put_reply_with(out, parts, call.address(1), call.status(2), call.word(3));
     } else {
@@ -63,7 +62,7 @@ fn put_kept(out: &mut Output, message: &Message<'_>) {
 }
 
 /// What can be answered of a request that can't be read, or the answer to it.
-fn put_of_found(out: &mut Output, parts: &Parts<'_>, call: &Call<'_>) {
+fn put_of_found(out: &mut Output, parts: &Parts<'_>, call: &RowCall<'_>) {
     match call.name {
         "answerable" => put_parts(out, parts),
         _ => put_reply(out, parts, call),
@@ -71,7 +70,7 @@ fn put_of_found(out: &mut Output, parts: &Parts<'_>, call: &Call<'_>) {
 }
 
 /// The same of the parts that were found, which are let go behind it, if there are any.
-fn put_found_or_nothing(out: &mut Output, parts: Option<Parts<'_>>, call: &Call<'_>) {
+fn put_found_or_nothing(out: &mut Output, parts: Option<Parts<'_>>, call: &RowCall<'_>) {
     match parts {
         Some(parts) => {
             put_of_found(out, &parts, call);
@@ -81,7 +80,7 @@ fn put_found_or_nothing(out: &mut Output, parts: Option<Parts<'_>>, call: &Call<
     }
 }
 
-fn put_found(out: &mut Output, call: &Call<'_>) {
+fn put_found(out: &mut Output, call: &RowCall<'_>) {
     match answerable(out.alloc(), call.word(0)) {
         Ok(parts) => put_found_or_nothing(out, parts, call),
         Err(_) => out.no_memory(),
@@ -175,7 +174,7 @@ fn put_plain(out: &mut Output, message: &Message<'_>, call: &str) {
 }
 
 /// What a call on a message from somewhere answers, if it is one.
-fn put_of_source(out: &mut Output, message: &Message<'_>, call: &Call<'_>) {
+fn put_of_source(out: &mut Output, message: &Message<'_>, call: &RowCall<'_>) {
     match call.name {
         "reply_address" => out.put_address(reply_address(parts_in(message), call.address(1))),
         _ => out.no_such_row(),
@@ -183,7 +182,7 @@ fn put_of_source(out: &mut Output, message: &Message<'_>, call: &Call<'_>) {
 }
 
 /// What a call on a message with a place, a word and a tag answers, if it is one.
-fn put_of_three(out: &mut Output, message: &Message<'_>, call: &Call<'_>) {
+fn put_of_three(out: &mut Output, message: &Message<'_>, call: &RowCall<'_>) {
     match call.name {
         "build" | "write_unkept" => put_of_request(out, message, call),
         "reply" => put_reply(out, parts_in(message), call),
@@ -192,7 +191,7 @@ fn put_of_three(out: &mut Output, message: &Message<'_>, call: &Call<'_>) {
 }
 
 /// What a call on a message that was read answers, if it is one.
-fn put_of_message(out: &mut Output, message: &Message<'_>, call: &Call<'_>) {
+fn put_of_message(out: &mut Output, message: &Message<'_>, call: &RowCall<'_>) {
     match call.words.len() {
         1 => put_plain(out, message, call.name),
         2 => put_of_source(out, message, call),
@@ -202,7 +201,7 @@ fn put_of_message(out: &mut Output, message: &Message<'_>, call: &Call<'_>) {
 }
 
 /// What a call on the bytes of a message answers.
-fn put_of_bytes(out: &mut Output, call: &Call<'_>) {
+fn put_of_bytes(out: &mut Output, call: &RowCall<'_>) {
     match read_message(out.alloc(), call.word(0)) {
         Ok(message) => {
             put_of_message(out, &message, call);
@@ -213,7 +212,7 @@ fn put_of_bytes(out: &mut Output, call: &Call<'_>) {
 }
 
 /// The text of the first word, behind it that of the second as often as the third says, and that of the fourth.
-fn repeated(out: &mut Output, call: &Call<'_>) -> Vec<u8> {
+fn repeated(out: &mut Output, call: &RowCall<'_>) -> Vec<u8> {
     let mut bytes = out.list();
     out.extend(&mut bytes, call.word(0));
     for _ in 0..call.number(2) {
@@ -224,7 +223,8 @@ fn repeated(out: &mut Output, call: &Call<'_>) -> Vec<u8> {
 }
 
 fn put_read(out: &mut Output, bytes: &[u8]) {
-    let call = Call {
+    let call = RowCall {
+        crate_name: "sip_message",
         name: "read",
         words: &[bytes],
     };
@@ -232,13 +232,13 @@ fn put_read(out: &mut Output, bytes: &[u8]) {
 }
 
 /// What the message with a text as often as is said answers when it is read.
-fn put_repeated(out: &mut Output, call: &Call<'_>) {
+fn put_repeated(out: &mut Output, call: &RowCall<'_>) {
     let bytes = repeated(out, call);
     put_read(out, &bytes);
 }
 
 /// What a call on bytes that may be no message answers, which has three words more, or else one on a message.
-fn put_unread_of_three(out: &mut Output, call: &Call<'_>) {
+fn put_unread_of_three(out: &mut Output, call: &RowCall<'_>) {
     match call.name {
         "answer" => put_found(out, call),
         "read_repeated" => put_repeated(out, call),
@@ -247,7 +247,7 @@ fn put_unread_of_three(out: &mut Output, call: &Call<'_>) {
 }
 
 /// What a call on bytes that may be no message answers, which has no words more.
-fn put_unread_alone(out: &mut Output, call: &Call<'_>) {
+fn put_unread_alone(out: &mut Output, call: &RowCall<'_>) {
     match call.name {
         "answerable" => put_found(out, call),
         _ => put_of_bytes(out, call),
@@ -255,7 +255,7 @@ fn put_unread_alone(out: &mut Output, call: &Call<'_>) {
 }
 
 /// What a call without words answers, if it is one.
-fn put_unnamed(out: &mut Output, call: &Call<'_>) {
+fn put_unnamed(out: &mut Output, call: &RowCall<'_>) {
     match call.name {
         "laws" => put_laws(out),
         _ => out.no_such_row(),
@@ -263,7 +263,7 @@ fn put_unnamed(out: &mut Output, call: &Call<'_>) {
 }
 
 /// What a call on bytes that may be no message answers, or one without words.
-fn put_unread(out: &mut Output, call: &Call<'_>) {
+fn put_unread(out: &mut Output, call: &RowCall<'_>) {
     match call.words.len() {
         0 => put_unnamed(out, call),
         1 => put_unread_alone(out, call),
@@ -279,7 +279,7 @@ fn put_laws(out: &mut Output) {
 }
 
 /// Writes what the row's call answers, if it is one of `sip_message`: those on header fields first.
-pub(crate) fn put_answer(out: &mut Output, call: &Call<'_>) {
+pub(crate) fn put_answer(out: &mut Output, call: &RowCall<'_>) {
     match call.name {
         "added" | "listed" | "contact_values" => put_of_headers(out, call),
         "tag_param" => put_tag(out, call),

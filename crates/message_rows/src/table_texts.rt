@@ -1,7 +1,6 @@
 //! Answers of a table of transactions as a row writes them, and the filling of one.
 
-use crate::call::Call;
-use rows::{Output, outcome_after};
+use rows::{Output, RowCall, outcome_after};
 use sip_message::{Message, read_message};
 use sip_uri::Addr;
 use text::put_number;
@@ -99,7 +98,7 @@ fn begun(out: &mut Output, table: &mut Table, bytes: &[u8]) -> u64 {
 }
 
 /// As many requests come as the second word says, each with its number at each `#` of the first.
-pub(crate) fn put_filled(out: &mut Output, table: &mut Table, call: &Call<'_>) {
+pub(crate) fn put_filled(out: &mut Output, table: &mut Table, call: &RowCall<'_>) {
     let mut new = 0u64;
     for number in 0..call.number(1) {
         let bytes = numbered(out, call.word(0), number);

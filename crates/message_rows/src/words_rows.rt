@@ -1,8 +1,7 @@
 //! Rows of words on messages, and of requests that are built.
 
-use crate::call::Call;
 use crate::message_texts::{headers_in, parts_in, put_labelled};
-use rows::{Output, let_go};
+use rows::{Output, RowCall, let_go};
 use sip_message::{
     Class, Header, Message, Parts, Request, Via, class_of, content_type, is_method, tag_text,
     top_branch,
@@ -208,7 +207,7 @@ fn put_through_via<'m, 'a>(
     out: &mut Output,
     request: &'m Request<'a>,
     via: &'m Via<'a>,
-    call: &'m Call<'_>,
+    call: &'m RowCall<'_>,
 ) {
     match call.name {
         "build" => put_built(out, request, via, call.word(3)),
@@ -217,7 +216,7 @@ fn put_through_via<'m, 'a>(
 }
 
 /// The request as one that the server makes of it through its own Via with the token of the call.
-fn put_from_server(out: &mut Output, request: &Request<'_>, call: &Call<'_>) {
+fn put_from_server(out: &mut Output, request: &Request<'_>, call: &RowCall<'_>) {
     match server_via(out.alloc(), call.address(1), call.word(2)) {
         Ok(via) => {
             put_through_via(out, request, &via, call);
@@ -228,7 +227,7 @@ fn put_from_server(out: &mut Output, request: &Request<'_>, call: &Call<'_>) {
 }
 
 /// The message as a request that the server makes of it with its header fields from the seventh on, if it is a request.
-pub(crate) fn put_of_request(out: &mut Output, message: &Message<'_>, call: &Call<'_>) {
+pub(crate) fn put_of_request(out: &mut Output, message: &Message<'_>, call: &RowCall<'_>) {
     match message {
         Message::Request(request) => put_from_server(out, request, call),
         Message::Response(_) => out.put("no request"),

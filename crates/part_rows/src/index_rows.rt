@@ -1,8 +1,7 @@
 //! Rows of calls of `index`: on numbers in one list, and in buckets.
 
-use crate::telling::word;
 use index::{Buckets, Entry, Index, print_of};
-use rows::{Output, number, replace, usize_of};
+use rows::{Output, number, replace, usize_of, word};
 use std::alloc::{AllocError, Global};
 
 /// Numbers under prints, in one list or in buckets.

@@ -25,8 +25,7 @@ use crate::index_rows::Numbers;
 use index::{Buckets, Index};
 use port_pool::Pool;
 use registrar::Registrar;
-use rows::{Output, Rows, outcome_after, play_lines};
-use std::alloc::{AllocError, Global};
+use rows::{Output, RowCall, Rows, outcome_after, play_lines};
 use std::io;
 use timers::Timers;
 
@@ -40,35 +39,21 @@ struct PartRows {
     timers: Timers<u8>,
 }
 
-impl PartRows {
-    /// Writes what a call answers, if there is such a call.
-    fn put_answer(&mut self, out: &mut Output, crate_name: &str, call: &str, args: &[&[u8]]) {
-        match crate_name {
-            "buckets" => index_rows::put_answer(&mut self.buckets, out, call, args),
-            "index" => index_rows::put_answer(&mut self.index, out, call, args),
-            "offer_answer" => offer_answer_rows::put_answer(out, call, args),
-            "port_pool" => port_pool_rows::put_answer(&mut self.pool, out, call, args),
-            "registrar" => registrar_rows::put_answer(&mut self.registrar, out, call, args),
-            "sdp" => sdp_rows::put_answer(out, call, args),
-            "sip_uri" => sip_uri_rows::put_answer(out, call, args),
-            "text" => text_rows::put_answer(out, call, args),
-            "timers" => timers_rows::put_answer(&mut self.timers, out, call, args),
+impl Rows for PartRows {
+    fn put_answer(&mut self, out: &mut Output, call: &RowCall<'_>) {
+        let (name, words) = (call.name, call.words);
+        match call.crate_name {
+            "buckets" => index_rows::put_answer(&mut self.buckets, out, name, words),
+            "index" => index_rows::put_answer(&mut self.index, out, name, words),
+            "offer_answer" => offer_answer_rows::put_answer(out, name, words),
+            "port_pool" => port_pool_rows::put_answer(&mut self.pool, out, name, words),
+            "registrar" => registrar_rows::put_answer(&mut self.registrar, out, name, words),
+            "sdp" => sdp_rows::put_answer(out, name, words),
+            "sip_uri" => sip_uri_rows::put_answer(out, name, words),
+            "text" => text_rows::put_answer(out, name, words),
+            "timers" => timers_rows::put_answer(&mut self.timers, out, name, words),
             _ => out.no_such_row(),
         }
-    }
-}
-
-impl Rows for PartRows {
-    fn answer(
-        &mut self,
-        alloc: Global,
-        crate_name: &str,
-        call: &str,
-        args: &[&[u8]],
-    ) -> Result<Option<String>, AllocError> {
-        let mut out = Output::new(alloc);
-        self.put_answer(&mut out, crate_name, call, args);
-        out.end()
     }
 }
 

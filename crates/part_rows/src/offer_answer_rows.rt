@@ -4,13 +4,13 @@ use crate::readdress_rows::{put_sent_read, put_sent_text};
 use crate::sdp_rows::put_fault;
 use crate::session_rows::put_session;
 use crate::stream_words::put_streams;
-use crate::telling::{word, word_or_none};
+use crate::telling::word_or_none;
 use offer_answer::{
     OwnRange, alike_is_equivalence, check_answer, check_offer, destination, fewer_rows, held_call,
     hold_passes, joined_is_direct, meaning, plain_call, relayed_is_direct, rows_lead,
     rows_of_session_stand, sent_is_read,
 };
-use rows::{Output, number};
+use rows::{Output, number, word};
 use sdp::{Description, read_description};
 use std::fmt::Display;
 

@@ -2,9 +2,8 @@
 
 use crate::port_pool_words::{put_changes, put_fault, put_pairs, put_row};
 use crate::relay_line_rows::{put_changed, put_commit, put_kept, put_lines};
-use crate::telling::word;
 use port_pool::{Pair, Pool};
-use rows::{Output, number, replace, u16_of, usize_of};
+use rows::{Output, number, replace, u16_of, usize_of, word};
 use std::alloc::{AllocError, Global};
 
 /// A pool as wide as the row says, where there can be one.

@@ -4,9 +4,9 @@ ghost use Rattle.std.specs.Prelude.{◌≡◌, ◌≤◌, ◌++◌, ◌∷◌, [
 
 use crate::registrar_words::put_bindings;
 use crate::sip_uri_words::put_uri;
-use crate::telling::{name_of, word, word_or_none, words_behind};
+use crate::telling::{name_of, word_or_none};
 use registrar::{Contact, Contacts, Refusal, Register, Registrar, laws_of_bindings};
-use rows::{Output, number, outcome_after, replace, u32_of};
+use rows::{Output, number, outcome_after, replace, u32_of, word, words_behind};
 use sip_uri::{Uri, UriError, read_uri};
 use std::alloc::{AllocError, Global};
 use text::{Text, Texts, cut_word, lent};

@@ -5,9 +5,8 @@ ghost use Rattle.port_pool.specs.Holdings.{even_of, is_among};
 ghost use Rattle.port_pool.specs.Pool.{AreOwn, StandOnce, hop_of};
 
 use crate::port_pool_words::{put_changes, put_row};
-use crate::telling::{word, words_behind};
 use port_pool::{Change, Hop, Pair, Pool, RelayLine, RelayTable};
-use rows::{Output, number, u16_of};
+use rows::{Output, number, u16_of, word, words_behind};
 use sip_uri::{Addr, ip4};
 use std::alloc::AllocError;
 use text::{cut_word, pieces};

@@ -1,8 +1,7 @@
 //! Rows of calls of `sdp`.
 
 use crate::sdp_words::{put_connection, put_direction, put_medium, put_origin, put_session};
-use crate::telling::word;
-use rows::{Output, usize_of};
+use rows::{Output, usize_of, word};
 use sdp::{
     Description, DescriptionError, Lines, MediaList, one_description, read_description,
     write_description,

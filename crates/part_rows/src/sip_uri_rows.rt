@@ -3,8 +3,8 @@
 use crate::sip_uri_words::{
     put_host_words, put_name, put_name_parts, put_parameters, put_uri, put_uri_parts,
 };
-use crate::telling::{word, word_or_none};
-use rows::{Output, byte_of};
+use crate::telling::word_or_none;
+use rows::{Output, byte_of, word};
 use sip_uri::{
     Host, NameAddr, Param, Params, Uri, UriError, binding_is_equivalence, ip4, is_host, one_value,
     param_named, put_display_and_uri, put_param, put_params, read_field_params, read_host,

@@ -13,19 +13,6 @@ pub(crate) fn put_texts(out: &mut Output, texts: &[Text<'_>]) {
     }
 }
 
-/// The word at a place; an empty one where a row has no more.
-pub(crate) fn word<'a>(args: &[&'a [u8]], at: usize) -> &'a [u8] {
-    match args.get(at) {
-        Some(word) => word,
-        None => &[],
-    }
-}
-
-/// The words behind so many.
-pub(crate) fn words_behind<'w, 'a>(args: &'w [&'a [u8]], count: usize) -> &'w [&'a [u8]] {
-    &args[count.min(args.len())..]
-}
-
 /// A word as a name, which is told apart from others in a third of the time that bytes take.
 pub(crate) fn name_of(word: &[u8]) -> &str {
     match str::from_utf8(word) {

@@ -1,7 +1,7 @@
 //! Rows of calls of `text`.
 
-use crate::telling::{name_of, put_texts, word, word_or_none};
-use rows::{Output, byte_of, number, u32_of};
+use crate::telling::{name_of, put_texts, word_or_none};
+use rows::{Output, byte_of, number, u32_of, word};
 use text::{
     Text, Texts, Within, cut, cut_piece, cut_word, is_blank, is_run_of_digits, is_run_of_token,
     is_token_byte, lent, number_text, number_upto, pieces, put_number, put_pieces,

@@ -1,7 +1,7 @@
 //! Rows of calls of `timers`: keys are single letters.
 
-use crate::telling::{name_of, word};
-use rows::{Output, byte_of, number, replace, usize_of};
+use crate::telling::name_of;
+use rows::{Output, byte_of, number, replace, usize_of, word};
 use std::alloc::AllocError;
 use text::cut_word;
 use timers::{

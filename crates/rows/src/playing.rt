@@ -1,41 +1,50 @@
 //! The rows of a program, made one by one.
 
 use crate::notation::Notation;
-use std::alloc::{AllocError, Global};
+use crate::output::Output;
+use crate::row_call::RowCall;
 use std::io;
+use text::Text;
 
 /// The calls of some crates, and what they leave for the rows behind them.
 pub trait Rows {
-    /// What the call of this crate answers; none where there is no such call.
-    fn answer(
-        &mut self,
-        alloc: Global,
-        crate_name: &str,
-        call: &str,
-        args: &[&[u8]],
-    ) -> Result<Option<String>, AllocError>;
+    /// Writes what a call answers, or that there is no such row.
+    fn put_answer(&mut self, out: &mut Output, call: &RowCall<'_>);
 }
 
-/// What the call that the words of a row name answers, if there is such a call.
-fn answer_to<A: Rows>(
-    alloc: Global,
-    notation: &Notation,
+/// What the call of these names answers on the texts that its words stand for.
+fn put_call<A: Rows>(
+    out: &mut Output,
     rows: &mut A,
-    words: &[&str],
-) -> Result<Option<String>, AllocError> {
-    let [crate_name, call, args @ ..] = words else {
-        return Ok(None);
-    };
-    let texts = notation.texts_of(alloc, args)?;
-    let mut bytes: Vec<&[u8]> = Vec::new(alloc);
-    for text in texts.as_slice() {
-        bytes.push(text.as_bytes())?;
+    crate_name: &str,
+    name: &str,
+    texts: &[Text<'static>],
+) {
+    let mut words = out.list();
+    for text in texts {
+        out.push(&mut words, text.as_bytes());
     }
-    rows.answer(alloc, crate_name, call, &bytes)
+    let call = RowCall {
+        crate_name,
+        name,
+        words: &words,
+    };
+    rows.put_answer(out, &call);
+}
+
+/// What the row of these words answers, if they name a call.
+fn put_row<A: Rows>(out: &mut Output, notation: &Notation, rows: &mut A, words: &[&str]) {
+    let [crate_name, name, words @ ..] = words else {
+        return out.no_such_row();
+    };
+    match notation.texts_of(out.alloc(), words) {
+        Ok(texts) => put_call(out, rows, crate_name, name, texts.as_slice()),
+        Err(_) => out.no_memory(),
+    }
 }
 
 /// Makes the call of a line, and prints the line and what the call answers. A line that is no row is noted or passed over.
-pub fn play<R: Print + AllocGlobal, A: Rows>(
+fn play<R: Print + AllocGlobal, A: Rows>(
     rt: &R,
     notation: &mut Notation,
     rows: &mut A,
@@ -45,10 +54,9 @@ pub fn play<R: Print + AllocGlobal, A: Rows>(
         return Ok(());
     }
     let words: Vec<&str> = line.split('|').collect(rt.alloc())?;
-    match answer_to(rt.alloc(), notation, rows, &words)? {
-        Some(answer) => println!(rt; "{line} = {answer}"),
-        None => println!(rt; "{line} = no such row"),
-    }
+    let mut out = Output::new(rt.alloc());
+    put_row(&mut out, notation, rows, &words);
+    out.print(rt, line)
 }
 
 fn play_each<R: Input + Print + AllocGlobal, A: Rows>(

@@ -1,8 +1,8 @@
 //! Rows of calls of `configuration`.
 
-use crate::words::{joined, word};
+use crate::words::joined;
 use configuration::{Config, ConfigError, check, example_config, read_config};
-use rows::{Output, let_go, u16_of, u32_of};
+use rows::{Output, let_go, u16_of, u32_of, word};
 use sip_uri::{Addr, ip4};
 use text::{Text, Texts};
 

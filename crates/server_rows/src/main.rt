@@ -22,9 +22,8 @@ mod streams;
 mod words;
 
 use crate::agent_rows::play_row;
-use crate::row_calls::{call_named, put_answer};
-use rows::{Output, Rows, let_go, play_lines};
-use std::alloc::{AllocError, Global};
+use crate::row_calls::{put_answer, what_is_wanted};
+use rows::{Output, RowCall, Rows, let_go, play_lines};
 use std::{env, io};
 
 /// Nothing is left for later rows.
@@ -32,19 +31,11 @@ use std::{env, io};
 struct ServerRows;
 
 impl Rows for ServerRows {
-    fn answer(
-        &mut self,
-        alloc: Global,
-        crate_name: &str,
-        call: &str,
-        args: &[&[u8]],
-    ) -> Result<Option<String>, AllocError> {
-        let mut out = Output::new(alloc);
-        match call_named(crate_name, call, args.len()) {
-            Some(wanted) => put_answer(&mut out, wanted, args),
+    fn put_answer(&mut self, out: &mut Output, call: &RowCall<'_>) {
+        match what_is_wanted(call) {
+            Some(wanted) => put_answer(out, wanted, call.words),
             None => out.no_such_row(),
         }
-        out.end()
     }
 }
 

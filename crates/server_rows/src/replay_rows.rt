@@ -2,10 +2,8 @@
 
 use crate::row_calls::Wanted;
 use crate::streams::{NarrowWriter, SlowReader, endless, slow};
-use crate::words::{
-    joined, put_fault, put_length, put_outcome, put_shown_or_nothing, word, words_behind,
-};
-use rows::{Output, number, usize_of};
+use crate::words::{joined, put_fault, put_length, put_outcome, put_shown_or_nothing};
+use rows::{Output, number, usize_of, word, words_behind};
 use server::{Fault, replay};
 
 /// What was written, behind the words of a fault where there is one.

@@ -9,7 +9,7 @@ use crate::server_rows::{
     put_ending_named, put_endless, put_error_named, put_failing, put_fault_named, put_kept_of,
     put_once, put_unwritten,
 };
-use rows::Output;
+use rows::{ANY, Entry, Output, RowCall};
 
 /// A call.
 #[derive(Clone, Copy)]
@@ -41,80 +41,51 @@ pub(crate) enum Wanted {
     ReplayEndlessConfig,
 }
 
-/// Files and command lines have any number of words.
-const ANY: usize = usize::MAX;
-
-/// Each call by its crate and its name, with how many words it has at least and at most.
-const CALLS: [(&str, &str, usize, usize, Wanted); 25] = [
-    ("configuration", "read_config", 0, ANY, Wanted::ReadConfig),
-    (
-        "configuration",
-        "example_config",
-        0,
-        0,
-        Wanted::ExampleConfig,
-    ),
-    ("configuration", "check", 7, 7, Wanted::CheckConfig),
-    ("scripts", "read_script", 1, 1, Wanted::ReadScript),
-    ("scripts", "put_sent", 2, 2, Wanted::PutSent),
-    ("scripts", "put_call", 2, 2, Wanted::PutCall),
-    ("scripts", "put_hop", 3, 3, Wanted::PutHop),
-    ("server", "once", 2, 2, Wanted::Once),
-    ("server", "once_endless", 0, 0, Wanted::OnceEndless),
-    ("server", "once_failing", 2, 2, Wanted::OnceFailing),
-    ("server", "once_unwritten", 2, 2, Wanted::OnceUnwritten),
-    ("server", "read_length", 2, 2, Wanted::ReadLength),
-    ("server", "serve", 2, 2, Wanted::Serve),
-    ("server", "ending", 2, 2, Wanted::Ending),
-    ("server", "fault", 1, 1, Wanted::Fault),
-    ("server", "command_error", 1, 1, Wanted::CommandError),
-    ("server", "command", 0, ANY, Wanted::Command),
-    ("server", "run", 1, ANY, Wanted::Run),
-    ("server", "run_files", 2, ANY, Wanted::RunFiles),
-    ("server", "replay", 0, ANY, Wanted::Replay),
-    ("server", "replay_by", 1, ANY, Wanted::ReplayBy),
-    ("server", "replay_failing", 3, ANY, Wanted::ReplayFailing),
-    (
-        "server",
-        "replay_unwritten",
-        1,
-        ANY,
-        Wanted::ReplayUnwritten,
-    ),
-    (
-        "server",
-        "replay_endless_script",
-        0,
-        0,
-        Wanted::ReplayEndlessScript,
-    ),
-    (
-        "server",
-        "replay_endless_config",
-        0,
-        ANY,
-        Wanted::ReplayEndlessConfig,
-    ),
+/// The calls of `configuration`, with how many words each has at least and at most.
+const CALLS_OF_CONFIGURATION: [Entry<Wanted>; 3] = [
+    ("read_config", 0, ANY, Wanted::ReadConfig),
+    ("example_config", 0, 0, Wanted::ExampleConfig),
+    ("check", 7, 7, Wanted::CheckConfig),
 ];
 
-/// The call of a crate with so many words, if it is in the table.
-fn beside(
-    table: &[(&str, &str, usize, usize, Wanted)],
-    crate_name: &str,
-    call: &str,
-    count: usize,
-) -> Option<Wanted> {
-    for (owner, name, least, most, wanted) in table {
-        if *owner == crate_name && *name == call && *least <= count && count <= *most {
-            return Some(*wanted);
-        }
-    }
-    None
-}
+/// The calls of `scripts`, with how many words each has at least and at most.
+const CALLS_OF_SCRIPTS: [Entry<Wanted>; 4] = [
+    ("read_script", 1, 1, Wanted::ReadScript),
+    ("put_sent", 2, 2, Wanted::PutSent),
+    ("put_call", 2, 2, Wanted::PutCall),
+    ("put_hop", 3, 3, Wanted::PutHop),
+];
 
-/// The call of a crate with so many words, if there is one.
-pub(crate) fn call_named(crate_name: &str, call: &str, count: usize) -> Option<Wanted> {
-    beside(&CALLS, crate_name, call, count)
+/// The calls of `server`, with how many words each has at least and at most.
+const CALLS_OF_SERVER: [Entry<Wanted>; 18] = [
+    ("once", 2, 2, Wanted::Once),
+    ("once_endless", 0, 0, Wanted::OnceEndless),
+    ("once_failing", 2, 2, Wanted::OnceFailing),
+    ("once_unwritten", 2, 2, Wanted::OnceUnwritten),
+    ("read_length", 2, 2, Wanted::ReadLength),
+    ("serve", 2, 2, Wanted::Serve),
+    ("ending", 2, 2, Wanted::Ending),
+    ("fault", 1, 1, Wanted::Fault),
+    ("command_error", 1, 1, Wanted::CommandError),
+    ("command", 0, ANY, Wanted::Command),
+    ("run", 1, ANY, Wanted::Run),
+    ("run_files", 2, ANY, Wanted::RunFiles),
+    ("replay", 0, ANY, Wanted::Replay),
+    ("replay_by", 1, ANY, Wanted::ReplayBy),
+    ("replay_failing", 3, ANY, Wanted::ReplayFailing),
+    ("replay_unwritten", 1, ANY, Wanted::ReplayUnwritten),
+    ("replay_endless_script", 0, 0, Wanted::ReplayEndlessScript),
+    ("replay_endless_config", 0, ANY, Wanted::ReplayEndlessConfig),
+];
+
+/// What a call wants, if there is such a call.
+pub(crate) fn what_is_wanted(call: &RowCall<'_>) -> Option<Wanted> {
+    match call.crate_name {
+        "configuration" => call.asked(&CALLS_OF_CONFIGURATION),
+        "scripts" => call.asked(&CALLS_OF_SCRIPTS),
+        "server" => call.asked(&CALLS_OF_SERVER),
+        _ => None,
+    }
 }
 
 /// Writes what a call answers.

@@ -2,8 +2,8 @@
 
 use crate::serve_rows::put_serve_asked;
 use crate::streams::{Hall, SlowReader, TwoFiles, slow};
-use crate::words::{put_count, put_ending, put_shown_or_nothing, put_told, word, words_behind};
-use rows::{Output, let_go};
+use crate::words::{put_count, put_ending, put_shown_or_nothing, put_told};
+use rows::{Output, let_go, word, words_behind};
 use server::{Asked, CommandError, Ending, Fault, command, run};
 
 fn push_word<'a>(out: &mut Output, words: &mut Vec<&'a str>, word: &'a [u8]) {

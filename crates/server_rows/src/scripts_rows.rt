@@ -1,9 +1,8 @@
 //! Rows of calls of `scripts`.
 
-use crate::words::word;
 use events::{Event, Sent, What};
 use port_pool::Hop;
-use rows::{Output, address_of, let_go, number, u16_of};
+use rows::{Output, address_of, let_go, number, u16_of, word};
 use scripts::{ScriptError, put_call, put_hop, put_sent, read_script};
 use text::Text;
 

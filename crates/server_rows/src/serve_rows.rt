@@ -1,8 +1,8 @@
 //! Rows of `serve`, over a host without sockets.
 
 use crate::streams::{Hall, slow};
-use crate::words::{put_count, put_told, word};
-use rows::{Output, beside, let_go};
+use crate::words::{put_count, put_told};
+use rows::{Output, beside, let_go, word};
 use server::{Fault, HostFault, serve};
 
 /// How a host fails, by its words.

@@ -2,9 +2,9 @@
 
 use crate::streams::{NarrowWriter, SlowReader, endless, slow};
 use crate::words::{
-    put_count, put_ending, put_fault, put_length, put_outcome, put_shown_or_nothing, put_told, word,
+    put_count, put_ending, put_fault, put_length, put_outcome, put_shown_or_nothing, put_told,
 };
-use rows::{Output, beside, number, usize_of};
+use rows::{Output, beside, number, usize_of, word};
 use server::{CommandError, Ending, Fault, once, read_datagram};
 
 fn put_left(out: &mut Output, written: &[u8], left: usize) {

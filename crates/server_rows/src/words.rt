@@ -4,19 +4,6 @@ use rows::Output;
 use server::{Ending, Fault};
 use std::fmt::Display;
 
-/// The word at a place; an empty one where a row has no more.
-pub(crate) fn word<'a>(args: &[&'a [u8]], at: usize) -> &'a [u8] {
-    match args.get(at) {
-        Some(word) => word,
-        None => &[],
-    }
-}
-
-/// The words behind so many.
-pub(crate) fn words_behind<'w, 'a>(args: &'w [&'a [u8]], count: usize) -> &'w [&'a [u8]] {
-    &args[count.min(args.len())..]
-}
-
 /// The words of a row, one behind the other.
 pub(crate) fn joined(out: &mut Output, words: &[&[u8]]) -> Vec<u8> {
     let mut whole = out.list();
