@@ -7,10 +7,9 @@ use call_core::Action;
 use dialogs::Dialog;
 use events::Sent;
 use legs::{Asker, Dressed, Scene, new_leg};
-use row_messages::message_of;
 use rows::{Output, RowCall, let_go};
 use sdp::{Description, DescriptionError, read_description};
-use sip_message::{Message, MessageError, Parts};
+use sip_message::{Message, MessageError, Parts, read_message};
 use sip_uri::{Addr, Uri, read_uri};
 use text::Text;
 
@@ -128,15 +127,13 @@ fn descriptions_of<'a>(out: &mut Output, bytes: &'a [u8]) -> Vec<Description<'a>
 
 /// A message in a list of one; none where the bytes are no message.
 fn messages_of<'a>(out: &mut Output, bytes: &'a [u8]) -> Vec<Message<'a>> {
-    match message_of(out.alloc(), bytes) {
-        Ok(messages) => messages,
-        Err(fault) => {
-            if fault == MessageError::OutOfMemory {
-                out.no_memory();
-            }
-            out.list()
-        }
+    let mut messages = out.list();
+    match read_message(out.alloc(), bytes) {
+        Ok(message) => out.push(&mut messages, message),
+        Err(MessageError::OutOfMemory) => out.no_memory(),
+        Err(_) => {}
     }
+    messages
 }
 
 /// What a row's scene has, each in a list of one or of none.

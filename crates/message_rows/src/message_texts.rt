@@ -1,6 +1,5 @@
 //! Messages and their parts as a row writes them.
 
-use row_messages::fault_text;
 use rows::{Output, let_go};
 use sip_message::{
     ContactValue, FieldValue, Header, Message, MessageError, Parts, Request, Response, Via,
@@ -25,9 +24,9 @@ pub(crate) fn headers_in<'m, 'a>(message: &'m Message<'a>) -> &'m [Header<'a>] {
 
 /// A fault in its words, or want of memory.
 pub(crate) fn put_fault(out: &mut Output, fault: MessageError) {
-    match fault_text(out.alloc(), fault) {
-        Ok(text) => out.put(text.as_str()),
-        Err(_) => out.no_memory(),
+    match fault {
+        MessageError::OutOfMemory => out.no_memory(),
+        fault => out.put_fault(fault),
     }
 }
 
