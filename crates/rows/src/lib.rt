@@ -11,10 +11,10 @@ mod playing;
 mod row_call;
 mod words;
 
-pub use crate::addresses::{address_of, address_words, put_address};
+pub use crate::addresses::address_of;
 pub use crate::answers::{let_go, outcome_after, replace};
-pub use crate::notation::{Notation, number, put_shown, shown, u16_of, u32_of, usize_of};
+pub use crate::notation::{Notation, number, u16_of, u32_of, usize_of};
 pub use crate::output::Output;
 pub use crate::playing::{Rows, play_lines};
 pub use crate::row_call::{ANY, Entry, RowCall, word, words_behind};
-pub use crate::words::{beside, boxes, byte_of, put_boxes, said};
+pub use crate::words::{beside, byte_of};

@@ -120,38 +120,6 @@ impl Notation {
     }
 }
 
-fn put_byte(out: &mut String, byte: u8) -> Result<(), AllocError> {
-    match byte {
-        b'\r' => out.push_str("\\r"),
-        b'\n' => out.push_str("\\n"),
-        b'\t' => out.push_str("\\t"),
-        b'|' => out.push_str("\\p"),
-        b'\\' => out.push_str("\\\\"),
-        b' '..=b'~' => out.push(char::from(byte)),
-        _ => {
-            let hex = b"0123456789abcdef";
-            out.push_str("\\x")?;
-            out.push(char::from(hex[usize::from(byte / 16)]))?;
-            out.push(char::from(hex[usize::from(byte % 16)]))
-        }
-    }
-}
-
-/// Writes bytes as a row writes them.
-pub fn put_shown(out: &mut String, bytes: &[u8]) -> Result<(), AllocError> {
-    for byte in bytes {
-        put_byte(out, *byte)?;
-    }
-    Ok(())
-}
-
-/// Bytes as a row writes them.
-pub fn shown(alloc: Global, bytes: &[u8]) -> Result<String, AllocError> {
-    let mut out = String::new(alloc);
-    put_shown(&mut out, bytes)?;
-    Ok(out)
-}
-
 /// A number of a row; 0 where the word is none.
 pub fn number(word: &[u8]) -> u64 {
     match str::from_utf8(word) {

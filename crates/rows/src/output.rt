@@ -1,9 +1,6 @@
 //! What a row prints, as its parts are written one behind the other. Want of memory is noted and told at the end, so no part has a way
 //! out of its own: each `?` costs half a second of proof.
 
-use crate::addresses::{put_address, put_octets};
-use crate::notation::put_shown;
-use crate::words::{put_boxed, put_boxes};
 use sip_uri::Addr;
 use std::alloc::{AllocError, Global};
 use std::fmt::{Debug, Display};
@@ -30,6 +27,19 @@ impl Drop for Output {
             text: _,
             outcome: _,
         } = self;
+    }
+}
+
+/// Writes a byte as a row writes it.
+fn put_byte(out: &mut String, byte: u8) -> Result<(), AllocError> {
+    match byte {
+        b'\r' => out.push_str("\\r"),
+        b'\n' => out.push_str("\\n"),
+        b'\t' => out.push_str("\\t"),
+        b'|' => out.push_str("\\p"),
+        b'\\' => out.push_str("\\\\"),
+        b' '..=b'~' => out.push(char::from(byte)),
+        _ => write!(out, "\\x{byte:02x}"),
     }
 }
 
@@ -162,32 +172,41 @@ impl Output {
 
     /// Writes bytes as a row writes them.
     pub fn put_shown(&mut self, bytes: &[u8]) {
-        let outcome = put_shown(&mut self.text, bytes);
-        self.note(outcome);
+        for byte in bytes {
+            let outcome = put_byte(&mut self.text, *byte);
+            self.note(outcome);
+        }
     }
 
     /// Writes a text in brackets.
     pub fn put_boxed(&mut self, text: &[u8]) {
-        let outcome = put_boxed(&mut self.text, text);
-        self.note(outcome);
+        self.put("[");
+        self.put_shown(text);
+        self.put("]");
     }
 
     /// Writes texts in brackets, with spaces between them.
     pub fn put_boxes(&mut self, texts: &[&[u8]]) {
-        let outcome = put_boxes(&mut self.text, texts);
-        self.note(outcome);
+        for (at, text) in texts.iter().enumerate() {
+            if at > 0 {
+                self.put(" ");
+            }
+            self.put_boxed(text);
+        }
     }
 
     /// Writes four octets with dots between them.
     pub fn put_octets(&mut self, octets: &[u8; 4]) {
-        let outcome = put_octets(&mut self.text, octets);
+        let [a, b, c, d] = octets;
+        let outcome = write!(self.text, "{a}.{b}.{c}.{d}");
         self.note(outcome);
     }
 
     /// Writes an address and a port.
     pub fn put_address(&mut self, address: Addr) {
-        let outcome = put_address(&mut self.text, address);
-        self.note(outcome);
+        self.put_octets(&address.ip);
+        self.put(":");
+        self.put_number(u64::from(address.port));
     }
 
     /// Writes what a fault says of itself, and lets it go.
