@@ -4,7 +4,6 @@ ghost use Rattle.std.specs.Prelude.{◌≡◌, ◌<◌, ◌≤◌, ◌-◌, vec_
 ghost use Rattle.std.specs.Vec.{vec_capacity};
 ghost use Rattle.plans.specs.Effect.{acks_after, without_ack};
 
-use crate::letting_go::let_go;
 use plans::{AckChange, KeptAck};
 
 /// Takes the ACK away that is kept for this transaction. Takes no memory.
@@ -26,7 +25,7 @@ pub(crate) fn keep(acks: &mut Vec<KeptAck>, change: AckChange)
             without_ack(acks, ack.id);
             let pushed = acks.push(ack);
             prove!(pushed.is_ok());
-            let_go(pushed);
+            drop(pushed);
         }
         AckChange::Ends(id) => without_ack(acks, id),
     }

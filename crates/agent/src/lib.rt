@@ -5,7 +5,6 @@
 mod acks;
 mod agent;
 mod commit;
-mod letting_go;
 mod making;
 mod run;
 mod timing;

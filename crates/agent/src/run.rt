@@ -6,7 +6,6 @@ ghost use Rattle.checks.specs.Trace.{IsEntry, Ran, RanFirst, after_entry};
 ghost use Rattle.promised.specs.Standing.{StandsThrough};
 
 use crate::agent::Agent;
-use crate::letting_go::let_go;
 use events::{Event, Sent, What};
 use plans::Taken;
 use promised::agents_stand;
@@ -93,7 +92,7 @@ fn put(entries: &mut Vec<Entry>, entry: Entry)
 {
     let pushed = entries.push(entry);
     prove!(pushed.is_ok());
-    let_go(pushed);
+    drop(pushed);
 }
 
 impl Agent {

@@ -88,9 +88,6 @@ pub(crate) struct Amount {
     pub transactions: u32,
 }
 
-/// A value that is done with. In a function of every type its drop is one call, which is proved once.
-fn let_go<T: Drop>(_value: T) {}
-
 fn put_names(alloc: Global, names: &mut Vec<Text<'static>>, pair: u32) -> Result<(), AllocError> {
     let caller = FIRST_USER + 2 * u64::from(pair);
     names.push(digits_of(alloc, caller)?)?;
@@ -187,7 +184,7 @@ pub(crate) fn play_task(
     match Agent::new(alloc, &config) {
         Ok(mut agent) => {
             let outcome = play_day(alloc, &mut agent, scripts, task, amount);
-            let_go(agent);
+            drop(agent);
             outcome
         }
         Err(ConfigError::OutOfMemory) => Err(AllocError),

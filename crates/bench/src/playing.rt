@@ -98,15 +98,12 @@ impl Counts {
     }
 }
 
-/// A value that is done with. In a function of every type its drop is one call, which is proved once.
-fn let_go<T: Drop>(_value: T) {}
-
 /// Takes an event; how many datagrams are sent.
 fn sent_at(alloc: Global, agent: &mut Agent, event: &Event) -> Result<u64, AllocError> {
     let mut sent = Vec::new(alloc);
     let outcome = agent.step(event, &mut sent);
     let count = sent.len() as u64;
-    let_go(sent);
+    drop(sent);
     outcome?;
     Ok(count)
 }
@@ -162,7 +159,7 @@ fn take_filled(
 ) -> Result<(), AllocError> {
     let event = filled(alloc, template, filling)?;
     let outcome = take(alloc, agent, day, &event);
-    let_go(event);
+    drop(event);
     outcome
 }
 

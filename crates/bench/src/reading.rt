@@ -68,13 +68,10 @@ fn is_more_done(alloc: Global, message: &Message<'_>, more: More) -> bool {
     }
 }
 
-/// What a task was about, behind it. In a function of every type the drop is one call, and that of a message is proved once.
-fn let_go<T: Drop>(_value: T) {}
-
 /// What there is to do with a message done; it is dropped behind it.
 fn is_whole_done(alloc: Global, message: Message<'_>, more: More) -> bool {
     let is_done = is_more_done(alloc, &message, more);
-    let_go(message);
+    drop(message);
     is_done
 }
 

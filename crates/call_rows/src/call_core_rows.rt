@@ -6,7 +6,7 @@ use call_core::{
     Action, Clash, End, Row, Signal, Standing, clash_at, clash_without_offer, first_row, row_at,
     session_is_direct, session_is_of_its_exchange, spared_call_is_served, status_passed_on,
 };
-use rows::{Output, RowCall, let_go, u16_of};
+use rows::{Output, RowCall, u16_of};
 use std::alloc::AllocError;
 
 fn put_standing(out: &mut Output, standing: Standing) {
@@ -42,7 +42,7 @@ fn put_line(out: &mut Output, row: Result<Option<Row>, AllocError>) {
     match row {
         Ok(Some(row)) => {
             put_row(out, &row);
-            let_go(row);
+            drop(row);
         }
         Ok(None) => out.put("no line"),
         Err(_) => out.no_memory(),

@@ -5,7 +5,7 @@ use call_media::{
     Seat, pairs_needed, ports_to_answerer, ports_to_offerer, seated, seats_are_apart, seats_in_use,
 };
 use port_pool::Pair;
-use rows::{Output, RowCall, let_go, u16_of};
+use rows::{Output, RowCall, u16_of};
 use sdp::{Description, DescriptionError, Media, read_description};
 use std::alloc::AllocError;
 use text::cut;
@@ -109,7 +109,7 @@ fn put_offer_seated(out: &mut Output, call: &RowCall<'_>) {
     match read_description(out.alloc(), call.word(1)) {
         Ok(offer) => {
             put_seated(out, call, offer.media.as_slice());
-            let_go(offer);
+            drop(offer);
         }
         Err(fault) => put_fault(out, fault),
     }
@@ -141,7 +141,7 @@ fn put_session_in_use(out: &mut Output, texts: &[&[u8]]) {
     let mut session = out.list();
     push_descriptions(out, &mut session, texts);
     put_in_use(out, &session);
-    let_go(session);
+    drop(session);
 }
 
 /// What a call without words answers, if it is one: that which calls what has a law for its contract.

@@ -8,7 +8,7 @@ use call_trace::{
     has_ended, is_call, is_exchange, is_last, is_live, is_named, is_open, is_passed_on,
     moves_are_promised, moves_keep, relayed_is_promised, replies, standing_is_promised,
 };
-use rows::{Output, RowCall, let_go, number, replace, usize_of};
+use rows::{Output, RowCall, number, replace, usize_of};
 use std::alloc::Global;
 use text::{Texts, cut_word};
 use trace_reading::read_trace_message;
@@ -78,7 +78,7 @@ fn put_dialog_of(out: &mut Output, datagram: &Datagram) {
     match dialog_of(out.alloc(), datagram) {
         Ok(dialog) => {
             put_dialog(out, &dialog);
-            let_go(dialog);
+            drop(dialog);
         }
         Err(_) => out.no_memory(),
     }

@@ -1,7 +1,7 @@
 //! Rows of `trace_reading`.
 
 use call_trace::{Kind, Message};
-use rows::{Output, RowCall, let_go};
+use rows::{Output, RowCall};
 use sip_message::MessageError;
 use trace_reading::{
     bodies_describe, bytes_say_all, dialogs_agree, methods_agree, read_trace_message, replies_agree,
@@ -75,7 +75,7 @@ pub(crate) fn put_of_bytes(out: &mut Output, call: &RowCall<'_>) {
     match read_trace_message(out.alloc(), call.word(0)) {
         Ok(message) => {
             put_message(out, &message);
-            let_go(message);
+            drop(message);
         }
         Err(fault) => put_message_fault(out, fault),
     }

@@ -11,7 +11,7 @@ use call_core::{Call, CallRefusal, Done, End, Input, Signal};
 use dialogs::{Dialog, DialogId, Party};
 use offer_answer::OwnRange;
 use port_pool::Pool;
-use rows::{Output, let_go, u32_of};
+use rows::{Output, u32_of};
 use sdp::{Description, DescriptionError, read_description};
 use sip_uri::{Host, Params, Uri};
 use std::alloc::{AllocError, Global};
@@ -113,7 +113,7 @@ impl WholeCall {
         match outcome {
             Ok(done) => {
                 self.put_done(out, &done);
-                let_go(done);
+                drop(done);
             }
             Err(CallRefusal::OutOfMemory) => out.no_memory(),
             Err(refusal) => self.put_refusal(out, refusal),
@@ -167,7 +167,7 @@ impl WholeCall {
         match described(out.alloc(), body) {
             Ok(Some(offer)) => {
                 self.put_asked(out, &offer);
-                let_go(offer);
+                drop(offer);
             }
             Ok(None) => out.put("no description"),
             Err(_) => out.no_memory(),
@@ -180,7 +180,7 @@ impl WholeCall {
     {
         let outcome = self.take(out.alloc(), &input);
         self.tell(out, outcome);
-        let_go(input);
+        drop(input);
     }
 
     /// What the signal of an offer or an answer does, with the description that comes with it.
@@ -278,7 +278,7 @@ pub(crate) fn put_call_of_words(out: &mut Output, words: &[&[u8]]) {
     match new_call(out.alloc()) {
         Ok(mut call) => {
             call.play(out, words);
-            let_go(call);
+            drop(call);
         }
         Err(_) => out.no_memory(),
     }

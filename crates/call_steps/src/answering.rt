@@ -16,8 +16,6 @@ use sip_uri::Uri;
 use std::alloc::{AllocError, Global};
 use transactions::Transaction;
 
-fn let_go<T: Drop>(_value: T) {}
-
 /// The dialog with the callee that a 2xx makes, where its Contact says where the callee is reached.
 pub(crate) fn callee_dialog(
     alloc: Global,
@@ -45,7 +43,7 @@ fn to_target(dialog: Dialog, target: Uri<'static>) -> Dialog
         local_number,
         remote_number,
     } = dialog;
-    let_go(former);
+    drop(former);
     Dialog {
         id,
         ours,

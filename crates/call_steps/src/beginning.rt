@@ -35,8 +35,6 @@ use sip_message::Request;
 use sip_uri::{Addr, Uri};
 use std::alloc::{AllocError, Global};
 
-fn let_go<T: Drop>(_value: T) {}
-
 /// The request that offers, which is answered with this tag.
 fn first_asker<'m, 'a>(
     request: &'m Request<'a>,
@@ -149,7 +147,7 @@ fn step_of(call: Boxed<StandingCall>, plan: Boxed<Plan>, said: StepMessages) -> 
         answer,
         ack,
     } = said;
-    let_go(answer);
+    drop(answer);
     CallStep {
         change: CallChange::Begins(call, plan),
         dressed: with_made(3, dressed),
@@ -252,8 +250,8 @@ fn begins_none(
 {
     let media = CallMedia::new(calls.begun() + 1, o.range);
     let planned = media.plan_offer(alloc, calls.pool(), End::Caller, offer, o.now);
-    let_go(media);
-    let_go(planned?);
+    drop(media);
+    drop(planned?);
     Ok(CallStep::nothing(alloc))
 }
 

@@ -23,8 +23,6 @@ use std::alloc::{AllocError, Global};
 use text::Text;
 use transactions::Transaction;
 
-fn let_go<T: Drop>(_value: T) {}
-
 /// What the messages in this dialog are dressed with.
 fn fork_scene(o: Occasion, leg: &Dialog) -> Scene<'_, 'static>
     ensures scene { scene_value result ≡ fork_scene o leg.now }
@@ -71,7 +69,7 @@ fn forked(said: StepMessages) -> CallStep
         answer,
         ack,
     } = said;
-    let_go(answer);
+    drop(answer);
     CallStep {
         change: CallChange::Unchanged,
         dressed,
@@ -98,7 +96,7 @@ pub fn fork(
         return Ok(CallStep::nothing(alloc));
     };
     let said = fork_messages(alloc, o, &leg);
-    let_go(leg);
+    drop(leg);
     Ok(forked(said?))
 }
 
@@ -118,7 +116,7 @@ fn with_their_tag(dialog: Dialog, tag: Text<'static>) -> Dialog
         ours: our_tag,
         theirs: former,
     } = id;
-    let_go(former);
+    drop(former);
     Dialog {
         id: DialogId {
             call_id,
@@ -176,6 +174,6 @@ pub fn late_ack(
         return Ok(CallStep::nothing(alloc));
     };
     let said = late_messages(alloc, o, &leg);
-    let_go(leg);
+    drop(leg);
     Ok(forked(said?))
 }

@@ -31,8 +31,6 @@ use port_pool::Pool;
 use std::alloc::{AllocError, Global};
 use transactions::Table;
 
-fn let_go<T: Drop>(_value: T) {}
-
 /// What was planned for a call, and its messages.
 #[derive(Drop)]
 struct PlannedStep {
@@ -109,7 +107,7 @@ fn with_messages(
     match messages_of(alloc, table, o, coming, call, &plan) {
         Ok(said) => Ok(PlannedStep { plan, said }),
         Err(_) => {
-            let_go(plan);
+            drop(plan);
             Err(CallRefusal::OutOfMemory)
         }
     }
@@ -169,7 +167,7 @@ pub(crate) fn takes_at(
             Err(_) => Err(CallRefusal::OutOfMemory),
         },
         Err(refusal) => {
-            let_go(coming);
+            drop(coming);
             Err(refusal)
         }
     }
@@ -203,7 +201,7 @@ pub fn takes(
     match calls.get(place) {
         Some(call) => takes_at(alloc, calls, table, o, place, input, coming, call),
         None => {
-            let_go(coming);
+            drop(coming);
             Ok(CallStep::nothing(alloc))
         }
     }

@@ -12,8 +12,6 @@ use crate::state::Calls;
 use crate::tags::prints_of;
 use events::Sent;
 
-fn let_go<T: Drop>(_value: T) {}
-
 fn put_leg_in(call: &mut StandingCall, leg: Option<LegDialog>)
     ensures call { call.new ≡ with_leg leg call.old }
     ensures serves { (pool : Contents) → IsServed call.old.call pool → IsServed call.new.call pool }
@@ -82,7 +80,7 @@ impl Calls {
         ensures timers { self.new.timers ≡ self.old.timers }
     {
         if place >= self.calls.len() {
-            return let_go(leg);
+            return drop(leg);
         }
         let LegDialog { end, dialog } = leg;
         self.calls[place].call.put_dialog(end, dialog.into_inner());

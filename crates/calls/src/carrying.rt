@@ -22,8 +22,6 @@ use call_core::{Done, Plan, spared_call_is_served};
 use port_pool::{Change, Pool};
 use std::alloc::Global;
 
-fn let_go<T: Drop>(_value: T) {}
-
 /// A plan carried out by a call.
 fn carry_out_in(
     call: &mut StandingCall,
@@ -42,7 +40,7 @@ fn carry_out_in(
     ensures spares { SparesOthers call.old.call.number pool.old pool.new }
 {
     let Done { actions, changes } = call.call.carry_out(alloc, plan.into_inner(), pool, now);
-    let_go(actions);
+    drop(actions);
     changes
 }
 
@@ -80,7 +78,7 @@ fn take_off(calls: &mut Vec<StandingCall>, tags: &mut Vec<TagPrints>, place: usi
     ensures noted { tags.new.items ≡ map prints_of calls.new.items }
 {
     if calls[place].call.standing().is_none() {
-        let_go(calls.remove(place));
+        drop(calls.remove(place));
         tags.remove(place);
     }
 }
@@ -122,7 +120,7 @@ fn begin_in(
 {
     let changes = carry_out_in(&mut call, alloc, plan, pool, now);
     if call.call.standing().is_none() {
-        let_go(call);
+        drop(call);
         return changes;
     }
     put_behind(calls, tags, call);
@@ -151,8 +149,8 @@ impl Calls {
     {
         spared_call_is_served();
         if place >= self.calls.len() {
-            let_go(kept);
-            let_go(plan);
+            drop(kept);
+            drop(plan);
             return Vec::new(alloc);
         }
         let number = self.calls[place].call.number();

@@ -111,7 +111,7 @@ fn place_by_number(calls: &[StandingCall], number: u64) -> Option<usize>
     calls.iter().position(|call| has_number(call, number))
 }
 
-/// The same, where a tag that has the print of a request's To is looked for first.
+/// The place that `place_by_end` gives; a tag that has the print of the request's To is looked for first.
 fn first_of_end(
     calls: &[StandingCall],
     tags: &[TagPrints],
@@ -129,7 +129,7 @@ fn first_of_end(
     }
 }
 
-/// The same, where a tag of this print is looked for first.
+/// The place that `place_by_tag` gives; a tag of its print is looked for first.
 fn first_of_tag(calls: &[StandingCall], tags: &[TagPrints], tag: &[u8]) -> Option<usize>
     requires { tags.now ≡ map prints_of calls.now }
     ensures { result ≡ place_by_tag tag.now calls.now }

@@ -3,7 +3,7 @@
 use crate::calls::{Asked, CALLS, put_of_dialog};
 use crate::messages::put_fault;
 use dialogs::{Dialog, contact_uri, contacts_are_read, dialogs_are_sound, invites_name_a_contact};
-use rows::{Output, RowCall, let_go};
+use rows::{Output, RowCall};
 use sip_message::{Message, MessageError, Parts, Request, Response, read_message};
 use std::alloc::{AllocError, Global};
 
@@ -82,7 +82,7 @@ impl History {
         match read_message(out.alloc(), taken) {
             Ok(message) => {
                 self.begin_with_second(out, sent, &message);
-                let_go(message);
+                drop(message);
             }
             Err(fault) => put_fault(out, fault),
         }
@@ -133,7 +133,7 @@ impl History {
         match read_message(out.alloc(), call.word(0)) {
             Ok(message) => {
                 self.begin_with_first(out, &message, call, asked);
-                let_go(message);
+                drop(message);
             }
             Err(fault) => put_fault(out, fault),
         }

@@ -6,7 +6,7 @@ ghost use Rattle.std.specs.List.{list_all};
 use crate::fields::put_given;
 use registrar::Binding;
 use responses::contact_headers;
-use rows::{Output, RowCall, let_go, number};
+use rows::{Output, RowCall, number};
 use sip_uri::{Uri, UriError, read_uri};
 use text::{Text, cut_word};
 
@@ -38,7 +38,7 @@ fn push_word(out: &mut Output, bindings: &mut Vec<Binding>, word: &[u8]) {
     match read_uri(out.alloc(), uri) {
         Ok(uri) => {
             push_binding(out, bindings, &uri, number(moment));
-            let_go(uri);
+            drop(uri);
         }
         Err(fault) => note_fault(out, fault),
     }
@@ -83,5 +83,5 @@ pub(crate) fn put_contacts(out: &mut Output, call: &RowCall<'_>) {
     let words = call.words_from(1);
     let bindings = bindings_of(out, words);
     put_of_words(out, &bindings, call.number(0), words.len());
-    let_go(bindings);
+    drop(bindings);
 }

@@ -4,7 +4,7 @@ use crate::messages::put_of_message;
 use crate::requests::put_from_server;
 use crate::texts::{put_dialog, put_refusal};
 use dialogs::{Dialog, Method};
-use rows::{Entry, Output, RowCall, beside, let_go};
+use rows::{Entry, Output, RowCall, beside};
 use sip_uri::{Uri, UriError, read_uri};
 
 /// What a row of `dialogs` asks for.
@@ -90,7 +90,7 @@ fn put_refreshed(out: &mut Output, dialog: &mut Dialog, call: &RowCall<'_>) {
     match read_uri(out.alloc(), call.word(0)) {
         Ok(target) => {
             put_retargeted(out, dialog, &target);
-            let_go(target);
+            drop(target);
         }
         Err(fault) => put_fault(out, fault),
     }
@@ -100,7 +100,7 @@ fn put_copied(out: &mut Output, dialog: &Dialog) {
     match dialog.copy(out.alloc()) {
         Ok(copy) => {
             put_dialog(out, &copy);
-            let_go(copy);
+            drop(copy);
         }
         Err(_) => out.no_memory(),
     }

@@ -1,6 +1,6 @@
 //! Header fields as a row writes them.
 
-use rows::{Output, let_go};
+use rows::Output;
 use sip_message::{FieldValue, Header};
 use std::alloc::AllocError;
 use text::{cut, trimmed};
@@ -49,7 +49,7 @@ pub(crate) fn put_given(out: &mut Output, fields: Result<Vec<Header<'static>>, A
     match fields {
         Ok(fields) => {
             put_fields(out, &fields);
-            let_go(fields);
+            drop(fields);
         }
         Err(_) => out.no_memory(),
     }

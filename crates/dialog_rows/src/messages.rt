@@ -3,7 +3,7 @@
 use crate::calls::Asked;
 use crate::texts::{put_refusal, put_uri};
 use dialogs::{Dialog, contact_uri};
-use rows::{Output, RowCall, let_go};
+use rows::{Output, RowCall};
 use sip_message::{Message, MessageError, Request, Response, read_message};
 use sip_uri::Uri;
 
@@ -27,7 +27,7 @@ fn put_uri_or_none(out: &mut Output, uri: Option<Uri<'_>>) {
     match uri {
         Some(uri) => {
             put_uri(out, "", &uri);
-            let_go(uri);
+            drop(uri);
         }
         None => out.put("none"),
     }
@@ -77,7 +77,7 @@ pub(crate) fn put_of_message(
     match read_message(out.alloc(), call.word(0)) {
         Ok(message) => {
             put_of_kind(out, dialog, &message, asked);
-            let_go(message);
+            drop(message);
         }
         Err(fault) => put_fault(out, fault),
     }

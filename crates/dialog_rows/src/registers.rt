@@ -5,7 +5,7 @@ ghost use Rattle.std.specs.Prelude.{◌≡◌, ◌∷◌, [], codes, IfOk};
 use crate::texts::{put_labelled, put_number, put_uri};
 use registrar::{Contact, Register, Registrar};
 use responses::register_of;
-use rows::{Output, let_go};
+use rows::Output;
 use sip_message::Request;
 use std::alloc::{AllocError, Global};
 use text::{Text, Texts};
@@ -60,7 +60,7 @@ fn put_register_of(out: &mut Output, office: &Registrar, request: &Request<'_>) 
     match register_of(out.alloc(), office, request) {
         Ok(register) => {
             put_parts(out, &register);
-            let_go(register);
+            drop(register);
         }
         Err(_) => out.no_memory(),
     }
@@ -71,7 +71,7 @@ pub(crate) fn put_register(out: &mut Output, request: &Request<'_>) {
     match office(out.alloc()) {
         Ok(office) => {
             put_register_of(out, &office, request);
-            let_go(office);
+            drop(office);
         }
         Err(_) => out.no_memory(),
     }

@@ -7,7 +7,7 @@ use crate::response_calls::Asked;
 use responses::{
     has_fit_branch, has_header, is_declined_method, is_method, is_offered_method, response_with,
 };
-use rows::{Output, RowCall, address_of, let_go, u16_of};
+use rows::{Output, RowCall, address_of, u16_of};
 use sip_message::{Message, MessageError, Parts, Request, read_message};
 
 /// The response to the source, with the status and the tag of the call, and the header fields of its further words, as it is sent.
@@ -22,7 +22,7 @@ fn put_response(out: &mut Output, parts: &Parts<'_>, call: &RowCall<'_>) {
         &further,
     );
     out.put_written(bytes);
-    let_go(further);
+    drop(further);
 }
 
 /// What a call that is answered by yes or no says of a request.
@@ -57,7 +57,7 @@ pub(crate) fn put_of_bytes(out: &mut Output, call: &RowCall<'_>, asked: Asked) {
     match read_message(out.alloc(), call.word(0)) {
         Ok(message) => {
             put_of_message(out, &message, call, asked);
-            let_go(message);
+            drop(message);
         }
         Err(fault) => put_fault(out, fault),
     }

@@ -4,7 +4,7 @@ use crate::calls::{Asked, method_of};
 use crate::fields::fields_of;
 use crate::texts::put_refusal;
 use dialogs::{Dialog, Extras, Method};
-use rows::{Output, RowCall, let_go};
+use rows::{Output, RowCall};
 use sip_message::Via;
 use sip_uri::Addr;
 use sip_writing::server_via;
@@ -35,7 +35,7 @@ fn put_next_with(out: &mut Output, dialog: &mut Dialog, method: Method, extras: 
         Ok(next) => {
             out.put_shown(next.bytes.as_bytes());
             dialog.keep_number(next.number);
-            let_go(next);
+            drop(next);
         }
         Err(fault) => put_refusal(out, fault),
     }
@@ -58,7 +58,7 @@ fn put_next_of<'m, 'a>(
         body,
     };
     put_next_with(out, dialog, method, &extras);
-    let_go(further);
+    drop(further);
 }
 
 fn put_next<'m, 'a>(
@@ -108,7 +108,7 @@ pub(crate) fn put_from_server(
     match server_via(out.alloc(), SERVER, b"2.7") {
         Ok(via) => {
             put_through(out, dialog, &via, call, asked);
-            let_go(via);
+            drop(via);
         }
         Err(_) => out.no_memory(),
     }

@@ -5,7 +5,7 @@ use crate::fields::{fields_of, put_given};
 use crate::refusals::{put_headers, put_status};
 use crate::request_calls::put_of_bytes;
 use responses::{STATELESS, allow_header, token, unsupported_header};
-use rows::{ANY, Entry, Output, RowCall, let_go};
+use rows::{ANY, Entry, Output, RowCall};
 
 /// What a row of `responses` asks for.
 #[derive(Clone, Copy)]
@@ -60,7 +60,7 @@ fn put_unsupported(out: &mut Output, words: &[&[u8]]) {
     let fields = fields_of(out, words);
     let headers = unsupported_header(out.alloc(), &fields);
     put_given(out, headers);
-    let_go(fields);
+    drop(fields);
 }
 
 /// Which header fields are given, or else what a call on a request answers.

@@ -7,7 +7,7 @@ use call_core::Action;
 use dialogs::Dialog;
 use events::Sent;
 use legs::{Asker, Dressed, Scene, new_leg};
-use rows::{Output, RowCall, let_go};
+use rows::{Output, RowCall};
 use sdp::{Description, DescriptionError, read_description};
 use sip_message::{Message, MessageError, Parts, read_message};
 use sip_uri::{Addr, Uri, read_uri};
@@ -99,7 +99,7 @@ fn push_leg_to_callee(
     match read_uri(out.alloc(), CALLEE) {
         Ok(target) => {
             push_leg(out, legs, caller, &target, call);
-            let_go(target);
+            drop(target);
         }
         Err(_) => out.no_memory(),
     }
@@ -209,7 +209,7 @@ fn put_actions(out: &mut Output, scene: &Scene<'_, '_>, actions: &[Action])
     match scene.dress(out.alloc(), scene.tokens, actions) {
         Ok(dressed) => {
             put_dressed(out, &dressed);
-            let_go(dressed);
+            drop(dressed);
         }
         Err(_) => out.no_memory(),
     }
@@ -235,7 +235,7 @@ fn put_with(out: &mut Output, cast: &Cast<'_>, call: &RowCall<'_>, words: &[&[u8
 fn dress(out: &mut Output, call: &RowCall<'_>, words: &[&[u8]]) {
     let cast = cast_of(out, call);
     put_with(out, &cast, call, words);
-    let_go(cast);
+    drop(cast);
 }
 
 fn put_dress(out: &mut Output, call: &RowCall<'_>) {

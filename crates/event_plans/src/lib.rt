@@ -3,7 +3,6 @@
 #![tactic(auto)]
 
 mod due;
-mod letting_go;
 mod rows;
 mod rules;
 mod unread;

@@ -8,7 +8,6 @@ ghost use Rattle.plans.specs.CallRows.{of_plan};
 ghost use Rattle.checks.specs.Rows.{datagram_row, fit_row, is_unreachable_message, parts_of, read_row, received, received_by, request_by, response_by, rule_row, what_row};
 
 use crate::due::due_row;
-use crate::letting_go::let_go;
 use crate::rules::request_rule;
 use crate::unread::{unfit_branch, unread_row};
 use call_rules::is_unreachable;
@@ -226,7 +225,7 @@ fn datagram_row(office: &Office<'_>, e: Setting, bytes: &[u8]) -> Result<Doing, 
     match read_message(office.alloc, bytes) {
         Ok(message) => {
             let doing = read_row(office, e, &message);
-            let_go(message);
+            drop(message);
             doing
         }
         Err(fault) => Ok(Doing::alone(unread_row(office.alloc, e, bytes, fault)?)),

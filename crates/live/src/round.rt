@@ -49,8 +49,6 @@ pub struct Signalling<W> {
     pub buffer: Vec<u8>,
 }
 
-fn let_go<T: Drop>(_value: T) {}
-
 /// Room for one datagram, and one byte more.
 pub fn datagram_buffer(alloc: Global) -> Result<Vec<u8>, AllocError> {
     vec![in alloc; 0; BUFFER]
@@ -103,7 +101,7 @@ impl<W: Wire> Signalling<W> {
             &mut self.wire,
             &event,
         );
-        let_go(event);
+        drop(event);
         turned
     }
 
@@ -163,8 +161,8 @@ impl<W: Wire> Signalling<W> {
             buffer,
         } = self;
         board.close(rt);
-        let_go(agent);
-        let_go(wire);
-        let_go(buffer);
+        drop(agent);
+        drop(wire);
+        drop(buffer);
     }
 }

@@ -64,8 +64,6 @@ fn publish<R: Wait>(
     board.publish(rt, alloc, changes)
 }
 
-fn let_go<T: Drop>(_value: T) {}
-
 /// The agent takes an event; then the changes of its relay table are published as one list; then what it sends goes out in
 /// order. A send that fails loses that datagram alone. It waits for look-ups in the table to end.
 pub fn live_turn<W: Wire, R: Wait>(
@@ -82,14 +80,14 @@ pub fn live_turn<W: Wire, R: Wait>(
 {
     let mut sends = Vec::new(alloc);
     let Ok(taken) = agent.step(event, &mut sends) else {
-        let_go(sends);
+        drop(sends);
         return Turned::Lost;
     };
     if publish(rt, alloc, board, agent.changes()).is_err() {
-        let_go(sends);
+        drop(sends);
         return Turned::Behind;
     }
     let failed = send_all(wire, &sends);
-    let_go(sends);
+    drop(sends);
     Turned::Done(taken, failed)
 }

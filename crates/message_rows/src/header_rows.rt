@@ -1,7 +1,7 @@
 //! Rows of header fields alone: `Headers`, and how they are looked up.
 
 use crate::message_texts::{put_contacts, put_headers, put_value};
-use rows::{Output, RowCall, let_go};
+use rows::{Output, RowCall};
 use sip_message::{FieldValue, Header, Headers, contact_values, first_value, values_named};
 use sip_uri::{Param, put_param};
 use sip_writing::tag_param;
@@ -45,13 +45,13 @@ fn put_added(out: &mut Output, words: &[&[u8]]) {
     add_two(out, &mut headers);
     let headers = headers.into_vec();
     put_headers(out, &headers);
-    let_go(headers);
+    drop(headers);
 }
 
 fn put_listed(out: &mut Output, words: &[&[u8]]) {
     let headers = Headers::from_vec(headers_of(out, words));
     put_headers(out, headers.as_slice());
-    let_go(headers);
+    drop(headers);
 }
 
 fn put_each_value_or_none(out: &mut Output, values: &[&FieldValue<'_>]) {
@@ -92,7 +92,7 @@ fn put_by(out: &mut Output, call: &RowCall<'_>, headers: &[Header<'_>]) {
 fn put_named_of(out: &mut Output, call: &RowCall<'_>, words: &[&[u8]]) {
     let headers = headers_of(out, words);
     put_by(out, call, &headers);
-    let_go(headers);
+    drop(headers);
 }
 
 /// What a call on the header fields with a name answers, of which the first word is.
@@ -107,7 +107,7 @@ fn put_contact_values(out: &mut Output, words: &[&[u8]]) {
     let headers = headers_of(out, words);
     let values = contact_values(out.alloc(), &headers);
     put_contacts(out, values);
-    let_go(headers);
+    drop(headers);
 }
 
 fn put_shown_param(out: &mut Output, param: &Param<'_>) {
@@ -120,7 +120,7 @@ fn put_tag_of(out: &mut Output, tag: &[u8]) {
     match tag_param(out.alloc(), tag) {
         Ok(param) => {
             put_shown_param(out, &param);
-            let_go(param);
+            drop(param);
         }
         Err(_) => out.no_memory(),
     }

@@ -6,7 +6,7 @@ use crate::machines::timer_kind;
 use crate::message_texts::put_labelled;
 use crate::table_texts::{PLACE, put_before, put_id, put_refusal, put_verdict};
 use crate::words_rows::put_request;
-use rows::{Output, RowCall, address_of, let_go, replace};
+use rows::{Output, RowCall, address_of, replace};
 use sip_message::{Message, Request, Response};
 use sip_uri::Addr;
 use std::alloc::Global;
@@ -58,7 +58,7 @@ fn put_request_or_none(out: &mut Output, request: Option<Request<'_>>) {
     match request {
         Some(request) => {
             put_request(out, &request);
-            let_go(request);
+            drop(request);
         }
         None => out.put("none"),
     }
@@ -138,7 +138,7 @@ impl History {
         match self.table.receive(message, place_in(call), moment(call, 1)) {
             Ok(reception) => {
                 self.put_reception(out, &reception);
-                let_go(reception);
+                drop(reception);
             }
             Err(fault) => put_refusal(out, fault),
         }
@@ -148,7 +148,7 @@ impl History {
         match self.table.start(request, place_in(call), moment(call, 1)) {
             Ok(started) => {
                 self.put_started(out, &started);
-                let_go(started);
+                drop(started);
             }
             Err(_) => out.no_memory(),
         }
@@ -185,7 +185,7 @@ impl History {
         match self.table.answer(call.place(1), response, moment(call, 2)) {
             Ok(send) => {
                 self.put_send(out, &send);
-                let_go(send);
+                drop(send);
             }
             Err(fault) => put_refusal(out, fault),
         }
@@ -202,7 +202,7 @@ impl History {
         match self.table.fire(timer, moment(call, 2)) {
             Ok(fired) => {
                 self.put_fired(out, &fired);
-                let_go(fired);
+                drop(fired);
             }
             Err(fault) => put_refusal(out, fault),
         }

@@ -4,7 +4,7 @@ use crate::history::{History, put_laws};
 use crate::machines::put_advance;
 use crate::message_texts::put_fault;
 use crate::table_texts::{put_filled, put_id, put_moment, put_timer};
-use rows::{Entry, Output, RowCall, let_go};
+use rows::{Entry, Output, RowCall};
 use sip_message::{Message, Request, Response, read_message};
 use transactions::Table;
 
@@ -127,7 +127,7 @@ impl History {
         match read_message(out.alloc(), call.word(0)) {
             Ok(message) => {
                 self.put_of_message(out, &message, call, asked);
-                let_go(message);
+                drop(message);
             }
             Err(fault) => put_fault(out, fault),
         }

@@ -14,7 +14,7 @@ mod words_rows;
 
 use crate::history::History;
 use crate::torture::tell_outcome;
-use rows::{Output, RowCall, Rows, let_go, outcome_after, play_lines};
+use rows::{Output, RowCall, Rows, outcome_after, play_lines};
 use std::{env, io};
 
 impl Rows for History {
@@ -37,7 +37,7 @@ fn play_rows<R: Input + Print + AllocGlobal>(rt: &R) -> io::Result<()> {
 fn main(rt: HostRuntime) -> io::Result<()> {
     play_rows(&rt)?;
     let mut names = env::args(&rt)?;
-    let_go(names.next());
+    drop(names.next());
     for name in names {
         tell_outcome(&rt, name.as_str())?;
     }

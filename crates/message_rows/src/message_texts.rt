@@ -1,6 +1,6 @@
 //! Messages and their parts as a row writes them.
 
-use rows::{Output, let_go};
+use rows::Output;
 use sip_message::{
     ContactValue, FieldValue, Header, Message, MessageError, Parts, Request, Response, Via,
 };
@@ -196,7 +196,7 @@ pub(crate) fn put_contacts(out: &mut Output, contacts: Result<Vec<ContactValue<'
     match contacts {
         Ok(contacts) => {
             put_contacts_of(out, &contacts);
-            let_go(contacts);
+            drop(contacts);
         }
         Err(_) => out.no_memory(),
     }

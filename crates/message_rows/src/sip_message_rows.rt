@@ -5,7 +5,7 @@ use crate::message_texts::{
     headers_in, parts_in, put_contacts, put_fault, put_headers, put_message, put_parts, put_vias,
 };
 use crate::words_rows::{put_of_request, put_request, put_words};
-use rows::{Output, RowCall, let_go};
+use rows::{Output, RowCall};
 use sip_message::{
     Message, Parts, Response, Via, Vias, answerable, contacts, one_message, read_message,
 };
@@ -35,7 +35,7 @@ fn put_reply_with(out: &mut Output, parts: &Parts<'_>, source: Addr, status: u16
     match reply_to(out.alloc(), parts, source, status, tag) {
         Ok(response) => {
             put_response(out, &response);
-            let_go(response);
+            drop(response);
         }
         Err(_) => out.no_memory(),
     }
@@ -55,7 +55,7 @@ fn put_kept(out: &mut Output, message: &Message<'_>) {
     match message.keep(out.alloc()) {
         Ok(kept) => {
             put_whole(out, &kept);
-            let_go(kept);
+            drop(kept);
         }
         Err(_) => out.no_memory(),
     }
@@ -74,7 +74,7 @@ fn put_found_or_nothing(out: &mut Output, parts: Option<Parts<'_>>, call: &RowCa
     match parts {
         Some(parts) => {
             put_of_found(out, &parts, call);
-            let_go(parts);
+            drop(parts);
         }
         None => out.put("nothing"),
     }
@@ -91,7 +91,7 @@ fn put_via_headers(out: &mut Output, vias: &[Via<'_>]) {
     match via_headers(out.alloc(), vias) {
         Ok(headers) => {
             put_headers(out, headers.as_slice());
-            let_go(headers);
+            drop(headers);
         }
         Err(_) => out.no_memory(),
     }
@@ -101,7 +101,7 @@ fn put_via_headers(out: &mut Output, vias: &[Via<'_>]) {
 fn put_relisted(out: &mut Output, vias: Vias<'_>) {
     let vias = Vias::from_vec(vias.into_vec());
     put_vias(out, vias.as_slice());
-    let_go(vias);
+    drop(vias);
 }
 
 /// The same of a copy of these.
@@ -121,7 +121,7 @@ fn put_kept_parts(out: &mut Output, parts: &Parts<'_>) {
     match parts.keep(out.alloc()) {
         Ok(parts) => {
             put_parts(out, &parts);
-            let_go(parts);
+            drop(parts);
         }
         Err(_) => out.no_memory(),
     }
@@ -205,7 +205,7 @@ fn put_of_bytes(out: &mut Output, call: &RowCall<'_>) {
     match read_message(out.alloc(), call.word(0)) {
         Ok(message) => {
             put_of_message(out, &message, call);
-            let_go(message);
+            drop(message);
         }
         Err(fault) => put_fault(out, fault),
     }

@@ -1,7 +1,7 @@
 //! Rows of words on messages, and of requests that are built.
 
 use crate::message_texts::{headers_in, parts_in, put_labelled};
-use rows::{Output, RowCall, let_go};
+use rows::{Output, RowCall};
 use sip_message::{
     Class, Header, Message, Parts, Request, Via, class_of, content_type, is_method, tag_text,
     top_branch,
@@ -92,7 +92,7 @@ fn put_draft(out: &mut Output, draft: &Draft<'_, '_>) {
     match build_request(out.alloc(), draft) {
         Ok(built) => {
             put_request(out, &built);
-            let_go(built);
+            drop(built);
         }
         Err(_) => out.no_memory(),
     }
@@ -155,7 +155,7 @@ fn put_built<'m, 'a>(out: &mut Output, request: &'m Request<'a>, via: &'m Via<'a
     push_end(out, &mut ends, &request.parts.from, tag);
     push_end(out, &mut ends, &request.parts.to, b"");
     put_between_ends(out, request, via, &ends);
-    let_go(ends);
+    drop(ends);
 }
 
 fn end_of<'m, 'a>(name: &'m NameAddr<'a>, tag: &'m [u8]) -> EndName<'m, 'a> {
@@ -220,7 +220,7 @@ fn put_from_server(out: &mut Output, request: &Request<'_>, call: &RowCall<'_>) 
     match server_via(out.alloc(), call.address(1), call.word(2)) {
         Ok(via) => {
             put_through_via(out, request, &via, call);
-            let_go(via);
+            drop(via);
         }
         Err(_) => out.no_memory(),
     }

@@ -35,8 +35,6 @@ pub(crate) struct Telephony<'a, R> {
     pub(crate) request: Option<(Snapshot<Config>, Option<u64>)>,
 }
 
-fn let_go<T: Drop>(_value: T) {}
-
 fn host_fault(error: io::Error) -> HostFault {
     if error.kind() == io::ErrorKind::OutOfMemory {
         HostFault::OutOfMemory
@@ -70,7 +68,7 @@ fn workers_of(
         match Worker::new(alloc, viewer, socket) {
             Ok(worker) => workers.push(worker)?,
             Err(refused) => {
-                let_go(refused);
+                drop(refused);
                 return Err(AllocError);
             }
         }
@@ -90,12 +88,12 @@ fn signalling_of(
     ensures { IfOk result (λ s. HasTable s.board s.agent) }
 {
     let Ok(agent) = Agent::new(alloc, config) else {
-        let_go(sip);
+        drop(sip);
         return Err((board, HostFault::OutOfMemory));
     };
     let Ok(buffer) = datagram_buffer(alloc) else {
-        let_go(agent);
-        let_go(sip);
+        drop(agent);
+        drop(sip);
         return Err((board, HostFault::OutOfMemory));
     };
     Ok(Signalling {
@@ -134,7 +132,7 @@ fn relay_media<R: Threads + Wait + Sync>(
     stop.store(true, Ordering::SeqCst);
     match served {
         Ok(workers) => {
-            let_go(workers);
+            drop(workers);
             false
         }
         Err(_) => true,

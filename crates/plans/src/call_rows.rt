@@ -16,7 +16,6 @@ ghost use Rattle.plans.specs.declared.rule.CallRule.TheVariants as rules;
 ghost use Rattle.plans.specs.Replies.{responds_in};
 
 use crate::doing::{Before, Doing};
-use crate::letting_go::let_go;
 use crate::office::Office;
 use crate::plan::Plan;
 use crate::rule::CallRule;
@@ -116,7 +115,7 @@ impl<'o> Office<'o> {
         ensures fits { IfOk result (Fits self.now.calls e.now) }
     {
         let doing = self.takes(e, before, place, &input, None);
-        let_go(input);
+        drop(input);
         doing
     }
 
@@ -194,7 +193,7 @@ impl<'o> Office<'o> {
         ensures fits { IfOk result (Fits self.now.calls e.now) }
     {
         if self.are_full() {
-            let_go(step);
+            drop(step);
             return self.refuses(e, request, begun, id, 503);
         }
         Doing::of_step(Before::alone(begun), step)
@@ -251,7 +250,7 @@ impl<'o> Office<'o> {
             return self.refuses(e, request, begun, id, 488);
         };
         let doing = self.first_by(e, request, begun, id, target, &offer);
-        let_go(offer);
+        drop(offer);
         doing
     }
 
@@ -339,7 +338,7 @@ impl<'o> Office<'o> {
         )?;
         let bye = Input::Bye(end);
         let doing = self.takes_request(e, request, begun, id, place, &bye, leg, STATELESS);
-        let_go(bye);
+        drop(bye);
         doing
     }
 

@@ -11,7 +11,6 @@ ghost use Rattle.plans.specs.Effect.{CanEnter, Fits, acks_after, alone, effect, 
 ghost use Rattle.plans.specs.Plan.{goes};
 
 use crate::acks::{AckChange, KeptAck};
-use crate::letting_go::let_go;
 use crate::plan::{Plan, sends_of};
 use crate::taken::Taken;
 use call_steps::CallStep;
@@ -137,8 +136,8 @@ impl Doing {
                 made,
             }),
             Err(error) => {
-                let_go(change);
-                let_go(ack);
+                drop(change);
+                drop(ack);
                 Err(error)
             }
         }
@@ -201,7 +200,7 @@ fn kept(id: Option<usize>, ack: Option<Sent>) -> AckChange
     match (id, ack) {
         (Some(id), Some(sent)) => AckChange::Keeps(KeptAck { id, sent }),
         (None, ack) => {
-            let_go(ack);
+            drop(ack);
             AckChange::Stay
         }
         (Some(_), None) => AckChange::Stay,

@@ -5,7 +5,6 @@
 mod acks;
 mod call_rows;
 mod doing;
-mod letting_go;
 mod offer_rows;
 mod office;
 mod plan;

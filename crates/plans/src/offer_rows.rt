@@ -14,7 +14,6 @@ ghost use Rattle.plans.specs.CallRows.{clash_reply, content_reply, occasion, off
 ghost use Rattle.plans.specs.Effect.{CanEnter, Fits, effect};
 
 use crate::doing::{Before, Doing};
-use crate::letting_go::let_go;
 use crate::office::Office;
 use crate::plan::Plan;
 use crate::rule::Reply;
@@ -168,7 +167,7 @@ impl<'o> Office<'o> {
     {
         let input = Input::Offer(end, offer_method(request), Some(offer));
         let step = self.offer_step(e, request, id, place, end, &input);
-        let_go(input);
+        drop(input);
         match step {
             Ok(step) => Doing::of_step(Before::alone(begun), step),
             Err(refusal) => match refusal_reply(refusal) {

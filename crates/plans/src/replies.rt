@@ -12,7 +12,6 @@ ghost use Rattle.sip_message.specs.Lookup.{named};
 ghost use Rattle.plans.specs.Replies.{cancels, fresh_tag, not_registered, registers, registers_by, reply_row, responds_in, tag_in, tag_of, tag_sent, tags_made, unsupported};
 ghost use Rattle.plans.specs.Plan.{answers};
 
-use crate::letting_go::let_go;
 use crate::office::Office;
 use crate::plan::Plan;
 use crate::rule::Reply;
@@ -57,7 +56,7 @@ fn tag_in_bytes(alloc: Global, bytes: &[u8]) -> Result<Option<Text<'static>>, Al
     match read_message(alloc, bytes) {
         Ok(message) => {
             let tag = tag_of(alloc, &message);
-            let_go(message);
+            drop(message);
             tag
         }
         Err(MessageError::OutOfMemory) => Err(AllocError),
@@ -166,7 +165,7 @@ impl<'o> Office<'o> {
             &further,
             tags_made(request),
         );
-        let_go(further);
+        drop(further);
         planned
     }
 

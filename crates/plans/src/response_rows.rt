@@ -11,7 +11,6 @@ ghost use Rattle.plans.specs.Effect.{Fits, effect};
 
 use crate::acks::{KeptAck, kept_ack};
 use crate::doing::{Before, Doing};
-use crate::letting_go::let_go;
 use crate::office::Office;
 use crate::plan::Plan;
 use crate::setting::Setting;
@@ -114,7 +113,7 @@ impl<'o> Office<'o> {
         let headers = response.headers.as_slice();
         let answer = Input::Answer(described(self.alloc, headers, response.body.as_bytes())?);
         let doing = self.takes(e, before, place, &answer, leg);
-        let_go(answer);
+        drop(answer);
         doing
     }
 
@@ -266,7 +265,7 @@ impl<'o> Office<'o> {
     {
         let input = timer_input(timer.timer);
         let step = self.step_at(e, place, &input, None, None);
-        let_go(input);
+        drop(input);
         let step = step?;
         let before = Before::alone(Vec::new(self.alloc));
         Doing::of_fired_step(Some(timer), before, step)

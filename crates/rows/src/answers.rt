@@ -3,9 +3,6 @@
 
 ghost use Rattle.std.specs.Prelude.{◌≡◌};
 
-/// Lets a value go.
-pub fn let_go<T: Drop>(_value: T) {}
-
 /// What was found out about a value, which is let go behind it.
 pub fn outcome_after<T: Drop, R>(_value: T, outcome: R) -> R
     ensures { result ≡ outcome }

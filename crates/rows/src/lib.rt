@@ -12,7 +12,7 @@ mod row_call;
 mod words;
 
 pub use crate::addresses::address_of;
-pub use crate::answers::{let_go, outcome_after, replace};
+pub use crate::answers::{outcome_after, replace};
 pub use crate::notation::{Notation, number, u16_of, u32_of, usize_of};
 pub use crate::output::Output;
 pub use crate::playing::{Rows, play_lines};

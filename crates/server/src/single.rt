@@ -58,8 +58,6 @@ fn sends_at(alloc: Global, agent: &mut Agent, event: &Event) -> Result<Vec<Sent>
     Ok(sent)
 }
 
-fn let_go<T: Drop>(_value: T) {}
-
 /// What the example office sends for a datagram.
 fn sent_for(alloc: Global, datagram: Vec<u8>) -> Result<Vec<Sent>, Fault>
     ensures sent { IfOk result (λ sent. SendsFor datagram.items sent.items) }
@@ -68,8 +66,8 @@ fn sent_for(alloc: Global, datagram: Vec<u8>) -> Result<Vec<Sent>, Fault>
     let mut agent = example_agent(alloc)?;
     let event = single(datagram);
     let sent = sends_at(alloc, &mut agent, &event);
-    let_go(event);
-    let_go(agent);
+    drop(event);
+    drop(agent);
     Ok(sent?)
 }
 

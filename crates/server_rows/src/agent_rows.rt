@@ -15,7 +15,7 @@ use crate::printed::Printed;
 use crate::receiving::put_receives;
 use crate::serving::put_salts;
 use events::Event;
-use rows::{beside, let_go};
+use rows::beside;
 use scripts::{ScriptError, read_script};
 use std::alloc::{AllocError, Global};
 use std::fs::Files;
@@ -168,7 +168,7 @@ fn put_script<R: Files + Wait + AllocGlobal>(
 ) -> io::Result<()> {
     let events = events_of(rt, script_name(asked, first, rest))?;
     put_events(rt, out, asked, &events, rest);
-    let_go(events);
+    drop(events);
     Ok(())
 }
 

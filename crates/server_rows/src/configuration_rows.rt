@@ -2,7 +2,7 @@
 
 use crate::words::joined;
 use configuration::{Config, ConfigError, check, example_config, read_config};
-use rows::{Output, let_go, u16_of, u32_of, word};
+use rows::{Output, u16_of, u32_of, word};
 use sip_uri::{Addr, ip4};
 use text::{Text, Texts};
 
@@ -78,7 +78,7 @@ pub(crate) fn put_file(out: &mut Output, pieces: &[&[u8]]) {
     match read_config(out.alloc(), &file) {
         Ok(config) => {
             put_config(out, &config);
-            let_go(config);
+            drop(config);
         }
         Err(fault) => put_fault(out, fault),
     }
@@ -96,7 +96,7 @@ pub(crate) fn put_example(out: &mut Output) {
     match example_config(out.alloc()) {
         Ok(config) => {
             put_if_kept(out, &config);
-            let_go(config);
+            drop(config);
         }
         Err(_) => out.no_memory(),
     }
@@ -161,5 +161,5 @@ fn put_outcome(out: &mut Output, outcome: Result<(), ConfigError>) {
 pub(crate) fn put_checked(out: &mut Output, args: &[&[u8]]) {
     let config = config_of(out, args);
     put_outcome(out, check(&config));
-    let_go(config);
+    drop(config);
 }

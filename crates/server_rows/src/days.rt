@@ -6,7 +6,6 @@ use crate::state_text::put_calls;
 use agent::{Agent, Tally};
 use events::Event;
 use port_pool::{Change, RelayTable};
-use rows::let_go;
 
 // ---- how events were answered, and when the next timer is due
 
@@ -85,7 +84,7 @@ fn play_event(out: &mut Printed, changed: &mut Printed, agent: &mut Agent, event
     }
     out.put_sent(&sent);
     put_changes(changed, event.now, agent.changes());
-    let_go(sent);
+    drop(sent);
 }
 
 fn play_events(out: &mut Printed, agent: &mut Agent, events: &[Event]) {
@@ -112,7 +111,7 @@ pub(crate) fn put_day(out: &mut Printed, events: &[Event]) {
     match new_agent(out.alloc(), false) {
         Ok(mut agent) => {
             put_played(out, &mut agent, events);
-            let_go(agent);
+            drop(agent);
         }
         Err(_) => out.no_memory(),
     }

@@ -23,7 +23,7 @@ mod words;
 
 use crate::agent_rows::play_row;
 use crate::row_calls::{put_answer, what_is_wanted};
-use rows::{Output, RowCall, Rows, let_go, play_lines};
+use rows::{Output, RowCall, Rows, play_lines};
 use std::{env, io};
 
 /// Nothing is left for later rows.
@@ -42,7 +42,7 @@ impl Rows for ServerRows {
 fn main(rt: HostRuntime) -> io::Result<()> {
     play_lines(&rt, &mut ServerRows)?;
     let mut args = env::args(&rt)?;
-    let_go(args.next());
+    drop(args.next());
     for row in args {
         play_row(&rt, row.as_str())?;
     }

@@ -8,7 +8,7 @@ use agent::Agent;
 use configuration::{Config, example_config};
 use live::{Signalling, datagram_buffer, salts_of};
 use relay::{Board, Unopened, Viewer};
-use rows::{let_go, outcome_after};
+use rows::outcome_after;
 use std::alloc::{AllocError, Global};
 use std::sync::Wait;
 use text::both;
@@ -76,7 +76,7 @@ pub(crate) fn new_office<R: Wait>(
             Ok((signalling, viewer))
         }
         Err(error) => {
-            let_go(agent);
+            drop(agent);
             outcome_after(buffer, Err(error))
         }
     }

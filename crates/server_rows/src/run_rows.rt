@@ -3,7 +3,7 @@
 use crate::serve_rows::put_serve_asked;
 use crate::streams::{Hall, SlowReader, TwoFiles, slow};
 use crate::words::{put_count, put_ending, put_shown_or_nothing, put_told};
-use rows::{Output, let_go, word, words_behind};
+use rows::{Output, word, words_behind};
 use server::{Asked, CommandError, Ending, Fault, command, run};
 
 fn push_word<'a>(out: &mut Output, words: &mut Vec<&'a str>, word: &'a [u8]) {
@@ -70,7 +70,7 @@ fn put_run(
     let mut hall = Hall::new(None);
     let ending = run(out.alloc(), &words, files, &mut hall, reader, &mut written);
     put_end(out, ending);
-    let_go(hall);
+    drop(hall);
     written
 }
 

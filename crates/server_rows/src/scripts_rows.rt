@@ -2,7 +2,7 @@
 
 use events::{Event, Sent, What};
 use port_pool::Hop;
-use rows::{Output, address_of, let_go, number, u16_of, word};
+use rows::{Output, address_of, number, u16_of, word};
 use scripts::{ScriptError, put_call, put_hop, put_sent, read_script};
 use text::Text;
 
@@ -51,7 +51,7 @@ pub(crate) fn put_script(out: &mut Output, args: &[&[u8]]) {
     match read_script(out.alloc(), word(args, 0)) {
         Ok(events) => {
             put_events(out, &events);
-            let_go(events);
+            drop(events);
         }
         Err(fault) => put_fault(out, fault),
     }
@@ -72,7 +72,7 @@ pub(crate) fn put_sent_of(out: &mut Output, args: &[&[u8]]) {
                 bytes,
             };
             put_datagram(out, &sent);
-            let_go(sent);
+            drop(sent);
         }
         Err(_) => out.no_memory(),
     }

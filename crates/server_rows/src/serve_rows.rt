@@ -2,7 +2,7 @@
 
 use crate::streams::{Hall, slow};
 use crate::words::{put_count, put_told};
-use rows::{Output, beside, let_go, word};
+use rows::{Output, beside, word};
 use server::{Fault, HostFault, serve};
 
 /// How a host fails, by its words.
@@ -63,5 +63,5 @@ pub(crate) fn put_serve(out: &mut Output, args: &[&[u8]]) {
     let config = slow(word(args, 0), 100, 0);
     let outcome = serve(out.alloc(), config, &mut hall, Some(3));
     put_outcome(out, outcome, &hall);
-    let_go(hall);
+    drop(hall);
 }
