@@ -9,7 +9,7 @@ use call_media::End;
 use thiserror::Error;
 
 /// Why an offer is not passed on, since another is open (RFC 3261 section 14.2, RFC 3311 section 5.2).
-#[derive(Clone, Copy, Debug, PartialEq, Eq, Error)]
+#[derive(Clone, Copy, Debug, Error)]
 pub enum Clash {
     /// It crosses one of the end across, or comes before the ACK of the last 200: 491.
     #[error("K1: offer while another is open")]

@@ -3,7 +3,7 @@
 use call_media::End;
 
 /// The phase of a call.
-#[derive(Clone, Copy, Debug, PartialEq, Eq)]
+#[derive(Clone, Copy)]
 pub enum Phase {
     Asked,
     Cancelling,
@@ -16,7 +16,7 @@ pub enum Phase {
 }
 
 /// The CANCEL of an INVITE inside a call.
-#[derive(Clone, Copy, Debug)]
+#[derive(Clone, Copy)]
 pub enum Cancelled {
     /// The offerer sent none.
     Never,
@@ -27,7 +27,7 @@ pub enum Cancelled {
 }
 
 /// The phase of a call, with what the table asks of it besides.
-#[derive(Clone, Copy, Debug)]
+#[derive(Clone, Copy)]
 pub enum Stage {
     /// The first INVITE was passed on. Whether a provisional response came.
     Asked(bool),

@@ -5,7 +5,7 @@ use std::alloc::AllocError;
 use thiserror::Error;
 
 /// Why an offer is not passed on. Nothing changes then.
-#[derive(Clone, Copy, Debug, PartialEq, Eq, Error)]
+#[derive(Clone, Copy, Debug, Error)]
 pub enum OfferRefusal {
     #[error("out of memory")]
     OutOfMemory,
@@ -29,7 +29,7 @@ impl From<AllocError> for OfferRefusal {
 }
 
 /// Why an answer is not passed on. Nothing changes then.
-#[derive(Clone, Copy, Debug, PartialEq, Eq, Error)]
+#[derive(Clone, Copy, Debug, Error)]
 pub enum AnswerRefusal {
     #[error("out of memory")]
     OutOfMemory,

@@ -7,7 +7,7 @@ use crate::end::End;
 use offer_answer::ServerOrigin;
 
 /// How many descriptions the server sent on each leg of a call.
-#[derive(Clone, Copy, Debug, PartialEq, Eq)]
+#[derive(Clone, Copy)]
 pub struct Versions {
     pub to_caller: u64,
     pub to_callee: u64,

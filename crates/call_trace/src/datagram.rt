@@ -4,14 +4,14 @@ use sdp::Description;
 use text::Text;
 
 /// Whether a datagram came in or went out.
-#[derive(Clone, Copy, Debug, PartialEq, Eq)]
+#[derive(Clone, Copy)]
 pub enum Direction {
     Taken,
     Sent,
 }
 
 /// What a message is (RFC 3261 section 7): a request, or a response with its status.
-#[derive(Clone, Copy, Debug, PartialEq, Eq)]
+#[derive(Clone, Copy)]
 pub enum Kind {
     Request,
     Response(u16),
@@ -71,7 +71,7 @@ impl Drop for Datagram {
 }
 
 /// What names a dialog at this server (RFC 3261 section 12): an absent tag is the empty text.
-#[derive(PartialEq, Eq)]
+
 pub struct Dialog {
     pub call_id: Text<'static>,
     /// The tag that this server gave.

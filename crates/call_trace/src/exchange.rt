@@ -13,7 +13,7 @@ use crate::search::is_last_at;
 use text::{Text, Texts};
 
 /// Where the request and the response of an exchange stand in a trace.
-#[derive(Clone, Copy, Debug, PartialEq, Eq)]
+#[derive(Clone, Copy)]
 pub struct Places {
     pub asked: usize,
     pub answered: usize,

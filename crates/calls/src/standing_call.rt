@@ -9,7 +9,7 @@ use sip_uri::{Addr, Uri};
 use text::Text;
 
 /// The INVITE or UPDATE of an end that was taken as an offer.
-#[derive(Clone, Copy, Debug, PartialEq, Eq)]
+#[derive(Clone, Copy)]
 pub struct OfferRequest {
     /// The number of its transaction.
     pub id: usize,

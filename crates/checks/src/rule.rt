@@ -3,7 +3,7 @@
 use plans::{CallRule, Reply};
 
 /// What is done for a request that begins a transaction.
-#[derive(Clone, Copy, Debug, PartialEq, Eq)]
+#[derive(Clone, Copy)]
 pub enum Rule {
     /// It is answered with a final response, and no call has to do with it.
     Alone(Reply),

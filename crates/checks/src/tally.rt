@@ -7,7 +7,7 @@ use plans::{Taken, Why};
 
 /// How many events were answered how, since the agent was made. A count that has reached 2^64 - 1 stays there. An event that
 /// was lost for want of memory is not counted.
-#[derive(Clone, Copy, Debug, PartialEq, Eq)]
+#[derive(Clone, Copy)]
 pub struct Tally {
     pub done: u64,
     pub unread: u64,

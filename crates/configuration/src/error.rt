@@ -5,7 +5,7 @@ use thiserror::Error;
 
 /// Why a configuration is refused: the first rule, in the order of the variants, that it breaks, or want of memory. Of a file,
 /// `File` comes before them.
-#[derive(Clone, Copy, Debug, PartialEq, Eq, Error)]
+#[derive(Clone, Copy, Debug, Error)]
 pub enum ConfigError {
     #[error("out of memory")]
     OutOfMemory,

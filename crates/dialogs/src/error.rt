@@ -7,7 +7,7 @@ use std::alloc::AllocError;
 use thiserror::Error;
 
 /// Why a dialog refuses a request, or has none to send. The dialog is then as it was.
-#[derive(Clone, Copy, Debug, PartialEq, Eq, Error)]
+#[derive(Clone, Copy, Debug, Error)]
 pub enum DialogError {
     #[error("out of memory")]
     OutOfMemory,

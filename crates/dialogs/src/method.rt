@@ -2,7 +2,7 @@
 
 /// A method of a request of the server's that has a number of its own in a dialog (RFC 3261 sections 14 and 15, RFC 3311). An
 /// ACK has that of its INVITE.
-#[derive(Clone, Copy, Debug, PartialEq, Eq)]
+#[derive(Clone, Copy)]
 pub enum Method {
     Invite,
     Update,

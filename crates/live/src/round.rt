@@ -26,7 +26,7 @@ const BUFFER: usize = 16_385;
 const LONGEST_WAIT: u64 = 100;
 
 /// What a round did.
-#[derive(Clone, Copy, Debug, PartialEq, Eq)]
+#[derive(Clone, Copy)]
 pub enum Round {
     /// A timer was due.
     Fired(Turned),

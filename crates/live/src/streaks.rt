@@ -10,7 +10,7 @@ use crate::turn::Turned;
 const MAX_IN_A_ROW: u32 = 100;
 
 /// Why the signalling ended.
-#[derive(Clone, Copy, Debug, PartialEq, Eq)]
+#[derive(Clone, Copy)]
 pub enum End {
     /// As many rounds were made as were asked for.
     Turns,
@@ -23,7 +23,7 @@ pub enum End {
 }
 
 /// How many receives or waits failed in a row, and how many events were lost in a row.
-#[derive(Clone, Copy, Debug, PartialEq, Eq)]
+#[derive(Clone, Copy)]
 pub struct Streaks {
     pub failed: u32,
     pub lost: u32,

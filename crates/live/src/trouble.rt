@@ -8,7 +8,7 @@ ghost use Rattle.live.specs.declared.trouble.Trouble as declared;
 use crate::streaks::Streaks;
 
 /// A kind of trouble.
-#[derive(Clone, Copy, Debug, PartialEq, Eq)]
+#[derive(Clone, Copy)]
 pub enum Trouble {
     /// A receive or a wait failed, and none before it since one succeeded.
     Socket,

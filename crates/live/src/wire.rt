@@ -9,7 +9,7 @@ use sip_uri::Addr;
 use thiserror::Error;
 
 /// The socket failed. A datagram that was to be sent is lost.
-#[derive(Clone, Copy, Debug, PartialEq, Eq, Error)]
+#[derive(Clone, Copy, Debug, Error)]
 #[error("the socket of the signalling failed")]
 pub struct WireFault;
 

@@ -3,7 +3,7 @@
 use thiserror::Error;
 
 /// Why an offer is refused: the first fault in the order of the variants, after `FewerMedia` medium by medium.
-#[derive(Clone, Copy, Debug, PartialEq, Eq, Error)]
+#[derive(Clone, Copy, Debug, Error)]
 pub enum OfferFault {
     /// The description that this end gave before has more media (RFC 3264 section 8).
     #[error("O1: fewer media")]
@@ -27,7 +27,7 @@ pub enum OfferFault {
 }
 
 /// Why an answer is refused: the first fault in the order of the variants, after `NumberOfMedia` medium by medium.
-#[derive(Clone, Copy, Debug, PartialEq, Eq, Error)]
+#[derive(Clone, Copy, Debug, Error)]
 pub enum AnswerFault {
     /// The answer has not as many media as the offer (RFC 3264 section 6).
     #[error("N1: number of media")]

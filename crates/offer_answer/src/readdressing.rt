@@ -17,7 +17,7 @@ use std::alloc::{AllocError, Global};
 use text::{Text, both, cut, number_text};
 
 /// What the `o=` line of a description of the server's says: `o=- ID VERSION IN IP4 ADDRESS` (RFC 4566 section 5.2).
-#[derive(Clone, Copy, Debug, PartialEq, Eq)]
+#[derive(Clone, Copy)]
 pub struct ServerOrigin {
     pub id: u64,
     pub version: u64,

@@ -3,7 +3,7 @@
 use call_core::End;
 
 /// A final response to a request that no call has to do with.
-#[derive(Clone, Copy, Debug, PartialEq, Eq)]
+#[derive(Clone, Copy)]
 pub enum Reply {
     /// 200 to a CANCEL of the request of this transaction.
     CancelOf(usize),
@@ -26,7 +26,7 @@ pub enum Reply {
 }
 
 /// What a call does for a request. A place is that of the call on the list.
-#[derive(Clone, Copy, Debug, PartialEq, Eq)]
+#[derive(Clone, Copy)]
 pub enum CallRule {
     /// A first INVITE: the callee is asked.
     Begins,

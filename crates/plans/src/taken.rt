@@ -3,7 +3,7 @@
 use sip_message::MessageError;
 
 /// Why an event was dropped: nothing is sent for it.
-#[derive(Clone, Copy, Debug, PartialEq, Eq)]
+#[derive(Clone, Copy)]
 pub enum Why {
     /// The datagram can't be read, and is no request that can be answered. Its first fault.
     Unread(MessageError),
@@ -20,7 +20,7 @@ pub enum Why {
 }
 
 /// What became of an event.
-#[derive(Clone, Copy, Debug, PartialEq, Eq)]
+#[derive(Clone, Copy)]
 pub enum Taken {
     Done,
     Dropped(Why),

@@ -13,7 +13,7 @@ use crate::relay_table::RelayTable;
 use std::alloc::{AllocError, Global};
 
 /// A change of one row of the relay table.
-#[derive(Clone, Copy, Debug, PartialEq, Eq)]
+#[derive(Clone, Copy)]
 pub enum Change {
     /// This port has this row from now on.
     Put(u16, Hop),

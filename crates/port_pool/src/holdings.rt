@@ -15,7 +15,7 @@ const REST: u64 = 32_000;
 
 /// A pair, by its even port, the call that holds it, if any, and the moment at which it was last freed, if it ever was, in
 /// milliseconds.
-#[derive(Clone, Copy, Debug, PartialEq, Eq)]
+#[derive(Clone, Copy)]
 pub(crate) struct Holding {
     pub even: u16,
     pub holder: Option<u64>,

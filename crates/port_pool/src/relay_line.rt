@@ -3,7 +3,7 @@
 use crate::hop::Hop;
 
 /// The row that a port of a call is to have, if any.
-#[derive(Clone, Copy, Debug, PartialEq, Eq)]
+#[derive(Clone, Copy)]
 pub struct RelayLine {
     pub port: u16,
     pub hop: Option<Hop>,

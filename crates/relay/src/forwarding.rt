@@ -6,7 +6,7 @@ use port_pool::RelayTable;
 use sip_uri::Addr;
 
 /// A datagram that goes on: the bytes are those handed in.
-#[derive(Clone, Copy, Debug)]
+#[derive(Clone, Copy)]
 pub struct Out<'a> {
     pub from: u16,
     pub to: Addr,

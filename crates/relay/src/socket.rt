@@ -7,7 +7,7 @@ use sip_uri::Addr;
 use thiserror::Error;
 
 /// A socket failed, and its datagram is lost.
-#[derive(Clone, Copy, Debug, PartialEq, Eq, Error)]
+#[derive(Clone, Copy, Debug, Error)]
 #[error("a socket failed")]
 pub struct SocketFault;
 

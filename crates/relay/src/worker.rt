@@ -12,7 +12,7 @@ use thiserror::Error;
 const DATAGRAM: usize = 65_536;
 
 /// What a turn did.
-#[derive(Clone, Copy, Debug, PartialEq, Eq)]
+#[derive(Clone, Copy)]
 pub enum Turn {
     /// No datagram was there.
     Idle,
@@ -24,7 +24,7 @@ pub enum Turn {
 }
 
 /// Why a turn ended early. Nothing was sent.
-#[derive(Clone, Copy, Debug, PartialEq, Eq, Error)]
+#[derive(Clone, Copy, Debug, Error)]
 pub enum TurnFault {
     /// No datagram was taken.
     #[error("a datagram could not be received")]

@@ -7,7 +7,7 @@ use crate::description::{Description, Media};
 use crate::line::Line;
 
 /// The direction of a medium, from whoever wrote the description (RFC 3264 section 5.1, RFC 4566 section 6).
-#[derive(Clone, Copy, Debug, PartialEq, Eq)]
+#[derive(Clone, Copy)]
 pub enum Way {
     SendReceive,
     SendOnly,

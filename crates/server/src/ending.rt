@@ -4,7 +4,7 @@ use crate::fault::Fault;
 use crate::words::CommandError;
 
 /// How a run ended: what the shell and the user are told.
-#[derive(Clone, Copy, Debug, PartialEq, Eq)]
+#[derive(Clone, Copy)]
 pub enum Ending {
     /// All went well, also where nothing was written.
     Done,

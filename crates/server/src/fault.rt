@@ -5,7 +5,7 @@ use std::error::Error;
 use std::fmt;
 
 /// Why `once`, `replay` or `serve` gave up.
-#[derive(Clone, Copy, Debug, PartialEq, Eq)]
+#[derive(Clone, Copy, Debug)]
 pub enum Fault {
     /// The input or the script failed, never ended, or is no script. Nothing was written.
     Input,

@@ -6,7 +6,7 @@ ghost use Rattle.configuration.specs.declared.config.Config as office;
 use configuration::Config;
 
 /// Why it could not go on.
-#[derive(Clone, Copy, Debug, PartialEq, Eq)]
+#[derive(Clone, Copy)]
 pub enum HostFault {
     /// A socket could not be opened, or failed too often in a row.
     Socket,

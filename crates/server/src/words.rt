@@ -14,7 +14,7 @@ use std::error::Error;
 use std::fmt;
 
 /// What is asked of the program.
-#[derive(Clone, Copy, Debug, PartialEq, Eq)]
+#[derive(Clone, Copy)]
 pub enum Asked<'a> {
     /// Answer one datagram of standard input on standard output.
     Once,
@@ -31,7 +31,7 @@ pub enum Asked<'a> {
 }
 
 /// Why a command line is refused.
-#[derive(Clone, Copy, Debug, PartialEq, Eq)]
+#[derive(Clone, Copy, Debug)]
 pub enum CommandError {
     /// The words ask for nothing that the program does.
     Words,

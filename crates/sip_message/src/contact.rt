@@ -38,7 +38,7 @@ impl<'a> ContactValue<'a> {
 }
 
 /// How many Contact values, each an address, a message has.
-#[derive(Clone, Copy, Debug, PartialEq, Eq)]
+#[derive(Clone, Copy)]
 pub enum ContactNeed {
     One,
     AtMostOne,

@@ -10,7 +10,7 @@ use thiserror::Error;
 /// The first fault of a datagram, or want of memory. The faults are looked for in this order: `TooLong`, `StartLine`,
 /// `Version`, `HeaderLine`, then header by header in the order of `HeaderName` first `Missing` and then `Unreadable`,
 /// then `Short`.
-#[derive(Clone, Copy, Debug, PartialEq, Eq, Error)]
+#[derive(Clone, Copy, Debug, Error)]
 pub enum MessageError {
     #[error("out of memory")]
     OutOfMemory,

@@ -18,7 +18,7 @@ use std::alloc::{AllocError, AllocFailed, Global};
 const FIELDS_AT_FIRST: usize = 14;
 
 /// Why the header fields cannot be read.
-#[derive(Clone, Copy, Debug, PartialEq, Eq)]
+#[derive(Clone, Copy)]
 pub(crate) enum HeadError {
     OutOfMemory,
     /// A line is not of its form, there is no empty line, or there are too many lines.

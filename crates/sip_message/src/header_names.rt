@@ -7,7 +7,7 @@ ghost use Rattle.sip_message.specs.HeaderNames.{long_of, long_name};
 use std::fmt;
 
 /// The header fields that the server reads in every message, in the order in which they are looked at.
-#[derive(Clone, Copy, Debug, PartialEq, Eq)]
+#[derive(Clone, Copy, Debug)]
 pub enum HeaderName {
     Via,
     From,

@@ -14,7 +14,7 @@ use std::alloc::{AllocError, Global};
 use text::{Text, cut, trimmed};
 
 /// The class of a response's status (RFC 3261 section 7.2).
-#[derive(Clone, Copy, Debug, PartialEq, Eq)]
+#[derive(Clone, Copy)]
 pub enum Class {
     /// Below 200.
     Provisional,

@@ -7,7 +7,7 @@ use std::alloc::{AllocError, AllocFailed};
 use thiserror::Error;
 
 /// Why a text is no URI (RFC 3261 section 25.1): the first fault in the order of the variants, or want of memory.
-#[derive(Clone, Copy, Debug, PartialEq, Eq, Error)]
+#[derive(Clone, Copy, Debug, Error)]
 pub enum UriError {
     #[error("out of memory")]
     OutOfMemory,

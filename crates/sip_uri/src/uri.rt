@@ -4,7 +4,7 @@ use std::marker::Model;
 use text::Text;
 
 /// An IPv4 address and a port, as a socket has them.
-#[derive(Clone, Copy, Debug, PartialEq, Eq)]
+#[derive(Clone, Copy, PartialEq, Eq)]
 pub struct Addr {
     pub ip: [u8; 4],
     pub port: u16,

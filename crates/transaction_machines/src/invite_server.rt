@@ -14,7 +14,7 @@ use crate::step::{
 use sip_message::Class;
 
 /// The states. `Completed` has the interval of timer G in milliseconds.
-#[derive(Clone, Copy, Debug, PartialEq, Eq)]
+#[derive(Clone, Copy)]
 pub enum InviteServer {
     Proceeding,
     Completed(u64),

@@ -11,7 +11,7 @@ use crate::step::{LIMIT, Sending, Start, Step, Told, ends, enters, stays};
 use sip_message::Class;
 
 /// The states.
-#[derive(Clone, Copy, Debug, PartialEq, Eq)]
+#[derive(Clone, Copy)]
 pub enum OtherServer {
     Trying,
     Proceeding,

@@ -19,7 +19,7 @@ pub(crate) const T4: u64 = 5000;
 pub const LIMIT: u64 = 32_000;
 
 /// What is sent.
-#[derive(Clone, Copy, Debug, PartialEq, Eq)]
+#[derive(Clone, Copy)]
 pub enum Sending {
     Nothing,
     /// What was sent last, if anything was.
@@ -29,7 +29,7 @@ pub enum Sending {
 }
 
 /// What the core is told.
-#[derive(Clone, Copy, Debug, PartialEq, Eq)]
+#[derive(Clone, Copy)]
 pub enum Told {
     Silent,
     /// The message goes up to the core.
@@ -41,7 +41,7 @@ pub enum Told {
 }
 
 /// Which timers of the transaction stop.
-#[derive(Clone, Copy, Debug, PartialEq, Eq)]
+#[derive(Clone, Copy)]
 pub enum Stops {
     NoTimer,
     /// A and B.
@@ -50,14 +50,14 @@ pub enum Stops {
 }
 
 /// A timer that starts, and how long it runs, in milliseconds.
-#[derive(Clone, Copy, Debug, PartialEq, Eq)]
+#[derive(Clone, Copy)]
 pub struct Start {
     pub kind: TimerKind,
     pub after: u64,
 }
 
 /// Which timers start, in this order.
-#[derive(Clone, Copy, Debug, PartialEq, Eq)]
+#[derive(Clone, Copy)]
 pub enum Starts {
     NoTimer,
     One(Start),
@@ -65,7 +65,7 @@ pub enum Starts {
 }
 
 /// What an input does.
-#[derive(Clone, Copy, Debug, PartialEq, Eq)]
+#[derive(Clone, Copy)]
 pub struct Step {
     /// The next state, or none where the transaction ends.
     pub next: Option<State>,

@@ -15,7 +15,7 @@ pub struct Outgoing {
 }
 
 /// What became of a message. A number is that of a transaction.
-#[derive(Clone, Copy, Debug, PartialEq, Eq)]
+#[derive(Clone, Copy)]
 pub enum Verdict {
     /// A request that began a transaction.
     New(usize),

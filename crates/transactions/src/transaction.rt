@@ -24,7 +24,7 @@ use transaction_machines::{
 };
 
 /// A timer of a transaction, by the number of the transaction.
-#[derive(Clone, Copy, Debug, PartialEq, Eq, PartialOrd, Ord)]
+#[derive(Clone, Copy, PartialEq, Eq, PartialOrd, Ord)]
 pub struct TimerId {
     pub id: usize,
     pub kind: TimerKind,
