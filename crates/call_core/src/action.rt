@@ -6,7 +6,7 @@ use std::alloc::{AllocError, Global};
 use std::marker::Model;
 
 /// A timer of a call.
-#[derive(Clone, Copy, PartialEq, Eq, PartialOrd, Ord)]
+#[derive(Clone, Copy, Debug, PartialEq, Eq, PartialOrd, Ord)]
 pub enum CallTimer {
     /// How long the end across may ring, or may take after a CANCEL.
     Limit,
@@ -17,7 +17,7 @@ pub enum CallTimer {
 }
 
 /// Something that a call does. Each message goes to the end that is named.
-#[derive(Clone, Copy)]
+#[derive(Clone, Copy, Debug)]
 pub enum Action {
     /// 100 to the INVITE that is passed on.
     Trying(End),

@@ -3,7 +3,7 @@
 use call_media::End;
 
 /// The method of a request that carries an offer (RFC 3264 section 5, RFC 3311).
-#[derive(Clone, Copy)]
+#[derive(Clone, Copy, Debug)]
 pub enum OfferMethod {
     Invite,
     Update,

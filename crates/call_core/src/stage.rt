@@ -3,7 +3,7 @@
 use call_media::End;
 
 /// The phase of a call.
-#[derive(Clone, Copy)]
+#[derive(Clone, Copy, Debug)]
 pub enum Phase {
     Asked,
     Cancelling,
@@ -16,7 +16,7 @@ pub enum Phase {
 }
 
 /// The CANCEL of an INVITE inside a call.
-#[derive(Clone, Copy)]
+#[derive(Clone, Copy, Debug)]
 pub enum Cancelled {
     /// The offerer sent none.
     Never,
@@ -27,7 +27,7 @@ pub enum Cancelled {
 }
 
 /// The phase of a call, with what the table asks of it besides.
-#[derive(Clone, Copy)]
+#[derive(Clone, Copy, Debug)]
 pub enum Stage {
     /// The first INVITE was passed on. Whether a provisional response came.
     Asked(bool),

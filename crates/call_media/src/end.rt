@@ -1,7 +1,7 @@
 //! The two ends of a call.
 
 /// An end of a call: who called, or who was called.
-#[derive(Clone, Copy)]
+#[derive(Clone, Copy, Debug)]
 pub enum End {
     Caller,
     Callee,

@@ -3,7 +3,7 @@
 ghost use Rattle.std.specs.Prelude.{◌≡◌};
 
 /// The pairs that serve a medium, each by its even port: that port is told to the end that it faces.
-#[derive(Clone, Copy)]
+#[derive(Clone, Copy, Debug)]
 pub struct Seat {
     /// Told to the offerer.
     pub offerer: u16,

@@ -3,7 +3,7 @@
 use sip_message::Class;
 
 /// The timers of RFC 3261 section 17 by their letters, L and M of RFC 6026, and N, which ends an abandoned INVITE.
-#[derive(Clone, Copy, PartialEq, Eq, PartialOrd, Ord)]
+#[derive(Clone, Copy, Debug, PartialEq, Eq, PartialOrd, Ord)]
 pub enum TimerKind {
     A,
     B,

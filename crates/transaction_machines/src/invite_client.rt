@@ -16,7 +16,7 @@ use sip_message::Class;
 const D_AFTER: u64 = 32_000;
 
 /// The states. `Calling` has the interval of timer A in milliseconds, and whether the core no longer waits.
-#[derive(Clone, Copy)]
+#[derive(Clone, Copy, Debug)]
 pub enum InviteClient {
     Calling(u64, bool),
     Proceeding,

@@ -14,7 +14,7 @@ use crate::step::{
 use sip_message::Class;
 
 /// The states. `Completed` has the interval of timer G in milliseconds.
-#[derive(Clone, Copy)]
+#[derive(Clone, Copy, Debug)]
 pub enum InviteServer {
     Proceeding,
     Completed(u64),

@@ -11,7 +11,7 @@ use crate::step::{Sending, Start, Step, T2, T4, Told, doubled_to_t2, ends, enter
 use sip_message::Class;
 
 /// The states. `Trying` has the interval of timer E in milliseconds.
-#[derive(Clone, Copy)]
+#[derive(Clone, Copy, Debug)]
 pub enum OtherClient {
     Trying(u64),
     Proceeding,

@@ -11,7 +11,7 @@ use crate::step::{LIMIT, Sending, Start, Step, Told, ends, enters, stays};
 use sip_message::Class;
 
 /// The states.
-#[derive(Clone, Copy)]
+#[derive(Clone, Copy, Debug)]
 pub enum OtherServer {
     Trying,
     Proceeding,

@@ -13,7 +13,7 @@ use crate::other_server::{OtherServer, advance_other_server};
 use crate::step::Step;
 
 /// A state of one of the four machines of RFC 3261 section 17.
-#[derive(Clone, Copy)]
+#[derive(Clone, Copy, Debug)]
 pub enum State {
     /// Of a client transaction of an INVITE (section 17.1.1, RFC 6026).
     InviteClient(InviteClient),

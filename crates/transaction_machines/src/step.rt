@@ -19,7 +19,7 @@ pub(crate) const T4: u64 = 5000;
 pub const LIMIT: u64 = 32_000;
 
 /// What is sent.
-#[derive(Clone, Copy)]
+#[derive(Clone, Copy, Debug)]
 pub enum Sending {
     Nothing,
     /// What was sent last, if anything was.
@@ -29,7 +29,7 @@ pub enum Sending {
 }
 
 /// What the core is told.
-#[derive(Clone, Copy)]
+#[derive(Clone, Copy, Debug)]
 pub enum Told {
     Silent,
     /// The message goes up to the core.
@@ -41,7 +41,7 @@ pub enum Told {
 }
 
 /// Which timers of the transaction stop.
-#[derive(Clone, Copy)]
+#[derive(Clone, Copy, Debug)]
 pub enum Stops {
     NoTimer,
     /// A and B.
