@@ -2,17 +2,12 @@
 //! library `server`, and serves telephones by the sockets, the clock and the threads of the system.
 #![tactic(auto)]
 
-mod addresses;
-mod binding;
 mod disk;
-mod log;
-mod media;
-mod ready;
 mod shared;
-mod sip_socket;
 mod telephony;
 mod troubles;
 mod watch;
+mod wire;
 
 use crate::disk::Disk;
 use crate::telephony::Telephony;

@@ -3,27 +3,22 @@
 ghost use Rattle.std.specs.Prelude.{◌≡◌, [], IfOk};
 ghost use Rattle.live.specs.Turns.{HasTable};
 
-use crate::binding::{Sockets, bind, worker_count};
-use crate::log::Log;
-use crate::media::MediaSockets;
-use crate::ready::Ready;
 use crate::shared::Shared;
-use crate::sip_socket::SipSocket;
 use crate::troubles::Troubles;
 use crate::watch::Watch;
+use crate::wire::SipWire;
 use agent::{Agent, Tally};
 use configuration::Config;
 use live::{Clock as Moments, End, Operator, Signalling, datagram_buffer, salts_of};
-use mio::Poll;
-use mio::net::UdpSocket;
-use relay::{Board, Unopened, Viewer, Worker, serve_media};
+use relay::{Board, Unopened, Worker, serve_media};
 use server::{Host, HostFault};
-use std::alloc::{AllocError, Global};
+use sockets::{MediaSockets, SipSocket, Sockets, bind, worker_count, workers_of};
+use std::alloc::Global;
 use std::net::Net;
 use std::rt::Clock;
 use std::snapshot::Snapshot;
+use std::sync::Wait;
 use std::sync::atomic::{AtomicBool, Ordering};
-use std::sync::{Arc, Wait};
 use std::thread::Threads;
 use std::{io, thread};
 
@@ -43,39 +38,6 @@ fn host_fault(error: io::Error) -> HostFault {
     }
 }
 
-/// A worker for each viewer, with what waits for its sockets.
-fn workers_of(
-    alloc: Global,
-    config: &Config,
-    relay: &Arc<Vec<UdpSocket>>,
-    polls: Vec<Poll>,
-    viewers: Vec<Viewer>,
-) -> Result<Vec<Worker<MediaSockets>>, AllocError> {
-    let mut workers = Vec::new(alloc);
-    let mut polls = polls.into_iter();
-    for viewer in viewers {
-        let Some(poll) = polls.next() else {
-            return Err(AllocError);
-        };
-        let socket = MediaSockets {
-            sockets: Arc::try_clone(relay)?,
-            first: config.relay_first,
-            ready: Ready::new(alloc, poll, relay.len())?,
-            taken: Log::new(),
-            sent: Log::new(),
-            failed: false,
-        };
-        match Worker::new(alloc, viewer, socket) {
-            Ok(worker) => workers.push(worker)?,
-            Err(refused) => {
-                drop(refused);
-                return Err(AllocError);
-            }
-        }
-    }
-    Ok(workers)
-}
-
 /// What the signalling begins with: an agent and a board to which nothing has happened.
 fn signalling_of(
     alloc: Global,
@@ -83,7 +45,7 @@ fn signalling_of(
     board: Board,
     sip: SipSocket,
     start: u64,
-) -> Result<Signalling<SipSocket>, (Board, HostFault)>
+) -> Result<Signalling<SipWire>, (Board, HostFault)>
     requires { board ≡ [] }
     ensures { IfOk result (λ s. HasTable s.board s.agent) }
 {
@@ -100,7 +62,7 @@ fn signalling_of(
         alloc,
         agent,
         board,
-        wire: sip,
+        wire: SipWire { socket: sip },
         salts: salts_of(config.random_key, start),
         buffer,
     })
@@ -109,7 +71,7 @@ fn signalling_of(
 /// The signalling until its end, which ends the workers too.
 fn signal<R: Wait, M: Moments, O: Operator>(
     rt: &R,
-    signalling: &mut Signalling<SipSocket>,
+    signalling: &mut Signalling<SipWire>,
     watch: &mut M,
     operator: &mut O,
     stop: &AtomicBool,
@@ -165,7 +127,7 @@ fn report<R: Eprint>(rt: &R, tally: Tally) {
 /// Serves on a board to which nothing was published, and ends it. Gives how events were answered, too.
 fn serve_on<R: Threads + Wait + Sync, M: Moments, O: Operator>(
     rt: &R,
-    mut signalling: Signalling<SipSocket>,
+    mut signalling: Signalling<SipWire>,
     watch: &mut M,
     operator: &mut O,
     workers: Vec<Worker<MediaSockets>>,
@@ -199,10 +161,10 @@ fn parts_of<R: Wait>(
     config: &Config,
     sockets: Sockets,
     start: u64,
-) -> Result<(Signalling<SipSocket>, Vec<Worker<MediaSockets>>), HostFault>
+) -> Result<(Signalling<SipWire>, Vec<Worker<MediaSockets>>), HostFault>
     ensures { IfOk result (λ parts. HasTable parts.0.board parts.0.agent) }
 {
-    let Sockets { sip, relay, polls } = sockets;
+    let Sockets { sip, relay } = sockets;
     let (board, viewers) = match Board::new(alloc, worker_count(config)) {
         Ok(made) => made,
         Err(Unopened::Memory) => return Err(HostFault::OutOfMemory),
@@ -211,7 +173,7 @@ fn parts_of<R: Wait>(
             return Err(HostFault::OutOfMemory);
         }
     };
-    let Ok(workers) = workers_of(alloc, config, &relay, polls, viewers) else {
+    let Ok(workers) = workers_of(alloc, relay, viewers) else {
         board.close(rt);
         return Err(HostFault::OutOfMemory);
     };

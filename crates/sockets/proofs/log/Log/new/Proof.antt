@@ -1,14 +1,13 @@
-use Rattle.office.proofs.Walks.{List, [], ◌∷◌, refl, proved, ftrue, vunit, tables, ‵, raw, ◌⊛◌, ◌$◌, ◌∵◌, !, qed, done, move, keep, split, join, fjoin, suffices, enter, no_more, returns, alloc_all, pass_all, free_all, look_at, sets, nothing, Stays, walk_of, says, ends_at, on_entry}
+use Rattle.sockets.proofs.Walks.{[], ◌∷◌, refl, proved, ftrue, ‵, ◌⊛◌, ◌$◌, ◌∵◌, !, qed, done, keep, suffices, enter, no_more, returns, alloc_all, pass_all, free_all, look_at, sets, nothing, Stays, walk_of, says, ends_at}
 use mir.Val.{vstruct, vnil}
 use types.Kit.{use0}
 use types.Part.{agg}
 use base.Fml.{Fml}
 use denote.Shadow.{makes_shadow}
-use denote.Signature.{type_at}
-use Rattle.office.specs.contracts.log.Log.new as f
-use Rattle.office.proofs.log.Log.new.Statement.{statement}
-use Rattle.office.proofs.log.Log.new.Code as code
-use Rattle.office.specs.contracts.log.Log.{the_row as R}
+use Rattle.sockets.specs.contracts.log.Log.new as f
+use Rattle.sockets.proofs.log.Log.new.Statement.{statement}
+use Rattle.sockets.proofs.log.Log.new.Code as code
+use Rattle.sockets.specs.contracts.log.Log.{the_row as R}
 
 abbrev stayed : Stays f.ended.signature.params f.ended.kept
 stayed = tt

@@ -2,13 +2,13 @@
 
 ghost use Rattle.std.specs.Prelude.{◌≡◌, List, [], ◌∷◌, ◌++◌};
 ghost use Rattle.std.specs.Coded.{coded_list};
-ghost use Rattle.office.specs.Logs.{Datagram, coded_datagram};
+ghost use Rattle.sockets.specs.Logs.{Datagram, coded_datagram};
 ghost use base.Fml.{ftrue};
 
 use std::marker::Model;
 
-/// Datagrams in the order in which they were noted. A caller learns nothing of them by this: it is for the clauses of `Wire`
-/// and `MediaSocket`, which code that is generic over these relies on.
+/// Datagrams in the order in which they were noted. A caller learns nothing of them by this: it is for the clauses of `SipSocket`
+/// and `MediaSocket`, which code that is generic over sockets relies on.
 #[derive(Drop)]
 pub struct Log {
     pub ghost entries: { List Datagram } by { coded_list coded_datagram },

@@ -1,20 +1,22 @@
 //! The socket for SIP.
 
-ghost use Rattle.std.specs.Prelude.{◌≤◌, length, IfOk, IfSome};
+ghost use Rattle.std.specs.Prelude.{◌≡◌, ◌≤◌, [], ◌∷◌, ◌++◌, length, take, IfOk, IfSome, MatchOption, MatchResult};
+ghost use Rattle.std.specs.Result.{is_err};
+ghost use Rattle.sockets.specs.Traffic.{at_sip};
 
 use crate::addresses::{from_system, to_system};
 use crate::log::Log;
-use live::{Wire, WireFault};
 use mio::net::UdpSocket;
 use mio::{Events, Poll};
 use sip_uri::Addr;
 use std::io;
 use std::io::ErrorKind;
+use std::marker::Model;
 use std::time::Duration;
 
 /// A socket at the server's port for SIP, and what waits for it. It notes what it takes and sends for clauses alone.
 #[derive(Drop)]
-pub(crate) struct SipSocket {
+pub struct SipSocket {
     pub(crate) socket: UdpSocket,
     pub(crate) poll: Poll,
     pub(crate) events: Events,
@@ -47,16 +49,23 @@ pub(crate) fn send_all(socket: &UdpSocket, to: Addr, bytes: &[u8]) -> io::Result
     }
 }
 
-impl Wire for SipSocket {
-    ghost use Rattle.std.specs.Prelude.{map};
+impl Model for SipSocket {
+    ghost use Rattle.sockets.specs.Traffic.{Traffic};
 
-    ghost taken = { λ s. map (λ d. record { source = record { ip = d.ip; port = d.port }; bytes = d.bytes }) s.taken.entries };
+    ghost Value = { Traffic };
 
-    ghost sent = { λ s. map (λ d. record { to = record { ip = d.ip; port = d.port }; bytes = d.bytes }) s.sent.entries };
+    ghost view = { λ s. record { taken = s.taken.entries; sent = s.sent.entries; failed = s.failed } };
+}
 
-    ghost failed = { λ s. s.failed };
-
-    fn receive(&mut self, buffer: &mut [u8]) -> Result<Option<(Addr, usize)>, WireFault> {
+impl SipSocket {
+    /// Takes a datagram into the buffer, and gives where it came from and its length in bytes. None where there is none now, or where
+    /// one came by IPv6. What doesn't fit the buffer is cut off. Err is the system's refusal.
+    pub fn receive(&mut self, buffer: &mut [u8]) -> io::Result<Option<(Addr, usize)>>
+        ensures fits { IfOk result (λ r. IfSome r (λ d. d.1 ≤ length buffer.new)) }
+        ensures taken { MatchResult result (λ r. MatchOption r (self.new.taken ≡ self.old.taken) (λ d. self.new.taken ≡ self.old.taken ++ at_sip d.0 (take d.1 buffer.new) ∷ [])) (λ _. self.new.taken ≡ self.old.taken) }
+        ensures sent { self.new.sent ≡ self.old.sent }
+        ensures failed { self.new.failed ≡ is_err result }
+    {
         match receive_from(&self.socket, buffer) {
             Ok(Some((source, length))) => {
                 self.failed = false;
@@ -68,37 +77,47 @@ impl Wire for SipSocket {
                 self.failed = false;
                 Ok(None)
             }
-            Err(_) => {
+            Err(error) => {
                 self.failed = true;
-                Err(WireFault)
+                Err(error)
             }
         }
     }
 
-    fn send(&mut self, to: Addr, bytes: &[u8]) -> Result<(), WireFault> {
+    /// Sends a datagram. Err is the system's refusal, or that it took a part of the datagram alone.
+    pub fn send(&mut self, to: Addr, bytes: &[u8]) -> io::Result<()>
+        ensures sent { MatchResult result (λ _. self.new.sent ≡ self.old.sent ++ at_sip to bytes.now ∷ []) (λ _. self.new.sent ≡ self.old.sent) }
+        ensures taken { self.new.taken ≡ self.old.taken }
+        ensures failed { self.new.failed ≡ is_err result }
+    {
         match send_all(&self.socket, to, bytes) {
             Ok(()) => {
                 self.failed = false;
                 self.sent.note(0, &to.ip, to.port, bytes);
                 Ok(())
             }
-            Err(_) => {
+            Err(error) => {
                 self.failed = true;
-                Err(WireFault)
+                Err(error)
             }
         }
     }
 
-    fn wait(&mut self, millis: u64) -> Result<(), WireFault> {
+    /// Waits until a datagram may be there, for so many milliseconds at most. Err is the system's refusal.
+    pub fn wait(&mut self, millis: u64) -> io::Result<()>
+        ensures taken { self.new.taken ≡ self.old.taken }
+        ensures sent { self.new.sent ≡ self.old.sent }
+        ensures failed { self.new.failed ≡ is_err result }
+    {
         let limit = Duration::from_millis(millis);
         match self.poll.poll(&mut self.events, Some(limit)) {
             Ok(()) => {
                 self.failed = false;
                 Ok(())
             }
-            Err(_) => {
+            Err(error) => {
                 self.failed = true;
-                Err(WireFault)
+                Err(error)
             }
         }
     }

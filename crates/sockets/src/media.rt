@@ -10,11 +10,12 @@ use relay::{MediaSocket, SocketFault};
 use sip_uri::Addr;
 use std::io;
 use std::io::ErrorKind;
+use std::marker::Model;
 use std::sync::Arc;
 
 /// All relay sockets, by rising port, and those of this worker that are ready. It notes what it takes and sends for clauses alone.
 #[derive(Drop)]
-pub(crate) struct MediaSockets {
+pub struct MediaSockets {
     pub(crate) sockets: Arc<Vec<UdpSocket>>,
     /// The first relay port.
     pub(crate) first: u16,
@@ -22,6 +23,14 @@ pub(crate) struct MediaSockets {
     pub(crate) taken: Log,
     pub(crate) sent: Log,
     pub(crate) failed: bool,
+}
+
+impl Model for MediaSockets {
+    ghost use Rattle.sockets.specs.Traffic.{Traffic};
+
+    ghost Value = { Traffic };
+
+    ghost view = { λ s. record { taken = s.taken.entries; sent = s.sent.entries; failed = s.failed } };
 }
 
 impl MediaSockets {
@@ -52,9 +61,9 @@ impl MediaSockets {
 impl MediaSocket for MediaSockets {
     ghost use Rattle.std.specs.Prelude.{map};
 
-    ghost taken = { λ s. map (λ d. record { port = d.own; bytes = d.bytes }) s.taken.entries };
+    ghost taken = { λ s. map (λ d. record { port = d.own; bytes = d.bytes }) s.taken };
 
-    ghost sent = { λ s. map (λ d. record { from = d.own; to = record { ip = d.ip; port = d.port }; bytes = d.bytes }) s.sent.entries };
+    ghost sent = { λ s. map (λ d. record { from = d.own; to = record { ip = d.ip; port = d.port }; bytes = d.bytes }) s.sent };
 
     ghost failed = { λ s. s.failed };
 

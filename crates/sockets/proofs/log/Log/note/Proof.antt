@@ -1,12 +1,12 @@
 -- A note changes nothing but what clauses see.
-use Rattle.office.proofs.Walks.{List, [], ◌∷◌, refl, proved, ftrue, flft, named, vunit, tables, ‵, ◌⊛◌, ◌$◌, ◌∵◌, !, qed, done, move, keep, split, join, fsplit3, feq_i, suffices, frame, group, enter, of_opd, unit_lit, returns, alloc_all, pass_all, free_all, look_at, sets, u8, MutRef, mut_vals, mut_Tells, plain, nothing, opens, closes, Stays, walk_of, says, stay_ref, Goes-ref, ends_at, stay_dropped, Goes-dropped, uint_vals, uint_Tells, yes}
+use Rattle.sockets.proofs.Walks.{[], ◌∷◌, refl, proved, ftrue, flft, named, vunit, ‵, ◌⊛◌, ◌$◌, ◌∵◌, !, qed, done, move, keep, split, join, fsplit3, feq_i, suffices, frame, group, enter, of_opd, unit_lit, returns, alloc_all, pass_all, free_all, look_at, sets, u8, MutRef, mut_vals, mut_Tells, plain, nothing, opens, closes, Stays, walk_of, says, stay_ref, Goes-ref, ends_at, stay_dropped, Goes-dropped, uint_vals, uint_Tells, yes}
 use Rattle.std.proofs.Common.{◌++◌, w16}
 use denote.Builtin.{u16, SliceRefOf}
 use denote.Slice.{ShrSlice, shr_slice_vals, shr_slice_Tells}
-use Rattle.office.specs.contracts.log.Log.note as f
-use Rattle.office.proofs.log.Log.note.Statement.{statement}
-use Rattle.office.proofs.log.Log.note.Code as code
-use Rattle.office.specs.contracts.log.Log.{the_row as R}
+use Rattle.sockets.specs.contracts.log.Log.note as f
+use Rattle.sockets.proofs.log.Log.note.Statement.{statement}
+use Rattle.sockets.proofs.log.Log.note.Code as code
+use Rattle.sockets.specs.contracts.log.Log.{the_row as R}
 
 abbrev stayed : Stays f.ended.signature.params f.ended.kept
 stayed = (stay_ref (0 ∷ []) tt (plain (λ _. R)), (stay_dropped _ yes, (stay_dropped _ yes, (stay_dropped _ yes, (stay_dropped _ yes, tt)))))

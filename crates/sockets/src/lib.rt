@@ -1,0 +1,16 @@
+//! The sockets of a server: one for SIP and one at each relay port, what waits for them, and notes of what they took and sent, for
+//! clauses alone. It knows no messages and no calls.
+#![tactic(auto)]
+
+mod addresses;
+mod binding;
+mod log;
+mod media;
+mod ready;
+mod sip_socket;
+mod workers;
+
+pub use binding::{RelaySockets, Sockets, bind, worker_count};
+pub use media::MediaSockets;
+pub use sip_socket::SipSocket;
+pub use workers::workers_of;
