@@ -1,2 +1,0 @@
-mod Ports
-mod RelayLines
