@@ -43,10 +43,10 @@ use Rattle.promised.specs.Ties.{AreTied}
 use Rattle.promised.proofs.FirstSteps.{NamesOne, first_before, first_call, first_is, first_listed, first_reached}
 use Rattle.promised.proofs.Reading.{Reading}
 use Rattle.promised.proofs.RequestRules.{Fits, request_fits}
-use Rattle.rulings.specs.Coming.{BeginsTransaction}
+use Rattle.duties.specs.Coming.{BeginsTransaction}
 use Rattle.duties.specs.Offers.{BeginsCall, IsFirstCall}
 use Rattle.duties.proofs.AlikeOffers.{Serves, offer_alike}
-use Rattle.rulings.proofs.ComingRows.{begun_row, setting_of}
+use Rattle.duties.proofs.ComingRows.{begun_row, setting_of}
 use Rattle.duties.proofs.FirstSends.{calls_out, first_goes, opens}
 use Rattle.duties.proofs.Known.{tied_of}
 

@@ -62,9 +62,9 @@ use Rattle.promised.proofs.Reading.{Reading}
 use Rattle.promised.proofs.RuleReasons.{Reason, rule_reason}
 use Rattle.promised.proofs.Silence.{success_silent}
 use Rattle.duties.specs.Answers.{IsAnsweredTo, IsAwaited, IsFitAnswer, PassesAnswer}
-use Rattle.rulings.specs.Coming.{GoesUp}
+use Rattle.duties.specs.Coming.{GoesUp}
 use Rattle.duties.proofs.AlikeOffers.{Serves, answer_alike}
-use Rattle.rulings.proofs.ComingRows.{setting_of, up_row}
+use Rattle.duties.proofs.ComingRows.{setting_of, up_row}
 use Rattle.duties.proofs.FitAnswerRows.{answer_passes}
 use Rattle.duties.proofs.GoingUp.{answered_up}
 use Rattle.duties.proofs.Known.{tied_of}

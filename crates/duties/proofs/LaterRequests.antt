@@ -48,9 +48,9 @@ use Rattle.promised.proofs.Leaving.{rule_fits}
 use Rattle.promised.proofs.Reading.{Reading}
 use Rattle.promised.proofs.RequestCases.{RequestCase, request_view}
 use Rattle.promised.proofs.RequestCases as cases
-use Rattle.rulings.specs.Coming.{BeginsTransaction}
+use Rattle.duties.specs.Coming.{BeginsTransaction}
 use Rattle.duties.specs.Offers.{IsFinalTo, IsLaterRequest, IsServed, PassedOrAnswered}
-use Rattle.rulings.proofs.ComingRows.{begun_row, setting_of}
+use Rattle.duties.proofs.ComingRows.{begun_row, setting_of}
 use Rattle.duties.proofs.FinalReplies.{IsFinalReply, can_answer, final_goes, no_other, okay_once, refuses_once, reply_once}
 use Rattle.duties.proofs.AlikeOffers.{Serves}
 use Rattle.duties.proofs.Known.{tied_of}

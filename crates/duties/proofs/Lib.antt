@@ -1,3 +1,16 @@
+pub mod Receptions
+pub mod Ready
+pub mod ReadySteps
+pub mod CallRows
+pub mod EventCases
+pub mod Unasked
+pub mod Fireable
+pub mod Lasting
+pub mod Bound
+pub mod Registers
+pub mod Counting
+pub mod Deciding
+pub mod ComingRows
 pub mod Known
 pub mod AlikeOffers
 pub mod FirstSends

@@ -46,8 +46,8 @@ use Rattle.promised.proofs.Reading.{Reading}
 use Rattle.promised.proofs.RuleReasons.{Reason, rule_reason}
 use Rattle.promised.proofs.SignalSteps.{signal_row}
 use Rattle.duties.specs.Answers.{IsAwaited, IsRefusedTo, PassesRefusal}
-use Rattle.rulings.specs.Coming.{GoesUp}
-use Rattle.rulings.proofs.ComingRows.{setting_of, up_row}
+use Rattle.duties.specs.Coming.{GoesUp}
+use Rattle.duties.proofs.ComingRows.{setting_of, up_row}
 use Rattle.duties.proofs.FitAnswers.{asker_there}
 use Rattle.duties.proofs.Known.{scenes_known}
 use Rattle.duties.proofs.Refusals.{refused_behind, stage_refuses}

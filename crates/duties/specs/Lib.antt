@@ -1,2 +1,5 @@
+pub mod Coming
+pub mod Dropping
+pub mod Registering
 pub mod Offers
 pub mod Answers

@@ -13,7 +13,7 @@ ghost use Rattle.events.specs.declared.event.Event.{Event};
 ghost use Rattle.promised.specs.Standing.{AgentStands};
 ghost use Rattle.transactions.specs.declared.transaction.Transaction.{Transaction};
 ghost use Rattle.duties.specs.Answers.{IsAnsweredTo, IsAwaited, IsFitAnswer, IsRefusedTo};
-ghost use Rattle.rulings.specs.Coming.{GoesUp};
+ghost use Rattle.duties.specs.Coming.{GoesUp};
 
 use dialogs::{contacts_are_read, dialogs_are_sound, invites_name_a_contact};
 use offer_answer::sent_is_read;

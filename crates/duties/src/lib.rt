@@ -1,8 +1,13 @@
-//! What the agent does for each offer, and for its answer, in the step that takes it. Nothing here runs.
+//! What a step of the agent does, over its rows: why an event counts as not come, what the REGISTERs of its events are answered, and what is done
+//! for each offer, and for its answer, in the step that takes it. Nothing here runs.
 #![tactic(auto)]
 
 mod answers;
+mod dropping;
 mod offers;
+mod registering;
 
 pub use answers::{fit_answers_are_passed_on, refusals_are_passed_on};
+pub use dropping::nothing_is_dropped_unasked;
 pub use offers::{first_invites_are_passed_on, later_requests_are_served};
+pub use registering::registers_are_counted;

@@ -11,7 +11,7 @@ ghost use Rattle.checks.specs.State.{Contents, moment_at};
 ghost use Rattle.events.specs.declared.event.Event.{Event};
 ghost use Rattle.promise.specs.Addresses.{IsSource};
 ghost use Rattle.promised.specs.Standing.{AgentStands};
-ghost use Rattle.rulings.specs.Coming.{BeginsTransaction};
+ghost use Rattle.duties.specs.Coming.{BeginsTransaction};
 ghost use Rattle.duties.specs.Offers.{BeginsCall, IsFirstCall, IsLaterRequest, IsServed};
 
 use dialogs::{contacts_are_read, dialogs_are_sound, invites_name_a_contact};

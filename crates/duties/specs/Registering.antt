@@ -17,7 +17,7 @@ use Rattle.plans.specs.declared.rule.Reply.TheVariants as reply
 use Rattle.plans.specs.declared.taken.Taken.TheVariants.{Done}
 use Rattle.checks.specs.Rules.{request_rule}
 use Rattle.checks.specs.State.{Contents, moment_at, office}
-use Rattle.rulings.specs.Coming.{BeginsTransaction}
+use Rattle.duties.specs.Coming.{BeginsTransaction}
 use Rattle.checks.specs.Trace.{Entry, after_entry}
 use Rattle.checks.specs.declared.rule.Rule.TheVariants.{Alone}
 

@@ -21,9 +21,9 @@ use Rattle.plans.specs.declared.setting.Setting.{Setting}
 use Rattle.responses.specs.Registering.{register_of}
 use Rattle.checks.specs.Rows.{after, row, rule_row, setting}
 use Rattle.checks.specs.State.{Contents, after_event, moment_at, office, registered_by}
-use Rattle.rulings.specs.Registering.{Lists, ListsBound, Refuses, Registers, registration_at}
-use Rattle.rulings.proofs.Bound.{answer_same, bound_is}
-use Rattle.rulings.proofs.ComingRows.{begun_row}
+use Rattle.duties.specs.Registering.{Lists, ListsBound, Refuses, Registers, registration_at}
+use Rattle.duties.proofs.Bound.{answer_same, bound_is}
+use Rattle.duties.proofs.ComingRows.{begun_row}
 
 module _ (s : Contents) (event : Event) (source : Addr) (r : Request) (id : ℕ) (h : Registers s event source r id) where
   abbrev e : Setting

@@ -1,7 +1,7 @@
 use Rattle.checks.specs.Trace.{after_entries}
-use Rattle.rulings.proofs.Fireable.{agents_fire}
-use Rattle.rulings.proofs.Unasked.{nothing_unasked}
-use Rattle.rulings.proofs.dropping.nothing_is_dropped_unasked.Goals as goal
+use Rattle.duties.proofs.Fireable.{agents_fire}
+use Rattle.duties.proofs.Unasked.{nothing_unasked}
+use Rattle.duties.proofs.dropping.nothing_is_dropped_unasked.Goals as goal
 
 pub returns-clause-reasons : goal.returns-clause-reasons
 returns-clause-reasons c = nothing_unasked

@@ -43,7 +43,7 @@ use Rattle.call_steps.specs.Rows.{begins_by, counts, first_asker, first_leg, fir
 use Rattle.call_steps.specs.Scenes.{first_scene, fork_scene, passed_id, scene}
 use Rattle.call_steps.specs.Values.{AskerValue, ComingValue, SceneValue, dressed_in, lent_scene, without_offer}
 use Rattle.call_steps.specs.declared.occasion.Occasion.{Occasion}
-use Rattle.rulings.proofs.Ready.{start_ready}
+use Rattle.duties.proofs.Ready.{start_ready}
 
 abbrev pub AllReady : List Entry → Type 0
 AllReady changes = All IsReady changes

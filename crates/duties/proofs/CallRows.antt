@@ -55,7 +55,7 @@ use Rattle.plans.specs.declared.setting.Setting.{Setting}
 use Rattle.plans.specs.declared.taken.Taken.TheVariants.{Done}
 use Rattle.responses.specs.Registering.{register_of}
 use Rattle.responses.specs.Responding.{allow, contact_header, refusal_headers, responds, stateless, status_of}
-use Rattle.rulings.proofs.ReadySteps.{AllReady, IsReadyStep, first_ready, fork_ready, late_ready, none_ready, offers_ready, one_ready, takes_ready}
+use Rattle.duties.proofs.ReadySteps.{AllReady, IsReadyStep, first_ready, fork_ready, late_ready, none_ready, offers_ready, one_ready, takes_ready}
 
 -- the event counts, the registrar stays, and what changes in the transactions is ready
 pub record IsDone (p : Plan) : Type 0 where

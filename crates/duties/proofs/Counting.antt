@@ -11,9 +11,9 @@ use Rattle.plans.specs.declared.taken.Taken.{Taken}
 use Rattle.checks.specs.Rows.{after, row}
 use Rattle.checks.specs.State.{Contents, IsNew, registered_by, rules_by}
 use Rattle.checks.specs.Trace.{AreEntries, Entry, after_answer, after_entries, after_entry}
-use Rattle.rulings.specs.Registering.{AreRegistrations, BringsNone, IsNoRegister, IsRegistration}
-use Rattle.rulings.proofs.EventCases.{EventCase, event_case, ignored, registered, unfired, went}
-use Rattle.rulings.proofs.Registers.{registrar_after, stands_after}
+use Rattle.duties.specs.Registering.{AreRegistrations, BringsNone, IsNoRegister, IsRegistration}
+use Rattle.duties.proofs.EventCases.{EventCase, event_case, ignored, registered, unfired, went}
+use Rattle.duties.proofs.Registers.{registrar_after, stands_after}
 
 -- ---- an entry that brings no REGISTER
 

@@ -52,13 +52,13 @@ use Rattle.checks.specs.Rules.{request_rule}
 use Rattle.checks.specs.State.{Contents, moment_at, moments_end, most_tokens, office}
 use Rattle.checks.specs.declared.rule.Rule.{Rule}
 use Rattle.checks.specs.declared.rule.Rule.TheVariants as rules
-use Rattle.rulings.specs.Dropping.{NoneTakes, IsAnsweredFor, IsBranched, IsRead}
-use Rattle.rulings.specs.Registering.{Registers}
-use Rattle.rulings.proofs.CallRows.{IsDoneBy, IsNoRegistration, call_done, call_timer_done, fire_ready, moves_done, reply_done, response_done, takes_done, timeout_done}
-use Rattle.rulings.proofs.Ready.{change_ready}
-use Rattle.rulings.proofs.ReadySteps.{AllReady, none_ready, one_ready}
+use Rattle.duties.specs.Dropping.{NoneTakes, IsAnsweredFor, IsBranched, IsRead}
+use Rattle.duties.specs.Registering.{Registers}
+use Rattle.duties.proofs.CallRows.{IsDoneBy, IsNoRegistration, call_done, call_timer_done, fire_ready, moves_done, reply_done, response_done, takes_done, timeout_done}
+use Rattle.duties.proofs.Ready.{change_ready}
+use Rattle.duties.proofs.ReadySteps.{AllReady, none_ready, one_ready}
 use Rattle.checks.proofs.AckRequests.{IsAckIf, up_is_ack}
-use Rattle.rulings.proofs.Receptions.{IsNotNew, own_method, response_not_new}
+use Rattle.duties.proofs.Receptions.{IsNotNew, own_method, response_not_new}
 
 pub data EventCase (s : Contents) (event : Event) (x : Effect) : Type 0 where
   ignored : (taken : Taken) → IsAnsweredFor s event taken → x ≡ of_plan (office s) (nothing taken) → EventCase s event x

@@ -14,7 +14,7 @@ ghost use Rattle.registrar.specs.declared.refusal.Refusal.{Refusal};
 ghost use Rattle.responses.specs.Registering.{register_of};
 ghost use Rattle.sip_message.specs.declared.message.Request.{Request};
 ghost use Rattle.sip_uri.specs.declared.uri.Addr.{Addr};
-ghost use Rattle.rulings.specs.Registering.{AreRegistrations, ListsBound, Refuses, Registers, registration_at};
+ghost use Rattle.duties.specs.Registering.{AreRegistrations, ListsBound, Refuses, Registers, registration_at};
 
 /// After any events of a new agent its registrar has what the REGISTERs among them leave, in their order, and nothing else changes it (`stands`).
 /// Where a registrar stands so, a REGISTER that comes is answered by the fold over that list: where it is not refused, the one response is a 200

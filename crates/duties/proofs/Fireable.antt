@@ -12,10 +12,10 @@ use Rattle.plans.specs.declared.taken.Taken.{Taken}
 use Rattle.checks.specs.Rows.{after, moment_after, row, setting}
 use Rattle.checks.specs.State.{Contents, IsNew, after_event, moment_at, office}
 use Rattle.checks.specs.Trace.{AreEntries, Entry, after_answer, after_entries, after_entry}
-use Rattle.rulings.proofs.CallRows.{registers_ready}
-use Rattle.rulings.proofs.EventCases.{EventCase, event_case, ignored, registered, unfired, went}
-use Rattle.rulings.proofs.Ready.{Fires, all_fire, change_ready}
-use Rattle.rulings.proofs.ReadySteps.{AllReady, none_ready, one_ready}
+use Rattle.duties.proofs.CallRows.{registers_ready}
+use Rattle.duties.proofs.EventCases.{EventCase, event_case, ignored, registered, unfired, went}
+use Rattle.duties.proofs.Ready.{Fires, all_fire, change_ready}
+use Rattle.duties.proofs.ReadySteps.{AllReady, none_ready, one_ready}
 
 case_ready : (s : Contents) (event : Event) (x : Effect) → EventCase s event x → AllReady x.plan.changes
 case_ready s event x (ignored taken why is) = subst (λ (y : Effect). AllReady y.plan.changes) (sym is) none_ready

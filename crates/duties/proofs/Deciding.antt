@@ -28,7 +28,7 @@ use Rattle.checks.specs.State.{Contents, moment_at, office}
 use Rattle.checks.specs.Trace.{Entry, after_entry}
 use Rattle.checks.specs.declared.rule.Rule.{Rule}
 use Rattle.checks.specs.declared.rule.Rule.TheVariants as rules
-use Rattle.rulings.specs.Registering.{AreRegistrations, IsNoRegister, IsRegistration, Registers, registration_at}
+use Rattle.duties.specs.Registering.{AreRegistrations, IsNoRegister, IsRegistration, Registers, registration_at}
 
 pub record Brought (s : Contents) (event : Event) : Type 0 where
   pub source : Addr

@@ -16,9 +16,9 @@ use Rattle.events.specs.declared.event.Event.{Event}
 use Rattle.plans.specs.Effect.{Effect}
 use Rattle.checks.specs.Rows.{row}
 use Rattle.checks.specs.State.{Contents, moment_at}
-use Rattle.rulings.specs.Dropping.{IsAnsweredFor}
-use Rattle.rulings.proofs.CallRows.{registers_taken}
-use Rattle.rulings.proofs.EventCases.{EventCase, event_case, ignored, registered, unfired, went}
+use Rattle.duties.specs.Dropping.{IsAnsweredFor}
+use Rattle.duties.proofs.CallRows.{registers_taken}
+use Rattle.duties.proofs.EventCases.{EventCase, event_case, ignored, registered, unfired, went}
 
 same_itself : (timer : TimerId) → same_timer timer timer ≡ true
 same_itself timer = and_from (timer.id == timer.id) (place_of timer.kind == place_of timer.kind) (eq-eqb timer.id timer.id refl) (eq-eqb (place_of timer.kind) (place_of timer.kind) refl)

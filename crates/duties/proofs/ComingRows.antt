@@ -21,7 +21,7 @@ use Rattle.plans.specs.declared.taken.Why.TheVariants.{Stray}
 use Rattle.checks.specs.Rows.{begins, by_reading, datagram_row, fit_row, is_full, is_unreachable_message, read_row, received, received_by, request_by, response_by, row, row_by, rule_row, setting, unfit_branch, what_row}
 use Rattle.checks.specs.Rules.{request_rule}
 use Rattle.checks.specs.State.{Contents, moment_at, office}
-use Rattle.rulings.specs.Coming.{BeginsTransaction, Comes, GoesUp}
+use Rattle.duties.specs.Coming.{BeginsTransaction, Comes, GoesUp}
 
 -- the setting of an event with a datagram from this source
 abbrev pub setting_of : Contents → Event → Addr → Setting

@@ -1,7 +1,7 @@
-use Rattle.rulings.proofs.Counting.{registers_stand}
-use Rattle.rulings.proofs.Deciding.{registrations}
-use Rattle.rulings.proofs.Registers.{lists_bound, refuses}
-use Rattle.rulings.proofs.registering.registers_are_counted.Goals as goal
+use Rattle.duties.proofs.Counting.{registers_stand}
+use Rattle.duties.proofs.Deciding.{registrations}
+use Rattle.duties.proofs.Registers.{lists_bound, refuses}
+use Rattle.duties.proofs.registering.registers_are_counted.Goals as goal
 
 pub returns-clause-stands : goal.returns-clause-stands
 returns-clause-stands c = registers_stand

@@ -8,7 +8,7 @@ use Rattle.registrar.specs.declared.binding.Binding.{Binding}
 use Rattle.registrar.specs.declared.refusal.Refusal.TheVariants.{UnknownUser}
 use Rattle.registrar.specs.declared.register.Register.{Register}
 use Rattle.registrar.proofs.EntryLaws.{own_text}
-use Rattle.rulings.proofs.Lasting.{answer_lasts, lasting_present}
+use Rattle.duties.proofs.Lasting.{answer_lasts, lasting_present}
 
 -- ---- the answer
 

@@ -7,7 +7,7 @@ ghost use Rattle.checks.specs.Trace.{AreEntries, Entry, after_entries};
 ghost use Rattle.configuration.specs.declared.config.Config.{Config};
 ghost use Rattle.events.specs.declared.event.Event.{Event};
 ghost use Rattle.transactions.specs.Fireable.{IsFireable};
-ghost use Rattle.rulings.specs.Dropping.{IsAnsweredFor};
+ghost use Rattle.duties.specs.Dropping.{IsAnsweredFor};
 
 /// Whatever is not done is not done for a reason. A datagram is dropped only if it has more bytes than are read; if it can't be read, and no response
 /// can be made for it; if it is an ACK or a response whose branch does not begin as it has to; if it is a response to no request that waits for one,
