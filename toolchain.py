@@ -10,9 +10,19 @@ import sys
 KITS = ("rattle-kit-13b", "rattle-kit-13f")
 
 
+def command():
+    """Where the command rt is."""
+    return os.path.realpath(shutil.which("rt") or "")
+
+
+def rattle():
+    """Where the compiler is, which lays files out, too."""
+    return f"{os.path.dirname(command())}/rattle"
+
+
 def toolchain(script, used):
     """The command rt, if its functions have the parameters that the script knows."""
-    path = os.path.realpath(shutil.which("rt") or "")
+    path = command()
     kit = f"{os.path.dirname(os.path.dirname(path))}/KIT-ID"
     found = open(kit, encoding="utf-8").read().split()[:1] if os.path.isfile(kit) else []
     if not set(found) & set(KITS):
