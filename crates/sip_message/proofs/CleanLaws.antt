@@ -8,7 +8,7 @@ use Rattle.text.specs.Cut.{before, after, led_by}
 use Rattle.text.specs.Pieces.{next_within, is_outside, pieces}
 use Rattle.text.specs.Trim.{without_end, trimmed}
 use Rattle.text.specs.declared.splitting.Within.{Within}
-use Rattle.sip_message.specs.Lines.{is_text_byte, is_clean}
+use Rattle.header_fields.specs.Lines.{is_text_byte, is_clean}
 use Rattle.sip_message.proofs.ValueLaws.{end_behind, trimmed_is, trimmed_clean}
 
 -- ---- clean parts

@@ -1,17 +1,7 @@
-pub mod LineLaws
-pub mod HeaderLineLaws
-pub mod FieldLoop
-pub mod EndedLaws
-pub mod RawLaws
-pub mod RawLoop
-pub mod HeadSteps
-pub mod FieldLaws
-pub mod HeadLaws
 pub mod ValueLaws
 pub mod PlaceLaws
 pub mod WrittenLaws
 pub mod ReadWritten
-pub mod LookupLaws
 pub mod FaultLaws
 pub mod ViaLaws
 pub mod StartLaws
@@ -20,6 +10,7 @@ pub mod FaultOrder
 pub mod MessageLaws
 pub mod CleanLaws
 pub mod RepeatableLaws
-mod NextLine
-pub mod NameLaws
 mod MediaLaws
+pub use Rattle.header_fields.proofs.HeaderLineLaws
+pub use Rattle.header_fields.proofs.HeadLaws
+pub use Rattle.header_fields.proofs.FieldLaws

@@ -4,7 +4,7 @@ use Rattle.std.specs.Prelude.{IfOk, IfErr}
 use Rattle.std.proofs.lemmas.Bool.{ltb-true, ltb-false, le-ltb, true≢false}
 use Rattle.sip_message.specs.declared.error.MessageError.{MessageError}
 use Rattle.sip_message.specs.declared.error.MessageError.TheVariants.{OutOfMemory, StartLine, Version, HeaderLine, Missing, Unreadable, Short, TooLong}
-use Rattle.sip_message.specs.declared.headers.Header.{Header}
+use Rattle.header_fields.specs.declared.headers.Header.{Header}
 use Rattle.sip_message.specs.declared.message.Message.{Message}
 use Rattle.sip_message.specs.declared.message.Message.TheVariants as Kinds
 use Rattle.sip_message.specs.declared.message.Parts.{Parts}
@@ -15,15 +15,15 @@ use Rattle.sip_message.specs.declared.start.Start.{Start}
 use Rattle.sip_message.specs.declared.start.Start.TheVariants.{Asking, Answering}
 use Rattle.sip_message.specs.Faults.{Gives, and_then}
 use Rattle.sip_message.specs.Grammar.{IsStartLine, Opens, lines_of, start_of_request, start_of_response, ReadsRequest, ReadsResponse, ReadsMessage, header_lines, IsShort, IsWithin, RefusesContents, Refuses}
-use Rattle.sip_message.specs.Head.{ReadsHead, head_of}
-use Rattle.sip_message.specs.Lines.{before_line_end, after_line_end, is_clean}
+use Rattle.header_fields.specs.Head.{ReadsHead, head_of}
+use Rattle.header_fields.specs.Lines.{before_line_end, after_line_end, is_clean}
 use Rattle.sip_message.specs.Read.{greatest_datagram, greatest_lines, contents_of, message_with, message_by, with_fields, behind_start, clean_start, message_of}
 use Rattle.sip_message.specs.Start.{start_of}
 use Rattle.sip_message.specs.ContentLength.{without_length}
 use Rattle.sip_message.proofs.FaultOrder.{IsContentsFault, FaultFits, contents_fit}
-use Rattle.sip_message.proofs.HeaderLineLaws.{before_again, after_again}
-use Rattle.sip_message.proofs.HeadLaws.{head_again, head_is, one_head}
-use Rattle.sip_message.proofs.LineLaws.{first_line_joined}
+use Rattle.header_fields.proofs.HeaderLineLaws.{before_again, after_again}
+use Rattle.header_fields.proofs.HeadLaws.{head_again, head_is, one_head}
+use Rattle.header_fields.proofs.LineLaws.{first_line_joined}
 use Rattle.sip_message.proofs.SaysLaws.{contents_are, contents_again}
 use Rattle.sip_message.proofs.StartLaws.{StartIs, start_is, line_again}
 

@@ -2,15 +2,15 @@
 use Rattle.std.proofs.Common.{◌≡◌, ℕ, ◌+◌, List, [], ◌∷◌, ◌++◌, length, Result, Ok, Err, refl, sym, ap, ◌∙◌, append_assoc, length-append}
 use Rattle.std.specs.Prelude.{IfOk}
 use Rattle.sip_message.specs.declared.error.MessageError.{MessageError}
-use Rattle.sip_message.specs.declared.headers.Header.{Header}
+use Rattle.header_fields.specs.declared.headers.Header.{Header}
 use Rattle.sip_message.specs.declared.message.Message.{Message}
 use Rattle.sip_message.specs.declared.message.Message.TheVariants as Kinds
 use Rattle.sip_message.specs.declared.start.Start.{Start}
 use Rattle.sip_message.specs.Contact.{headers_in}
-use Rattle.sip_message.specs.Fields.{RawField, field_lines}
+use Rattle.header_fields.specs.Fields.{RawField, field_lines}
 use Rattle.sip_message.specs.Grammar.{Opens, ReadsMessage, IsWithin}
-use Rattle.sip_message.specs.Head.{all_lines}
-use Rattle.sip_message.specs.Lines.{lines_text}
+use Rattle.header_fields.specs.Head.{all_lines}
+use Rattle.header_fields.specs.Lines.{lines_text}
 use Rattle.sip_message.specs.Places.{field_text, ArePlaced, IsPlaced}
 use Rattle.sip_message.specs.ContentLength.{without_length}
 

@@ -8,13 +8,13 @@ use Rattle.std.proofs.lemmas.Bool.{and_parts, and_from}
 use Rattle.text.specs.Class.{is_token_byte, is_run_of}
 use Rattle.text.specs.Cut.{after}
 use Rattle.text.specs.Trim.{trimmed}
-use Rattle.sip_message.specs.Lines.{is_clean}
+use Rattle.header_fields.specs.Lines.{is_clean}
 use Rattle.sip_message.specs.HeaderNames.{compact_names, long_of, long_name}
-use Rattle.sip_message.specs.Fields.{RawField, name_of, begun_value, is_continuing, begins_blank, is_raw_field, value_of, field_of}
-use Rattle.sip_message.specs.Head.{ReadsHead}
+use Rattle.header_fields.specs.Fields.{RawField, name_of, begun_value, is_continuing, begins_blank, is_raw_field, value_of, field_of}
+use Rattle.header_fields.specs.Head.{ReadsHead}
 use Rattle.sip_message.specs.Written.{is_written}
-use Rattle.sip_message.specs.declared.headers.Header.{Header}
-use Rattle.sip_message.proofs.FieldLaws.{field_is}
+use Rattle.header_fields.specs.declared.headers.Header.{Header}
+use Rattle.header_fields.proofs.FieldLaws.{field_is}
 use Rattle.sip_message.proofs.ValueLaws.{text_same, trim_same, unfolded_trim, begun_clean, unfolded_clean}
 
 -- ---- long names

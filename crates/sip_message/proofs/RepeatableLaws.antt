@@ -11,7 +11,7 @@ use Rattle.sip_uri.specs.declared.uri.NameAddr.{NameAddr}
 use Rattle.sip_message.specs.declared.cseq.CSeq.{CSeq}
 use Rattle.sip_message.specs.declared.cseq.Sequence.{Sequence}
 use Rattle.sip_message.specs.declared.error.MessageError.{MessageError}
-use Rattle.sip_message.specs.declared.headers.Header.{Header}
+use Rattle.header_fields.specs.declared.headers.Header.{Header}
 use Rattle.sip_message.specs.declared.message.Message.{Message}
 use Rattle.sip_message.specs.declared.message.Message.TheVariants as Kinds
 use Rattle.sip_message.specs.declared.message.Parts.{Parts}
@@ -19,10 +19,10 @@ use Rattle.sip_message.specs.declared.party.Ends.{Ends}
 use Rattle.sip_message.specs.declared.party.Party.{Party}
 use Rattle.sip_message.specs.declared.start.Start.{Start}
 use Rattle.sip_message.specs.declared.via.Via.{Via}
-use Rattle.sip_message.specs.AnswerableParts.{readable_headers, vias_there, party_at, first_party, if_call_id, first_call_id, sequence_at, first_sequence, first_ends, parts_among}
-use Rattle.sip_message.specs.Lines.{ended_lines, is_clean}
+use Rattle.sip_message.specs.AnswerableParts.{vias_there, party_at, first_party, if_call_id, first_call_id, sequence_at, first_sequence, first_ends, parts_among}
+use Rattle.header_fields.specs.Lines.{ended_lines, is_clean}
 use Rattle.sip_message.specs.CSeq.{cseq_of}
-use Rattle.sip_message.specs.Fields.{RawField, fields_of, is_raw_field, field_of}
+use Rattle.header_fields.specs.Fields.{RawField, fields_of, is_raw_field, field_of, readable_headers}
 use Rattle.sip_message.specs.CallId.{is_call_id}
 use Rattle.sip_message.specs.Grammar.{SaysParts, ReadsMessage, IsWithin}
 use Rattle.sip_message.specs.Lookup.{is_named, first_named, value_named, values_named}

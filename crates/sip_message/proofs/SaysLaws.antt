@@ -13,7 +13,7 @@ use Rattle.sip_message.specs.declared.header_names.HeaderName.{HeaderName}
 use Rattle.sip_message.specs.declared.header_names.HeaderName.TheVariants as Names
 use Rattle.sip_message.specs.declared.error.MessageError.{MessageError}
 use Rattle.sip_message.specs.declared.error.MessageError.TheVariants.{Missing, Unreadable, Short}
-use Rattle.sip_message.specs.declared.headers.Header.{Header}
+use Rattle.header_fields.specs.declared.headers.Header.{Header}
 use Rattle.sip_message.specs.declared.message.Parts.{Parts}
 use Rattle.sip_message.specs.declared.contact.ContactNeed.{ContactNeed}
 use Rattle.sip_message.specs.declared.contact.ContactNeed.TheVariants.{One, AtMostOne, Unlooked}

@@ -9,9 +9,10 @@ use Rattle.text.specs.Cut.{after}
 use Rattle.text.specs.Trim.{without_blanks, kept, without_end, trimmed}
 use Rattle.text.proofs.CutLaws.{differs}
 use Rattle.sip_uri.proofs.BlankLaws.{end_again}
-use Rattle.sip_message.specs.Lines.{is_text_byte, is_clean}
-use Rattle.sip_message.specs.Fields.{begins_blank, begun_value}
-use Rattle.sip_message.specs.Glue.{glue, unfolded}
+pub use Rattle.header_fields.proofs.TokenLaws.{IsTrim, trim_same, token_not_blank, token_end, token_front, token_trimmed}
+use Rattle.header_fields.specs.Lines.{is_text_byte, is_clean}
+use Rattle.header_fields.specs.Fields.{begins_blank, begun_value}
+use Rattle.header_fields.specs.Glue.{glue, unfolded}
 
 -- ---- equal texts
 
@@ -19,9 +20,6 @@ pub text_same : (a b : List ℕ) → a ≡ b → pointwise nat_eq a b ≡ true
 text_same a b e = (bytes_decides a b).1 e
 
 -- ---- bytes of a token
-
-pub token_not_blank : (b : ℕ) → is_token_byte b ≡ true → is_blank b ≡ false
-token_not_blank b h = rw (differs is_token_byte 32 b refl h, differs is_token_byte 9 b refl h) refl
 
 pub token_text_byte : (b : ℕ) → is_token_byte b ≡ true → is_text_byte b ≡ true
 token_text_byte b h = rw (differs is_token_byte 13 b refl h, differs is_token_byte 10 b refl h, differs is_token_byte 0 b refl h) refl
@@ -33,17 +31,6 @@ token_clean (b ∷ t) h =
     and_from (is_text_byte b) (is_clean t) (token_text_byte b parts.0) (token_clean t parts.1)
 
 -- ---- texts without blanks at their ends
-
-pub record IsTrim (t : List ℕ) : Type 0 where
-  pub front : begins_blank t ≡ false
-  pub back : without_end t ≡ t
-
-without_same : (t : List ℕ) → begins_blank t ≡ false → without_blanks t ≡ t
-without_same [] h = refl
-without_same (b ∷ t) h = rw h refl
-
-pub trim_same : (t : List ℕ) → IsTrim t → trimmed t ≡ t
-trim_same t h = ap without_end (without_same t h.front) ∙ h.back
 
 without_front : (t : List ℕ) → begins_blank (without_blanks t) ≡ false
 without_front [] = refl
@@ -58,19 +45,6 @@ end_front (b ∷ t) h = rw h h
 
 pub trimmed_is : (t : List ℕ) → IsTrim (trimmed t)
 trimmed_is t = record { front = end_front (without_blanks t) (without_front t); back = end_again (without_blanks t) }
-
-pub token_end : (t : List ℕ) → list_all is_token_byte t ≡ true → without_end t ≡ t
-token_end [] h = refl
-token_end (b ∷ t) h =
-    let parts = and_parts (is_token_byte b) (list_all is_token_byte t) h in
-    ap (kept b) (token_end t parts.1) ∙ rw (token_not_blank b parts.0) refl
-
-pub token_front : (t : List ℕ) → list_all is_token_byte t ≡ true → begins_blank t ≡ false
-token_front [] h = refl
-token_front (b ∷ t) h = token_not_blank b (and_parts (is_token_byte b) (list_all is_token_byte t) h).0
-
-pub token_trimmed : (t : List ℕ) → list_all is_token_byte t ≡ true → trimmed t ≡ t
-token_trimmed t h = trim_same t (record { front = token_front t h; back = token_end t h })
 
 -- ---- pieces of a value
 

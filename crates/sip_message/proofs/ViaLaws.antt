@@ -14,7 +14,7 @@ use Rattle.sip_message.specs.declared.via.Via.{Via}
 use Rattle.sip_message.specs.AnswerableParts.{vias_there}
 use Rattle.text.specs.Cut.{before, after, led_by}
 use Rattle.text.proofs.CutLaws.{joined}
-use Rattle.sip_message.specs.declared.headers.Header.{Header}
+use Rattle.header_fields.specs.declared.headers.Header.{Header}
 use Rattle.sip_message.specs.Lookup.{is_named}
 use Rattle.sip_message.specs.Via.{with_via, each_via, via_texts, some_vias, put_before, via_of}
 

@@ -5,10 +5,10 @@ use Rattle.std.specs.Cmp.Lexicographic.{pointwise, bytes_decides}
 use Rattle.std.proofs.lemmas.Bool.{and_parts, and_from}
 use Rattle.text.specs.Class.{is_token_byte, is_run_of}
 use Rattle.text.specs.Trim.{trimmed}
-use Rattle.sip_message.specs.Lines.{is_clean}
+use Rattle.header_fields.specs.Lines.{is_clean}
 use Rattle.sip_message.specs.HeaderNames.{long_name}
 use Rattle.sip_message.specs.Written.{is_written}
-use Rattle.sip_message.specs.declared.headers.Header.{Header}
+use Rattle.header_fields.specs.declared.headers.Header.{Header}
 use Rattle.sip_message.proofs.ValueLaws.{text_same}
 
 pub record Written (h : Header) : Type 0 where

@@ -1,17 +1,17 @@
 -- What can be answered of a request that can't be read (RFC 3261 section 8.2.6): the values that an answer repeats, each read alone.
-use Rattle.std.specs.Prelude.{ℕ, Bool, false, not, ◌&&◌, nat_eq, List, [], ◌∷◌, map, filter, codes, Option, Some, None, option_map, option_and_then, if◌then◌else◌}
+use Rattle.std.specs.Prelude.{ℕ, Bool, false, not, ◌&&◌, nat_eq, List, [], ◌∷◌, codes, Option, Some, None, option_map, option_and_then, if◌then◌else◌}
 use Rattle.std.specs.Cmp.Lexicographic.{pointwise}
 use Rattle.text.specs.Cut.{before, after}
 use Rattle.sip_message.specs.declared.cseq.Sequence.{Sequence}
-use Rattle.sip_message.specs.declared.headers.Header.{Header}
+use Rattle.header_fields.specs.declared.headers.Header.{Header}
 use Rattle.sip_message.specs.declared.message.Parts.{Parts}
 use Rattle.sip_message.specs.declared.party.Ends.{Ends}
 use Rattle.sip_message.specs.declared.party.Party.{Party}
 use Rattle.sip_message.specs.declared.via.Via.{Via}
 use Rattle.sip_message.specs.CSeq.{cseq_of}
-use Rattle.sip_message.specs.Fields.{fields_of, is_raw_field, field_of}
+use Rattle.header_fields.specs.Fields.{readable_headers}
 use Rattle.sip_message.specs.CallId.{is_call_id}
-use Rattle.sip_message.specs.Lines.{before_line_end, after_line_end, ended_lines}
+use Rattle.header_fields.specs.Lines.{before_line_end, after_line_end, ended_lines}
 use Rattle.sip_message.specs.Lookup.{value_named}
 use Rattle.sip_message.specs.Party.{party_of}
 use Rattle.sip_message.specs.Start.{begins_sip, is_part}
@@ -35,12 +35,6 @@ asks_answer method = is_part method && not (begins_sip method) && not (pointwise
 -- three parts with a single space between each two, whatever they are
 abbrev pub is_asking_line : List ℕ → Bool
 is_asking_line line = asks_answer (before 32 line) && are_two_parts (after 32 line)
-
--- ---- header lines
-
--- the header fields among lines; others are passed over, with the lines that continue them
-abbrev pub readable_headers : List (List ℕ) → List Header
-readable_headers lines = map field_of (filter is_raw_field (fields_of lines))
 
 -- ---- the values
 

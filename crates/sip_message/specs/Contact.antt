@@ -10,7 +10,7 @@ use Rattle.sip_uri.specs.declared.uri.NameAddr.{NameAddr}
 use Rattle.sip_uri.specs.NameAddr.{name_addr_of}
 use Rattle.sip_message.specs.declared.contact.ContactValue.{ContactValue}
 use Rattle.sip_message.specs.declared.contact.ContactValue.TheVariants.{Star, Address, Unreadable}
-use Rattle.sip_message.specs.declared.headers.Header.{Header}
+use Rattle.header_fields.specs.declared.headers.Header.{Header}
 use Rattle.sip_message.specs.declared.message.Message.{Message}
 use Rattle.sip_message.specs.declared.message.Message.TheVariants as Kinds
 use Rattle.sip_message.specs.Lookup.{values_named}

@@ -6,7 +6,7 @@ use Rattle.text.specs.Number.{number_upto}
 use Rattle.sip_message.specs.declared.header_names.HeaderName.TheVariants as Names
 use Rattle.sip_message.specs.declared.error.MessageError.{MessageError}
 use Rattle.sip_message.specs.declared.error.MessageError.TheVariants.{Unreadable, Short}
-use Rattle.sip_message.specs.declared.headers.Header.{Header}
+use Rattle.header_fields.specs.declared.headers.Header.{Header}
 use Rattle.sip_message.specs.Faults.{and_then}
 use Rattle.sip_message.specs.Lookup.{is_named, values_named, at_most_one}
 

@@ -10,7 +10,7 @@ use Rattle.sip_message.specs.declared.error.MessageError.{MessageError}
 use Rattle.sip_message.specs.declared.contact.ContactNeed.{ContactNeed}
 use Rattle.sip_message.specs.declared.contact.ContactNeed.TheVariants.{One, AtMostOne, Unlooked}
 use Rattle.sip_message.specs.declared.error.MessageError.TheVariants.{OutOfMemory, StartLine, Version, HeaderLine, Missing, Unreadable, Short, TooLong}
-use Rattle.sip_message.specs.declared.headers.Header.{Header}
+use Rattle.header_fields.specs.declared.headers.Header.{Header}
 use Rattle.sip_message.specs.declared.message.Message.{Message}
 use Rattle.sip_message.specs.declared.message.Message.TheVariants as Kinds
 use Rattle.sip_message.specs.declared.message.Parts.{Parts}
@@ -25,8 +25,8 @@ use Rattle.sip_message.specs.CSeq.{cseq_of, is_method_for}
 use Rattle.sip_message.specs.CallId.{is_call_id}
 use Rattle.sip_message.specs.MediaType.{is_media_type}
 use Rattle.sip_message.specs.MaxForwards.{max_forwards_of}
-use Rattle.sip_message.specs.Head.{ReadsHead, line_count}
-use Rattle.sip_message.specs.Lines.{before_line_end, is_clean}
+use Rattle.header_fields.specs.Head.{ReadsHead, line_count}
+use Rattle.header_fields.specs.Lines.{before_line_end, is_clean}
 use Rattle.sip_message.specs.Lookup.{values_named}
 use Rattle.sip_message.specs.Party.{is_tagged_for, party_of}
 use Rattle.sip_message.specs.Read.{contents_of, greatest_datagram, greatest_lines}

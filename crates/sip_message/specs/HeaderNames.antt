@@ -1,8 +1,9 @@
 -- The names of header fields (RFC 3261 sections 7.3.3 and 20).
-use Rattle.std.specs.Prelude.{ℕ, ◌==◌, List, [], ◌∷◌, codes, length, slice_index, if◌then◌else◌, Option, option_map, find, unwrap_or}
-use Rattle.std.specs.Char.{to_ascii_lowercase}
+use Rattle.std.specs.Prelude.{ℕ, List, codes}
 use Rattle.sip_message.specs.declared.header_names.HeaderName.{HeaderName}
 use Rattle.sip_message.specs.declared.header_names.HeaderName.TheVariants as Names
+pub use Rattle.header_fields.specs.HeaderNames.{compact_names, long_of}
+unfoldable pub use Rattle.header_fields.specs.HeaderNames.{long_name}
 
 -- the names of the header fields that are read in every message
 abbrev pub name_text : HeaderName → List ℕ
@@ -15,20 +16,3 @@ name_text Names.Contact = codes "Contact"
 name_text Names.MaxForwards = codes "Max-Forwards"
 name_text Names.ContentType = codes "Content-Type"
 name_text Names.ContentLength = codes "Content-Length"
-
--- ---- compact names
-
--- the compact names, and the long names that they stand for (RFC 3261 sections 7.3.3 and 20)
-abbrev pub compact_names : List (ℕ × List ℕ)
-compact_names =
-    (99, codes "Content-Type") ∷ (101, codes "Content-Encoding") ∷ (102, codes "From") ∷ (105, codes "Call-ID")
-    ∷ (107, codes "Supported") ∷ (108, codes "Content-Length") ∷ (109, codes "Contact") ∷ (115, codes "Subject")
-    ∷ (116, codes "To") ∷ (118, codes "Via") ∷ []
-
--- the long name of a letter, in lower case
-abbrev pub long_of : ℕ → Option (List ℕ)
-long_of letter = option_map (λ row. row.1) (find (λ row. row.0 == letter) compact_names)
-
--- the name, or the long name that it stands for, without case
-unfoldable pub long_name : List ℕ → List ℕ
-long_name name = if length name == 1 then unwrap_or (long_of (to_ascii_lowercase (slice_index name 0))) name else name

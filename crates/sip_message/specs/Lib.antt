@@ -1,16 +1,9 @@
 pub mod CSeq
 pub mod Faults
-pub mod Glue
-pub mod Folded
-pub mod FieldValue
-pub mod Steps
-pub mod Fields
 pub mod CallId
 pub mod MediaType
 pub mod MaxForwards
 pub mod HeaderNames
-pub mod Head
-pub mod Lines
 pub mod Lookup
 pub mod Party
 pub mod Start
@@ -25,3 +18,7 @@ pub mod Grammar
 pub mod Repeatable
 pub mod Words
 pub mod Places
+pub use Rattle.header_fields.specs.Lines
+pub use Rattle.header_fields.specs.Glue
+pub use Rattle.header_fields.specs.Fields
+pub use Rattle.header_fields.specs.Head

@@ -1,31 +1,9 @@
--- Headers that are looked up by their names, without case (RFC 3261 section 7.3.1).
-use Rattle.std.specs.Prelude.{ℕ, Bool, List, [], ◌∷◌, map, filter, find, Option, Some, None, option_map, Result, Ok, Err}
-use Rattle.std.specs.Str.{str_eq_ignore_ascii_case}
+-- Headers that are looked up by their names, without case (RFC 3261 section 7.3.1): of some one may stand at most.
+use Rattle.std.specs.Prelude.{ℕ, List, [], ◌∷◌, Option, Some, None, Result, Ok, Err}
 use Rattle.sip_message.specs.declared.header_names.HeaderName.{HeaderName}
 use Rattle.sip_message.specs.declared.error.MessageError.{MessageError}
 use Rattle.sip_message.specs.declared.error.MessageError.TheVariants.{Missing, Unreadable}
-use Rattle.sip_message.specs.declared.headers.Header.{Header}
-
--- a header field of this name and value
-abbrev pub named : List ℕ → List ℕ → Header
-named name value = record { name = name; value = value }
-
-abbrev pub is_named : List ℕ → Header → Bool
-is_named name h = str_eq_ignore_ascii_case h.name name
-
--- the first header of this name
-abbrev pub first_named : List ℕ → List Header → Option Header
-first_named name headers = find (is_named name) headers
-
--- its value
-abbrev pub value_named : List ℕ → List Header → Option (List ℕ)
-value_named name headers = option_map (λ h. h.value) (first_named name headers)
-
--- the values of all headers of this name, in order
-abbrev pub values_named : List ℕ → List Header → List (List ℕ)
-values_named name headers = map (λ h. h.value) (filter (is_named name) headers)
-
--- ---- header fields of which one may stand at most
+pub use Rattle.header_fields.specs.Lookup.{named, is_named, first_named, value_named, values_named}
 
 -- a header field that stands once at most: twice is a fault of its value
 abbrev pub at_most_one : HeaderName → List (List ℕ) → Result (Option (List ℕ)) MessageError

@@ -1,8 +1,8 @@
 -- Where the header fields of a message stand in its text (RFC 3261 section 7.3.1).
 use Rattle.std.specs.Prelude.{◌≡◌, ℕ, ◌+◌, List, [], ◌∷◌, ◌++◌, length, map}
-use Rattle.sip_message.specs.declared.headers.Header.{Header}
-use Rattle.sip_message.specs.Fields.{RawField, field_lines, field_of}
-use Rattle.sip_message.specs.Lines.{lines_text}
+use Rattle.header_fields.specs.declared.headers.Header.{Header}
+use Rattle.header_fields.specs.Fields.{RawField, field_lines, field_of}
+use Rattle.header_fields.specs.Lines.{lines_text}
 use Rattle.sip_message.specs.ContentLength.{without_length}
 
 -- the raw text of a field: its lines, each with its end

@@ -2,15 +2,15 @@
 use Rattle.std.specs.Prelude.{ℕ, ◌+◌, nat_lt, List, length, Option, Some, None, Result, Ok, Err, if◌then◌else◌}
 use Rattle.sip_message.specs.declared.error.MessageError.{MessageError}
 use Rattle.sip_message.specs.declared.error.MessageError.TheVariants.{HeaderLine, TooLong}
-use Rattle.sip_message.specs.declared.headers.Header.{Header}
+use Rattle.header_fields.specs.declared.headers.Header.{Header}
 use Rattle.sip_message.specs.declared.message.Message.{Message}
 use Rattle.sip_message.specs.declared.message.Message.TheVariants as Kinds
 use Rattle.sip_message.specs.declared.start.Start.{Start}
 use Rattle.sip_message.specs.declared.start.Start.TheVariants.{Asking, Answering}
 use Rattle.sip_message.specs.declared.read.Contents.{Contents}
 use Rattle.sip_message.specs.Faults.{and_then}
-use Rattle.sip_message.specs.Head.{head_of}
-use Rattle.sip_message.specs.Lines.{before_line_end, after_line_end, is_clean}
+use Rattle.header_fields.specs.Head.{head_of}
+use Rattle.header_fields.specs.Lines.{before_line_end, after_line_end, is_clean}
 use Rattle.sip_message.specs.Start.{start_of}
 use Rattle.sip_message.specs.Values.{values_of}
 use Rattle.sip_message.specs.ContentLength.{without_length, body_of}

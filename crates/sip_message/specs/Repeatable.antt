@@ -7,7 +7,7 @@ use Rattle.sip_message.specs.declared.message.Message.TheVariants as Kinds
 use Rattle.sip_message.specs.declared.message.Parts.{Parts}
 use Rattle.sip_message.specs.CSeq.{cseq_of}
 use Rattle.sip_message.specs.CallId.{is_call_id}
-use Rattle.sip_message.specs.Lines.{is_clean}
+use Rattle.header_fields.specs.Lines.{is_clean}
 use Rattle.sip_message.specs.Party.{party_of}
 use Rattle.sip_message.specs.Via.{via_of}
 

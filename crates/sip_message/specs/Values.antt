@@ -4,7 +4,7 @@ use Rattle.sip_uri.specs.declared.uri.NameAddr.{NameAddr}
 use Rattle.sip_message.specs.declared.header_names.HeaderName.TheVariants as Names
 use Rattle.sip_message.specs.declared.error.MessageError.{MessageError}
 use Rattle.sip_message.specs.declared.error.MessageError.TheVariants.{Missing, Unreadable}
-use Rattle.sip_message.specs.declared.headers.Header.{Header}
+use Rattle.header_fields.specs.declared.headers.Header.{Header}
 use Rattle.sip_message.specs.declared.contact.ContactNeed.{ContactNeed}
 use Rattle.sip_message.specs.declared.contact.ContactNeed.TheVariants.{One, AtMostOne, Unlooked}
 use Rattle.sip_message.specs.declared.cseq.CSeq.{CSeq}

@@ -3,9 +3,9 @@ use Rattle.std.specs.Prelude.{Bool, ◌&&◌, nat_eq, IsTrue}
 use Rattle.std.specs.Cmp.Lexicographic.{pointwise}
 use Rattle.text.specs.Class.{is_token_byte, is_run_of}
 use Rattle.text.specs.Trim.{trimmed}
-use Rattle.sip_message.specs.Lines.{is_clean}
+use Rattle.header_fields.specs.Lines.{is_clean}
 use Rattle.sip_message.specs.HeaderNames.{long_name}
-use Rattle.sip_message.specs.declared.headers.Header.{Header}
+use Rattle.header_fields.specs.declared.headers.Header.{Header}
 
 -- the name is a token that is long, and the value is clean and has no blanks at its ends
 unfoldable pub is_written : Header → Bool

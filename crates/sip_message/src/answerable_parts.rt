@@ -1,31 +1,22 @@
 //! What can be answered of a request that can't be read.
 
-ghost use Rattle.std.specs.Prelude.{◌≡◌, ◌∷◌, map, codes, option_map, IfOk, OnOk};
-ghost use Rattle.std.specs.List.{list_all};
+ghost use Rattle.std.specs.Prelude.{◌≡◌, codes, option_map, IfOk};
 ghost use Rattle.std.specs.Option.{option_copied};
-ghost use Rattle.text.specs.Trim.{trimmed};
 ghost use Rattle.sip_message.specs.Repeatable.{IfRepeatable};
-ghost use Rattle.sip_message.specs.AnswerableParts.{is_part_there, are_two_parts, asks_answer, is_asking_line, readable_headers, vias_there, party_at, first_party, first_call_id, sequence_at, first_sequence, first_ends, parts_among, parts_behind, answerable_of};
-ghost use Rattle.sip_message.specs.Lines.{ended_lines, texts};
-ghost use Rattle.sip_message.specs.Fields.{is_continuing, continued, readable_of};
-ghost use Rattle.sip_message.specs.Glue.{glue, unfolded};
-ghost use Rattle.sip_message.specs.HeaderNames.{long_name};
+ghost use Rattle.sip_message.specs.AnswerableParts.{is_part_there, are_two_parts, asks_answer, is_asking_line, vias_there, party_at, first_party, first_call_id, sequence_at, first_sequence, first_ends, parts_among, parts_behind, answerable_of};
+ghost use Rattle.header_fields.specs.Fields.{readable_headers};
+ghost use Rattle.header_fields.specs.Lines.{ended_lines};
 ghost use Rattle.sip_message.specs.Via.{via_texts};
 
 use crate::call_id::is_call_id;
 use crate::cseq::{Sequence, read_cseq};
-use crate::field::{begins_blank, name_and_value};
-use crate::field_value::FieldValue;
-use crate::header_names::long_name;
-use crate::headers::Header;
-use crate::lines::{ended_lines, first_line, is_clean};
-use crate::lookup::first_value;
 use crate::message::{Parts, parts_with};
 use crate::party::{Ends, Party, read_party};
 use crate::start::{begins_sip, is_part};
 use crate::via::{Via, Vias, read_each};
+use header_fields::{FieldValue, Header, ended_lines, first_line, first_value, readable_headers};
 use std::alloc::{AllocError, Global};
-use text::{Text, cut, trimmed};
+use text::{Text, cut};
 
 fn are_two_parts(text: Option<&[u8]>) -> bool
     ensures { result ≡ are_two_parts (option_copied text.entry) }
@@ -48,110 +39,6 @@ fn is_asking_line(line: &[u8]) -> bool
 {
     let (method, behind) = cut(line, b' ');
     asks_answer(method) && are_two_parts(behind)
-}
-
-/// The lines at the front that continue a field.
-fn continued<'a, 'b>(lines: &'a [&'b [u8]]) -> &'a [&'b [u8]]
-    ensures { texts result.now ≡ continued (texts lines.now) }
-{
-    for at in 0..lines.len() {
-        if !begins_blank(lines[at]) {
-            return &lines[..at];
-        }
-    }
-    lines
-}
-
-fn is_continuing(line: &[u8]) -> bool
-    ensures { result ≡ is_continuing line.now }
-{
-    begins_blank(line) && is_clean(line)
-}
-
-fn all_continuing(lines: &[&[u8]]) -> bool
-    ensures { result ≡ list_all is_continuing (texts lines.now) }
-{
-    for line in lines {
-        if !is_continuing(line) {
-            return false;
-        }
-    }
-    true
-}
-
-/// Puts a piece behind a value, with one space between where neither is empty.
-fn glue(value: &mut Vec<u8>, piece: &[u8]) -> Result<(), AllocError>
-    ensures { OnOk result (value.new.items ≡ glue value.old.items piece.now) }
-{
-    if piece.is_empty() {
-        return Ok(());
-    }
-    if value.is_empty() {
-        return value.extend_from_slice(piece);
-    }
-    value.push(b' ')?;
-    value.extend_from_slice(piece)
-}
-
-/// A value whose line ends, with the blanks around them, read as one space (RFC 3261 section 7.3.1).
-fn unfolded(alloc: Global, begun: &[u8], more: &[&[u8]]) -> Result<Text<'static>, AllocError>
-    ensures { IfOk result (λ value. value ≡ unfolded (map trimmed (begun.now ∷ texts more.now))) }
-{
-    let mut value = Vec::from_slice(alloc, trimmed(begun))?;
-    for line in more {
-        glue(&mut value, trimmed(line))?;
-    }
-    Ok(Text::from_vec(value))
-}
-
-/// The header of this name, of what its first line has behind the colon, and of the lines that continue it.
-fn made<'a>(
-    alloc: Global,
-    name: &'a [u8],
-    begun: &[u8],
-    more: &[&[u8]],
-) -> Result<Header<'a>, AllocError>
-    ensures { IfOk result (λ h. h ≡ record { name = long_name name.now; value = unfolded (map trimmed (begun.now ∷ texts more.now)) }) }
-{
-    Ok(Header {
-        name: Text::lent(long_name(name)),
-        value: FieldValue::whole(unfolded(alloc, begun, more)?),
-    })
-}
-
-/// The header of a first line and of the lines that continue it, if they are of their form.
-#[tactic(auto, unfolding(crate::specs::Fields::field_of, crate::specs::Fields::is_raw_field))]
-fn readable<'a>(
-    alloc: Global,
-    first: &'a [u8],
-    more: &[&[u8]],
-) -> Result<Option<Header<'a>>, AllocError>
-    ensures { IfOk result (λ h. h ≡ readable_of (record { first = first.now; more = texts more.now })) }
-{
-    if begins_blank(first) || !is_clean(first) || !all_continuing(more) {
-        return Ok(None);
-    }
-    match name_and_value(first) {
-        Some((name, begun)) => Ok(Some(made(alloc, name, begun, more)?)),
-        None => Ok(None),
-    }
-}
-
-/// The headers of the fields that are of their form, in order.
-fn readable_headers<'a>(alloc: Global, lines: &[&'a [u8]]) -> Result<Vec<Header<'a>>, AllocError>
-    ensures { IfOk result (λ hs. hs.items ≡ readable_headers (texts lines.now)) }
-{
-    let mut headers = Vec::new(alloc);
-    for at in 0..lines.len() {
-        if begins_blank(lines[at]) {
-            continue;
-        }
-        let Some(header) = readable(alloc, lines[at], continued(&lines[at + 1..]))? else {
-            continue;
-        };
-        headers.push(header)?;
-    }
-    Ok(headers)
 }
 
 fn party_at<'a>(alloc: Global, value: &FieldValue<'a>) -> Result<Option<Party<'a>>, AllocError>

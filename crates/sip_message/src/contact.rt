@@ -5,11 +5,9 @@ ghost use Rattle.text.specs.Pieces.{pieces};
 ghost use Rattle.text.specs.declared.splitting.Within.TheVariants.{Nothing};
 ghost use Rattle.sip_message.specs.Contact.{is_star, contact_of, contacts_of, headers_in, is_success, may_need_contact, need_by_method, contact_need};
 
-use crate::field_value::FieldValue;
-use crate::headers::Header;
-use crate::lookup::is_named;
 use crate::message::Message;
 use crate::start::Start;
+use header_fields::{FieldValue, Header, is_named};
 use sip_uri::{NameAddr, UriError, read_name_addr};
 use std::alloc::{AllocError, Global};
 use text::{Text, cut_piece, trimmed};

@@ -6,10 +6,9 @@ ghost use Rattle.sip_message.specs.Faults.{Gives};
 ghost use Rattle.sip_message.specs.ContentLength.{body_by, body_of, long_enough, without_length};
 
 use crate::error::MessageError;
-use crate::field_value::FieldValue;
 use crate::header_names::HeaderName;
-use crate::headers::{Header, Headers};
-use crate::lookup::{at_most_one, is_named};
+use crate::lookup::at_most_one;
+use header_fields::{FieldValue, Header, Headers, is_named};
 use std::alloc::Global;
 use text::{Text, is_run_of_digits, number_upto};
 

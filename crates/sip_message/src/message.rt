@@ -4,9 +4,9 @@ ghost use Rattle.std.specs.Prelude.{◌≡◌};
 ghost use Rattle.sip_message.specs.Values.{parts_with};
 
 use crate::cseq::{CSeq, Sequence};
-use crate::headers::Headers;
 use crate::party::Ends;
 use crate::via::Vias;
+use header_fields::Headers;
 use sip_uri::{NameAddr, Uri};
 use text::Text;
 

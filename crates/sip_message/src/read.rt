@@ -7,18 +7,16 @@ ghost use Rattle.sip_message.specs.Contact.{headers_in};
 ghost use Rattle.sip_message.specs.Faults.{Gives};
 ghost use Rattle.sip_message.specs.Places.{IsPlaced};
 ghost use Rattle.sip_message.specs.Grammar.{ReadsMessage, IsWithin, Refuses};
-ghost use Rattle.sip_message.specs.Lines.{is_clean, before_line_end, after_line_end};
+ghost use Rattle.header_fields.specs.Lines.{is_clean, before_line_end, after_line_end};
 ghost use Rattle.sip_message.specs.Read.{contents_of, message_with, behind_start, message_of};
 ghost use Rattle.sip_message.specs.declared.message.Message.{Message};
 
 use crate::content_length::{read_body, without_length};
 use crate::error::MessageError;
-use crate::head::{HeadError, read_head};
-use crate::headers::{Header, Headers};
-use crate::lines::{first_line, is_clean, next_line};
 use crate::message::{Message, Request, Response};
 use crate::start::{Start, read_start};
 use crate::values::{Values, read_hops_behind, read_parts};
+use header_fields::{HeadError, Header, Headers, first_line, is_clean, next_line, read_head};
 use std::alloc::Global;
 use text::Text;
 

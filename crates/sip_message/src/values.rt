@@ -9,7 +9,6 @@ use crate::contact::{ContactNeed, ContactValue, contact_need, contact_values};
 use crate::cseq::{Sequence, is_method_for, read_cseq};
 use crate::error::MessageError;
 use crate::header_names::HeaderName;
-use crate::headers::Header;
 use crate::lookup::{at_most_one, exactly_one};
 use crate::max_forwards::read_max_forwards;
 use crate::media_type::is_media_type;
@@ -17,6 +16,7 @@ use crate::message::Parts;
 use crate::party::{Party, is_tagged_for, read_party};
 use crate::start::Start;
 use crate::via::read_vias;
+use header_fields::Header;
 use std::alloc::Global;
 use text::Text;
 

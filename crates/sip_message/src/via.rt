@@ -10,10 +10,8 @@ ghost use Rattle.sip_message.specs.Faults.{Gives};
 ghost use Rattle.sip_message.specs.Via.{raw_via_of, is_raw_via, is_port, sent_by_of, port_of, via_of, each_via, via_texts, some_vias, put_before};
 
 use crate::error::MessageError;
-use crate::field_value::FieldValue;
 use crate::header_names::HeaderName;
-use crate::headers::Header;
-use crate::lookup::is_named;
+use header_fields::{FieldValue, Header, is_named};
 use sip_uri::{Host, Params, read_field_params, read_host};
 use std::alloc::{AllocError, Global};
 use std::marker::Model;

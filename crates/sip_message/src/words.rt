@@ -5,10 +5,9 @@ ghost use Rattle.std.specs.List.{list_all};
 ghost use Rattle.std.specs.Option.{option_copied};
 ghost use Rattle.sip_message.specs.Words.{param_value, top_branch, tag_value, tag_text, is_method, class_of, lower_case, is_range_byte, media_range, content_type_of};
 
-use crate::headers::Header;
-use crate::lookup::first_value;
 use crate::message::Parts;
 use crate::via::Vias;
+use header_fields::{Header, first_value};
 use sip_uri::{Param, param_named};
 use std::alloc::{AllocError, Global};
 use text::{Text, cut, trimmed};

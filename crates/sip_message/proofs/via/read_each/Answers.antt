@@ -1,5 +1,5 @@
 use Rattle.std.proofs.Common.{◌∙◌, ◌+◌, List, drop, ap, sym, arith, rules}
-use Rattle.sip_message.specs.declared.headers.Header.{Header}
+use Rattle.header_fields.specs.declared.headers.Header.{Header}
 use Rattle.sip_message.specs.Via.{each_via, via_texts, put_before}
 use Rattle.sip_message.proofs.ViaLaws.{fields_from, field_passed, field_put, field_refused}
 use Rattle.sip_message.proofs.via.read_each.Goals as goal

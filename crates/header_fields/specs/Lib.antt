@@ -1,0 +1,9 @@
+pub mod Lines
+pub mod Glue
+pub mod Folded
+pub mod FieldValue
+pub mod HeaderNames
+pub mod Fields
+pub mod Head
+pub mod Steps
+pub mod Lookup

@@ -1,9 +1,0 @@
-use Rattle.std.proofs.Common.{◌≡◌, drop}
-use Rattle.std.specs.List.{list_all}
-use Rattle.sip_message.specs.Fields.{is_continuing}
-use Rattle.sip_message.specs.Lines.{texts}
-use Rattle.sip_message.proofs.answerable_parts.all_continuing.Given as goal
-
--- those so far continue, so that what is left tells
-abbrev pub invariant-loop-line : goal.invariant-loop-line
-invariant-loop-line l = list_all is_continuing (texts (drop l.line-index l.lines)) ≡ list_all is_continuing (texts l.lines)

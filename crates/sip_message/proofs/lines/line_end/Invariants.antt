@@ -1,7 +1,0 @@
-use Rattle.std.proofs.Common.{◌≡◌, drop}
-use Rattle.sip_message.specs.Lines.{plus, line_end}
-use Rattle.sip_message.proofs.lines.line_end.Given as goal
-
--- the end of the whole stands as far in as that of what is left
-abbrev pub invariant-loop-at : goal.invariant-loop-at
-invariant-loop-at l = plus l.at (line_end (drop l.at l.text)) ≡ line_end l.text

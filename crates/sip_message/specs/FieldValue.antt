@@ -1,9 +1,0 @@
--- What the value of a header field says, wherever it stands.
-use Rattle.std.specs.Prelude.{ℕ, List}
-use Rattle.sip_message.specs.Folded.{unfolded_text}
-use Rattle.sip_message.specs.declared.field_value.Form.{Form}
-use Rattle.sip_message.specs.declared.field_value.Form.TheVariants.{Whole, Folded}
-
-abbrev pub said : Form → List ℕ
-said (Whole text) = text
-said (Folded raw) = unfolded_text raw.now
