@@ -1,40 +1,12 @@
--- What the body of a message is by its header fields, and what it describes (RFC 3261 sections 7.4, 8.2.3, 20.12 and 20.15).
-use Rattle.std.specs.Prelude.{ℕ, Bool, true, nat_eq, List, codes, Option, Some, None, Result, Ok, Err, if◌then◌else◌}
-use Rattle.std.specs.Cmp.Lexicographic.{pointwise}
-use Rattle.std.specs.List.{list_all}
-use Rattle.std.specs.Str.{str_eq_ignore_ascii_case}
-use Rattle.text.specs.Pieces.{pieces}
-use Rattle.text.specs.Trim.{trimmed}
-use Rattle.text.specs.declared.splitting.Within.TheVariants.{Nothing}
+-- Why a body is not taken, and what it describes (RFC 3261 sections 7.4, 8.2.3, 20.12 and 20.15).
+use Rattle.std.specs.Prelude.{ℕ, List, Option, Some, None, Result, Ok, Err, if◌then◌else◌}
 use Rattle.sdp.specs.declared.description.Description.{Description}
 use Rattle.sdp.specs.declared.error.DescriptionError.{DescriptionError}
 use Rattle.sdp.specs.Reading.{description_of}
 use Rattle.sip_message.specs.declared.headers.Header.{Header}
-use Rattle.sip_message.specs.Lookup.{values_named}
-use Rattle.sip_message.specs.Words.{content_type_of}
+use Rattle.sip_message.specs.Content.{has_description_type, is_uncoded}
 use Rattle.call_rules.specs.declared.content.ContentRule.{ContentRule}
 use Rattle.call_rules.specs.declared.content.ContentRule.TheVariants.{«Type», Encoding}
-
--- ---- its type (section 20.15); a body whose type is not named counts as a description, which is the server's own
-
-abbrev pub is_description_type : Option (List ℕ) → Bool
-is_description_type None = true
-is_description_type (Some range) = pointwise nat_eq range (codes "application/sdp")
-
-abbrev pub has_description_type : List Header → Bool
-has_description_type headers = is_description_type (content_type_of headers)
-
--- ---- its codings (section 20.12), compared without case
-
-abbrev pub is_identity : List ℕ → Bool
-is_identity coding = str_eq_ignore_ascii_case (trimmed coding) (codes "identity")
-
--- each element leaves the body as it is; an empty one is no coding
-abbrev pub is_uncoded_by : List ℕ → Bool
-is_uncoded_by value = list_all is_identity (pieces 44 Nothing value)
-
-abbrev pub is_uncoded : List Header → Bool
-is_uncoded headers = list_all is_uncoded_by (values_named (codes "Content-Encoding") headers)
 
 -- ---- why a body is not taken: its type first (section 8.2.3)
 

@@ -1,14 +1,12 @@
 //! What the body of a message is by its header fields, and what it describes.
 
-ghost use Rattle.std.specs.Prelude.{◌≡◌, map, None, Some, IfOk};
-ghost use Rattle.std.specs.List.{list_all};
+ghost use Rattle.std.specs.Prelude.{◌≡◌, None, Some, IfOk};
 ghost use Rattle.sdp.specs.Reading.{description_of};
-ghost use Rattle.call_rules.specs.Content.{coding_rule, content_rule, described, described_by, has_description_type, if_read, is_identity, is_uncoded, is_uncoded_by};
+ghost use Rattle.call_rules.specs.Content.{coding_rule, content_rule, described, described_by, if_read};
 
 use sdp::{Description, DescriptionError, read_description};
-use sip_message::{FieldValue, Header, content_type, values_named};
+use sip_message::{Header, has_description_type, is_uncoded};
 use std::alloc::{AllocError, Global};
-use text::{pieces, trimmed};
 
 /// Why a body is not taken (RFC 3261 section 8.2.3).
 #[derive(Clone, Copy)]
@@ -17,60 +15,6 @@ pub enum ContentRule {
     Type,
     /// It is coded (section 20.12).
     Encoding,
-}
-
-fn is_identity(coding: &[u8]) -> bool
-    ensures { result ≡ is_identity coding.now }
-{
-    trimmed(coding).eq_ignore_ascii_case(b"identity")
-}
-
-fn are_identities(codings: &[&[u8]]) -> bool
-    ensures { result ≡ list_all is_identity (map (λ c. c.now) codings.now) }
-{
-    for coding in codings {
-        if !is_identity(coding) {
-            return false;
-        }
-    }
-    true
-}
-
-/// Whether a Content-Encoding of this value leaves the body as it is.
-fn is_uncoded_by(alloc: Global, value: &FieldValue<'_>) -> Result<bool, AllocError>
-    ensures { IfOk result (λ b. b ≡ is_uncoded_by value.now) }
-{
-    let text = value.text(alloc)?;
-    let codings = pieces(alloc, text.as_bytes(), b',')?;
-    Ok(are_identities(&codings))
-}
-
-fn is_uncoded_by_each(alloc: Global, values: &[&FieldValue<'_>]) -> Result<bool, AllocError>
-    ensures { IfOk result (λ b. b ≡ list_all is_uncoded_by (map (λ v. v.now) values.now)) }
-{
-    for value in values {
-        if !is_uncoded_by(alloc, value)? {
-            return Ok(false);
-        }
-    }
-    Ok(true)
-}
-
-fn is_uncoded(alloc: Global, headers: &[Header<'_>]) -> Result<bool, AllocError>
-    ensures { IfOk result (λ b. b ≡ is_uncoded headers.now) }
-{
-    let values = values_named(alloc, headers, b"Content-Encoding")?;
-    is_uncoded_by_each(alloc, &values)
-}
-
-/// Whether Content-Type is that of a description, or does not stand.
-fn has_description_type(alloc: Global, headers: &[Header<'_>]) -> Result<bool, AllocError>
-    ensures { IfOk result (λ b. b ≡ has_description_type headers.now) }
-{
-    match content_type(alloc, headers)? {
-        Some(range) => Ok(range.as_bytes() == b"application/sdp".as_slice()),
-        None => Ok(true),
-    }
 }
 
 fn coding_rule(alloc: Global, headers: &[Header<'_>]) -> Result<Option<ContentRule>, AllocError>

@@ -8,6 +8,7 @@ use Rattle.sip_message.specs.declared.message.Message.{Message}
 use Rattle.sip_message.specs.declared.message.Parts.{Parts}
 use Rattle.sip_message.specs.declared.via.Via.{Via}
 use Rattle.sip_message.specs.Contact.{headers_in}
+use Rattle.sip_message.specs.Content.{is_description_type, is_uncoded, is_uncoded_by}
 use Rattle.sip_message.specs.Lookup.{named, values_named}
 use Rattle.sip_message.specs.Words.{content_type_of}
 use Rattle.sip_writing.specs.Reply.{reply_headers, via_headers}
@@ -18,7 +19,7 @@ use Rattle.sdp.specs.Order.{is_ordered}
 use Rattle.sdp.specs.Grammar.{ReadsDescription}
 use Rattle.sdp.specs.Reading.{description_of}
 use Rattle.legs.specs.Messages.{description_headers}
-use Rattle.trace_reading.specs.Body.{description_in, if_read, is_description_type, is_uncoded, is_uncoded_by, may_describe}
+use Rattle.trace_reading.specs.Body.{description_in, if_read, may_describe}
 use Rattle.trace_reading.specs.Message.{body_in, trace_message}
 
 -- the law of bodies, that a trace has a description exactly where it stands in the body

@@ -17,6 +17,7 @@ use Rattle.sip_message.specs.Head.{head_of}
 use Rattle.sip_message.specs.Lines.{after_line_end, before_line_end, begins_line_end, is_clean, line_of, lines_within, next_lines, with_lines}
 use Rattle.sip_message.specs.Lookup.{at_most_one, values_named}
 use Rattle.sip_message.specs.Read.{behind_start, clean_start, contents_of, greatest_datagram, greatest_lines, message_by, message_of, message_with, with_fields}
+use Rattle.sip_message.specs.Content.{has_description_type, is_uncoded}
 use Rattle.sip_message.specs.Start.{start_of}
 use Rattle.sip_message.specs.Values.{values_of}
 use Rattle.sdp.specs.declared.description.Description.{Description}
@@ -26,7 +27,7 @@ use Rattle.call_rules.specs.Content as rules
 use Rattle.call_rules.specs.Content.{described}
 use Rattle.call_rules.specs.declared.content.ContentRule.TheVariants as content
 use Rattle.trace_reading.specs.Body as traces
-use Rattle.trace_reading.specs.Body.{description_in, has_description_type, is_uncoded, may_describe}
+use Rattle.trace_reading.specs.Body.{description_in, may_describe}
 use Rattle.trace_reading.specs.Message.{body_in, trace_message}
 use Rattle.promise.specs.Bodies.{WasRead, WasReadIf}
 use Rattle.promise.proofs.Describing.{BodiesDescribe}

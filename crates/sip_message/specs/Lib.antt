@@ -14,6 +14,7 @@ pub mod Written
 pub mod AnswerableParts
 pub mod Read
 pub mod Contact
+pub mod Content
 pub mod Grammar
 pub mod Repeatable
 pub mod Words

@@ -6,6 +6,7 @@
 mod answerable_parts;
 mod call_id;
 mod contact;
+mod content;
 mod content_length;
 mod cseq;
 mod error;
@@ -25,6 +26,7 @@ mod words;
 
 pub use answerable_parts::answerable;
 pub use contact::{ContactNeed, ContactValue, contact_values, contacts};
+pub use content::{has_description_type, is_uncoded};
 pub use cseq::{CSeq, Sequence};
 pub use error::MessageError;
 // Clauses of the crates above name the type of a header by the module `headers`.

@@ -1,7 +1,7 @@
 use Rattle.std.proofs.Common.{◌≡◌, drop, map}
 use Rattle.std.specs.List.{list_all}
-use Rattle.trace_reading.specs.Body.{is_identity}
-use Rattle.trace_reading.proofs.body.are_identities.Given as goal
+use Rattle.sip_message.specs.Content.{is_identity}
+use Rattle.sip_message.proofs.content.are_identities.Given as goal
 
 -- all pass where those that are left do
 abbrev pub invariant-loop-coding : goal.invariant-loop-coding

@@ -1,7 +1,7 @@
 use Rattle.std.proofs.Common.{◌≡◌, drop, map}
 use Rattle.std.specs.List.{list_all}
-use Rattle.trace_reading.specs.Body.{is_uncoded_by}
-use Rattle.trace_reading.proofs.body.is_uncoded_by_each.Given as goal
+use Rattle.sip_message.specs.Content.{is_uncoded_by}
+use Rattle.sip_message.proofs.content.is_uncoded_by_each.Given as goal
 
 -- all pass where those that are left do
 abbrev pub invariant-loop-value : goal.invariant-loop-value
