@@ -117,4 +117,5 @@ def main():
     callee.leave()
 
 
-main()
+if __name__ == "__main__":
+    main()

@@ -10,6 +10,7 @@ use crate::agent::Agent;
 use calls::Calls;
 use checks::Tally;
 use configuration::{Config, ConfigError, check};
+use index::PrintKey;
 use offer_answer::OwnRange;
 use promise::configuration_names_an_address;
 use promised::agents_stand;
@@ -29,7 +30,7 @@ fn kept_texts(alloc: Global, texts: &[Text<'static>]) -> Result<Texts<'static>, 
     Ok(Texts::from_vec(kept))
 }
 
-fn registrar_of(alloc: Global, config: &Config) -> Result<Registrar, AllocError>
+fn registrar_of(alloc: Global, key: PrintKey, config: &Config) -> Result<Registrar, AllocError>
     requires { KeepsRules config.now }
     ensures { IfOk result (λ r. StandsAfter r (rules_by config.now) []) }
 {
@@ -37,6 +38,7 @@ fn registrar_of(alloc: Global, config: &Config) -> Result<Registrar, AllocError>
     let domain = config.domain_text(alloc)?;
     Registrar::new(
         alloc,
+        key,
         users,
         config.ip,
         config.sip_port,
@@ -67,8 +69,9 @@ fn range_of(config: &Config) -> OwnRange
 
 impl Agent {
     /// An agent that nothing has happened to, which stands after the empty trace. The configuration keeps the rules, or the first that it breaks
-    /// is told.
-    pub fn new(alloc: Global, config: &Config) -> Result<Agent, ConfigError>
+    /// is told. Transactions, calls and users are looked up by prints under this key, which no clause here or elsewhere asks for: so what is
+    /// sent doesn't depend on it.
+    pub fn new(alloc: Global, key: PrintKey, config: &Config) -> Result<Agent, ConfigError>
         ensures new { IfOk result (IsNew config.now) }
         ensures stands { IfOk result (λ agent. AgentStands agent [] 0) }
         ensures kept { OnOk result (KeepsRules config.now) }
@@ -76,23 +79,23 @@ impl Agent {
     {
         agents_stand();
         configuration_names_an_address(config);
-        Agent::made(alloc, config)
+        Agent::made(alloc, key, config)
     }
 
     #[tactic(auto, using(crate::proofs::ConfigLaws::refuses))]
     #[inline(never)]
-    fn made(alloc: Global, config: &Config) -> Result<Agent, ConfigError>
+    fn made(alloc: Global, key: PrintKey, config: &Config) -> Result<Agent, ConfigError>
         ensures new { IfOk result (IsNew config.now) }
         ensures kept { OnOk result (KeepsRules config.now) }
         ensures refused { IfErr result (RefusesConfig config.now) }
     {
         check(config)?;
-        let registrar = registrar_of(alloc, config)?;
-        let calls = Calls::new(alloc, config.relay_first, config.relay_pairs)?;
+        let registrar = registrar_of(alloc, key, config)?;
+        let calls = Calls::new(alloc, key, config.relay_first, config.relay_pairs)?;
         Ok(Agent {
             alloc,
             registrar,
-            table: Table::new(alloc),
+            table: Table::new(alloc, key),
             calls,
             acks: Vec::new(alloc),
             changes: Vec::new(alloc),

@@ -3,7 +3,8 @@ use Rattle.std.proofs.Common.{◌≡◌, ◌∙◌, ◌<◌, ◌≤◌, ◌+◌,
 use Rattle.std.specs.Prelude.{◌||◌, ◌&&◌, nat_eq, slice_get}
 use Rattle.std.specs.List.{position, position_or_len, remove}
 use Rattle.std.specs.Cmp.Lexicographic.{bytes_decides}
-use Rattle.index.specs.Print.{print_of}
+use Rattle.index.specs.declared.print.PrintKey.{PrintKey}
+use Rattle.index.specs.PrintKeys.{print_of}
 use Rattle.sip_message.specs.declared.message.Parts.{Parts}
 use Rattle.sip_message.specs.Words.{tag_text}
 use Rattle.call_media.specs.declared.end.End.{End}
@@ -82,47 +83,47 @@ module _ {X Y : Type 0} (f : X → Y) (p : X → Bool) (q : Y → Bool) (passes 
 
 -- ---- who has a tag has its print
 
-same_print : (one tag : List ℕ) → is_text one tag ≡ true → nat_eq (print_of one) (print_of tag) ≡ true
-same_print one tag is = eq-eqb (print_of one) (print_of tag) (ap print_of ((bytes_decides one tag).0 is))
+same_print : (key : PrintKey) (one tag : List ℕ) → is_text one tag ≡ true → nat_eq (print_of key one) (print_of key tag) ≡ true
+same_print key one tag is = eq-eqb (print_of key one) (print_of key tag) (ap (print_of key) ((bytes_decides one tag).0 is))
 
 either : (a b x y : Bool) → (a ≡ true → x ≡ true) → (b ≡ true → y ≡ true) → (a || b) ≡ true → (x || y) ≡ true
 either true b x y one other is = let so = one refl in cc
 either false b true y one other is = refl
 either false b false y one other is = other is
 
-pub tag_passes : (tag : List ℕ) (c : StandingCall) → has_tag tag c ≡ true → has_print (print_of tag) (prints_of c) ≡ true
-tag_passes tag c = either (is_text c.callee_tag tag) (is_text c.call.caller.id.ours tag) _ _ (same_print c.callee_tag tag) (same_print c.call.caller.id.ours tag)
+pub tag_passes : (key : PrintKey) (tag : List ℕ) (c : StandingCall) → has_tag tag c ≡ true → has_print (print_of key tag) (prints_of key c) ≡ true
+tag_passes key tag c = either (is_text c.callee_tag tag) (is_text c.call.caller.id.ours tag) _ _ (same_print key c.callee_tag tag) (same_print key c.call.caller.id.ours tag)
 
 middle : (a b c : Bool) → (a && b && c) ≡ true → b ≡ true
 middle true true c is = refl
 middle true false c is = absurd cc
 middle false b c is = absurd cc
 
-dialog_passes : (parts : Parts) (d : Option Dialog) → is_of_dialog parts d ≡ true → nat_eq (tag_print d) (print_of (tag_text parts.to.params)) ≡ true
-dialog_passes parts None is = absurd cc
-dialog_passes parts (Some d) is = same_print d.id.ours (tag_text parts.to.params) (middle _ _ _ is)
+dialog_passes : (key : PrintKey) (parts : Parts) (d : Option Dialog) → is_of_dialog parts d ≡ true → nat_eq (tag_print key d) (print_of key (tag_text parts.to.params)) ≡ true
+dialog_passes key parts None is = absurd cc
+dialog_passes key parts (Some d) is = same_print key d.id.ours (tag_text parts.to.params) (middle _ _ _ is)
 
-pub end_passes : (end : End) (parts : Parts) (c : StandingCall) → is_of_end end parts c ≡ true
-    → has_print_at end (print_of (tag_text parts.to.params)) (prints_of c) ≡ true
-end_passes Caller parts c = dialog_passes parts (Some c.call.caller)
-end_passes Callee parts c = dialog_passes parts c.call.callee
+pub end_passes : (key : PrintKey) (end : End) (parts : Parts) (c : StandingCall) → is_of_end end parts c ≡ true
+    → has_print_at end (print_of key (tag_text parts.to.params)) (prints_of key c) ≡ true
+end_passes key Caller parts c = dialog_passes key parts (Some c.call.caller)
+end_passes key Callee parts c = dialog_passes key parts c.call.callee
 
 -- ---- the prints of calls that change
 
-pub noted : (cs after : List StandingCall) (place : ℕ) (new now : StandingCall) (tags : List TagPrints) → place < length cs → tags ≡ map prints_of cs
-    → after ≡ set cs place new → now ≡ get_or after place now → set tags place (prints_of now) ≡ map prints_of after
-noted cs after place new now tags within stood changed read =
+pub noted : (key : PrintKey) (cs after : List StandingCall) (place : ℕ) (new now : StandingCall) (tags : List TagPrints) → place < length cs → tags ≡ map (prints_of key) cs
+    → after ≡ set cs place new → now ≡ get_or after place now → set tags place (prints_of key now) ≡ map (prints_of key) after
+noted key cs after place new now tags within stood changed read =
     let there : place < length (set cs place new) = omega (arith, within, length-set cs place new) in
     let is = read_at (set cs place new) place now there (subst (λ (all : List StandingCall). now ≡ get_or all place now) changed read) in
     let same : now ≡ new = same_read now new (slice_get (set cs place new) place) is (set_read cs place new within) in
-    ap (λ (ts : List TagPrints). set ts place (prints_of now)) stood ∙ ap (λ c. set (map prints_of cs) place (prints_of c)) same
-    ∙ sym (map-set prints_of cs place new) ∙ ap (map prints_of) (sym changed)
+    ap (λ (ts : List TagPrints). set ts place (prints_of key now)) stood ∙ ap (λ c. set (map (prints_of key) cs) place (prints_of key c)) same
+    ∙ sym (map-set (prints_of key) cs place new) ∙ ap (map (prints_of key)) (sym changed)
 
-pub map_removed : (cs : List StandingCall) (place : ℕ) → map prints_of (remove cs place) ≡ remove (map prints_of cs) place
-map_removed [] zero = refl
-map_removed [] (suc k) = refl
-map_removed (c ∷ cs) zero = refl
-map_removed (c ∷ cs) (suc k) = ap (λ ts. prints_of c ∷ ts) (map_removed cs k)
+pub map_removed : (key : PrintKey) (cs : List StandingCall) (place : ℕ) → map (prints_of key) (remove cs place) ≡ remove (map (prints_of key) cs) place
+map_removed key [] zero = refl
+map_removed key [] (suc k) = refl
+map_removed key (c ∷ cs) zero = refl
+map_removed key (c ∷ cs) (suc k) = ap (λ ts. prints_of key c ∷ ts) (map_removed key cs k)
 
 kept_if : (stands : Bool) (cs gone : List StandingCall) → stands ≡ true → cond stands cs gone ≡ cs
 kept_if true cs gone is = refl

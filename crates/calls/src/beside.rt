@@ -84,6 +84,6 @@ impl Calls {
         }
         let LegDialog { end, dialog } = leg;
         self.calls[place].call.put_dialog(end, dialog.into_inner());
-        self.tags[place] = prints_of(&self.calls[place]);
+        self.tags[place] = prints_of(self.key, &self.calls[place]);
     }
 }

@@ -19,6 +19,7 @@ use crate::tags::{TagPrints, prints_of};
 use crate::timing::take_plan;
 use boxed::Boxed;
 use call_core::{Done, Plan, spared_call_is_served};
+use index::PrintKey;
 use port_pool::{Change, Pool};
 use std::alloc::Global;
 
@@ -71,11 +72,11 @@ fn carry_out_there(
 }
 
 /// Takes the call at this place off the list, with its tags, where it stands nowhere any more.
-fn take_off(calls: &mut Vec<StandingCall>, tags: &mut Vec<TagPrints>, place: usize)
+fn take_off(calls: &mut Vec<StandingCall>, tags: &mut Vec<TagPrints>, key: PrintKey, place: usize)
     requires there { place < vec_len calls.old }
-    requires noted { tags.old.items ≡ map prints_of calls.old.items }
+    requires noted { tags.old.items ≡ map (prints_of key) calls.old.items }
     ensures calls { calls.new.items ≡ without_gone calls.old.items place (slice_get calls.old.items place) }
-    ensures noted { tags.new.items ≡ map prints_of calls.new.items }
+    ensures noted { tags.new.items ≡ map (prints_of key) calls.new.items }
 {
     if calls[place].call.standing().is_none() {
         drop(calls.remove(place));
@@ -84,14 +85,19 @@ fn take_off(calls: &mut Vec<StandingCall>, tags: &mut Vec<TagPrints>, place: usi
 }
 
 /// Puts a call behind the others, and its tags, for which there is room.
-fn put_behind(calls: &mut Vec<StandingCall>, tags: &mut Vec<TagPrints>, call: StandingCall)
+fn put_behind(
+    calls: &mut Vec<StandingCall>,
+    tags: &mut Vec<TagPrints>,
+    key: PrintKey,
+    call: StandingCall,
+)
     requires room { vec_len calls.old < vec_capacity calls.old }
     requires tag_room { vec_len tags.old < vec_capacity tags.old }
-    requires noted { tags.old.items ≡ map prints_of calls.old.items }
+    requires noted { tags.old.items ≡ map (prints_of key) calls.old.items }
     ensures calls { calls.new.items ≡ calls.old.items ++ call ∷ [] }
-    ensures noted { tags.new.items ≡ map prints_of calls.new.items }
+    ensures noted { tags.new.items ≡ map (prints_of key) calls.new.items }
 {
-    tags.push_reserved(prints_of(&call));
+    tags.push_reserved(prints_of(key, &call));
     calls.push_reserved(call);
 }
 
@@ -99,6 +105,7 @@ fn put_behind(calls: &mut Vec<StandingCall>, tags: &mut Vec<TagPrints>, call: St
 fn begin_in(
     calls: &mut Vec<StandingCall>,
     tags: &mut Vec<TagPrints>,
+    key: PrintKey,
     pool: &mut Pool,
     alloc: Global,
     mut call: StandingCall,
@@ -107,11 +114,11 @@ fn begin_in(
 ) -> Vec<Change>
     requires room { vec_len calls.old < vec_capacity calls.old }
     requires tag_room { vec_len tags.old < vec_capacity tags.old }
-    requires noted { tags.old.items ≡ map prints_of calls.old.items }
+    requires noted { tags.old.items ≡ map (prints_of key) calls.old.items }
     requires serves { IsServed call.call pool.old }
     requires planned { IsPlanned call.call pool.old now plan }
     ensures calls { calls.new.items ≡ pushed (with_step call (carried call.call pool.old now plan)) calls.old.items }
-    ensures noted { tags.new.items ≡ map prints_of calls.new.items }
+    ensures noted { tags.new.items ≡ map (prints_of key) calls.new.items }
     ensures pool { pool.new ≡ (carried call.call pool.old now plan).pool }
     ensures changes { result.items ≡ (carried call.call pool.old now plan).changes }
     ensures leads { LeadFrom pool.old.rows pool.new.rows result.items }
@@ -123,7 +130,7 @@ fn begin_in(
         drop(call);
         return changes;
     }
-    put_behind(calls, tags, call);
+    put_behind(calls, tags, key, call);
     changes
 }
 
@@ -164,8 +171,8 @@ impl Calls {
             plan,
             now,
         );
-        self.tags[place] = prints_of(&self.calls[place]);
-        take_off(&mut self.calls, &mut self.tags, place);
+        self.tags[place] = prints_of(self.key, &self.calls[place]);
+        take_off(&mut self.calls, &mut self.tags, self.key, place);
         changes
     }
 
@@ -194,6 +201,7 @@ impl Calls {
         let changes = begin_in(
             &mut self.calls,
             &mut self.tags,
+            self.key,
             &mut self.pool,
             alloc,
             call.into_inner(),

@@ -11,7 +11,7 @@ use crate::state::Calls;
 use crate::tags::{TagPrints, place_at, place_of};
 use call_core::{End, Stage, Standing};
 use dialogs::Dialog;
-use index::print_of;
+use index::PrintKey;
 use sip_message::{Request, tag_text};
 
 fn is_of_end(call: &StandingCall, end: End, request: &Request<'_>) -> bool
@@ -115,13 +115,14 @@ fn place_by_number(calls: &[StandingCall], number: u64) -> Option<usize>
 fn first_of_end(
     calls: &[StandingCall],
     tags: &[TagPrints],
+    key: PrintKey,
     end: End,
     request: &Request<'_>,
 ) -> Option<usize>
-    requires { tags.now ≡ map prints_of calls.now }
+    requires { tags.now ≡ map (prints_of key) calls.now }
     ensures { result ≡ place_by_end end request.now.parts calls.now }
 {
-    let print = print_of(tag_text(request.parts.to.params.as_slice()));
+    let print = key.print_of(tag_text(request.parts.to.params.as_slice()));
     let place = place_at(tags, end, print)?;
     match calls.get(place) {
         Some(call) if is_of_end(call, end, request) => Some(place),
@@ -130,11 +131,16 @@ fn first_of_end(
 }
 
 /// The place that `place_by_tag` gives; a tag of its print is looked for first.
-fn first_of_tag(calls: &[StandingCall], tags: &[TagPrints], tag: &[u8]) -> Option<usize>
-    requires { tags.now ≡ map prints_of calls.now }
+fn first_of_tag(
+    calls: &[StandingCall],
+    tags: &[TagPrints],
+    key: PrintKey,
+    tag: &[u8],
+) -> Option<usize>
+    requires { tags.now ≡ map (prints_of key) calls.now }
     ensures { result ≡ place_by_tag tag.now calls.now }
 {
-    let place = place_of(tags, print_of(tag))?;
+    let place = place_of(tags, key.print_of(tag))?;
     match calls.get(place) {
         Some(call) if has_tag(call, tag) => Some(place),
         _ => place_by_tag(calls, tag),
@@ -146,7 +152,7 @@ impl Calls {
     pub fn place_by_end(&self, end: End, request: &Request<'_>) -> Option<usize>
         ensures { result ≡ place_by_end end request.now.parts self.now.calls }
     {
-        first_of_end(&self.calls, &self.tags, end, request)
+        first_of_end(&self.calls, &self.tags, self.key, end, request)
     }
 
     /// The place of the call whose INVITE came with this transaction and has no final response: a CANCEL of it changes something
@@ -169,7 +175,7 @@ impl Calls {
     pub fn place_by_tag(&self, tag: &[u8]) -> Option<usize>
         ensures { result ≡ place_by_tag tag.now self.now.calls }
     {
-        first_of_tag(&self.calls, &self.tags, tag)
+        first_of_tag(&self.calls, &self.tags, self.key, tag)
     }
 
     /// The place of the call with this number.

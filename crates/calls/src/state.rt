@@ -9,6 +9,7 @@ ghost use Rattle.call_core.specs.Calls.{IsServed};
 use crate::standing_call::StandingCall;
 use crate::tags::TagPrints;
 use crate::timer_id::CallTimerId;
+use index::PrintKey;
 use port_pool::Pool;
 use std::alloc::{AllocError, Global};
 use std::marker::Model;
@@ -17,6 +18,8 @@ use timers::Timers;
 /// The calls that stand, in the order in which they began, and the pool that serves them.
 pub struct Calls {
     pub(crate) calls: Vec<StandingCall>,
+    /// The key of the prints.
+    pub(crate) key: PrintKey,
     /// The prints of the tags of each, in the same order.
     pub(crate) tags: Vec<TagPrints>,
     pub(crate) pool: Pool,
@@ -29,6 +32,7 @@ impl Drop for Calls {
     fn drop(self) {
         let Calls {
             calls: _,
+            key: _,
             tags: _,
             pool: _,
             begun: _,
@@ -51,7 +55,7 @@ impl Model for Calls {
 
     ghost view = { λ c. record { calls = c.calls.items; pool = c.pool; begun = c.begun; timers = c.timers.timers; room = min (vec_capacity c.calls - vec_len c.calls) (vec_capacity c.tags - vec_len c.tags); timer_room = c.timers.room } };
 
-    ghost invariant = { λ c. AreKept c.calls.items c.pool c.begun × (c.tags.items ≡ map prints_of c.calls.items) };
+    ghost invariant = { λ c. AreKept c.calls.items c.pool c.begun × (c.tags.items ≡ map (prints_of c.key) c.calls.items) };
 }
 
 fn call_at(calls: &[StandingCall], place: usize) -> Option<&StandingCall>
@@ -61,8 +65,9 @@ fn call_at(calls: &[StandingCall], place: usize) -> Option<&StandingCall>
 }
 
 impl Calls {
-    /// No call, over a pool of this many pairs, the first of which begins at this even port.
-    pub fn new(alloc: Global, first: u16, pairs: u16) -> Result<Calls, AllocError>
+    /// No call, over a pool of this many pairs, the first of which begins at this even port. Calls are looked up by prints under this
+    /// key. No answer depends on the key.
+    pub fn new(alloc: Global, key: PrintKey, first: u16, pairs: u16) -> Result<Calls, AllocError>
         requires even { first % 2 ≡ 0 }
         requires least { least_port ≤ first }
         requires some { 1 ≤ pairs }
@@ -76,6 +81,7 @@ impl Calls {
         let pool = Pool::new(alloc, first, pairs)?;
         Ok(Calls {
             calls: Vec::new(alloc),
+            key,
             tags: Vec::new(alloc),
             pool,
             begun: 0,

@@ -8,7 +8,7 @@ ghost use Rattle.calls.specs.Tags.{has_print, has_print_at, prints_of, tag_print
 use crate::standing_call::StandingCall;
 use call_core::End;
 use dialogs::Dialog;
-use index::print_of;
+use index::PrintKey;
 
 /// The prints of the tags that a call has of the server.
 #[derive(Clone, Copy)]
@@ -21,23 +21,23 @@ pub(crate) struct TagPrints {
     pub(crate) callee: u64,
 }
 
-fn tag_print(dialog: Option<&Dialog>) -> u64
-    ensures { result ≡ tag_print (option_copied dialog.entry) }
+fn tag_print(key: PrintKey, dialog: Option<&Dialog>) -> u64
+    ensures { result ≡ tag_print key (option_copied dialog.entry) }
 {
     match dialog {
         None => 0,
-        Some(dialog) => print_of(dialog.id.ours.as_bytes()),
+        Some(dialog) => key.print_of(dialog.id.ours.as_bytes()),
     }
 }
 
-/// The prints of a call's tags. Takes no memory.
-pub(crate) fn prints_of(call: &StandingCall) -> TagPrints
-    ensures { result ≡ prints_of call.now }
+/// The prints of a call's tags under this key. Takes no memory.
+pub(crate) fn prints_of(key: PrintKey, call: &StandingCall) -> TagPrints
+    ensures { result ≡ prints_of key call.now }
 {
     TagPrints {
-        leg: print_of(call.callee_tag.as_bytes()),
-        caller: tag_print(call.call.dialog(End::Caller)),
-        callee: tag_print(call.call.dialog(End::Callee)),
+        leg: key.print_of(call.callee_tag.as_bytes()),
+        caller: tag_print(key, call.call.dialog(End::Caller)),
+        callee: tag_print(key, call.call.dialog(End::Callee)),
     }
 }
 

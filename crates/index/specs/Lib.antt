@@ -2,4 +2,4 @@ pub mod Buckets
 pub mod Entries
 pub mod Numbers
 pub mod Passing
-pub mod Print
+pub mod PrintKeys

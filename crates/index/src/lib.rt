@@ -8,4 +8,4 @@ mod print;
 
 pub use buckets::Buckets;
 pub use index::{Entry, Index};
-pub use print::print_of;
+pub use print::PrintKey;

@@ -1,20 +1,30 @@
 //! A number for what is looked up by a text: what has another one is passed by without a look at its text.
 
 ghost use Rattle.std.specs.Prelude.{◌≡◌};
-ghost use Rattle.index.specs.Print.{with_byte, print_of};
+ghost use Rattle.index.specs.PrintKeys.{print_of};
 
-/// A prime, so that few texts share a print.
-const FACTOR: u64 = 1_099_511_628_211;
+use core::hash::{Hasher, keyed_hasher};
 
-fn with_byte(print: u64, byte: u8) -> u64
-    ensures { result ≡ with_byte print byte }
-{
-    print.wrapping_mul(FACTOR).wrapping_add(u64::from(byte))
+/// The key of prints. Whoever sends texts and doesn't know it can't choose many of one print.
+#[derive(Clone, Copy)]
+pub struct PrintKey {
+    pub first: u64,
+    pub second: u64,
 }
 
-/// The print of a text. Takes no memory.
-pub fn print_of(bytes: &[u8]) -> u64
-    ensures { result ≡ print_of bytes.now }
-{
-    bytes.iter().fold(0, |print, byte| with_byte(print, *byte))
+impl PrintKey {
+    /// A key that everybody knows, for scripts: nobody writes one while it is played.
+    pub const FIXED: PrintKey = PrintKey {
+        first: 0,
+        second: 0,
+    };
+
+    /// The print of a text: SipHash-1-3 under this key. Takes no memory.
+    pub fn print_of(self, bytes: &[u8]) -> u64
+        ensures { result ≡ print_of self bytes.now }
+    {
+        let mut hasher = keyed_hasher(self.first, self.second);
+        hasher.write(bytes);
+        hasher.finish()
+    }
 }

@@ -1,8 +1,8 @@
 -- Datagrams that are sent one behind the other.
-use Rattle.std.proofs.Common.{◌≡◌, ◌∙◌, ℕ, ◌+◌, List, [], ◌∷◌, ◌++◌, inl, inr, refl, sym, ap, subst, append_assoc, arith}
+use Rattle.std.proofs.Common.{◌≡◌, ◌∙◌, ℕ, ◌+◌, Bool, true, false, cond, List, [], ◌∷◌, ◌++◌, inl, inr, refl, sym, ap, subst, append_assoc, arith}
 use Rattle.std.proofs.lemmas.List.{append-nil}
 use Rattle.events.specs.declared.sent.Sent.{Sent}
-use Rattle.live.specs.Sending.{Sends, Went}
+use Rattle.live.specs.Sending.{Sends, Tried, Went, tried_one}
 
 -- some, and then others
 pub went_more : (a b g h : List Sent) (m n : ℕ) → Went a g m → Went b h n → Went (a ++ b) (g ++ h) (m + n)
@@ -14,9 +14,30 @@ went_more (d ∷ ds) b g h m n (inr x) y =
     let more : m ≡ 1 + x.0 = x.1 in
     inr (x.0 + n, omega (arith, more), went_more ds b g h x.0 n x.2 y)
 
-pub sends_more : (s s1 s2 a b : List Sent) (m n : ℕ) → Sends s s1 a m → Sends s1 s2 b n → Sends s s2 (a ++ b) (m + n)
-sends_more s s1 s2 a b m n x y =
-    (x.0 ++ y.0, y.1 ∙ ap (λ (t : List Sent). t ++ y.0) x.1 ∙ append_assoc s x.0 y.0, went_more a b x.0 y.0 m n x.2 y.2)
+pub sends_more : (s s1 s2 : Tried) (a b : List Sent) (m n : ℕ) → Sends s s1 a m → Sends s1 s2 b n → Sends s s2 (a ++ b) (m + n)
+sends_more s s1 s2 a b m n x y = record {
+  asked = y.asked ∙ ap (λ (t : List Sent). t ++ b) x.asked ∙ append_assoc s.asked a b;
+  gone = x.gone ++ y.gone;
+  sent = y.sent ∙ ap (λ (t : List Sent). t ++ y.gone) x.sent ∙ append_assoc s.sent x.gone y.gone;
+  went = went_more a b x.gone y.gone m n x.went y.went;
+}
 
-pub sends_none : (s : List Sent) → Sends s s [] 0
-sends_none s = ([], sym (append-nil s), (refl, refl))
+pub sends_none : (s : Tried) → Sends s s [] 0
+sends_none s = record { asked = sym (append-nil s.asked); gone = []; sent = sym (append-nil s.sent); went = (refl, refl) }
+
+-- one that went, and one that failed
+pub sends_one : (s after : Tried) (d : Sent) → after ≡ tried_one s d false → Sends s after (d ∷ []) 0
+sends_one s after d is = record {
+  asked = ap (λ (t : Tried). t.asked) is;
+  gone = d ∷ [];
+  sent = ap (λ (t : Tried). t.sent) is;
+  went = inl ([], refl, (refl, refl));
+}
+
+pub fails_one : (s after : Tried) (d : Sent) → after ≡ tried_one s d true → Sends s after (d ∷ []) 1
+fails_one s after d is = record {
+  asked = ap (λ (t : Tried). t.asked) is;
+  gone = [];
+  sent = ap (λ (t : Tried). t.sent) is ∙ sym (append-nil s.sent);
+  went = inr (0, refl, (refl, refl));
+}

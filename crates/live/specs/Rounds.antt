@@ -4,10 +4,10 @@ use Rattle.relay.specs.Lists.{Lists}
 use Rattle.events.specs.declared.event.Event.{Event}
 use Rattle.events.specs.declared.event.What.{What}
 use Rattle.events.specs.declared.event.What.TheVariants.{Datagram, Due}
-use Rattle.events.specs.declared.sent.Sent.{Sent}
 use Rattle.checks.specs.Rows.{next_due}
 use Rattle.checks.specs.State.{Contents}
 use Rattle.live.specs.Arrivals.{Arrival}
+use Rattle.live.specs.Sending.{Tried}
 use Rattle.live.specs.Turns.{HasTable, Turns}
 use Rattle.live.specs.declared.turn.Turned.{Turned}
 use Rattle.live.specs.declared.turn.Turned.TheVariants.{Done, Lost, Behind}
@@ -38,16 +38,16 @@ wait_until now (Some at) = min longest_wait (at - now)
 abbrev pub event : ℕ → ℕ → What → Event
 event now salt what = record { now = now; salt = salt; what = what }
 
-abbrev pub Rounds : ℕ → ℕ → Contents → Contents → Lists → Lists → List Arrival → List Arrival → List Sent → List Sent → Round → Type 0
-Rounds now salt s s_after lists lists_after taken taken_after sent sent_after (Fired turned) =
-    (is_due now (next_due s) ≡ true) × (taken_after ≡ taken) × Turns (event now salt Due) s s_after lists lists_after sent sent_after turned
-Rounds now salt s s_after lists lists_after taken taken_after sent sent_after (Took turned) =
+abbrev pub Rounds : ℕ → ℕ → Contents → Contents → Lists → Lists → List Arrival → List Arrival → Tried → Tried → Round → Type 0
+Rounds now salt s s_after lists lists_after taken taken_after tried tried_after (Fired turned) =
+    (is_due now (next_due s) ≡ true) × (taken_after ≡ taken) × Turns (event now salt Due) s s_after lists lists_after tried tried_after turned
+Rounds now salt s s_after lists lists_after taken taken_after tried tried_after (Took turned) =
     (is_due now (next_due s) ≡ false)
-    × ((d : Arrival) × (taken_after ≡ taken ++ d ∷ []) × Turns (event now salt (Datagram d.source d.bytes)) s s_after lists lists_after sent sent_after turned)
-Rounds now salt s s_after lists lists_after taken taken_after sent sent_after Waited =
-    (is_due now (next_due s) ≡ false) × (s_after ≡ s) × (lists_after ≡ lists) × (taken_after ≡ taken) × (sent_after ≡ sent)
-Rounds now salt s s_after lists lists_after taken taken_after sent sent_after Failed =
-    (is_due now (next_due s) ≡ false) × (s_after ≡ s) × (lists_after ≡ lists) × (taken_after ≡ taken) × (sent_after ≡ sent)
+    × ((d : Arrival) × (taken_after ≡ taken ++ d ∷ []) × Turns (event now salt (Datagram d.source d.bytes)) s s_after lists lists_after tried tried_after turned)
+Rounds now salt s s_after lists lists_after taken taken_after tried tried_after Waited =
+    (is_due now (next_due s) ≡ false) × (s_after ≡ s) × (lists_after ≡ lists) × (taken_after ≡ taken) × (tried_after ≡ tried)
+Rounds now salt s s_after lists lists_after taken taken_after tried tried_after Failed =
+    (is_due now (next_due s) ≡ false) × (s_after ≡ s) × (lists_after ≡ lists) × (taken_after ≡ taken) × (tried_after ≡ tried)
 
 -- ---- what ends the signalling
 

@@ -6,6 +6,10 @@ use Rattle.rand_chacha.specs.ChaCha.{ChaCha, word_at}
 abbrev pub next_place : ℕ → ℕ
 next_place place = (place + 1) % 2 ^ 68
 
+-- the stream behind the two words of a salt
+abbrev pub after_salt : ChaCha → ChaCha
+after_salt g = record g { word_pos = next_place (next_place g.word_pos) }
+
 -- the next two words, the first as the low half
 abbrev pub salt_at : ChaCha → ℕ
 salt_at g = word_at 10 g.key g.stream g.word_pos + word_at 10 g.key g.stream (next_place g.word_pos) * 2 ^ 32

@@ -1,6 +1,18 @@
--- Datagrams that are sent one after the other, of which some may fail.
-use Rattle.std.specs.Prelude.{◌≡◌, ◌⊎◌, ℕ, ◌+◌, List, [], ◌∷◌, ◌++◌}
+-- Datagrams that a wire is asked to send one after the other, of which some may fail.
+use Rattle.std.specs.Prelude.{◌≡◌, ◌⊎◌, ℕ, ◌+◌, Bool, List, [], ◌∷◌, ◌++◌, if◌then◌else◌}
 use Rattle.events.specs.declared.sent.Sent.{Sent}
+
+-- what a wire was asked to send, and what of it went, in order
+pub record Tried : Type 0 where
+  pub asked : List Sent
+  pub sent : List Sent
+
+abbrev pub nothing_tried : Tried
+nothing_tried = record { asked = []; sent = [] }
+
+-- it was asked to send one more, which went or failed
+abbrev pub tried_one : Tried → Sent → Bool → Tried
+tried_one t d failed = record { asked = t.asked ++ d ∷ []; sent = if failed then t.sent else t.sent ++ d ∷ [] }
 
 -- of these datagrams those went, in their order, and so many others failed
 abbrev pub Went : List Sent → List Sent → ℕ → Type 0
@@ -8,6 +20,10 @@ Went [] gone failed = (gone ≡ []) × (failed ≡ 0)
 Went (d ∷ ds) gone failed =
     ((rest : List Sent) × (gone ≡ d ∷ rest) × Went ds rest failed) ⊎ ((others : ℕ) × (failed ≡ 1 + others) × Went ds gone others)
 
--- what went of them stands behind what was sent before, and so many failed
-abbrev pub Sends : List Sent → List Sent → List Sent → ℕ → Type 0
-Sends sent sent_after datagrams failed = (gone : List Sent) × (sent_after ≡ sent ++ gone) × Went datagrams gone failed
+-- The wire was asked to send these datagrams, each once and in this order; what went of them stands behind what went before, and so
+-- many failed.
+pub record Sends (tried tried_after : Tried) (datagrams : List Sent) (failed : ℕ) : Type 0 where
+  pub asked : tried_after.asked ≡ tried.asked ++ datagrams
+  pub gone : List Sent
+  pub sent : tried_after.sent ≡ tried.sent ++ gone
+  pub went : Went datagrams gone failed

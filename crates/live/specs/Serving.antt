@@ -1,10 +1,10 @@
 -- What the signalling did from its start to its end: rounds, one after the other.
 use Rattle.std.specs.Prelude.{◌≡◌, ◌+◌, ℕ, zero, suc, List, [], ◌∷◌, length, Option, Some, None}
 use Rattle.relay.specs.Lists.{Lists}
-use Rattle.events.specs.declared.sent.Sent.{Sent}
 use Rattle.checks.specs.State.{Contents}
 use Rattle.live.specs.Arrivals.{Arrival}
 use Rattle.live.specs.Rounds.{Rounds, end_after, streaks_after}
+use Rattle.live.specs.Sending.{Tried}
 use Rattle.live.specs.Troubles.{trouble_between}
 use Rattle.live.specs.declared.round.Round.{Round}
 use Rattle.live.specs.declared.streaks.Streaks.{Streaks}
@@ -12,16 +12,16 @@ use Rattle.live.specs.declared.streaks.End.{End}
 use Rattle.live.specs.declared.streaks.End.TheVariants.{Turns, Stopped, Socket, Memory}
 use Rattle.live.specs.declared.trouble.Trouble.{Trouble}
 
--- the agent, the board's lists, and what the wire took and sent
+-- the agent, the board's lists, and what the wire took and was asked to send
 pub record Office : Type 0 where
   pub agent : Contents
   pub lists : Lists
   pub taken : List Arrival
-  pub sent : List Sent
+  pub tried : Tried
 
 -- a round, at some moment and with some salt
 abbrev pub Leads : Office → Office → Round → Type 0
-Leads a b round = (now : ℕ) × (salt : ℕ) × Rounds now salt a.agent b.agent a.lists b.lists a.taken b.taken a.sent b.sent round
+Leads a b round = (now : ℕ) × (salt : ℕ) × Rounds now salt a.agent b.agent a.lists b.lists a.taken b.taken a.tried b.tried round
 
 -- ---- rounds, the last of them first
 

@@ -11,7 +11,7 @@ mod turn;
 mod wire;
 
 pub use round::{Round, Signalling, datagram_buffer};
-pub use salt::{next_salt, salts_of};
+pub use salt::{next_print_key, next_salt, salts_of};
 pub use serving::{Clock, serve};
 pub use streaks::{End, Streaks};
 pub use trouble::{Operator, Trouble};

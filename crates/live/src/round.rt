@@ -88,7 +88,7 @@ impl<W: Wire> Signalling<W> {
     // The agent takes what happens at this moment.
     fn happen<R: Wait>(&mut self, rt: &R, now: u64, what: What) -> Turned
         requires { HasTable self.old.board self.old.agent }
-        ensures turns { Turns (event now (salt_at self.old.salts) what) self.old.agent self.new.agent self.old.board self.new.board (W.sent self.old.wire) (W.sent self.new.wire) result }
+        ensures turns { Turns (event now (salt_at self.old.salts) what) self.old.agent self.new.agent self.old.board self.new.board (W.tried self.old.wire) (W.tried self.new.wire) result }
         ensures taken { W.taken self.new.wire ≡ W.taken self.old.wire }
     {
         let salt = next_salt(&mut self.salts);
@@ -108,7 +108,7 @@ impl<W: Wire> Signalling<W> {
     // Waits until a datagram may be there.
     fn pause(&mut self, now: u64) -> Round
         requires { is_due now (next_due self.old.agent) ≡ false }
-        ensures { Rounds now (salt_at self.old.salts) self.old.agent self.new.agent self.old.board self.new.board (W.taken self.old.wire) (W.taken self.new.wire) (W.sent self.old.wire) (W.sent self.new.wire) result }
+        ensures { Rounds now (salt_at self.old.salts) self.old.agent self.new.agent self.old.board self.new.board (W.taken self.old.wire) (W.taken self.new.wire) (W.tried self.old.wire) (W.tried self.new.wire) result }
     {
         match self.wire.wait(wait_until(now, self.agent.next_due())) {
             Ok(()) => Round::Waited,
@@ -120,7 +120,7 @@ impl<W: Wire> Signalling<W> {
     fn take<R: Wait>(&mut self, rt: &R, now: u64) -> Round
         requires table { HasTable self.old.board self.old.agent }
         requires idle { is_due now (next_due self.old.agent) ≡ false }
-        ensures { Rounds now (salt_at self.old.salts) self.old.agent self.new.agent self.old.board self.new.board (W.taken self.old.wire) (W.taken self.new.wire) (W.sent self.old.wire) (W.sent self.new.wire) result }
+        ensures { Rounds now (salt_at self.old.salts) self.old.agent self.new.agent self.old.board self.new.board (W.taken self.old.wire) (W.taken self.new.wire) (W.tried self.old.wire) (W.tried self.new.wire) result }
     {
         match self.wire.receive(self.buffer.as_mut_slice()) {
             Err(_) => Round::Failed,
@@ -138,7 +138,7 @@ impl<W: Wire> Signalling<W> {
     /// moment that is due, at most 100 milliseconds.
     pub fn round<R: Wait>(&mut self, rt: &R, now: u64) -> Round
         requires { HasTable self.old.board self.old.agent }
-        ensures { Rounds now (salt_at self.old.salts) self.old.agent self.new.agent self.old.board self.new.board (W.taken self.old.wire) (W.taken self.new.wire) (W.sent self.old.wire) (W.sent self.new.wire) result }
+        ensures { Rounds now (salt_at self.old.salts) self.old.agent self.new.agent self.old.board self.new.board (W.taken self.old.wire) (W.taken self.new.wire) (W.tried self.old.wire) (W.tried self.new.wire) result }
     {
         if is_due(now, self.agent.next_due()) {
             Round::Fired(self.happen(rt, now, What::Due))

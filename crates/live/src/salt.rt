@@ -2,8 +2,9 @@
 
 ghost use Rattle.std.specs.Prelude.{◌≡◌};
 ghost use Rattle.rand_chacha.specs.ChaCha.{key_of};
-ghost use Rattle.live.specs.Salts.{next_place, salt_at};
+ghost use Rattle.live.specs.Salts.{after_salt, next_place, salt_at};
 
+use index::PrintKey;
 use rand_chacha::ChaCha20Rng;
 use rand_core::SeedableRng;
 use rand_core::utils::next_u64_via_u32;
@@ -23,4 +24,15 @@ pub fn next_salt(salts: &mut ChaCha20Rng) -> u64
     ensures place { salts.new ≡ record salts.old { word_pos = next_place (next_place salts.old.word_pos) } }
 {
     next_u64_via_u32(salts)
+}
+
+/// A key of prints: the next two salts of the stream, which no event gets then. Takes no memory.
+pub fn next_print_key(salts: &mut ChaCha20Rng) -> PrintKey
+    ensures first { result.first ≡ salt_at salts.old }
+    ensures second { result.second ≡ salt_at (after_salt salts.old) }
+    ensures place { salts.new ≡ after_salt (after_salt salts.old) }
+{
+    let first = next_salt(salts);
+    let second = next_salt(salts);
+    PrintKey { first, second }
 }

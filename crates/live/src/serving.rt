@@ -39,8 +39,8 @@ fn go_on<W: Wire, C: Clock, O: Operator, R: Wait>(
     streaks: &mut Streaks,
 ) -> Round
     requires { HasTable signalling.old.board signalling.old.agent }
-    ensures round { Leads (record { agent = signalling.old.agent; lists = signalling.old.board; taken = W.taken signalling.old.wire; sent = W.sent signalling.old.wire })
-        (record { agent = signalling.new.agent; lists = signalling.new.board; taken = W.taken signalling.new.wire; sent = W.sent signalling.new.wire }) result }
+    ensures round { Leads (record { agent = signalling.old.agent; lists = signalling.old.board; taken = W.taken signalling.old.wire; tried = W.tried signalling.old.wire })
+        (record { agent = signalling.new.agent; lists = signalling.new.board; taken = W.taken signalling.new.wire; tried = W.tried signalling.new.wire }) result }
     ensures streaks { streaks.new ≡ streaks_after streaks.old result }
     ensures told { O.told operator.new ≡ with_trouble (O.told operator.old) (trouble_between streaks.old streaks.new) }
     ensures table { MatchOption (end_after streaks.new result) (HasTable signalling.new.board signalling.new.agent) (λ end. TableAt signalling.new.board signalling.new.agent end) }
@@ -64,8 +64,8 @@ pub fn serve<W: Wire, C: Clock, O: Operator, R: Wait>(
 ) -> End
     requires { HasTable signalling.old.board signalling.old.agent }
     ensures table { TableAt signalling.new.board signalling.new.agent result }
-    ensures served { Served (record { agent = signalling.old.agent; lists = signalling.old.board; taken = W.taken signalling.old.wire; sent = W.sent signalling.old.wire })
-        (record { agent = signalling.new.agent; lists = signalling.new.board; taken = W.taken signalling.new.wire; sent = W.sent signalling.new.wire })
+    ensures served { Served (record { agent = signalling.old.agent; lists = signalling.old.board; taken = W.taken signalling.old.wire; tried = W.tried signalling.old.wire })
+        (record { agent = signalling.new.agent; lists = signalling.new.board; taken = W.taken signalling.new.wire; tried = W.tried signalling.new.wire })
         (O.told operator.old) (O.told operator.new) turns result }
 {
     let mut turns = turns;

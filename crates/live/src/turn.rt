@@ -25,8 +25,9 @@ pub enum Turned {
 }
 
 // Sends a datagram, and gives how many failed.
+#[tactic(auto, using(crate::proofs::SendLaws::sends_one, crate::proofs::SendLaws::fails_one))]
 fn send_one<W: Wire>(wire: &mut W, datagram: &Sent) -> usize
-    ensures sends { Sends (W.sent wire.old) (W.sent wire.new) (datagram.now ∷ []) result }
+    ensures sends { Sends (W.tried wire.old) (W.tried wire.new) (datagram.now ∷ []) result }
     ensures bound { result ≤ 1 }
     ensures taken { W.taken wire.new ≡ W.taken wire.old }
 {
@@ -38,7 +39,7 @@ fn send_one<W: Wire>(wire: &mut W, datagram: &Sent) -> usize
 
 // Sends all of them in order, and gives how many failed.
 fn send_all<W: Wire>(wire: &mut W, datagrams: &[Sent]) -> usize
-    ensures sends { Sends (W.sent wire.old) (W.sent wire.new) datagrams.now result }
+    ensures sends { Sends (W.tried wire.old) (W.tried wire.new) datagrams.now result }
     ensures taken { W.taken wire.new ≡ W.taken wire.old }
 {
     let mut failed: usize = 0;
@@ -75,7 +76,7 @@ pub fn live_turn<W: Wire, R: Wait>(
     event: &Event,
 ) -> Turned
     requires { HasTable board.old agent.old }
-    ensures turns { Turns event.entry.now agent.old agent.new board.old board.new (W.sent wire.old) (W.sent wire.new) result }
+    ensures turns { Turns event.entry.now agent.old agent.new board.old board.new (W.tried wire.old) (W.tried wire.new) result }
     ensures taken { W.taken wire.new ≡ W.taken wire.old }
 {
     let mut sends = Vec::new(alloc);

@@ -2,8 +2,8 @@
 
 ghost use Rattle.std.specs.Prelude.{◌≡◌, ◌≤◌, List, Bool, [], ◌∷◌, ◌++◌, length, take, IfOk, IfSome, MatchOption, MatchResult};
 ghost use Rattle.std.specs.Result.{is_err};
-ghost use Rattle.events.specs.declared.sent.Sent.{Sent};
 ghost use Rattle.live.specs.Arrivals.{Arrival};
+ghost use Rattle.live.specs.Sending.{Tried, tried_one};
 
 use sip_uri::Addr;
 use thiserror::Error;
@@ -13,11 +13,12 @@ use thiserror::Error;
 #[error("the socket of the signalling failed")]
 pub struct WireFault;
 
-/// The socket of the signalling, by the datagrams that it took, those that it sent, and whether the last call failed.
+/// The socket of the signalling, by the datagrams that it took, those that it was asked to send and what of them went, and whether the
+/// last call failed.
 pub trait Wire {
     ghost taken: { Self → List Arrival };
 
-    ghost sent: { Self → List Sent };
+    ghost tried: { Self → Tried };
 
     /// Whether the last call failed.
     ghost failed: { Self → Bool };
@@ -27,18 +28,18 @@ pub trait Wire {
     fn receive(&mut self, buffer: &mut [u8]) -> Result<Option<(Addr, usize)>, WireFault>
         ensures fits { IfOk result (λ r. IfSome r (λ d. d.1 ≤ length buffer.new)) }
         ensures taken { MatchResult result (λ r. MatchOption r (taken self.new ≡ taken self.old) (λ d. taken self.new ≡ taken self.old ++ record { source = d.0; bytes = take d.1 buffer.new } ∷ [])) (λ _. taken self.new ≡ taken self.old) }
-        ensures sent { sent self.new ≡ sent self.old }
+        ensures tried { tried self.new ≡ tried self.old }
         ensures failed { failed self.new ≡ is_err result };
 
     /// Sends a datagram.
     fn send(&mut self, to: Addr, bytes: &[u8]) -> Result<(), WireFault>
-        ensures sent { MatchResult result (λ _. sent self.new ≡ sent self.old ++ record { to = to; bytes = bytes.now } ∷ []) (λ _. sent self.new ≡ sent self.old) }
+        ensures tried { tried self.new ≡ tried_one (tried self.old) (record { to = to; bytes = bytes.now }) (is_err result) }
         ensures taken { taken self.new ≡ taken self.old }
         ensures failed { failed self.new ≡ is_err result };
 
     /// Waits until a datagram may be there, for so many milliseconds at most.
     fn wait(&mut self, millis: u64) -> Result<(), WireFault>
         ensures taken { taken self.new ≡ taken self.old }
-        ensures sent { sent self.new ≡ sent self.old }
+        ensures tried { tried self.new ≡ tried self.old }
         ensures failed { failed self.new ≡ is_err result };
 }

@@ -9,7 +9,9 @@ use crate::watch::Watch;
 use crate::wire::SipWire;
 use agent::{Agent, Tally};
 use configuration::Config;
-use live::{Clock as Moments, End, Operator, Signalling, datagram_buffer, salts_of};
+use live::{
+    Clock as Moments, End, Operator, Signalling, datagram_buffer, next_print_key, salts_of,
+};
 use relay::{Board, Unopened, Worker, serve_media};
 use server::{Host, HostFault};
 use sockets::{MediaSockets, SipSocket, Sockets, bind, worker_count, workers_of};
@@ -18,9 +20,15 @@ use std::net::Net;
 use std::rt::Clock;
 use std::snapshot::Snapshot;
 use std::sync::Wait;
-use std::sync::atomic::{AtomicBool, Ordering};
+use std::sync::atomic::{AtomicBool, AtomicUsize, Ordering};
 use std::thread::Threads;
+use std::time::Duration;
 use std::{io, thread};
+
+/// So often, and with so long between, the signalling looks whether all workers have begun: for five seconds.
+const LOOKS: u32 = 500;
+
+const BETWEEN_LOOKS: Duration = Duration::from_millis(10);
 
 /// Serves by the sockets, the clock and the threads of a runtime.
 #[derive(Drop)]
@@ -49,7 +57,8 @@ fn signalling_of(
     requires { board ≡ [] }
     ensures { IfOk result (λ s. HasTable s.board s.agent) }
 {
-    let Ok(agent) = Agent::new(alloc, config) else {
+    let mut salts = salts_of(config.random_key, start);
+    let Ok(agent) = Agent::new(alloc, next_print_key(&mut salts), config) else {
         drop(sip);
         return Err((board, HostFault::OutOfMemory));
     };
@@ -63,7 +72,7 @@ fn signalling_of(
         agent,
         board,
         wire: SipWire { socket: sip },
-        salts: salts_of(config.random_key, start),
+        salts,
         buffer,
     })
 }
@@ -88,9 +97,10 @@ fn signal<R: Wait, M: Moments, O: Operator>(
 fn relay_media<R: Threads + Wait + Sync>(
     rt: &R,
     workers: Vec<Worker<MediaSockets>>,
+    begun: &AtomicUsize,
     stop: &AtomicBool,
 ) -> bool {
-    let served = serve_media(rt, workers, stop);
+    let served = serve_media(rt, workers, begun, stop);
     stop.store(true, Ordering::SeqCst);
     match served {
         Ok(workers) => {
@@ -99,6 +109,17 @@ fn relay_media<R: Threads + Wait + Sync>(
         }
         Err(_) => true,
     }
+}
+
+/// Waits until so many workers have begun. Whether they have, in time: a thread that can't be made begins none.
+fn have_begun<R: Clock>(rt: &R, begun: &AtomicUsize, count: usize) -> bool {
+    for _ in 0..LOOKS {
+        if begun.load(Ordering::SeqCst) >= count {
+            return true;
+        }
+        thread::sleep(rt, BETWEEN_LOOKS);
+    }
+    false
 }
 
 /// How the end of the signalling counts: its flag was set from outside only where the workers ended.
@@ -124,9 +145,10 @@ fn report<R: Eprint>(rt: &R, tally: Tally) {
     let _ = eprintln!(rt; " shed {} idle {}", tally.shed, tally.idle);
 }
 
-/// Serves on a board to which nothing was published, and ends it. Gives how events were answered, too.
-fn serve_on<R: Threads + Wait + Sync, M: Moments, O: Operator>(
+/// Serves on a board to which nothing was published, once each worker has a thread, and ends it. Gives how events were answered, too.
+fn serve_on<R: Clock + Threads + Wait + Sync + Print, M: Moments, O: Operator>(
     rt: &R,
+    config: &Config,
     mut signalling: Signalling<SipWire>,
     watch: &mut M,
     operator: &mut O,
@@ -135,13 +157,21 @@ fn serve_on<R: Threads + Wait + Sync, M: Moments, O: Operator>(
 ) -> (Tally, Result<(), HostFault>)
     requires { HasTable signalling.board signalling.agent }
 {
-    let stop = AtomicBool::new(false);
+    let (begun, stop) = (AtomicUsize::new(0), AtomicBool::new(false));
+    let count = workers.len();
     let (refused, end) = thread::join(
         rt,
-        || relay_media(rt, workers, &stop),
+        || relay_media(rt, workers, &begun, &stop),
         || -> End
             requires { HasTable signalling.board signalling.agent }
-        { signal(rt, &mut signalling, watch, operator, &stop, turns) },
+        {
+            if !have_begun(rt, &begun, count) {
+                stop.store(true, Ordering::SeqCst);
+                return End::Memory;
+            }
+            announce(rt, config);
+            signal(rt, &mut signalling, watch, operator, &stop, turns)
+        },
     );
     let tally = signalling.agent.tally();
     signalling.close(rt);
@@ -199,10 +229,10 @@ impl<R: Net + Clock + Threads + Wait + Sync + Shared + Print + Eprint + AllocGlo
         let mut watch = Watch::new(self.rt).map_err(host_fault)?;
         let start = self.rt.since_1970().map_err(host_fault)?.as_secs();
         let (signalling, workers) = parts_of(self.rt, alloc, config, sockets, start)?;
-        announce(self.rt, config);
         let mut troubles = Troubles::new(self.rt);
         let (tally, served) = serve_on(
             self.rt,
+            config,
             signalling,
             &mut watch,
             &mut troubles,

@@ -15,7 +15,10 @@ impl Wire for SipWire {
 
     ghost taken = { λ s. map (λ d. record { source = record { ip = d.ip; port = d.port }; bytes = d.bytes }) s.socket.taken };
 
-    ghost sent = { λ s. map (λ d. record { to = record { ip = d.ip; port = d.port }; bytes = d.bytes }) s.socket.sent };
+    ghost tried = { λ s. record {
+      asked = map (λ d. record { to = record { ip = d.ip; port = d.port }; bytes = d.bytes }) s.socket.asked;
+      sent = map (λ d. record { to = record { ip = d.ip; port = d.port }; bytes = d.bytes }) s.socket.sent;
+    } };
 
     ghost failed = { λ s. s.socket.failed };
 

@@ -8,7 +8,7 @@ ghost use Rattle.registrar.specs.Entries.{IsIndexed, is_at};
 
 use crate::binding::{Binding, Bindings};
 use crate::user_bindings::{UserBindings, without_bindings};
-use index::{Entry, Index, print_of};
+use index::{Entry, Index, PrintKey};
 use std::alloc::{AllocError, Global};
 use std::marker::Model;
 use text::{Text, Texts};
@@ -17,6 +17,8 @@ use text::{Text, Texts};
 #[derive(Drop)]
 pub(crate) struct Entries {
     users: Vec<UserBindings>,
+    /// Of the prints.
+    key: PrintKey,
     /// Under the print of a user's name, its place.
     names: Index,
 }
@@ -30,19 +32,23 @@ impl Model for Entries {
 
     ghost view = { λ e. e.users.items };
 
-    ghost invariant = { λ e. IsIndexed e.users.items e.names.entries };
+    ghost invariant = { λ e. IsIndexed e.key e.users.items e.names.entries };
 }
 
 impl Entries {
     ghost use Rattle.std.specs.Prelude.{nat_eq};
 
-    /// These users, without bindings.
-    pub(crate) fn new(alloc: Global, users: Texts<'static>) -> Result<Entries, AllocError>
+    /// These users, without bindings, who are looked up by prints under this key.
+    pub(crate) fn new(
+        alloc: Global,
+        key: PrintKey,
+        users: Texts<'static>,
+    ) -> Result<Entries, AllocError>
         ensures { IfOk result (λ entries. entries ≡ map without_bindings users.entry) }
     {
         let users = without_bindings(alloc, users)?;
-        let names = index_of(alloc, &users)?;
-        Ok(Entries { users, names })
+        let names = index_of(alloc, key, &users)?;
+        Ok(Entries { users, key, names })
     }
 
     /// Whether this is one of the users, and what the user is bound to; nothing for anyone unknown. Takes no memory.
@@ -78,7 +84,7 @@ impl Entries {
         ensures bound { IfSome result (λ place. place < length self.now) }
     {
         first_of(
-            self.names.numbers(print_of(user.as_bytes())),
+            self.names.numbers(self.key.print_of(user.as_bytes())),
             &self.users,
             user,
         )
@@ -86,15 +92,15 @@ impl Entries {
 }
 
 // The index of these entries: from the last one on, so that each goes before those that are there.
-fn index_of(alloc: Global, users: &[UserBindings]) -> Result<Index, AllocError>
-    ensures { IfOk result (λ names. IsIndexed users.now names.entries) }
+fn index_of(alloc: Global, key: PrintKey, users: &[UserBindings]) -> Result<Index, AllocError>
+    ensures { IfOk result (λ names. IsIndexed key users.now names.entries) }
 {
     let mut names = Index::new(alloc);
     names.reserve(users.len())?;
     let mut left = users.len();
     while left > 0 {
         left -= 1;
-        names.put(print_of(users[left].user.as_bytes()), left);
+        names.put(key.print_of(users[left].user.as_bytes()), left);
     }
     Ok(names)
 }

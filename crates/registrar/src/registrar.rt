@@ -18,6 +18,7 @@ use crate::refusal::Refusal;
 use crate::register::Register;
 use crate::register_rules::{all_bindable, is_star_misused, is_star_stale};
 use crate::targets::target;
+use index::PrintKey;
 use sip_uri::{Host, Uri};
 use std::alloc::{AllocError, Global};
 use std::marker::Model;
@@ -61,6 +62,7 @@ impl Registrar {
     /// this number of seconds at least.
     pub fn new(
         alloc: Global,
+        key: PrintKey,
         users: Texts<'static>,
         ip: [u8; 4],
         sip_port: u16,
@@ -74,7 +76,7 @@ impl Registrar {
         requires bounded { min_expires ≤ max_min_expires }
         ensures { IfOk result (λ r. StandsAfter r (rules_given users.entry ip sip_port domain.entry min_expires) []) }
     {
-        let entries = Entries::new(alloc, users)?;
+        let entries = Entries::new(alloc, key, users)?;
         Ok(Registrar {
             alloc,
             entries,

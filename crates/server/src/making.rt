@@ -8,6 +8,7 @@ ghost use Rattle.server.specs.Faults.{config_fault};
 use crate::fault::Fault;
 use agent::Agent;
 use configuration::{Config, ConfigError};
+use index::PrintKey;
 use std::alloc::Global;
 
 /// What a refusal of a configuration is to the program.
@@ -26,7 +27,7 @@ pub(crate) fn agent_of(alloc: Global, config: &Config) -> Result<Agent, Fault>
     ensures made { IfOk result (IsNew config.now) }
     ensures refused { IfErr result (λ e. e ≡ Fault.OutOfMemory) }
 {
-    match Agent::new(alloc, config) {
+    match Agent::new(alloc, PrintKey::FIXED, config) {
         Ok(agent) => Ok(agent),
         Err(error) => Err(config_fault(error)),
     }

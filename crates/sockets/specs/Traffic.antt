@@ -5,14 +5,15 @@ use Rattle.configuration.specs.declared.config.Config.{Config}
 use Rattle.relay.specs.Limits.{most_viewers}
 use Rattle.sockets.specs.Logs.{Datagram}
 
--- what was taken and sent, and whether the last call failed
+-- what was taken, what was asked to be sent and what of it went, and whether the last call failed
 pub record Traffic : Type 0 where
   pub taken : List Datagram
+  pub asked : List Datagram
   pub sent : List Datagram
   pub failed : Bool
 
 abbrev pub no_traffic : Traffic
-no_traffic = record { taken = []; sent = []; failed = false }
+no_traffic = record { taken = []; asked = []; sent = []; failed = false }
 
 -- a datagram at the socket for SIP, whose one port is not noted
 abbrev pub at_sip : Addr → List ℕ → Datagram

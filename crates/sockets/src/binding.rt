@@ -67,6 +67,7 @@ fn bind_sip<R: Net>(rt: &R, alloc: Global, config: &Config) -> io::Result<SipSoc
         poll,
         events: Events::with_capacity(alloc, 1)?,
         taken: Log::new(),
+        asked: Log::new(),
         sent: Log::new(),
         failed: false,
     })

@@ -13,7 +13,8 @@ use std::io::ErrorKind;
 use std::marker::Model;
 use std::sync::Arc;
 
-/// All relay sockets, by rising port, and those of this worker that are ready. It notes what it takes and sends for clauses alone.
+/// All relay sockets, by rising port, and those of this worker that are ready. It notes what it takes, and what
+/// it is asked to send and sends, for clauses alone.
 #[derive(Drop)]
 pub struct MediaSockets {
     pub(crate) sockets: Arc<Vec<UdpSocket>>,
@@ -21,6 +22,7 @@ pub struct MediaSockets {
     pub(crate) first: u16,
     pub(crate) ready: Ready,
     pub(crate) taken: Log,
+    pub(crate) asked: Log,
     pub(crate) sent: Log,
     pub(crate) failed: bool,
 }
@@ -30,7 +32,7 @@ impl Model for MediaSockets {
 
     ghost Value = { Traffic };
 
-    ghost view = { λ s. record { taken = s.taken.entries; sent = s.sent.entries; failed = s.failed } };
+    ghost view = { λ s. record { taken = s.taken.entries; asked = s.asked.entries; sent = s.sent.entries; failed = s.failed } };
 }
 
 impl MediaSockets {
@@ -38,6 +40,7 @@ impl MediaSockets {
     fn take(&mut self, buffer: &mut [u8]) -> io::Result<Option<(u16, usize)>>
         ensures fits { IfOk result (λ r. IfSome r (λ d. d.1 ≤ length buffer.new)) }
         ensures taken { self.new.taken ≡ self.old.taken }
+        ensures asked { self.new.asked ≡ self.old.asked }
         ensures sent { self.new.sent ≡ self.old.sent }
     {
         match self.ready.take(self.sockets.as_slice(), buffer)? {
@@ -86,6 +89,7 @@ impl MediaSocket for MediaSockets {
     }
 
     fn send(&mut self, from: u16, to: Addr, bytes: &[u8]) -> Result<(), SocketFault> {
+        self.asked.note(from, &to.ip, to.port, bytes);
         match self.send_from(from, to, bytes) {
             Ok(()) => {
                 self.failed = false;

@@ -14,13 +14,14 @@ use std::io::ErrorKind;
 use std::marker::Model;
 use std::time::Duration;
 
-/// A socket at the server's port for SIP, and what waits for it. It notes what it takes and sends for clauses alone.
+/// A socket at the server's port for SIP, and what waits for it. It notes what it takes, and what it is asked to send and sends, for clauses alone.
 #[derive(Drop)]
 pub struct SipSocket {
     pub(crate) socket: UdpSocket,
     pub(crate) poll: Poll,
     pub(crate) events: Events,
     pub(crate) taken: Log,
+    pub(crate) asked: Log,
     pub(crate) sent: Log,
     pub(crate) failed: bool,
 }
@@ -54,7 +55,7 @@ impl Model for SipSocket {
 
     ghost Value = { Traffic };
 
-    ghost view = { λ s. record { taken = s.taken.entries; sent = s.sent.entries; failed = s.failed } };
+    ghost view = { λ s. record { taken = s.taken.entries; asked = s.asked.entries; sent = s.sent.entries; failed = s.failed } };
 }
 
 impl SipSocket {
@@ -63,6 +64,7 @@ impl SipSocket {
     pub fn receive(&mut self, buffer: &mut [u8]) -> io::Result<Option<(Addr, usize)>>
         ensures fits { IfOk result (λ r. IfSome r (λ d. d.1 ≤ length buffer.new)) }
         ensures taken { MatchResult result (λ r. MatchOption r (self.new.taken ≡ self.old.taken) (λ d. self.new.taken ≡ self.old.taken ++ at_sip d.0 (take d.1 buffer.new) ∷ [])) (λ _. self.new.taken ≡ self.old.taken) }
+        ensures asked { self.new.asked ≡ self.old.asked }
         ensures sent { self.new.sent ≡ self.old.sent }
         ensures failed { self.new.failed ≡ is_err result }
     {
@@ -86,10 +88,12 @@ impl SipSocket {
 
     /// Sends a datagram. Err is the system's refusal, or that it took a part of the datagram alone.
     pub fn send(&mut self, to: Addr, bytes: &[u8]) -> io::Result<()>
+        ensures asked { self.new.asked ≡ self.old.asked ++ at_sip to bytes.now ∷ [] }
         ensures sent { MatchResult result (λ _. self.new.sent ≡ self.old.sent ++ at_sip to bytes.now ∷ []) (λ _. self.new.sent ≡ self.old.sent) }
         ensures taken { self.new.taken ≡ self.old.taken }
         ensures failed { self.new.failed ≡ is_err result }
     {
+        self.asked.note(0, &to.ip, to.port, bytes);
         match send_all(&self.socket, to, bytes) {
             Ok(()) => {
                 self.failed = false;
@@ -106,6 +110,7 @@ impl SipSocket {
     /// Waits until a datagram may be there, for so many milliseconds at most. Err is the system's refusal.
     pub fn wait(&mut self, millis: u64) -> io::Result<()>
         ensures taken { self.new.taken ≡ self.old.taken }
+        ensures asked { self.new.asked ≡ self.old.asked }
         ensures sent { self.new.sent ≡ self.old.sent }
         ensures failed { self.new.failed ≡ is_err result }
     {

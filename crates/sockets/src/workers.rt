@@ -29,6 +29,7 @@ fn worker_of(
         first,
         ready: Ready::new(alloc, poll, sockets.len())?,
         taken: Log::new(),
+        asked: Log::new(),
         sent: Log::new(),
         failed: false,
     };

@@ -15,8 +15,9 @@ use Rattle.transactions.specs.declared.transaction.Transaction.{Transaction}
 use Rattle.transactions.specs.Contents.{placed}
 use Rattle.transactions.specs.FreeNumbers.{Free}
 use Rattle.transactions.specs.Places.{has_branch, has_call, has_tag, IsIndexed, HasRoom}
-use Rattle.index.specs.Print.{print_of}
-use Rattle.transactions.specs.Prints.{branch_print, print_at, tag_print}
+use Rattle.index.specs.declared.print.PrintKey.{PrintKey}
+use Rattle.index.specs.PrintKeys.{print_of}
+use Rattle.transactions.specs.Prints.{branch_print, prints_at, tag_print}
 use Rattle.transactions.specs.Slots.{at, free_number, is_serving}
 use Rattle.transactions.specs.Transactions.{went}
 use Rattle.transactions.proofs.LastingLaws.{within}
@@ -51,11 +52,6 @@ least_taken slots [] is = refl
 least_taken slots (n ∷ ns) is = rw (← first_free slots n ns is, eq-eqb n n refl) refl
 
 -- ---- a transaction goes on
-
-pub serves_is : (slot : Option Transaction) → (print_at slot).serves ≡ is_serving slot
-unfolding is_serving
-serves_is None = refl
-serves_is (Some t) = refl
 
 pub server_is : (t : Transaction) → is_serving (Some t) ≡ is_server t.state
 unfolding is_serving
@@ -119,28 +115,28 @@ module _ (has : ℕ → Option Transaction → Bool) (key : Transaction → ℕ)
             before p ∙ sym (placed_same (has p) t (none p) fails slots 0))
       ] refl)
 
-branch_none : (p : ℕ) → has_branch p None ≡ false
-branch_none p = refl
+branch_none : (k : PrintKey) (p : ℕ) → has_branch k p None ≡ false
+branch_none k p = refl
 
-branch_some : (p : ℕ) (t : Transaction) → has_branch p (Some t) ≡ eqb (branch_print t.parts.vias) p
-branch_some p t = refl
+branch_some : (k : PrintKey) (p : ℕ) (t : Transaction) → has_branch k p (Some t) ≡ eqb (branch_print k t.parts.vias) p
+branch_some k p t = refl
 
-call_none : (p : ℕ) → has_call p None ≡ false
-call_none p = refl
+call_none : (k : PrintKey) (p : ℕ) → has_call k p None ≡ false
+call_none k p = refl
 
-call_some : (p : ℕ) (t : Transaction) → has_call p (Some t) ≡ eqb (print_of t.parts.call_id) p
-call_some p t = refl
+call_some : (k : PrintKey) (p : ℕ) (t : Transaction) → has_call k p (Some t) ≡ eqb (print_of k t.parts.call_id) p
+call_some k p t = refl
 
-tag_none : (p : ℕ) → has_tag p None ≡ false
-tag_none p = refl
+tag_none : (k : PrintKey) (p : ℕ) → has_tag k p None ≡ false
+tag_none k p = refl
 
-tag_some : (p : ℕ) (t : Transaction) → has_tag p (Some t) ≡ eqb (tag_print t.parts.from.params) p
-tag_some p t = refl
+tag_some : (k : PrintKey) (p : ℕ) (t : Transaction) → has_tag k p (Some t) ≡ eqb (tag_print k t.parts.from.params) p
+tag_some k p t = refl
 
-pub advanced : (slots : Slots) (bs cs ts : List Indexed) (fs : List ℕ) (n id was is : ℕ) (d new : Option Transaction) (fresh : Option (List ℕ)) (state : State)
-    → IsIndexed slots bs cs ts fs n → IsSome (at slots id) → new ≡ option_map (λ t. went t fresh state) (get_or slots id d) → was ≡ cond (is_serving (get_or slots id d)) 1 0 → is ≡ cond (is_server state) 1 0
-    → IsIndexed (set slots id new) bs cs ts fs (n - was + is)
-advanced slots bs cs ts fs n id was is d new fresh state h some e was_e is_e =
+pub advanced : (key : PrintKey) (slots : Slots) (bs cs ts : List Indexed) (fs : List ℕ) (n id was is : ℕ) (d new : Option Transaction) (fresh : Option (List ℕ)) (state : State)
+    → IsIndexed key slots bs cs ts fs n → IsSome (at slots id) → new ≡ option_map (λ t. went t fresh state) (get_or slots id d) → was ≡ cond (is_serving (get_or slots id d)) 1 0 → is ≡ cond (is_server state) 1 0
+    → IsIndexed key (set slots id new) bs cs ts fs (n - was + is)
+advanced key slots bs cs ts fs n id was is d new fresh state h some e was_e is_e =
     let one = stands slots id some in
     let t = one.0 in
     let less = within slots id t one.1 in
@@ -150,22 +146,22 @@ advanced slots bs cs ts fs n id was is d new fresh state h some e was_e is_e =
     let fewer = get_or-le-sum_by (λ s. cond (is_serving s) 1 0) slots id d less in
     let counts : cond (is_serving new) 1 0 ≡ is = rw (next, server_is (went t fresh state)) (sym is_e) in
     record {
-      by_branch = λ p. h.by_branch p ∙ sym (kept has_branch (λ u. branch_print u.parts.vias) branch_none branch_some slots id d new t (went t fresh state) there next refl p);
-      by_call = λ p. h.by_call p ∙ sym (kept has_call (λ u. print_of u.parts.call_id) call_none call_some slots id d new t (went t fresh state) there next refl p);
-      by_tag = λ p. h.by_tag p ∙ sym (kept has_tag (λ u. tag_print u.parts.from.params) tag_none tag_some slots id d new t (went t fresh state) there next refl p);
+      by_branch = λ p. h.by_branch p ∙ sym (kept (has_branch key) (λ u. branch_print key u.parts.vias) (branch_none key) (branch_some key) slots id d new t (went t fresh state) there next refl p);
+      by_call = λ p. h.by_call p ∙ sym (kept (has_call key) (λ u. print_of key u.parts.call_id) (call_none key) (call_some key) slots id d new t (went t fresh state) there next refl p);
+      by_tag = λ p. h.by_tag p ∙ sym (kept (has_tag key) (λ u. tag_print key u.parts.from.params) (tag_none key) (tag_some key) slots id d new t (went t fresh state) there next refl p);
       without = h.without ∙ sym (numbers.set_same is_none slots id 0 new d (rw (there, next) refl));
       servers = omega (arith, h.servers, count, fewer, counts, was_e);
     }
 
-pub ended_all : (slots : Slots) (bs cs ts : List Indexed) (fs : List ℕ) (bs' cs' ts' : List Indexed) (fs' : List ℕ) (n id was b c g : ℕ) (d new : Option Transaction)
-    → IsIndexed slots bs cs ts fs n → IsSome (at slots id) → new ≡ None → was ≡ cond (is_serving (get_or slots id d)) 1 0
-    → b ≡ (print_at (get_or slots id d)).branch → c ≡ (print_at (get_or slots id d)).call → g ≡ (print_at (get_or slots id d)).tag
+pub ended_all : (key : PrintKey) (slots : Slots) (bs cs ts : List Indexed) (fs : List ℕ) (bs' cs' ts' : List Indexed) (fs' : List ℕ) (n id was b c g : ℕ) (d new : Option Transaction)
+    → IsIndexed key slots bs cs ts fs n → IsSome (at slots id) → new ≡ None → was ≡ cond (is_serving (get_or slots id d)) 1 0
+    → b ≡ (prints_at key (get_or slots id d)).branch → c ≡ (prints_at key (get_or slots id d)).call → g ≡ (prints_at key (get_or slots id d)).tag
     → ((p : ℕ) → numbers_in bs' p ≡ cond (eqb p b) (remove_number (numbers_in bs b) id) (numbers_in bs p))
     → ((p : ℕ) → numbers_in cs' p ≡ cond (eqb p c) (remove_number (numbers_in cs c) id) (numbers_in cs p))
     → ((p : ℕ) → numbers_in ts' p ≡ cond (eqb p g) (remove_number (numbers_in ts g) id) (numbers_in ts p))
     → fs' ≡ put_number fs id
-    → IsIndexed (set slots id new) bs' cs' ts' fs' (n - was)
-ended_all slots bs cs ts fs bs' cs' ts' fs' n id was b c g d new h some is was_e b_e c_e g_e bs_e cs_e ts_e fs_e =
+    → IsIndexed key (set slots id new) bs' cs' ts' fs' (n - was)
+ended_all key slots bs cs ts fs bs' cs' ts' fs' n id was b c g d new h some is was_e b_e c_e g_e bs_e cs_e ts_e fs_e =
     let one = stands slots id some in
     let t = one.0 in
     let less = within slots id t one.1 in
@@ -174,29 +170,29 @@ ended_all slots bs cs ts fs bs' cs' ts' fs' n id was b c g d new h some is was_e
     let fewer = get_or-le-sum_by (λ s. cond (is_serving s) 1 0) slots id d less in
     let put = numbers.set_put is_none slots id 0 id None d (omega arith) less (rw there refl) refl in
     rw is (record {
-      by_branch = ended has_branch (λ u. branch_print u.parts.vias) branch_none branch_some slots id b d t bs bs' less there (b_e ∙ ap (λ s. (print_at s).branch) there) h.by_branch bs_e;
-      by_call = ended has_call (λ u. print_of u.parts.call_id) call_none call_some slots id c d t cs cs' less there (c_e ∙ ap (λ s. (print_at s).call) there) h.by_call cs_e;
-      by_tag = ended has_tag (λ u. tag_print u.parts.from.params) tag_none tag_some slots id g d t ts ts' less there (g_e ∙ ap (λ s. (print_at s).tag) there) h.by_tag ts_e;
+      by_branch = ended (has_branch key) (λ u. branch_print key u.parts.vias) (branch_none key) (branch_some key) slots id b d t bs bs' less there (b_e ∙ ap (λ s. (prints_at key s).branch) there) h.by_branch bs_e;
+      by_call = ended (has_call key) (λ u. print_of key u.parts.call_id) (call_none key) (call_some key) slots id c d t cs cs' less there (c_e ∙ ap (λ s. (prints_at key s).call) there) h.by_call cs_e;
+      by_tag = ended (has_tag key) (λ u. tag_print key u.parts.from.params) (tag_none key) (tag_some key) slots id g d t ts ts' less there (g_e ∙ ap (λ s. (prints_at key s).tag) there) h.by_tag ts_e;
       without = fs_e ∙ ap (λ ns. put_number ns id) h.without ∙ sym put;
       servers = omega (arith, h.servers, count, fewer, none_counts, was_e);
     })
 
-pub begun_all : (slots : Slots) (bs cs ts : List Indexed) (fs : List ℕ) (bs' cs' ts' : List Indexed) (fs' : List ℕ) (n is b c g id : ℕ) (t : Transaction) (slot : Option Transaction) (after : Slots)
-    → IsIndexed slots bs cs ts fs n → id ≡ free_number slots → slot ≡ Some t → is ≡ cond (print_at slot).serves 1 0 → b ≡ (print_at slot).branch → c ≡ (print_at slot).call → g ≡ (print_at slot).tag
+pub begun_all : (key : PrintKey) (slots : Slots) (bs cs ts : List Indexed) (fs : List ℕ) (bs' cs' ts' : List Indexed) (fs' : List ℕ) (n is b c g id : ℕ) (t : Transaction) (slot : Option Transaction) (after : Slots)
+    → IsIndexed key slots bs cs ts fs n → id ≡ free_number slots → slot ≡ Some t → is ≡ cond (is_serving slot) 1 0 → b ≡ (prints_at key slot).branch → c ≡ (prints_at key slot).call → g ≡ (prints_at key slot).tag
     → after ≡ cond (ltb id (length slots)) (set slots id slot) (slots ++ slot ∷ [])
     → ((p : ℕ) → numbers_in bs' p ≡ cond (eqb p b) (put_number (numbers_in bs b) id) (numbers_in bs p))
     → ((p : ℕ) → numbers_in cs' p ≡ cond (eqb p c) (put_number (numbers_in cs c) id) (numbers_in cs p))
     → ((p : ℕ) → numbers_in ts' p ≡ cond (eqb p g) (put_number (numbers_in ts g) id) (numbers_in ts p))
     → fs' ≡ drop 1 fs
-    → IsIndexed after bs' cs' ts' fs' (n + is)
-begun_all slots bs cs ts fs bs' cs' ts' fs' n is b c g id t slot after h id_e slot_e is_e b_e c_e g_e after_e bs_e cs_e ts_e fs_e =
+    → IsIndexed key after bs' cs' ts' fs' (n + is)
+begun_all key slots bs cs ts fs bs' cs' ts' fs' n is b c g id t slot after h id_e slot_e is_e b_e c_e g_e after_e bs_e cs_e ts_e fs_e =
     let then : after ≡ placed slots (free_number slots) t = after_e ∙ rw (slot_e, id_e) refl in
-    let counts : is ≡ cond (is_serving (Some t)) 1 0 = is_e ∙ rw slot_e (ap (λ b. cond b 1 0) (serves_is (Some t))) in
+    let counts : is ≡ cond (is_serving (Some t)) 1 0 = is_e ∙ rw slot_e refl in
     let count = count_placed is_serving none_serves t slots in
     rw then (record {
-      by_branch = begun has_branch (λ u. branch_print u.parts.vias) branch_none branch_some slots b t bs bs' (b_e ∙ ap (λ s. (print_at s).branch) slot_e) h.by_branch (rw (← id_e) bs_e);
-      by_call = begun has_call (λ u. print_of u.parts.call_id) call_none call_some slots c t cs cs' (c_e ∙ ap (λ s. (print_at s).call) slot_e) h.by_call (rw (← id_e) cs_e);
-      by_tag = begun has_tag (λ u. tag_print u.parts.from.params) tag_none tag_some slots g t ts ts' (g_e ∙ ap (λ s. (print_at s).tag) slot_e) h.by_tag (rw (← id_e) ts_e);
+      by_branch = begun (has_branch key) (λ u. branch_print key u.parts.vias) (branch_none key) (branch_some key) slots b t bs bs' (b_e ∙ ap (λ s. (prints_at key s).branch) slot_e) h.by_branch (rw (← id_e) bs_e);
+      by_call = begun (has_call key) (λ u. print_of key u.parts.call_id) (call_none key) (call_some key) slots c t cs cs' (c_e ∙ ap (λ s. (prints_at key s).call) slot_e) h.by_call (rw (← id_e) cs_e);
+      by_tag = begun (has_tag key) (λ u. tag_print key u.parts.from.params) (tag_none key) (tag_some key) slots g t ts ts' (g_e ∙ ap (λ s. (prints_at key s).tag) slot_e) h.by_tag (rw (← id_e) ts_e);
       without = fs_e ∙ least_taken slots fs h.without ∙ ap (λ ns. remove_number ns (free_number slots)) h.without ∙ sym (placed_remove t slots 0 (free_number slots) (omega arith));
       servers = omega (arith, h.servers, count, counts);
     })
@@ -204,9 +200,9 @@ begun_all slots bs cs ts fs bs' cs' ts' fs' n is b c g id t slot after h id_e sl
 -- ---- the room
 
 -- an end takes room that there is
-pub end_fits : (slots : Slots) (bs cs ts : List Indexed) (free : Free) (n id used capacity room : ℕ) (branches calls tags : Bucketed)
-    → IsIndexed slots bs cs ts free.numbers n → HasRoom used capacity branches calls tags free room → used ≡ length slots → IsSome (at slots id) → 0 < free.room
-end_fits slots bs cs ts free n id used capacity room branches calls tags h fits is some =
+pub end_fits : (key : PrintKey) (slots : Slots) (bs cs ts : List Indexed) (free : Free) (n id used capacity room : ℕ) (branches calls tags : Bucketed)
+    → IsIndexed key slots bs cs ts free.numbers n → HasRoom used capacity branches calls tags free room → used ≡ length slots → IsSome (at slots id) → 0 < free.room
+end_fits key slots bs cs ts free n id used capacity room branches calls tags h fits is some =
     let one = stands slots id some in
     let less = within slots id one.0 one.1 in
     let fewer = numbers.numbers_fewer is_none slots id 0 None less (rw one.1 refl) in

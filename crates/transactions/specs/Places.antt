@@ -4,36 +4,38 @@ use Rattle.index.specs.Buckets.{Bucketed, numbers_in}
 use Rattle.index.specs.Numbers.{Indexed}
 use Rattle.index.specs.Passing.{numbers_from}
 use Rattle.transactions.specs.declared.transaction.Transaction.{Transaction}
-use Rattle.index.specs.Print.{print_of}
+use Rattle.index.specs.declared.print.PrintKey.{PrintKey}
+use Rattle.index.specs.PrintKeys.{print_of}
 use Rattle.transactions.specs.Prints.{branch_print, tag_print}
 use Rattle.transactions.specs.FreeNumbers.{Free}
 use Rattle.transactions.specs.Slots.{is_serving}
 
--- The transactions by their numbers, and how many more can begin without memory.
+-- The transactions by their numbers, the key of their prints, and how many more can begin without memory.
 pub record Placed : Type 0 where
   pub slots : List (Option Transaction)
+  pub key : PrintKey
   pub room : ℕ
 
 -- a transaction whose top Via has a branch of this print
-abbrev pub has_branch : ℕ → Option Transaction → Bool
-has_branch print None = false
-has_branch print (Some t) = nat_eq (branch_print t.parts.vias) print
+abbrev pub has_branch : PrintKey → ℕ → Option Transaction → Bool
+has_branch key print None = false
+has_branch key print (Some t) = nat_eq (branch_print key t.parts.vias) print
 
 -- a transaction with a Call-ID of this print
-abbrev pub has_call : ℕ → Option Transaction → Bool
-has_call print None = false
-has_call print (Some t) = nat_eq (print_of t.parts.call_id) print
+abbrev pub has_call : PrintKey → ℕ → Option Transaction → Bool
+has_call key print None = false
+has_call key print (Some t) = nat_eq (print_of key t.parts.call_id) print
 
 -- a transaction with a From tag of this print
-abbrev pub has_tag : ℕ → Option Transaction → Bool
-has_tag print None = false
-has_tag print (Some t) = nat_eq (tag_print t.parts.from.params) print
+abbrev pub has_tag : PrintKey → ℕ → Option Transaction → Bool
+has_tag key print None = false
+has_tag key print (Some t) = nat_eq (tag_print key t.parts.from.params) print
 
 -- Under each print are the numbers of the transactions that have it, and of no other.
-pub record IsIndexed (slots : List (Option Transaction)) (branches calls tags : List Indexed) (free : List ℕ) (serving : ℕ) : Type 0 where
-  pub by_branch : (print : ℕ) → numbers_in branches print ≡ numbers_from (has_branch print) 0 slots
-  pub by_call : (print : ℕ) → numbers_in calls print ≡ numbers_from (has_call print) 0 slots
-  pub by_tag : (print : ℕ) → numbers_in tags print ≡ numbers_from (has_tag print) 0 slots
+pub record IsIndexed (key : PrintKey) (slots : List (Option Transaction)) (branches calls tags : List Indexed) (free : List ℕ) (serving : ℕ) : Type 0 where
+  pub by_branch : (print : ℕ) → numbers_in branches print ≡ numbers_from (has_branch key print) 0 slots
+  pub by_call : (print : ℕ) → numbers_in calls print ≡ numbers_from (has_call key print) 0 slots
+  pub by_tag : (print : ℕ) → numbers_in tags print ≡ numbers_from (has_tag key print) 0 slots
   pub without : free ≡ numbers_from is_none 0 slots
   pub servers : serving ≡ count_by is_serving slots
 

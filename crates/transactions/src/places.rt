@@ -10,10 +10,11 @@ ghost use Rattle.transactions.specs.Slots.{at, free_number, serving};
 ghost use Rattle.transactions.specs.Transactions.{went};
 
 use crate::free_numbers::FreeNumbers;
+use crate::print::Prints;
 use crate::slot::Slot;
 use crate::transaction::Transaction;
 use boxed::Boxed;
-use index::{Buckets, Entry};
+use index::{Buckets, Entry, PrintKey};
 use std::alloc::{AllocError, Global};
 use std::marker::Model;
 use text::Text;
@@ -26,6 +27,8 @@ const SPARE: usize = 16;
 #[derive(Drop)]
 pub(crate) struct Places {
     slots: Vec<Slot>,
+    /// Of the prints.
+    key: PrintKey,
     /// Under the print of the branch of the top Via.
     branches: Buckets,
     /// Under the print of Call-ID.
@@ -46,19 +49,20 @@ impl Model for Places {
 
     ghost Value = { Placed };
 
-    ghost view = { λ p. record { slots = p.slots.items; room = p.room } };
+    ghost view = { λ p. record { slots = p.slots.items; key = p.key; room = p.room } };
 
-    ghost invariant = { λ p. IsIndexed p.slots.items p.branches.buckets p.calls.buckets p.tags.buckets p.free.numbers p.serving
+    ghost invariant = { λ p. IsIndexed p.key p.slots.items p.branches.buckets p.calls.buckets p.tags.buckets p.free.numbers p.serving
         × HasRoom (vec_len p.slots) (vec_capacity p.slots) p.branches p.calls p.tags p.free p.room };
 }
 
 impl Places {
     /// No transactions. Takes no memory.
-    pub(crate) fn new(alloc: Global) -> Places
+    pub(crate) fn new(alloc: Global, key: PrintKey) -> Places
         ensures { result.slots ≡ [] }
     {
         Places {
             slots: Vec::new(alloc),
+            key,
             branches: Buckets::new(alloc),
             calls: Buckets::new(alloc),
             tags: Buckets::new(alloc),
@@ -74,23 +78,30 @@ impl Places {
         &self.slots
     }
 
+    /// The key of the prints.
+    pub(crate) fn key(&self) -> PrintKey
+        ensures { result ≡ self.now.key }
+    {
+        self.key
+    }
+
     /// The transactions whose top Via has a branch of this print.
     pub(crate) fn of_branch(&self, print: u64) -> &[Entry]
-        ensures { map (λ e. e.number) result.now ≡ numbers_from (has_branch print) 0 self.now.slots }
+        ensures { map (λ e. e.number) result.now ≡ numbers_from (has_branch self.now.key print) 0 self.now.slots }
     {
         self.branches.numbers(print)
     }
 
     /// The transactions with a Call-ID of this print.
     pub(crate) fn of_call(&self, print: u64) -> &[Entry]
-        ensures { map (λ e. e.number) result.now ≡ numbers_from (has_call print) 0 self.now.slots }
+        ensures { map (λ e. e.number) result.now ≡ numbers_from (has_call self.now.key print) 0 self.now.slots }
     {
         self.calls.numbers(print)
     }
 
     /// The transactions with a From tag of this print.
     pub(crate) fn of_tag(&self, print: u64) -> &[Entry]
-        ensures { map (λ e. e.number) result.now ≡ numbers_from (has_tag print) 0 self.now.slots }
+        ensures { map (λ e. e.number) result.now ≡ numbers_from (has_tag self.now.key print) 0 self.now.slots }
     {
         self.tags.numbers(print)
     }
@@ -148,11 +159,11 @@ impl Places {
     {
         let number = self.free_number();
         let slot = Slot::of(transaction);
-        let print = slot.print();
-        self.branches.put(print.branch, number);
-        self.calls.put(print.call, number);
-        self.tags.put(print.tag, number);
-        self.serving += count_of(print.serves);
+        let prints = Prints::of(self.key, slot.transaction());
+        self.branches.put(prints.branch, number);
+        self.calls.put(prints.call, number);
+        self.tags.put(prints.tag, number);
+        self.serving += count_of(slot.is_serving());
         self.free.take_least();
         place(&mut self.slots, number, slot);
         self.room -= 1;
@@ -179,7 +190,7 @@ impl Places {
             self.new.slots ≡ slice_set self.old.slots id (Some (went t fresh.entry state)) }
         ensures room { self.old.room ≤ self.new.room }
     {
-        self.serving -= count_of(self.slots[id].print().serves);
+        self.serving -= count_of(self.slots[id].is_serving());
         self.slots[id].advance(fresh, state);
         self.serving += count_of(is_server(state));
     }
@@ -190,11 +201,12 @@ impl Places {
         ensures slots { self.new.slots ≡ slice_set self.old.slots id None }
         ensures room { self.old.room ≤ self.new.room }
     {
-        let print = self.slots[id].print();
-        self.branches.remove(print.branch, id);
-        self.calls.remove(print.call, id);
-        self.tags.remove(print.tag, id);
-        self.serving -= count_of(print.serves);
+        let slot = &self.slots[id];
+        let prints = Prints::of(self.key, slot.transaction());
+        self.serving -= count_of(slot.is_serving());
+        self.branches.remove(prints.branch, id);
+        self.calls.remove(prints.call, id);
+        self.tags.remove(prints.tag, id);
         self.slots[id] = Slot::free();
         self.free.put(id);
     }

@@ -2,45 +2,63 @@
 
 ghost use Rattle.std.specs.Prelude.{◌≡◌};
 ghost use Rattle.std.specs.Option.{option_copied};
-ghost use Rattle.transactions.specs.Prints.{print_by, branch_print, tag_print};
+ghost use Rattle.transactions.specs.Prints.{print_by, branch_print, tag_print, prints_at};
 
-use index::print_of;
+use crate::transaction::Transaction;
+use index::PrintKey;
 use sip_message::{Vias, tag_value, top_branch};
 use sip_uri::Param;
 use text::Text;
 
-/// The prints of a place of the table, and what its transaction is.
-#[derive(Drop)]
-pub(crate) struct Print {
+/// The prints of a place of the table, all 0 where it has no transaction.
+#[derive(Clone, Copy)]
+pub(crate) struct Prints {
     /// Of the branch of the top Via.
     pub(crate) branch: u64,
     /// Of Call-ID.
     pub(crate) call: u64,
     /// Of the tag of From.
     pub(crate) tag: u64,
-    /// It is a server transaction.
-    pub(crate) serves: bool,
 }
 
-fn print_by(text: Option<&Text<'_>>) -> u64
-    ensures { result ≡ print_by (option_copied text.entry) }
+fn print_by(key: PrintKey, text: Option<&Text<'_>>) -> u64
+    ensures { result ≡ print_by key (option_copied text.entry) }
 {
     match text {
         None => 0,
-        Some(text) => print_of(text.as_bytes()),
+        Some(text) => key.print_of(text.as_bytes()),
     }
 }
 
 /// The print of the branch of the top Via.
-pub(crate) fn branch_print(vias: &Vias<'_>) -> u64
-    ensures { result ≡ branch_print vias.now }
+pub(crate) fn branch_print(key: PrintKey, vias: &Vias<'_>) -> u64
+    ensures { result ≡ branch_print key vias.now }
 {
-    print_by(top_branch(vias))
+    print_by(key, top_branch(vias))
 }
 
 /// The print of the tag among the parameters of From.
-pub(crate) fn tag_print(params: &[Param<'_>]) -> u64
-    ensures { result ≡ tag_print params.now }
+fn tag_print(key: PrintKey, params: &[Param<'_>]) -> u64
+    ensures { result ≡ tag_print key params.now }
 {
-    print_by(tag_value(params))
+    print_by(key, tag_value(params))
+}
+
+impl Prints {
+    pub(crate) fn of(key: PrintKey, transaction: Option<&Transaction>) -> Prints
+        ensures { result ≡ prints_at key (option_copied transaction.entry) }
+    {
+        match transaction {
+            None => Prints {
+                branch: 0,
+                call: 0,
+                tag: 0,
+            },
+            Some(Transaction { parts, .. }) => Prints {
+                branch: branch_print(key, &parts.vias),
+                call: key.print_of(parts.call_id.as_bytes()),
+                tag: tag_print(key, parts.from.params.as_slice()),
+            },
+        }
+    }
 }

@@ -10,7 +10,7 @@ use crate::places::Places;
 use crate::print::branch_print;
 use crate::slot::Slot;
 use crate::transaction::Transaction;
-use index::{Entry, print_of};
+use index::Entry;
 use sip_message::{Parts, is_method, tag_value};
 use sip_uri::same_text;
 use text::Text;
@@ -49,7 +49,7 @@ fn first_asked(entries: &[Entry], slots: &[Slot], parts: &Parts) -> Option<usize
 pub(crate) fn asked(places: &Places, parts: &Parts) -> Option<usize>
     ensures { result ≡ position (is_asked parts.now) places.now.slots }
 {
-    let entries = places.of_branch(branch_print(&parts.vias));
+    let entries = places.of_branch(branch_print(places.key(), &parts.vias));
     first_asked(entries, places.slots(), parts)
 }
 
@@ -76,7 +76,7 @@ fn first_answered(entries: &[Entry], slots: &[Slot], parts: &Parts) -> Option<us
 pub(crate) fn answered(places: &Places, parts: &Parts) -> Option<usize>
     ensures { result ≡ position (is_answered parts.now) places.now.slots }
 {
-    let entries = places.of_branch(branch_print(&parts.vias));
+    let entries = places.of_branch(branch_print(places.key(), &parts.vias));
     first_answered(entries, places.slots(), parts)
 }
 
@@ -129,7 +129,10 @@ fn named_other(entries: &[Entry], slots: &[Slot], parts: &Parts) -> Option<usize
 pub(crate) fn named(places: &Places, parts: &Parts) -> Option<usize>
     ensures { result ≡ named places.now.slots parts.now }
 {
-    let (entries, slots) = (places.of_branch(branch_print(&parts.vias)), places.slots());
+    let (entries, slots) = (
+        places.of_branch(branch_print(places.key(), &parts.vias)),
+        places.slots(),
+    );
     match named_invite(entries, slots, parts) {
         Some(id) => Some(id),
         None => named_other(entries, slots, parts),
@@ -160,7 +163,7 @@ fn merges_any(entries: &[Entry], slots: &[Slot], parts: &Parts) -> bool
 pub(crate) fn any_merged(places: &Places, parts: &Parts) -> bool
     ensures { result ≡ list_any (is_merged parts.now) places.now.slots }
 {
-    let entries = places.of_call(print_of(parts.call_id.as_bytes()));
+    let entries = places.of_call(places.key().print_of(parts.call_id.as_bytes()));
     merges_any(entries, places.slots(), parts)
 }
 
@@ -202,6 +205,6 @@ fn first_waiting(entries: &[Entry], slots: &[Slot], tag: &Text<'_>) -> Option<us
 pub(crate) fn waiting_invite(places: &Places, tag: &Text<'_>) -> Option<usize>
     ensures { result ≡ waiting_invite places.now.slots tag.now }
 {
-    let entries = places.of_tag(print_of(tag.as_bytes()));
+    let entries = places.of_tag(places.key().print_of(tag.as_bytes()));
     first_waiting(entries, places.slots(), tag)
 }

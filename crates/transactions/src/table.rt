@@ -27,6 +27,7 @@ use crate::places::Places;
 use crate::slots::{any_merged, named, transaction_at, waiting_invite};
 use crate::stopping::{has_come, moment};
 use crate::transaction::{TimerId, Transaction};
+use index::PrintKey;
 use sip_message::{Message, Request, Response, class_of, is_method};
 use sip_uri::Addr;
 use sip_writing::write_response;
@@ -67,14 +68,14 @@ impl Model for Table {
 }
 
 impl Table {
-    /// A table without transactions. This takes no memory.
-    pub fn new(alloc: Global) -> Self
+    /// A table without transactions, which are looked up by prints under this key. No answer depends on the key. Takes no memory.
+    pub fn new(alloc: Global, key: PrintKey) -> Self
         ensures slots { result.slots ≡ [] }
         ensures timers { result.timers ≡ [] }
     {
         Table {
             alloc,
-            places: Places::new(alloc),
+            places: Places::new(alloc, key),
             timers: Timers::new(alloc),
         }
     }

@@ -11,7 +11,7 @@ pub returns-then-is_none-clause-noted : goal.returns-then-is_none-clause-noted
 returns-then-is_none-clause-noted c =
     let place = c.args.place in
     c.remove-then-is_none.ensures.items ∙ ap (λ (tags : List TagPrints). remove tags place) c.requires.noted
-    ∙ sym (map_removed c.args.calls.now.items place) ∙ sym (ap (map prints_of) c.remove.ensures.items)
+    ∙ sym (map_removed c.args.key c.args.calls.now.items place) ∙ sym (ap (map (prints_of c.args.key)) c.remove.ensures.items)
 
 pub returns-else-is_none-clause-calls : goal.returns-else-is_none-clause-calls
 returns-else-is_none-clause-calls c =

@@ -6,7 +6,7 @@ use Rattle.live.proofs.serving.serve.Given as goal
 abbrev pub invariant-loop : goal.invariant-loop
 invariant-loop g l = record {
   table : HasTable l.signalling.board l.signalling.agent;
-  so_far : Going (record { agent = l.fn.signalling.agent; lists = l.fn.signalling.board; taken = g.W.Wire.taken l.fn.signalling.wire; sent = g.W.Wire.sent l.fn.signalling.wire })
-      (record { agent = l.signalling.agent; lists = l.signalling.board; taken = g.W.Wire.taken l.signalling.wire; sent = g.W.Wire.sent l.signalling.wire })
+  so_far : Going (record { agent = l.fn.signalling.agent; lists = l.fn.signalling.board; taken = g.W.Wire.taken l.fn.signalling.wire; tried = g.W.Wire.tried l.fn.signalling.wire })
+      (record { agent = l.signalling.agent; lists = l.signalling.board; taken = g.W.Wire.taken l.signalling.wire; tried = g.W.Wire.tried l.signalling.wire })
       (g.O.Operator.told l.fn.operator) (g.O.Operator.told l.operator) l.fn.turns l.turns l.streaks;
 }

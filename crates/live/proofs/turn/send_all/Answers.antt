@@ -13,8 +13,8 @@ loop-datagram-preserved g c =
     let so_far : c.loop-datagram.failed ≤ c.loop-datagram.datagram-index = c.loop-datagram.invariant.bound in
     let one : c.send_one-failed.result ≤ 1 = c.send_one-failed.ensures.bound in
     record {
-      sends = subst (λ (ds : List Sent). Sends (g.W.Wire.sent c.args.wire.now) (g.W.Wire.sent c.send_one-failed.new.wire) ds (c.loop-datagram.failed + c.send_one-failed.result)) (sym more)
-          (sends_more (g.W.Wire.sent c.args.wire.now) (g.W.Wire.sent c.loop-datagram.wire) (g.W.Wire.sent c.send_one-failed.new.wire) done (d ∷ []) c.loop-datagram.failed c.send_one-failed.result
+      sends = subst (λ (ds : List Sent). Sends (g.W.Wire.tried c.args.wire.now) (g.W.Wire.tried c.send_one-failed.new.wire) ds (c.loop-datagram.failed + c.send_one-failed.result)) (sym more)
+          (sends_more (g.W.Wire.tried c.args.wire.now) (g.W.Wire.tried c.loop-datagram.wire) (g.W.Wire.tried c.send_one-failed.new.wire) done (d ∷ []) c.loop-datagram.failed c.send_one-failed.result
           c.loop-datagram.invariant.sends c.send_one-failed.ensures.sends);
       bound = omega (arith, so_far, one);
       taken = c.send_one-failed.ensures.taken ∙ c.loop-datagram.invariant.taken;

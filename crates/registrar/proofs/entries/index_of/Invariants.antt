@@ -7,7 +7,7 @@ abbrev pub invariant-loop-left : goal.invariant-loop-left
 invariant-loop-left l = record {
   within : l.left ≤ length l.users;
   room : l.left ≤ l.names.room;
-  indexed : (print : ℕ) → numbers_of l.names.entries print ≡ places_of print l.left (drop l.left l.users);
+  indexed : (print : ℕ) → numbers_of l.names.entries print ≡ places_of l.key print l.left (drop l.left l.users);
 }
 
 abbrev pub decreases-loop-left : goal.decreases-loop-left

@@ -22,7 +22,7 @@ take_off-requires-clause-noted c =
     let here = read_at cs c.args.place c.index.result.now within c.index.ensures in
     let did = c.carry_out_there-changes.ensures.done c.index.result.now here in
     ap (λ t. set c.self.inside.tags.items c.args.place t) c.prints_of.ensures
-    ∙ noted cs c.carry_out_there-changes.new.calls.items c.args.place _ c.index-2.result.now c.self.inside.tags.items within c.self.invariant.1 did.calls c.index-2.ensures
+    ∙ noted c.self.inside.key cs c.carry_out_there-changes.new.calls.items c.args.place _ c.index-2.result.now c.self.inside.tags.items within c.self.invariant.1 did.calls c.index-2.ensures
 
 pub invariant_of-self : goal.invariant_of-self
 invariant_of-self c =

@@ -10,5 +10,5 @@ pub invariant_of-result : goal.invariant_of-result
 invariant_of-result c = (
   subst (λ (cs : List StandingCall). AreKept cs c.in_ok-pool.pool 0) (sym c.new-2.ensures.items)
       (subst (λ (p : pools.Contents). AreKept [] p 0) (sym c.in_ok-pool.ensures) (kept_none c.args.first c.args.pairs)),
-  c.new-3.ensures.items ∙ sym (ap (map prints_of) c.new-2.ensures.items),
+  c.new-3.ensures.items ∙ sym (ap (map (prints_of c.args.key)) c.new-2.ensures.items),
 )

@@ -17,7 +17,7 @@ invariant_of-self c =
     let served = served_at c.self.inside.pool cs c.args.place stood c.self.invariant.0.served here in (
       kept_put cs c.args.place stood _ c.self.inside.pool c.self.inside.begun c.self.invariant.0 here (ap (λ (call : Call). call.number) put ∙ number_kept c.args.leg.end c.args.leg.dialog stood.call) (c.put_dialog.ensures.serves c.self.inside.pool served),
       ap (λ t. set c.self.inside.tags.items c.args.place t) c.prints_of.ensures
-          ∙ noted cs _ c.args.place _ c.index.result.now c.self.inside.tags.items within c.self.invariant.1 refl c.index.ensures,
+          ∙ noted c.self.inside.key cs _ c.args.place _ c.index.result.now c.self.inside.tags.items within c.self.invariant.1 refl c.index.ensures,
     )
 
 pub returns-clause-calls : goal.returns-clause-calls

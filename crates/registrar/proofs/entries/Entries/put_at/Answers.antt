@@ -19,6 +19,7 @@ pub invariant_of-self : goal.invariant_of-self
 invariant_of-self c =
     let es = c.self.inside.users.items in
     let names = c.self.inside.names.entries in
+    let key = c.self.inside.key in
     let bs = c.args.bindings in
-    subst (λ (e : UserBindings). IsIndexed (set es c.args.place (with_bindings bs e)) names) (sym c.index_mut.ensures.value)
-    (still_indexed es names c.args.place bs c.index_mut.result.now c.self.invariant)
+    subst (λ (e : UserBindings). IsIndexed key (set es c.args.place (with_bindings bs e)) names) (sym c.index_mut.ensures.value)
+    (still_indexed key es names c.args.place bs c.index_mut.result.now c.self.invariant)

@@ -1,10 +1,10 @@
 use Rattle.std.proofs.Common.{◌≡◌, ◌∙◌, ap, sym, subst, cond, get_or}
 use Rattle.std.specs.Prelude.{IsSome}
 use Rattle.transactions.specs.Places.{Placed}
-use Rattle.transactions.specs.Prints.{print_at}
+use Rattle.transactions.specs.Prints.{prints_at}
 use Rattle.transactions.specs.Slots.{at, is_serving}
 use Rattle.transactions.proofs.LastingLaws.{within}
-use Rattle.transactions.proofs.PlaceLaws.{counted, stands, serves_is, ended_all, end_fits, room_ended}
+use Rattle.transactions.proofs.PlaceLaws.{counted, stands, ended_all, end_fits, room_ended}
 use Rattle.transactions.proofs.places.Places.end.Goals as goal
 
 pub overflow_sub-self : goal.overflow_sub-self
@@ -12,27 +12,27 @@ overflow_sub-self c =
     let slots = c.self.inside.slots.items in
     let some : IsSome (at slots c.args.id) = subst (λ (v : Placed). IsSome (at v.slots c.args.id)) (sym c.self.view_is) c.requires in
     let one = stands slots c.args.id some in
-    let was : c.count_of.result ≡ cond (is_serving (get_or slots c.args.id c.index.result.now)) 1 0 =
-    c.count_of.ensures ∙ ap (λ b. cond b 1 0) (ap (λ p. p.serves) c.print-print.ensures ∙ serves_is c.index.result.now ∙ ap is_serving c.index.ensures) in
-    counted slots c.args.id c.self.inside.serving c.count_of.result c.index.result.now (within slots c.args.id one.0 one.1) c.self.invariant.0.servers was
+    let was : c.count_of.result ≡ cond (is_serving (get_or slots c.args.id c.index-slot.result.now)) 1 0 =
+    c.count_of.ensures ∙ ap (λ b. cond b 1 0) (c.is_serving.ensures ∙ ap is_serving c.index-slot.ensures) in
+    counted slots c.args.id c.self.inside.serving c.count_of.result c.index-slot.result.now (within slots c.args.id one.0 one.1) c.self.invariant.0.servers was
 
 pub put-requires : goal.put-requires
 put-requires c =
     let slots = c.self.inside.slots.items in
     let some : IsSome (at slots c.args.id) = subst (λ (v : Placed). IsSome (at v.slots c.args.id)) (sym c.self.view_is) c.requires in
     let p = c.self.inside in
-    end_fits slots p.branches.buckets p.calls.buckets p.tags.buckets p.free p.serving c.args.id p.slots.len p.slots.cap p.room p.branches p.calls p.tags c.self.invariant.0 c.self.invariant.1 p.slots.ok.0 some
+    end_fits p.key slots p.branches.buckets p.calls.buckets p.tags.buckets p.free p.serving c.args.id p.slots.len p.slots.cap p.room p.branches p.calls p.tags c.self.invariant.0 c.self.invariant.1 p.slots.ok.0 some
 
 pub invariant_of-self : goal.invariant_of-self
 invariant_of-self c =
     let slots = c.self.inside.slots.items in
     let some : IsSome (at slots c.args.id) = subst (λ (v : Placed). IsSome (at v.slots c.args.id)) (sym c.self.view_is) c.requires in
-    let was : c.count_of.result ≡ cond (is_serving (get_or slots c.args.id c.index.result.now)) 1 0 =
-    c.count_of.ensures ∙ ap (λ b. cond b 1 0) (ap (λ p. p.serves) c.print-print.ensures ∙ serves_is c.index.result.now ∙ ap is_serving c.index.ensures) in
+    let was : c.count_of.result ≡ cond (is_serving (get_or slots c.args.id c.index-slot.result.now)) 1 0 =
+    c.count_of.ensures ∙ ap (λ b. cond b 1 0) (c.is_serving.ensures ∙ ap is_serving c.index-slot.ensures) in
     let p = c.self.inside in
-    let print = c.print-print.ensures ∙ ap print_at c.index.ensures in (
-      ended_all slots p.branches.buckets p.calls.buckets p.tags.buckets p.free.numbers c.remove.new.self.buckets c.remove-2.new.self.buckets c.remove-3.new.self.buckets c.put.new.self.numbers p.serving c.args.id c.count_of.result
-          c.print-print.result.now.branch c.print-print.result.now.call c.print-print.result.now.tag c.index.result.now c.free.result c.self.invariant.0 some c.free.ensures was
+    let print = c.of-prints.ensures ∙ ap (prints_at p.key) (c.transaction.ensures ∙ c.index-slot.ensures) in (
+      ended_all p.key slots p.branches.buckets p.calls.buckets p.tags.buckets p.free.numbers c.remove.new.self.buckets c.remove-2.new.self.buckets c.remove-3.new.self.buckets c.put.new.self.numbers p.serving c.args.id c.count_of.result
+          c.of-prints.result.branch c.of-prints.result.call c.of-prints.result.tag c.index-slot.result.now c.free.result c.self.invariant.0 some c.free.ensures was
           (ap (λ q. q.branch) print) (ap (λ q. q.call) print) (ap (λ q. q.tag) print) c.remove.ensures.numbers c.remove-2.ensures.numbers c.remove-3.ensures.numbers c.put.ensures.numbers,
       room_ended p.slots.len p.slots.cap p.room c.args.id p.branches p.calls p.tags c.remove.new.self c.remove-2.new.self c.remove-3.new.self p.free c.put.new.self
           c.self.invariant.1 c.put.ensures.numbers c.remove.ensures.room c.remove-2.ensures.room c.remove-3.ensures.room c.put.ensures.room,
