@@ -1,11 +1,11 @@
 //! Why the program ends before its work is done.
 
 use std::alloc::{AllocError, AllocFailed};
-use std::error::Error;
 use std::fmt;
+use thiserror::Error;
 
 /// Why `once`, `replay` or `serve` gave up.
-#[derive(Clone, Copy, Debug)]
+#[derive(Clone, Copy, Debug, Error)]
 pub enum Fault {
     /// The input or the script failed, never ended, or is no script. Nothing was written.
     Input,
@@ -58,8 +58,6 @@ impl fmt::Display for Fault {
         f.write_str(self.words())
     }
 }
-
-impl Error for Fault {}
 
 impl From<AllocError> for Fault {
     ghost use Rattle.std.specs.Prelude.{◌≡◌};

@@ -4,12 +4,14 @@ ghost use Rattle.std.specs.Prelude.{◌≡◌, ℕ, Option, Some};
 ghost use Rattle.configuration.specs.declared.config.Config as office;
 
 use configuration::Config;
+use thiserror::Error;
 
 /// Why it could not go on.
-#[derive(Clone, Copy)]
+#[derive(Clone, Copy, Debug, Error)]
 pub enum HostFault {
-    /// A socket could not be opened, or failed too often in a row.
+    #[error("a socket could not be opened, or failed too often in a row")]
     Socket,
+    #[error("out of memory, or of threads")]
     OutOfMemory,
 }
 

@@ -10,8 +10,8 @@ use crate::turns::turns_of;
 use clap::error::ErrorKind;
 use clap::{Arg, ArgMatches, Command};
 use std::alloc::{AllocError, AllocFailed, Global};
-use std::error::Error;
 use std::fmt;
+use thiserror::Error;
 
 /// What is asked of the program.
 #[derive(Clone, Copy)]
@@ -31,7 +31,7 @@ pub enum Asked<'a> {
 }
 
 /// Why a command line is refused.
-#[derive(Clone, Copy, Debug)]
+#[derive(Clone, Copy, Debug, Error)]
 pub enum CommandError {
     /// The words ask for nothing that the program does.
     Words,
@@ -74,8 +74,6 @@ impl fmt::Display for CommandError {
         f.write_str(self.words())
     }
 }
-
-impl Error for CommandError {}
 
 impl From<AllocError> for CommandError {
     ghost use Rattle.std.specs.Prelude.{◌≡◌};
