@@ -46,7 +46,7 @@ use Rattle.plans.specs.CallRows.{are_full, asker, begins_by, call_row, call_time
 use Rattle.plans.specs.Effect.{Effect}
 use Rattle.plans.specs.Office.{Office}
 use Rattle.plans.specs.Plan.{Plan, moves}
-use Rattle.plans.specs.Replies.{accept, accept_encoding, fresh_tag, registers, registers_by, reply_row, responds_in, tag_sent, unsupported}
+use Rattle.plans.specs.Replies.{accept, accept_encoding, fresh_tag, registers, registers_by, reply_row, responds_in, response_tag_in, unsupported}
 use Rattle.plans.specs.declared.rule.CallRule.{CallRule}
 use Rattle.plans.specs.declared.rule.CallRule.TheVariants as callrules
 use Rattle.plans.specs.declared.rule.Reply.{Reply}
@@ -122,7 +122,7 @@ module _ (s : Office) (e : Setting) (r : Request) (begun : List Entry) (id : ℕ
 
   pub reply_done : (reply : Reply) → IsNoRegistration reply → IsDone (reply_row s e r begun id reply)
   unfolding reply_row
-  reply_done (replies.CancelOf other) fits = record { taken = refl; registration = refl; changes = answers_ready begun id (responds r.parts e.source 200 (tag_sent s other) []) ready }
+  reply_done (replies.CancelOf other) fits = record { taken = refl; registration = refl; changes = answers_ready begun id (responds r.parts e.source 200 (response_tag_in s other) []) ready }
   reply_done (replies.Refusal status) fits = responds_done status []
   reply_done replies.RetryLater fits = responds_done 500 (retry_after ∷ [])
   reply_done replies.MethodUnoffered fits = responds_done 405 (allow ∷ [])

@@ -1,5 +1,6 @@
 -- What requests are answered that no call has to do with: one row for each reply.
 use Rattle.std.specs.Prelude.{ℕ, ◌+◌, List, [], ◌∷◌, map, codes, Option, Some, None, option_map, option_and_then, unwrap_or, Result, Ok, Err, if◌then◌else◌}
+use Rattle.text.specs.Class.{is_run_of, is_token_byte}
 use Rattle.sip_message.specs.declared.error.MessageError.{MessageError}
 use Rattle.sip_message.specs.declared.headers.Header.{Header}
 use Rattle.sip_message.specs.declared.message.Message.{Message}
@@ -51,15 +52,23 @@ tag_of (Err fault) = None
 abbrev pub tag_in : Option (List ℕ) → Option (List ℕ)
 tag_in sent = option_and_then (λ bytes. tag_of (message_of bytes)) sent
 
--- the tag in what a transaction sent last
-abbrev pub tag_sent : Office → ℕ → List ℕ
-tag_sent s id = unwrap_or (option_and_then (λ (t : Transaction). tag_in t.last) (at s.table.slots id)) stateless
+-- a tag that is a token, as each that was read is, else the one in what was sent
+abbrev pub token_or_sent : Option (List ℕ) → Option (List ℕ) → Option (List ℕ)
+token_or_sent None sent = sent
+token_or_sent (Some tag) sent = if is_run_of is_token_byte tag then Some tag else sent
+
+-- the tag of the responses to a request (section 8.2.6.2): that of its To, or, where its To has none, the one in what its transaction sent last
+abbrev pub response_tag : Transaction → Option (List ℕ)
+response_tag t = token_or_sent (tag_value t.parts.to.params) (tag_in t.last)
+
+abbrev pub response_tag_in : Office → ℕ → List ℕ
+response_tag_in s id = unwrap_or (option_and_then response_tag (at s.table.slots id)) stateless
 
 -- 200 to a CANCEL, with the tag of the responses to the request that it names (RFC 3261 section 9.2)
 abbrev pub cancels : Office → Setting → Request → List Entry → ℕ → ℕ → Plan
 cancels s e r begun id other =
     answers begun id (answer_address r.parts.vias e.source)
-    (responds r.parts e.source 200 (tag_sent s other) []) None 0
+    (responds r.parts e.source 200 (response_tag_in s other) []) None 0
 
 -- what is taken in a body (sections 20.1 and 20.2)
 abbrev pub accept : Header

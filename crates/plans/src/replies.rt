@@ -9,7 +9,7 @@ ghost use Rattle.registrar.specs.Registering.{AllLast};
 ghost use Rattle.registrar.specs.Registrar.{Fails};
 ghost use Rattle.responses.specs.Responding.{allow, responds, stateless};
 ghost use Rattle.sip_message.specs.Lookup.{named};
-ghost use Rattle.plans.specs.Replies.{cancels, fresh_tag, not_registered, registers, registers_by, reply_row, responds_in, tag_in, tag_of, tag_sent, tags_made, unsupported};
+ghost use Rattle.plans.specs.Replies.{cancels, fresh_tag, not_registered, registers, registers_by, reply_row, responds_in, response_tag, response_tag_in, tag_in, tag_of, tags_made, unsupported};
 ghost use Rattle.plans.specs.Plan.{answers};
 
 use crate::office::Office;
@@ -25,7 +25,7 @@ use responses::{
 use sip_message::{Header, Message, MessageError, Request, has_tag, read_message, tag_value};
 use sip_writing::reply_address;
 use std::alloc::{AllocError, Global};
-use text::Text;
+use text::{Text, is_run_of_token};
 use transactions::{Change, Transaction};
 
 /// The tag of To in a response, as a text of its own.
@@ -76,6 +76,19 @@ fn tag_in(alloc: Global, transaction: &Transaction) -> Result<Option<Text<'stati
     match &transaction.last {
         None => Ok(None),
         Some(bytes) => tag_in_bytes(alloc, bytes.as_bytes()),
+    }
+}
+
+/// The tag of the responses to a transaction's request: that of its To, or, where its To has none, the one in what was sent last.
+fn response_tag(
+    alloc: Global,
+    transaction: &Transaction,
+) -> Result<Option<Text<'static>>, AllocError>
+    ensures { IfOk result (λ tag. tag ≡ response_tag transaction.now) }
+{
+    match tag_value(transaction.parts.to.params.as_slice()) {
+        Some(tag) if is_run_of_token(tag.as_bytes()) => Ok(Some(tag.keep(alloc)?)),
+        _ => tag_in(alloc, transaction),
     }
 }
 
@@ -130,13 +143,13 @@ impl<'o> Office<'o> {
         token(self.alloc, e.salt, self.tokens + 1)
     }
 
-    /// The tag in what a transaction sent last.
-    fn tag_sent(&self, id: usize) -> Result<Text<'static>, AllocError>
-        ensures { IfOk result (λ t. t ≡ tag_sent self.now id) }
+    /// The tag of the responses to the request of this transaction.
+    fn response_tag_in(&self, id: usize) -> Result<Text<'static>, AllocError>
+        ensures { IfOk result (λ t. t ≡ response_tag_in self.now id) }
     {
         match self.table.transaction(id) {
             None => or_stateless(self.alloc, None),
-            Some(transaction) => or_stateless(self.alloc, tag_in(self.alloc, transaction)?),
+            Some(transaction) => or_stateless(self.alloc, response_tag(self.alloc, transaction)?),
         }
     }
 
@@ -180,7 +193,7 @@ impl<'o> Office<'o> {
     ) -> Result<Plan, AllocError>
         ensures { IfOk result (λ p. p ≡ cancels self.now e request.now begun.items id other) }
     {
-        let tag = self.tag_sent(other)?;
+        let tag = self.response_tag_in(other)?;
         let tag = tag.as_bytes();
         answers(self.alloc, e, request, begun, id, 200, tag, &[], 0)
     }

@@ -24,7 +24,7 @@ use Rattle.plans.specs.declared.rule.Reply.TheVariants as replies
 use Rattle.plans.specs.declared.setting.Setting.{Setting}
 use Rattle.plans.specs.CallRows.{okay_plan}
 use Rattle.plans.specs.Plan.{sent_response}
-use Rattle.plans.specs.Replies.{accept, accept_encoding, fresh_tag, registers, registers_by, reply_row, responds_in, tag_sent, unsupported}
+use Rattle.plans.specs.Replies.{accept, accept_encoding, fresh_tag, registers, registers_by, reply_row, responds_in, response_tag_in, unsupported}
 use Rattle.call_trace.specs.declared.datagram.Kind.{Kind}
 use Rattle.call_trace.specs.declared.datagram.Kind.TheVariants as kinds
 use Rattle.call_trace.specs.declared.datagram.Message.{Message}
@@ -106,7 +106,7 @@ pub reply_plain : (methods : List (List ℕ)) (s : Office) (e : Setting) (r : Re
     → SayPlain methods (reply_row s e r begun id reply).sends
 unfolding reply_row registers
 reply_plain methods s e r begun id (replies.CancelOf other) quiet =
-    one_plain methods (answer_address r.parts.vias e.source) r.parts e.source 200 (tag_sent s other) [] (inr quiet)
+    one_plain methods (answer_address r.parts.vias e.source) r.parts e.source 200 (response_tag_in s other) [] (inr quiet)
 reply_plain methods s e r begun id (replies.Refusal status) quiet = in_plain methods s e r begun id status [] None (inl quiet)
 reply_plain methods s e r begun id replies.RetryLater quiet = in_plain methods s e r begun id 500 (retry_after ∷ []) None (inl refl)
 reply_plain methods s e r begun id replies.MethodUnoffered quiet = in_plain methods s e r begun id 405 (allow ∷ []) None (inl refl)

@@ -20,7 +20,7 @@ use Rattle.legs.specs.Messages.{contact, retry_after}
 use Rattle.transactions.specs.declared.change.Entry.{Entry}
 use Rattle.plans.specs.Office.{Office}
 use Rattle.plans.specs.CallRows.{okay_plan}
-use Rattle.plans.specs.Replies.{accept, accept_encoding, fresh_tag, registers, registers_by, reply_row, responds_in, tag_sent, unsupported}
+use Rattle.plans.specs.Replies.{accept, accept_encoding, fresh_tag, registers, registers_by, reply_row, responds_in, response_tag_in, unsupported}
 use Rattle.plans.specs.declared.rule.Reply.{Reply}
 use Rattle.plans.specs.declared.rule.Reply.TheVariants as replies
 use Rattle.plans.specs.declared.setting.Setting.{Setting}
@@ -29,7 +29,7 @@ use Rattle.promise.specs.Datagrams.{IsReadResponse}
 use Rattle.promise.specs.Sound.{IsBound}
 use Rattle.promise.proofs.Further.{FollowsIn, IsPlain, accept_encoding_plain, accept_plain, allow_plain, contact_follows, none_follows, plain_follows, refusal_follows, refusal_needs_none, retry_after_plain}
 use Rattle.promise.proofs.ReadParts.{IsStatus}
-use Rattle.promise.proofs.Repeats.{CanAnswer, FitsReply, fresh_token, method_needs_none, okay_status, refused_high, responds_read, stateless_token, tag_sent_token}
+use Rattle.promise.proofs.Repeats.{CanAnswer, FitsReply, fresh_token, method_needs_none, okay_status, refused_high, responds_read, stateless_token, response_tag_token}
 use Rattle.promise.specs.ReadDatagrams.{IsReadDatagram}
 use Rattle.promise.proofs.Listing.{listing_follows}
 
@@ -83,7 +83,7 @@ pub reply_read : (s : Office) (e : Setting) (r : Request) (begun : List Entry) (
     → AreBound (answer_of s.registrar (register_of (rules_of s.registrar) r) e.now) → FitsReply r reply → All IsReadDatagram (reply_row s e r begun id reply).sends
 unfolding reply_row registers
 reply_read s e r begun id (replies.CancelOf other) can small bound fits =
-    response_read (answer_address r.parts.vias e.source) _ (responds_read r.parts e.source 200 (tag_sent s other) [] can.from can.repeats (tag_sent_token s other) okay_status
+    response_read (answer_address r.parts.vias e.source) _ (responds_read r.parts e.source 200 (response_tag_in s other) [] can.from can.repeats (response_tag_token s other) okay_status
     (none_follows 200 r.parts.cseq.method (method_needs_none s e r 200 (codes "CANCEL") can fits refl refl)))
 reply_read s e r begun id (replies.Refusal status) can small bound fits = refuses_read s e r begun id status can fits.0 fits.1
 reply_read s e r begun id replies.RetryLater can small bound fits = plain_read s e r begun id 500 retry_after can (omega arith) (omega arith) retry_after_plain

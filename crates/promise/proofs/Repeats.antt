@@ -1,9 +1,10 @@
 -- The responses of the server's own that no call says read back as what they were dressed as.
-use Rattle.std.proofs.Common.{◌≡◌, ℕ, ◌+◌, ◌<◌, ◌≤◌, ◌^◌, false, List, [], ◌∷◌, ◌∙◌, codes, length, Option, Some, None, Result, Ok, Err, refl, sym, subst, inl, inr, arith}
+use Rattle.std.proofs.Common.{◌≡◌, ℕ, ◌+◌, ◌<◌, ◌≤◌, ◌^◌, Bool, true, false, cond, List, [], ◌∷◌, ◌∙◌, codes, length, Option, Some, None, Result, Ok, Err, refl, sym, subst, inl, inr, arith}
 use Rattle.std.specs.Prelude.{nat_eq, option_and_then}
 use Rattle.std.specs.Cmp.Lexicographic.{pointwise}
 use Rattle.std.specs.List.{All}
 use Rattle.std.proofs.lemmas.List.Elements.{All-cons, All-nil}
+use Rattle.text.specs.Class.{is_run_of, is_token_byte}
 use Rattle.events.specs.declared.sent.Sent.{Sent}
 use Rattle.sip_uri.specs.declared.uri.Addr.{Addr}
 use Rattle.sip_message.specs.declared.headers.Header.{Header}
@@ -12,6 +13,7 @@ use Rattle.sip_message.specs.declared.message.Parts.{Parts}
 use Rattle.sip_message.specs.declared.message.Request.{Request}
 use Rattle.sip_message.specs.ContentLength.{greatest_length}
 use Rattle.sip_message.specs.Repeatable.{CanBeRepeated}
+use Rattle.sip_message.specs.Words.{tag_value}
 use Rattle.sip_writing.specs.Reply.{replied, reply_of}
 use Rattle.sip_writing.specs.Writing.{message_text}
 use Rattle.sip_writing.specs.WritingMessage.{IsWrittenMessage}
@@ -27,7 +29,7 @@ use Rattle.transactions.specs.declared.transaction.Transaction.{Transaction}
 use Rattle.transactions.specs.Slots.{at}
 use Rattle.plans.specs.Office.{Office}
 use Rattle.plans.specs.CallRows.{okay_plan}
-use Rattle.plans.specs.Replies.{accept, accept_encoding, fresh_tag, registers, registers_by, reply_row, responds_in, tag_in, tag_sent, unsupported}
+use Rattle.plans.specs.Replies.{accept, accept_encoding, fresh_tag, registers, registers_by, reply_row, responds_in, tag_in, response_tag, response_tag_in, token_or_sent, unsupported}
 use Rattle.plans.specs.declared.rule.Reply.{Reply}
 use Rattle.plans.specs.declared.rule.Reply.TheVariants as replies
 use Rattle.plans.specs.declared.setting.Setting.{Setting}
@@ -121,12 +123,20 @@ pub method_needs_none : (s : Office) (e : Setting) (r : Request) (status : ℕ) 
 method_needs_none s e r status method can is invite update =
     subst (λ (m : List ℕ). NeedsNoContact status m) (sym (can.method ∙ is)) (other_needs_none status method invite update)
 
-pub tag_sent_token : (s : Office) (other : ℕ) → IsTokenRun (tag_sent s other)
-tag_sent_token s other = token_or _ stateless (last_tag (at s.table.slots other)) stateless_token
+pub response_tag_token : (s : Office) (other : ℕ) → IsTokenRun (response_tag_in s other)
+response_tag_token s other = token_or _ stateless (last_tag (at s.table.slots other)) stateless_token
   where
-    last_tag : (t : Option Transaction) → IsTokenIf (option_and_then (λ (x : Transaction). tag_in x.last) t)
+    token_kept : (tag : Option (List ℕ)) (sent : Option (List ℕ)) → IsTokenIf sent → IsTokenIf (token_or_sent tag sent)
+    token_kept None sent h = h
+    token_kept (Some tag) sent h = by (is_run_of is_token_byte tag) refl
+      where
+        by : (b : Bool) → is_run_of is_token_byte tag ≡ b → IsTokenIf (cond b (Some tag) sent)
+        by true is = is
+        by false is = h
+
+    last_tag : (t : Option Transaction) → IsTokenIf (option_and_then response_tag t)
     last_tag None = tt
-    last_tag (Some t) = sent_tag t.last
+    last_tag (Some t) = token_kept (tag_value t.parts.to.params) (tag_in t.last) (sent_tag t.last)
 
 pub refused_high : (refusal : Refusal) → (300 ≤ status_of refusal) × (status_of refusal ≤ 699)
 refused_high refusals.OutOfMemory = (omega arith, omega arith)
@@ -149,7 +159,7 @@ registers_own s e r begun id user (Err refusal) can small =
 pub reply_own : (s : Office) (e : Setting) (r : Request) (begun : List Entry) (id : ℕ) (reply : Reply) → CanAnswer s e r → s.least < 2 ^ 64 → FitsReply r reply → All IsOwnDatagram (reply_row s e r begun id reply).sends
 unfolding reply_row registers
 reply_own s e r begun id (replies.CancelOf other) can small fits =
-    one_own _ (inl (responds_read r.parts e.source 200 (tag_sent s other) [] can.from can.repeats (tag_sent_token s other) okay_status
+    one_own _ (inl (responds_read r.parts e.source 200 (response_tag_in s other) [] can.from can.repeats (response_tag_token s other) okay_status
     (none_follows 200 r.parts.cseq.method (method_needs_none s e r 200 (codes "CANCEL") can fits refl refl))))
 reply_own s e r begun id (replies.Refusal status) can small fits = refuses_own s e r begun id status can fits.0 fits.1
 reply_own s e r begun id replies.RetryLater can small fits = plain_own s e r begun id 500 retry_after can (omega arith) (omega arith) retry_after_plain

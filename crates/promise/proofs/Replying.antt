@@ -19,7 +19,7 @@ use Rattle.plans.specs.declared.rule.Reply.TheVariants as replies
 use Rattle.plans.specs.declared.setting.Setting.{Setting}
 use Rattle.plans.specs.CallRows.{okay_plan}
 use Rattle.plans.specs.Plan.{Plan, sent_response}
-use Rattle.plans.specs.Replies.{accept, accept_encoding, fresh_tag, registers, registers_by, reply_row, responds_in, tag_sent, unsupported}
+use Rattle.plans.specs.Replies.{accept, accept_encoding, fresh_tag, registers, registers_by, reply_row, responds_in, response_tag_in, unsupported}
 
 pub record IsReply (begun : List Entry) (id : ℕ) (p : Plan) : Type 0 where
   pub to : Addr
@@ -50,7 +50,7 @@ pub row_reply : (s : Office) (e : Setting) (r : Request) (begun : List Entry) (i
 unfolding reply_row registers
 row_reply s e r begun id (replies.CancelOf other) = record {
   to = answer_address r.parts.vias e.source;
-  response = responds r.parts e.source 200 (tag_sent s other) [];
+  response = responds r.parts e.source 200 (response_tag_in s other) [];
   changes = refl;
   sends = refl;
 }
