@@ -2,6 +2,7 @@
 //! library `server`, and serves telephones by the sockets, the clock and the threads of the system.
 #![tactic(auto)]
 
+mod announcement;
 mod disk;
 mod shared;
 mod telephony;

@@ -3,6 +3,7 @@
 ghost use Rattle.std.specs.Prelude.{◌≡◌, [], IfOk};
 ghost use Rattle.live.specs.Turns.{HasTable};
 
+use crate::announcement::{Announcement, Announcer};
 use crate::shared::Shared;
 use crate::troubles::Troubles;
 use crate::watch::Watch;
@@ -10,7 +11,7 @@ use crate::wire::SipWire;
 use agent::{Agent, Tally};
 use configuration::Config;
 use live::{
-    Clock as Moments, End, Operator, Signalling, datagram_buffer, next_print_key, salts_of,
+    Clock as Moments, End, Operator, Signalling, Wire, datagram_buffer, next_print_key, salts_of,
 };
 use relay::{Board, Unopened, Worker, serve_media};
 use server::{Host, HostFault};
@@ -22,13 +23,12 @@ use std::snapshot::Snapshot;
 use std::sync::Wait;
 use std::sync::atomic::{AtomicBool, AtomicUsize, Ordering};
 use std::thread::Threads;
-use std::time::Duration;
 use std::{io, thread};
 
-/// So often, and with so long between, the signalling looks whether all workers have begun: for five seconds.
-const LOOKS: u32 = 500;
+/// So many milliseconds the signalling waits for the workers to begin, and so many between two looks.
+const TIME_TO_BEGIN: u64 = 5_000;
 
-const BETWEEN_LOOKS: Duration = Duration::from_millis(10);
+const BETWEEN_LOOKS: u64 = 10;
 
 /// Serves by the sockets, the clock and the threads of a runtime.
 #[derive(Drop)]
@@ -112,12 +112,21 @@ fn relay_media<R: Threads + Wait + Sync>(
 }
 
 /// Waits until so many workers have begun. Whether they have, in time: a thread that can't be made begins none.
-fn have_begun<R: Clock>(rt: &R, begun: &AtomicUsize, count: usize) -> bool {
-    for _ in 0..LOOKS {
+fn have_begun<M: Moments>(
+    wire: &mut SipWire,
+    watch: &mut M,
+    begun: &AtomicUsize,
+    count: usize,
+) -> bool {
+    let end = watch.now().saturating_add(TIME_TO_BEGIN);
+    for _ in 0..u32::MAX {
         if begun.load(Ordering::SeqCst) >= count {
             return true;
         }
-        thread::sleep(rt, BETWEEN_LOOKS);
+        if watch.now() >= end {
+            return false;
+        }
+        let _ = wire.wait(BETWEEN_LOOKS);
     }
     false
 }
@@ -146,9 +155,9 @@ fn report<R: Eprint>(rt: &R, tally: Tally) {
 }
 
 /// Serves on a board to which nothing was published, once each worker has a thread, and ends it. Gives how events were answered, too.
-fn serve_on<R: Clock + Threads + Wait + Sync + Print, M: Moments, O: Operator>(
+fn serve_on<R: Threads + Wait + Sync, A: Announcer, M: Moments, O: Operator>(
     rt: &R,
-    config: &Config,
+    announcer: &A,
     mut signalling: Signalling<SipWire>,
     watch: &mut M,
     operator: &mut O,
@@ -165,23 +174,17 @@ fn serve_on<R: Clock + Threads + Wait + Sync + Print, M: Moments, O: Operator>(
         || -> End
             requires { HasTable signalling.board signalling.agent }
         {
-            if !have_begun(rt, &begun, count) {
+            if !have_begun(&mut signalling.wire, watch, &begun, count) {
                 stop.store(true, Ordering::SeqCst);
                 return End::Memory;
             }
-            announce(rt, config);
+            announcer.announce();
             signal(rt, &mut signalling, watch, operator, &stop, turns)
         },
     );
     let tally = signalling.agent.tally();
     signalling.close(rt);
     (tally, outcome(end, refused))
-}
-
-/// A line that tells where telephones are served.
-fn announce<R: Print>(rt: &R, config: &Config) {
-    let [a, b, c, d] = config.ip;
-    let _ = println!(rt; "listening {a}.{b}.{c}.{d} {}", config.sip_port);
 }
 
 /// The board with the rest of the signalling, and a worker for each viewer, where all sockets are open.
@@ -232,7 +235,10 @@ impl<R: Net + Clock + Threads + Wait + Sync + Shared + Print + Eprint + AllocGlo
         let mut troubles = Troubles::new(self.rt);
         let (tally, served) = serve_on(
             self.rt,
-            config,
+            &Announcement {
+                rt: self.rt,
+                config,
+            },
             signalling,
             &mut watch,
             &mut troubles,

@@ -1,0 +1,23 @@
+//! The line that tells where telephones are served.
+
+use configuration::Config;
+
+/// Tells that telephones are served.
+pub(crate) trait Announcer {
+    fn announce(&self);
+}
+
+/// Where they are served, for standard output.
+#[derive(Drop)]
+pub(crate) struct Announcement<'a, R> {
+    pub(crate) rt: &'a R,
+    pub(crate) config: &'a Config,
+}
+
+impl<R: Print> Announcer for Announcement<'_, R> {
+    fn announce(&self) {
+        let Config { ip, sip_port, .. } = self.config;
+        let [a, b, c, d] = ip;
+        let _ = println!(self.rt; "listening {a}.{b}.{c}.{d} {sip_port}");
+    }
+}
