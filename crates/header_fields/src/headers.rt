@@ -69,7 +69,7 @@ impl<'a> Headers<'a> {
         self.entries
     }
 
-    /// The headers, lent.
+    /// The headers, lent. Takes no memory.
     pub fn as_slice(&self) -> &[Header<'a>]
         ensures { result.now ≡ self.now }
     {

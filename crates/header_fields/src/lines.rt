@@ -27,7 +27,7 @@ fn line_end(text: &[u8]) -> Option<usize>
     None
 }
 
-/// What stands before the first CR LF pair, all where there is none, and what stands behind it.
+/// What stands before the first CR LF pair, all where there is none, and what stands behind it. Takes no memory.
 #[tactic(auto, using(crate::proofs::LineLaws::line_at, crate::proofs::LineLaws::rest_at, crate::proofs::LineLaws::no_end_line, crate::proofs::LineLaws::no_end_rest))]
 pub fn first_line(text: &[u8]) -> (&[u8], Option<&[u8]>)
     ensures line { result.0.now ≡ before_line_end text.now }
@@ -45,14 +45,14 @@ fn is_text_byte(b: u8) -> bool
     b != b'\r' && b != b'\n' && b != 0
 }
 
-/// Whether the text has no CR, no LF and no NUL.
+/// Whether the text has no CR, no LF and no NUL. Takes no memory.
 pub fn is_clean(text: &[u8]) -> bool
     ensures { result ≡ is_clean text.now }
 {
     text.iter().all(|b| is_text_byte(*b))
 }
 
-/// The first line, and what stands behind its end, where the line is clean: then its end is the first CR, LF or NUL.
+/// The first line, and what stands behind its end, where the line is clean: then its end is the first CR, LF or NUL. Takes no memory.
 pub fn next_line(text: &[u8]) -> Option<(&[u8], &[u8])>
     ensures { option_map (λ x. (x.0.now, x.1.now)) result ≡ line_of text.now }
 {

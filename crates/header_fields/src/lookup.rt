@@ -22,7 +22,7 @@ fn first_named<'m, 'a>(headers: &'m [Header<'a>], name: &[u8]) -> Option<&'m Hea
     headers.iter().find(|h| is_named(h, name))
 }
 
-/// The value of the first header of this name.
+/// The value of the first header of this name. Takes no memory.
 pub fn first_value<'m, 'a>(headers: &'m [Header<'a>], name: &[u8]) -> Option<&'m FieldValue<'a>>
     ensures { option_copied result ≡ value_named name.now headers.now }
 {
