@@ -4,7 +4,7 @@ use Rattle.configuration.specs.declared.config.Config.{Config}
 use Rattle.configuration.specs.declared.error.ConfigError.{ConfigError}
 use Rattle.configuration.specs.declared.error.ConfigError.TheVariants.{OutOfMemory, RelayPorts, Address, Users, MinExpires, Domain, File}
 use Rattle.configuration.specs.Rules.{has_relay_ports, has_address, has_users, has_lifetime, has_domain, first_broken}
-use Rattle.checks.specs.State.{RefusesConfig}
+use Rattle.event_rows.specs.State.{RefusesConfig}
 
 -- a rule is broken, and neither memory is out nor a file ill formed
 abbrev IsRule : ConfigError → Type 0

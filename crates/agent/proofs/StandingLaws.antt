@@ -3,9 +3,9 @@ use Rattle.std.proofs.Common.{◌≡◌, ◌++◌, List, Result, Ok, Err, IfOk, 
 use Rattle.events.specs.declared.event.Event.{Event}
 use Rattle.events.specs.declared.sent.Sent.{Sent}
 use Rattle.plans.specs.declared.taken.Taken.{Taken}
-use Rattle.promised.specs.Standing.{StandsOn}
-use Rattle.checks.specs.Rows.{after, row}
-use Rattle.checks.specs.State.{Contents}
+use Rattle.media_laws.specs.Standing.{StandsOn}
+use Rattle.event_rows.specs.Rows.{after, row}
+use Rattle.event_rows.specs.State.{Contents}
 
 -- a step that was done
 pub step_stands : {E : Type 0} (r : Result Taken E) (s : Contents) (event : Event) (before now : List Sent) (later : Contents)

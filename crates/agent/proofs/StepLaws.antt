@@ -9,9 +9,9 @@ use Rattle.events.specs.declared.sent.Sent.{Sent}
 use Rattle.plans.specs.CallRows.{of_plan}
 use Rattle.plans.specs.Effect.{Effect}
 use Rattle.plans.specs.Plan.{nothing}
-use Rattle.checks.specs.Rows.{after, moment_after, only_counts, row, row_by, what_row}
-use Rattle.checks.specs.State.{Contents, after_count, after_event, moment_at, moments_end, most_tokens, office}
-use Rattle.checks.specs.Tally.{counted}
+use Rattle.event_rows.specs.Rows.{after, moment_after, only_counts, row, row_by, what_row}
+use Rattle.event_rows.specs.State.{Contents, after_count, after_event, moment_at, moments_end, most_tokens, office}
+use Rattle.event_rows.specs.Tally.{counted}
 
 looked_at : (a b : Bool) (x y : Taken) (w : Option Taken) → cond a (Some x) (cond b (Some y) w) ≡ None → (a ≡ false) × (b ≡ false)
 looked_at true b x y w h = absurd cc

@@ -1,8 +1,8 @@
 -- A run, and one event more.
 use Rattle.std.proofs.Common.{◌≡◌, ◌∙◌, ℕ, List, [], ◌∷◌, ◌++◌, take, drop, Result, Ok, Err, OnErr, refl, sym, ap, subst, append_assoc}
 use Rattle.events.specs.declared.event.Event.{Event}
-use Rattle.checks.specs.State.{Contents}
-use Rattle.checks.specs.Trace.{AreEntries, Entry, IsEntry, Ran, RanFirst, after_entries, after_entry, events_of}
+use Rattle.event_rows.specs.State.{Contents}
+use Rattle.event_rows.specs.Trace.{AreEntries, Entry, IsEntry, Ran, RanFirst, after_entries, after_entry, events_of}
 use Rattle.std.proofs.lemmas.List.{append-nil, take-append-drop}
 
 pub entries_more : (s : Contents) (xs ys : List Entry) → AreEntries s xs → AreEntries (after_entries s xs) ys → AreEntries s (xs ++ ys)

@@ -5,24 +5,24 @@ ghost use Rattle.call_trace.specs.declared.datagram.Datagram.{Datagram};
 ghost use Rattle.port_pool.specs.Holdings.{holder_at};
 ghost use Rattle.port_pool.specs.RelayTable.{changed_by};
 ghost use Rattle.plans.specs.Effect.{Fits, effect};
-ghost use Rattle.promised.specs.Keeping.{HoldsFor, RelaysLive};
-ghost use Rattle.promised.specs.Living.{ListsLive};
-ghost use Rattle.promised.specs.Standing.{AgentStands, SaysMessages, StandsOn};
-ghost use Rattle.checks.specs.Rows.{after, moment_after, next_due, only_counts, row, what_row};
-ghost use Rattle.checks.specs.State.{after_count, after_event, office};
+ghost use Rattle.media_laws.specs.Keeping.{HoldsFor, RelaysLive};
+ghost use Rattle.media_laws.specs.Living.{ListsLive};
+ghost use Rattle.media_laws.specs.Standing.{AgentStands, SaysMessages, StandsOn};
+ghost use Rattle.event_rows.specs.Rows.{after, moment_after, next_due, only_counts, row, what_row};
+ghost use Rattle.event_rows.specs.State.{after_count, after_event, office};
 
 use crate::acks::keep;
 use crate::commit::{commit, enter, stop};
 use crate::timing::earlier;
 use calls::{Calls, StandingCall};
-use checks::Tally;
 use event_plans::plan_event;
+use event_rows::Tally;
 use events::{Event, Sent};
+use media_laws::agents_stand;
+use message_laws::event_comes_from_source;
 use offer_answer::OwnRange;
 use plans::{Doing, KeptAck, Office, Plan, Taken};
 use port_pool::{Change, RelayTable};
-use promise::event_comes_from_source;
-use promised::agents_stand;
 use registrar::Registrar;
 use sip_uri::Addr;
 use std::alloc::{AllocError, Global};
@@ -75,7 +75,7 @@ impl Model for Agent {
     ghost use Rattle.std.specs.Coded.{codes};
     ghost use Rattle.port_pool.specs.Pool.{coded_contents};
     ghost use Rattle.calls.specs.State.{standing};
-    ghost use Rattle.checks.specs.State.{Contents, IsCounted};
+    ghost use Rattle.event_rows.specs.State.{Contents, IsCounted};
 
     ghost Value = { Contents };
 
@@ -212,7 +212,7 @@ impl Agent {
         self.carry_out(doing, sent, now)
     }
 
-    #[tactic(auto, unfolding(checks::specs::State::after_event))]
+    #[tactic(auto, unfolding(event_rows::specs::State::after_event))]
     #[inline(never)]
     fn carry_out(
         &mut self,

@@ -4,7 +4,7 @@ ghost use Rattle.std.specs.Prelude.{◌≡◌, ◌<◌, ◌≤◌, ◌^◌, ◌+
 ghost use Rattle.calls.specs.State.{standing};
 ghost use Rattle.plans.specs.Effect.{fired_off};
 ghost use Rattle.transactions.specs.Changes.{entered_all};
-ghost use Rattle.checks.specs.State.{registered_by};
+ghost use Rattle.event_rows.specs.State.{registered_by};
 
 use calls::{CallTimerId, Calls};
 use events::Sent;

@@ -10,6 +10,6 @@ mod run;
 mod timing;
 
 pub use agent::Agent;
-pub use checks::{Rule, Tally};
+pub use event_rows::{Rule, Tally};
 pub use plans::{CallRule, KeptAck, Reply, Taken, Why};
 pub use run::{Entry, Trace};

@@ -3,17 +3,17 @@
 ghost use Rattle.std.specs.Prelude.{◌≡◌, [], IfOk, IfErr, OnOk};
 ghost use Rattle.configuration.specs.Rules.{KeepsRules};
 ghost use Rattle.registrar.specs.Registrar.{StandsAfter};
-ghost use Rattle.checks.specs.State.{IsNew, RefusesConfig, range_of, rules_by, server_of};
-ghost use Rattle.promised.specs.Standing.{AgentStands};
+ghost use Rattle.event_rows.specs.State.{IsNew, RefusesConfig, range_of, rules_by, server_of};
+ghost use Rattle.media_laws.specs.Standing.{AgentStands};
 
 use crate::agent::Agent;
 use calls::Calls;
-use checks::Tally;
 use configuration::{Config, ConfigError, check};
+use event_rows::Tally;
 use index::PrintKey;
+use media_laws::agents_stand;
+use message_laws::configuration_names_an_address;
 use offer_answer::OwnRange;
-use promise::configuration_names_an_address;
-use promised::agents_stand;
 use registrar::Registrar;
 use sip_uri::Addr;
 use std::alloc::{AllocError, Global};

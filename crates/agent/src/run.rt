@@ -2,13 +2,13 @@
 
 ghost use Rattle.std.specs.Prelude.{◌≡◌, ◌<◌, ◌∷◌, ◌++◌, [], IfOk, IsOk, OnErr, OnOk, vec_len};
 ghost use Rattle.std.specs.Vec.{vec_capacity};
-ghost use Rattle.checks.specs.Trace.{IsEntry, Ran, RanFirst, after_entry};
-ghost use Rattle.promised.specs.Standing.{StandsThrough};
+ghost use Rattle.event_rows.specs.Trace.{IsEntry, Ran, RanFirst, after_entry};
+ghost use Rattle.media_laws.specs.Standing.{StandsThrough};
 
 use crate::agent::Agent;
 use events::{Event, Sent, What};
+use media_laws::agents_stand;
 use plans::Taken;
-use promised::agents_stand;
 use std::alloc::{AllocError, Global};
 use std::marker::Model;
 
@@ -22,7 +22,7 @@ pub struct Entry {
 }
 
 impl Model for Entry {
-    ghost use Rattle.checks.specs.Trace as traces;
+    ghost use Rattle.event_rows.specs.Trace as traces;
 
     ghost Value = { traces.Entry };
 
@@ -37,7 +37,7 @@ pub struct Trace {
 
 impl Model for Trace {
     ghost use Rattle.std.specs.Prelude.{List};
-    ghost use Rattle.checks.specs.Trace as traces;
+    ghost use Rattle.event_rows.specs.Trace as traces;
 
     ghost Value = { List traces.Entry };
 

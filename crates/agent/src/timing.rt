@@ -2,8 +2,8 @@
 
 ghost use Rattle.std.specs.Prelude.{◌≡◌, nat_le, if◌then◌else◌};
 ghost use Rattle.port_pool.specs.RelayTable.{changed_by};
-ghost use Rattle.checks.specs.Rows.{earlier, only_counts, what_counts};
-ghost use Rattle.checks.specs.State.{after_count, moment_at, moments_end};
+ghost use Rattle.event_rows.specs.Rows.{earlier, only_counts, what_counts};
+ghost use Rattle.event_rows.specs.State.{after_count, moment_at, moments_end};
 
 use crate::agent::Agent;
 use events::{Event, What};
@@ -52,7 +52,7 @@ impl Agent {
 
     /// What an event is answered that is only counted: one at no moment that counts, one for which no token is left, a datagram
     /// that is too long, and a timer where none is due. None for all others. Takes no memory.
-    #[tactic(auto, unfolding(checks::specs::Rows::only_counts))]
+    #[tactic(auto, unfolding(event_rows::specs::Rows::only_counts))]
     pub(crate) fn only_counts(&self, event: &Event) -> Option<Taken>
         ensures { result ≡ only_counts self.now event.entry.now }
     {

@@ -3,12 +3,12 @@
 use Rattle.std.proofs.Common.{◌≡◌, ◌≤◌, ◌+◌, ◌-◌, ℕ, Bool, true, cond, List, [], ◌∷◌, ◌++◌, length, take, drop, slice_index_or, find, Some, refl, ap, sym, ◌∙◌, arith}
 use Rattle.std.proofs.Math.Seq.{take-length}
 use Rattle.events.specs.declared.sent.Sent.{Sent}
-use Rattle.legs.specs.declared.scene.Scene.{Scene}
+use Rattle.call_messages.specs.declared.scene.Scene.{Scene}
 use Rattle.call_media.specs.declared.end.End.{End}
 use Rattle.call_core.specs.declared.action.Action.{Action}
 use Rattle.call_core.specs.declared.action.Action.TheVariants.{Trying, Offer, Provisional, Ack, Answer, AnswerAgain, Refusal, Okay, Cancel, Bye, PutRows, Release, RemoveRows, Set, Stop, Abandon}
-use Rattle.legs.specs.Dressed.{Dressed, behind}
-use Rattle.legs.specs.Dressing.{dress_one, dressed}
+use Rattle.call_messages.specs.Dressed.{Dressed, behind}
+use Rattle.call_messages.specs.Dressing.{dress_one, dressed}
 use Rattle.call_steps.specs.Messages.{ack_kept, answer_kept, first_sent, is_answer, sent_alone}
 use Rattle.call_steps.specs.Values.{dressed_in, scene_value}
 use Rattle.call_steps.proofs.SceneLaws.{dressed_lent, one_lent}

@@ -5,15 +5,15 @@ use Rattle.std.specs.Prelude.{option_map}
 use Rattle.sip_uri.specs.declared.uri.Addr.{Addr}
 use Rattle.sdp.specs.declared.description.Description.{Description}
 use Rattle.dialogs.specs.declared.state.Dialog.{Dialog}
-use Rattle.legs.specs.declared.scene.Asker.{Asker}
-use Rattle.legs.specs.declared.scene.Scene.{Scene}
+use Rattle.call_messages.specs.declared.scene.Asker.{Asker}
+use Rattle.call_messages.specs.declared.scene.Scene.{Scene}
 use Rattle.call_media.specs.declared.end.End.{End}
 use Rattle.call_media.specs.declared.end.End.TheVariants.{Caller, Callee}
 use Rattle.call_core.specs.declared.signal.OfferMethod.{OfferMethod}
 use Rattle.call_core.specs.declared.action.Action.{Action}
 use Rattle.call_core.specs.declared.action.Action.TheVariants.{Trying, Offer, Provisional, Ack, Answer, AnswerAgain, Refusal, Okay, Cancel, Bye, PutRows, Release, RemoveRows, Set, Stop, Abandon}
-use Rattle.legs.specs.Dressed.{Dressed, behind}
-use Rattle.legs.specs.Dressing.{dialog_with, dress_one, dressed, says_ack, says_again, says_answer, says_bye, says_cancel, says_offer, says_okay, says_provisional, says_refusal, says_trying}
+use Rattle.call_messages.specs.Dressed.{Dressed, behind}
+use Rattle.call_messages.specs.Dressing.{dialog_with, dress_one, dressed, says_ack, says_again, says_answer, says_bye, says_cancel, says_offer, says_okay, says_provisional, says_refusal, says_trying}
 use Rattle.call_steps.specs.Values.{asker_value, dressed_in, lent, lent_asker, lent_scene, scene_value}
 
 -- the scene of the same values

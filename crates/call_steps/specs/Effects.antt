@@ -5,7 +5,7 @@ use Rattle.timers.specs.declared.timers.Timer.{Timer}
 use Rattle.calls.specs.Changes.{Outcome, entered, unchanged}
 use Rattle.calls.specs.State.{Standing}
 use Rattle.calls.specs.declared.timer_id.CallTimerId.{CallTimerId}
-use Rattle.legs.specs.Dressed.{Dressed, no_message}
+use Rattle.call_messages.specs.Dressed.{Dressed, no_message}
 use Rattle.call_steps.specs.declared.call_step.CallStep.{CallStep}
 use Rattle.call_steps.specs.declared.messages.StepMessages.{StepMessages}
 

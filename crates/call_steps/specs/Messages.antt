@@ -6,7 +6,7 @@ use Rattle.transactions.specs.declared.change.Entry.{Entry}
 use Rattle.transactions.specs.declared.change.Entry.TheVariants.{Tells}
 use Rattle.call_core.specs.declared.action.Action.{Action}
 use Rattle.call_core.specs.declared.action.Action.TheVariants.{Abandon, Ack, Answer}
-use Rattle.legs.specs.Dressed.{Dressed}
+use Rattle.call_messages.specs.Dressed.{Dressed}
 use Rattle.call_steps.specs.declared.messages.StepMessages.{StepMessages}
 use Rattle.call_steps.specs.Values.{SceneValue, dressed_in}
 

@@ -28,7 +28,7 @@ use Rattle.calls.specs.declared.change.LegDialog.{LegDialog}
 use Rattle.calls.specs.declared.standing_call.OfferRequest.{OfferRequest}
 use Rattle.calls.specs.declared.standing_call.TakenOffer.{TakenOffer}
 use Rattle.calls.specs.declared.standing_call.StandingCall.{StandingCall}
-use Rattle.legs.specs.Messages.{new_leg}
+use Rattle.call_messages.specs.Messages.{new_leg}
 use Rattle.call_steps.specs.declared.messages.StepMessages.{StepMessages}
 use Rattle.call_steps.specs.declared.occasion.Occasion.{Occasion}
 use Rattle.call_steps.specs.Effects.{Effect, no_effect, with_messages}

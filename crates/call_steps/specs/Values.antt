@@ -11,10 +11,10 @@ use Rattle.transactions.specs.declared.transaction.Transaction.{Transaction}
 use Rattle.call_core.specs.declared.action.Action.{Action}
 use Rattle.calls.specs.declared.change.LegDialog.{LegDialog}
 use Rattle.calls.specs.declared.standing_call.TakenOffer.{TakenOffer}
-use Rattle.legs.specs.declared.scene.Asker.{Asker}
-use Rattle.legs.specs.declared.scene.Scene.{Scene}
-use Rattle.legs.specs.Dressed.{Dressed}
-use Rattle.legs.specs.Dressing.{dressed}
+use Rattle.call_messages.specs.declared.scene.Asker.{Asker}
+use Rattle.call_messages.specs.declared.scene.Scene.{Scene}
+use Rattle.call_messages.specs.Dressed.{Dressed}
+use Rattle.call_messages.specs.Dressing.{dressed}
 use Rattle.call_steps.specs.declared.coming.Coming.{Coming}
 
 -- a request of an end's, which waits for a response of the server's: the number of its transaction, where it came from, and the

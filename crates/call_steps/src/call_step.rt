@@ -5,9 +5,9 @@ ghost use Rattle.calls.specs.Changes.{FitsChange, entered};
 ghost use Rattle.calls.specs.State.{Standing};
 ghost use Rattle.call_steps.specs.Effects.{effect, no_effect};
 
+use call_messages::Dressed;
 use calls::CallChange;
 use events::Sent;
-use legs::Dressed;
 use std::alloc::Global;
 
 /// What a call does for an event: planned, with nothing changed.

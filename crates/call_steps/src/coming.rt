@@ -3,8 +3,8 @@
 ghost use Rattle.std.specs.Prelude.{◌≡◌};
 ghost use Rattle.call_steps.specs.Values.{asker_value, coming_value, without_offer};
 
+use call_messages::Asker;
 use calls::{LegDialog, TakenOffer};
-use legs::Asker;
 
 /// What comes with an event to a call.
 #[derive(Drop)]

@@ -3,12 +3,12 @@
 ghost use Rattle.std.specs.Prelude.{◌≡◌, ◌<◌, ◌≤◌, ◌+◌, ◌^◌, ◌++◌, IfOk, None, find, length, option_to_list};
 ghost use Rattle.std.specs.Option.{option_copied};
 ghost use Rattle.call_steps.specs.Messages.{ack_kept, answer_kept, first_sent, given_up, is_abandon, is_answer, messages, with_changes};
-ghost use Rattle.legs.specs.Dressing.{dressed};
+ghost use Rattle.call_messages.specs.Dressing.{dressed};
 ghost use Rattle.call_steps.specs.Values.{dressed_in, scene_value};
 
 use call_core::Action;
+use call_messages::{Dressed, Scene};
 use events::Sent;
-use legs::{Dressed, Scene};
 use std::alloc::{AllocError, Global};
 use transactions::Change;
 

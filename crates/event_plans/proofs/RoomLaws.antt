@@ -4,7 +4,7 @@ use Rattle.std.proofs.lemmas.Bool.{lt-leb, le-leb}
 use Rattle.transactions.specs.declared.outcome.Verdict.{Verdict}
 use Rattle.transactions.specs.declared.outcome.Verdict.TheVariants as verdicts
 use Rattle.transactions.specs.Contents.{IsNew}
-use Rattle.checks.specs.Rows.{begins}
+use Rattle.event_rows.specs.Rows.{begins}
 
 pub has_room : (v : Verdict) (most n : ℕ) → (IsNew v → n < most) → (begins v && nat_le most n) ≡ false
 has_room (verdicts.New id) most n room = lt-leb most n (room tt)

@@ -14,9 +14,9 @@ use Rattle.plans.specs.declared.setting.Setting.{Setting}
 use Rattle.plans.specs.CallRows.{call_row, target}
 use Rattle.plans.specs.Office.{Office}
 use Rattle.plans.specs.Replies.{reply_row}
-use Rattle.checks.specs.declared.rule.Rule.{Rule}
-use Rattle.checks.specs.Rows.{rule_row}
-use Rattle.checks.specs.Rules.{callee_by, cancel_line, contact_line, declined_line, described_rule, dialog_line, extension_line, hops_line, invite_by, known_by, merged_line, offer_rule, offered_by, options_line, otherwise, register_line, request_rule, route_line, rule_by, target_by, unknown_line, user_by}
+use Rattle.event_rows.specs.declared.rule.Rule.{Rule}
+use Rattle.event_rows.specs.Rows.{rule_row}
+use Rattle.event_rows.specs.Rules.{callee_by, cancel_line, contact_line, declined_line, described_rule, dialog_line, extension_line, hops_line, invite_by, known_by, merged_line, offer_rule, offered_by, options_line, otherwise, register_line, request_rule, route_line, rule_by, target_by, unknown_line, user_by}
 use Rattle.event_plans.specs.Unread.{content_by, unread}
 
 module _ (s : Office) (e : Setting) (r : Request) (begun : List Entry) (id : ℕ) where

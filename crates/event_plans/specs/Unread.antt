@@ -7,8 +7,8 @@ use Rattle.call_rules.specs.declared.content.ContentRule.{ContentRule}
 use Rattle.call_rules.specs.declared.content.ContentRule.TheVariants as content
 use Rattle.plans.specs.declared.rule.CallRule.TheVariants as calls
 use Rattle.plans.specs.declared.rule.Reply.TheVariants.{TypeRefused, EncodingRefused}
-use Rattle.checks.specs.declared.rule.Rule.{Rule}
-use Rattle.checks.specs.declared.rule.Rule.TheVariants.{Alone, Call}
+use Rattle.event_rows.specs.declared.rule.Rule.{Rule}
+use Rattle.event_rows.specs.declared.rule.Rule.TheVariants.{Alone, Call}
 
 abbrev pub content_by : Option ContentRule → Rule
 content_by (Some content.Type) = Alone TypeRefused

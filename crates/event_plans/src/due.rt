@@ -5,7 +5,7 @@ ghost use Rattle.timers.specs.Queue.{first_due};
 ghost use Rattle.transactions.specs.Changes.{fire_of};
 ghost use Rattle.transactions.specs.Contents.{is_due};
 ghost use Rattle.plans.specs.Effect.{Fits, effect};
-ghost use Rattle.checks.specs.Rows.{due_row, fires_by, timer_row};
+ghost use Rattle.event_rows.specs.Rows.{due_row, fires_by, timer_row};
 
 use plans::{Doing, Office, Plan, Setting, Taken, one_change};
 use std::alloc::AllocError;
@@ -33,7 +33,7 @@ pub(crate) fn due_row(office: &Office<'_>, e: Setting) -> Result<Doing, AllocErr
     }
 }
 
-#[tactic(auto, unfolding(checks::specs::Rows::timer_row))]
+#[tactic(auto, unfolding(event_rows::specs::Rows::timer_row))]
 #[inline(never)]
 fn timer_row(office: &Office<'_>, e: Setting, timer: TimerId) -> Result<Doing, AllocError>
     requires early { e.now < 2 ^ 60 }

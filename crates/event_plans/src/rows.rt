@@ -1,17 +1,17 @@
 //! What a datagram comes to, up to the rules: whether it can be read, its branch, and what the transactions say of it.
 
 ghost use Rattle.std.specs.Prelude.{◌≡◌, ◌<◌, ◌^◌, ◌∷◌, [], IfOk};
-ghost use Rattle.checks.specs.Rules.{request_rule};
+ghost use Rattle.event_rows.specs.Rules.{request_rule};
 ghost use Rattle.plans.specs.Plan.{moves, nothing};
 ghost use Rattle.plans.specs.Effect.{Fits, effect};
 ghost use Rattle.plans.specs.CallRows.{of_plan};
-ghost use Rattle.checks.specs.Rows.{datagram_row, fit_row, is_unreachable_message, parts_of, read_row, received, received_by, request_by, response_by, rule_row, what_row};
+ghost use Rattle.event_rows.specs.Rows.{datagram_row, fit_row, is_unreachable_message, parts_of, read_row, received, received_by, request_by, response_by, rule_row, what_row};
 
 use crate::due::due_row;
 use crate::rules::request_rule;
 use crate::unread::{unfit_branch, unread_row};
 use call_rules::is_unreachable;
-use checks::Rule;
+use event_rows::Rule;
 use events::What;
 use plans::{Doing, Office, Setting, Taken, Why, one_change};
 use responses::has_fit_branch;
@@ -84,7 +84,7 @@ fn ruled_row(
 }
 
 /// What a request comes to, by what the transactions say of it.
-#[tactic(auto, unfolding(checks::specs::Rows::request_by))]
+#[tactic(auto, unfolding(event_rows::specs::Rows::request_by))]
 #[inline(never)]
 fn request_by(
     office: &Office<'_>,
@@ -109,7 +109,7 @@ fn request_by(
 }
 
 /// What a response comes to, by what the transactions say of it.
-#[tactic(auto, unfolding(checks::specs::Rows::response_by))]
+#[tactic(auto, unfolding(event_rows::specs::Rows::response_by))]
 #[inline(never)]
 fn response_by(
     office: &Office<'_>,
@@ -171,7 +171,7 @@ fn foreseen_row(
     received_by(office, e, message, begun, verdict, send)
 }
 
-#[tactic(auto, unfolding(checks::specs::Rows::received), using(crate::proofs::RoomLaws::has_room, crate::proofs::RoomLaws::has_none))]
+#[tactic(auto, unfolding(event_rows::specs::Rows::received), using(crate::proofs::RoomLaws::has_room, crate::proofs::RoomLaws::has_none))]
 #[inline(never)]
 fn received(office: &Office<'_>, e: Setting, message: &Message<'_>) -> Result<Doing, AllocError>
     requires early { e.now < 2 ^ 60 }
@@ -199,7 +199,7 @@ fn fit_row(office: &Office<'_>, e: Setting, message: &Message<'_>) -> Result<Doi
     received(office, e, message)
 }
 
-#[tactic(auto, unfolding(checks::specs::Rows::read_row))]
+#[tactic(auto, unfolding(event_rows::specs::Rows::read_row))]
 #[inline(never)]
 fn read_row(office: &Office<'_>, e: Setting, message: &Message<'_>) -> Result<Doing, AllocError>
     requires early { e.now < 2 ^ 60 }
@@ -214,7 +214,7 @@ fn read_row(office: &Office<'_>, e: Setting, message: &Message<'_>) -> Result<Do
 }
 
 /// What a datagram comes to.
-#[tactic(auto, unfolding(checks::specs::Rows::datagram_row))]
+#[tactic(auto, unfolding(event_rows::specs::Rows::datagram_row))]
 #[inline(never)]
 fn datagram_row(office: &Office<'_>, e: Setting, bytes: &[u8]) -> Result<Doing, AllocError>
     requires early { e.now < 2 ^ 60 }
@@ -233,7 +233,7 @@ fn datagram_row(office: &Office<'_>, e: Setting, bytes: &[u8]) -> Result<Doing, 
 }
 
 /// What an event of the moment `now`, in milliseconds, comes to.
-#[tactic(auto, unfolding(checks::specs::Rows::what_row))]
+#[tactic(auto, unfolding(event_rows::specs::Rows::what_row))]
 #[inline(never)]
 pub fn plan_event(
     office: &Office<'_>,

@@ -5,11 +5,11 @@ ghost use Rattle.std.specs.Option.{option_copied};
 ghost use Rattle.sip_message.specs.Words.{tag_value};
 ghost use Rattle.responses.specs.Words.{is_method};
 ghost use Rattle.calls.specs.Finding.{place_by_offer};
-ghost use Rattle.checks.specs.Rules.{callee_by, cancel_line, cancels, contact_line, declined_line, dialog_line, extension_line, first_call_by, hops_line, invite_by, known_by, merged_line, of_dialog, offered_by, options_line, refused, register_line, route_line, rule_by, target_by, unknown_line, user_by};
+ghost use Rattle.event_rows.specs.Rules.{callee_by, cancel_line, cancels, contact_line, declined_line, dialog_line, extension_line, first_call_by, hops_line, invite_by, known_by, merged_line, of_dialog, offered_by, options_line, refused, register_line, route_line, rule_by, target_by, unknown_line, user_by};
 ghost use Rattle.event_plans.specs.Unread.{content_by, unread};
 
 use call_rules::{ContentRule, DialogRule, contact_address, content_rule, dialog_rule};
-use checks::Rule;
+use event_rows::Rule;
 use plans::{CallRule, Office, Reply};
 use responses::{has_header, is_declined_method, is_method, is_offered_method};
 use sip_message::{Request, contact_values, tag_value};
@@ -235,7 +235,7 @@ fn first_call_rule(office: &Office<'_>, request: &Request<'_>, now: u64) -> Resu
     }
 }
 
-#[tactic(auto, unfolding(checks::specs::Rules::invite_by))]
+#[tactic(auto, unfolding(event_rows::specs::Rules::invite_by))]
 fn invite_rule(office: &Office<'_>, request: &Request<'_>, now: u64) -> Result<Rule, AllocError>
     ensures { IfOk result (λ rule. rule ≡ invite_by (unread request.now) office.now request.now now) }
 {
@@ -245,7 +245,7 @@ fn invite_rule(office: &Office<'_>, request: &Request<'_>, now: u64) -> Result<R
     first_call_rule(office, request, now)
 }
 
-#[tactic(auto, unfolding(checks::specs::Rules::offered_by))]
+#[tactic(auto, unfolding(event_rows::specs::Rules::offered_by))]
 fn offered_rule(office: &Office<'_>, request: &Request<'_>, now: u64) -> Result<Rule, AllocError>
     ensures { IfOk result (λ rule. rule ≡ offered_by (unread request.now) office.now request.now now) }
 {
@@ -266,7 +266,7 @@ fn offered_rule(office: &Office<'_>, request: &Request<'_>, now: u64) -> Result<
 
 /// The first line of the order of checks that applies to a request that begins a transaction, but for whether the body of a first INVITE
 /// can be read.
-#[tactic(auto, unfolding(checks::specs::Rules::rule_by))]
+#[tactic(auto, unfolding(event_rows::specs::Rules::rule_by))]
 pub(crate) fn request_rule(
     office: &Office<'_>,
     request: &Request<'_>,

@@ -9,7 +9,7 @@ ghost use Rattle.sip_writing.specs.Reply.{answer_address};
 ghost use Rattle.plans.specs.CallRows.{of_plan};
 ghost use Rattle.plans.specs.Plan.{replies};
 ghost use Rattle.responses.specs.Responding.{responds, stateless};
-ghost use Rattle.checks.specs.Rows.{datagram_row, unfit_branch, unfit_request, unread_by};
+ghost use Rattle.event_rows.specs.Rows.{datagram_row, unfit_branch, unfit_request, unread_by};
 ghost use Rattle.plans.specs.Office.{Office};
 
 use plans::{Plan, Setting, Taken, Why};
@@ -62,7 +62,7 @@ fn unread_with(
 }
 
 /// What a datagram comes to that can't be read.
-#[tactic(auto, unfolding(checks::specs::Rows::unread_row, checks::specs::Rows::datagram_row))]
+#[tactic(auto, unfolding(event_rows::specs::Rows::unread_row, event_rows::specs::Rows::datagram_row))]
 #[inline(never)]
 pub(crate) fn unread_row(
     alloc: Global,

@@ -5,7 +5,7 @@ use Rattle.std.specs.FinMap.{empty}
 use Rattle.port_pool.specs.declared.changes.Change.{Change}
 use Rattle.port_pool.specs.RelayTable.{Rows, changed_by}
 use Rattle.relay.specs.Lists.{Lists, table_after}
-use Rattle.checks.specs.State.{Contents}
+use Rattle.event_rows.specs.State.{Contents}
 use Rattle.live.specs.Turns.{HasTable, published}
 
 pub published_leads : (lists : Lists) (changes : List Change) → table_after (published lists changes) ≡ changed_by (table_after lists) changes

@@ -4,8 +4,8 @@ use Rattle.relay.specs.Lists.{Lists}
 use Rattle.events.specs.declared.event.Event.{Event}
 use Rattle.events.specs.declared.event.What.{What}
 use Rattle.events.specs.declared.event.What.TheVariants.{Datagram, Due}
-use Rattle.checks.specs.Rows.{next_due}
-use Rattle.checks.specs.State.{Contents}
+use Rattle.event_rows.specs.Rows.{next_due}
+use Rattle.event_rows.specs.State.{Contents}
 use Rattle.live.specs.Arrivals.{Arrival}
 use Rattle.live.specs.Sending.{Tried}
 use Rattle.live.specs.Turns.{HasTable, Turns}

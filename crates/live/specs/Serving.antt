@@ -1,7 +1,7 @@
 -- What the signalling did from its start to its end: rounds, one after the other.
 use Rattle.std.specs.Prelude.{◌≡◌, ◌+◌, ℕ, zero, suc, List, [], ◌∷◌, length, Option, Some, None}
 use Rattle.relay.specs.Lists.{Lists}
-use Rattle.checks.specs.State.{Contents}
+use Rattle.event_rows.specs.State.{Contents}
 use Rattle.live.specs.Arrivals.{Arrival}
 use Rattle.live.specs.Rounds.{Rounds, end_after, streaks_after}
 use Rattle.live.specs.Sending.{Tried}

@@ -4,8 +4,8 @@ use Rattle.port_pool.specs.declared.changes.Change.{Change}
 use Rattle.relay.specs.Lists.{Lists, table_after}
 use Rattle.events.specs.declared.event.Event.{Event}
 use Rattle.plans.specs.declared.taken.Taken.{Taken}
-use Rattle.checks.specs.Rows.{after, row}
-use Rattle.checks.specs.State.{Contents}
+use Rattle.event_rows.specs.Rows.{after, row}
+use Rattle.event_rows.specs.State.{Contents}
 use Rattle.live.specs.Sending.{Sends, Tried}
 use Rattle.live.specs.declared.turn.Turned.{Turned}
 use Rattle.live.specs.declared.turn.Turned.TheVariants.{Done, Lost, Behind}

@@ -2,7 +2,7 @@
 
 ghost use Rattle.std.specs.Prelude.{◌≡◌, false, IfOk};
 ghost use Rattle.events.specs.declared.event.What.TheVariants as whats;
-ghost use Rattle.checks.specs.Rows.{next_due};
+ghost use Rattle.event_rows.specs.Rows.{next_due};
 ghost use Rattle.live.specs.Rounds.{event, is_due, wait_until, Rounds};
 ghost use Rattle.live.specs.Salts.{salt_at};
 ghost use Rattle.live.specs.Turns.{HasTable, Turns};

@@ -1,7 +1,7 @@
 //! One event of the signalling: the agent's step, then the board, then the wire.
 
 ghost use Rattle.std.specs.Prelude.{◌≡◌, ◌≤◌, ◌∷◌, ◌++◌, [], IfOk, OnOk, OnErr, length};
-ghost use Rattle.checks.specs.Rows.{after, row};
+ghost use Rattle.event_rows.specs.Rows.{after, row};
 ghost use Rattle.live.specs.Sending.{Sends};
 ghost use Rattle.live.specs.Turns.{HasTable, published, Turns};
 

@@ -43,7 +43,7 @@ use Rattle.calls.specs.State.{Standing}
 use Rattle.calls.specs.declared.change.LegDialog.{LegDialog}
 use Rattle.calls.specs.declared.standing_call.StandingCall.{StandingCall}
 use Rattle.calls.specs.declared.timer_id.CallTimerId.{CallTimerId}
-use Rattle.legs.specs.Messages.{contact}
+use Rattle.call_messages.specs.Messages.{contact}
 use Rattle.responses.specs.Responding.{responds, stateless}
 use Rattle.call_rules.specs.Content.{described}
 use Rattle.call_rules.specs.declared.content.ContentRule.{ContentRule}

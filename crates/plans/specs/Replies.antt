@@ -26,7 +26,7 @@ use Rattle.responses.specs.Registering.{register_of}
 use Rattle.responses.specs.Responding.{allow, contact_header, refusal_headers, status_of, responds, stateless}
 use Rattle.responses.specs.Tags.{joined_tags, required_tags}
 use Rattle.responses.specs.Tokens.{token}
-use Rattle.legs.specs.Messages.{retry_after}
+use Rattle.call_messages.specs.Messages.{retry_after}
 
 -- ---- a request that begins a transaction
 

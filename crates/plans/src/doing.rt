@@ -13,10 +13,10 @@ ghost use Rattle.plans.specs.Plan.{goes};
 use crate::acks::{AckChange, KeptAck};
 use crate::plan::{Plan, sends_of};
 use crate::taken::Taken;
+use call_messages::Dressed;
 use call_steps::CallStep;
 use calls::{CallChange, CallTimerId, LegDialog};
 use events::Sent;
-use legs::Dressed;
 use std::alloc::AllocError;
 use transactions::{Change, Outgoing};
 

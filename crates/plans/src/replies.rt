@@ -16,7 +16,7 @@ use crate::office::Office;
 use crate::plan::Plan;
 use crate::rule::Reply;
 use crate::setting::Setting;
-use legs::retry_alone;
+use call_messages::retry_alone;
 use registrar::Refusal;
 use responses::{
     STATELESS, allow_header, contact_headers, refusal_headers, register_of, response_with,

@@ -13,8 +13,8 @@ use Rattle.sip_uri.specs.Hosts.{ip4_of, is_host, is_hostname}
 use Rattle.events.specs.declared.event.Event.{Event}
 use Rattle.events.specs.declared.sent.Sent.{Sent}
 use Rattle.scripts.specs.Writing.{sent_text}
-use Rattle.checks.specs.Rows.{after, row}
-use Rattle.checks.specs.State.{Contents, RefusesConfig}
+use Rattle.event_rows.specs.Rows.{after, row}
+use Rattle.event_rows.specs.State.{Contents, RefusesConfig}
 use Rattle.server.specs.declared.fault.Fault.{Fault}
 use Rattle.server.specs.declared.fault.Fault.TheVariants.{Input, Config as ConfigFault, Output, Socket, OutOfMemory}
 use Rattle.server.specs.Faults.{config_fault}

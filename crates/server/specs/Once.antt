@@ -7,8 +7,8 @@ use Rattle.configuration.specs.Example.{example}
 use Rattle.events.specs.declared.event.Event.{Event}
 use Rattle.events.specs.declared.event.What.TheVariants as whats
 use Rattle.events.specs.declared.sent.Sent.{Sent}
-use Rattle.checks.specs.Rows.{row}
-use Rattle.checks.specs.State.{Contents, IsNew}
+use Rattle.event_rows.specs.Rows.{row}
+use Rattle.event_rows.specs.State.{Contents, IsNew}
 use Rattle.server.specs.Input.{Reads}
 
 -- where the datagram counts as sent from

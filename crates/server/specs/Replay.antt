@@ -10,8 +10,8 @@ use Rattle.events.specs.declared.event.Event.{Event}
 use Rattle.events.specs.declared.sent.Sent.{Sent}
 use Rattle.scripts.specs.Grammar.{ReadsScript}
 use Rattle.scripts.specs.Writing.{sent_text}
-use Rattle.checks.specs.Rows.{after, row}
-use Rattle.checks.specs.State.{Contents, IsNew}
+use Rattle.event_rows.specs.Rows.{after, row}
+use Rattle.event_rows.specs.State.{Contents, IsNew}
 use Rattle.server.specs.State.{state_text}
 use Rattle.server.specs.declared.fault.Fault.{Fault}
 use Rattle.server.specs.declared.fault.Fault.TheVariants.{Input, Config as ConfigFault, Output, Socket, OutOfMemory}

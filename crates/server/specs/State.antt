@@ -10,7 +10,7 @@ use Rattle.call_core.specs.declared.stage.Phase.TheVariants.{Asked, Cancelling, 
 use Rattle.call_core.specs.Calls.{phase_in}
 use Rattle.calls.specs.declared.standing_call.StandingCall.{StandingCall}
 use Rattle.scripts.specs.Writing.{call_text, hop_text}
-use Rattle.checks.specs.State.{Contents}
+use Rattle.event_rows.specs.State.{Contents}
 
 abbrev pub phase_name : Phase → List ℕ
 phase_name Asked = codes "asked"

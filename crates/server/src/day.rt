@@ -3,7 +3,7 @@
 ghost use Rattle.std.specs.Prelude.{◌≡◌, None, Some, IfErr, IfOk, OnOk, option_map};
 ghost use Rattle.std.specs.Io.KnownBytes.{Appends};
 ghost use Rattle.configuration.specs.Rules.{first_broken};
-ghost use Rattle.checks.specs.Rows.{after, row};
+ghost use Rattle.event_rows.specs.Rows.{after, row};
 ghost use Rattle.server.specs.Faults.{script_fault, unread_config};
 ghost use Rattle.server.specs.Leaves.{IsOfConfig, IsOfOffice, IsOfReading};
 ghost use Rattle.server.specs.State.{state_text};

@@ -2,7 +2,7 @@
 
 ghost use Rattle.std.specs.Prelude.{◌≡◌, None, IfErr, IfOk};
 ghost use Rattle.configuration.specs.Rules.{first_broken};
-ghost use Rattle.checks.specs.State.{IsNew};
+ghost use Rattle.event_rows.specs.State.{IsNew};
 ghost use Rattle.server.specs.Faults.{config_fault};
 
 use crate::fault::Fault;

@@ -3,8 +3,8 @@
 ghost use Rattle.std.specs.Prelude.{◌≡◌, ◌++◌, IfErr, IfOk, OnOk};
 ghost use Rattle.std.specs.Io.KnownBytes.{Appends};
 ghost use Rattle.configuration.specs.Example.{example};
-ghost use Rattle.checks.specs.Rows.{row};
-ghost use Rattle.checks.specs.State.{IsNew};
+ghost use Rattle.event_rows.specs.Rows.{row};
+ghost use Rattle.event_rows.specs.State.{IsNew};
 ghost use Rattle.server.specs.Once.{Answers, SendsFor, bytes_of, single};
 ghost use Rattle.server.specs.Leaves.{Leaves};
 

@@ -3,7 +3,7 @@ use Rattle.calls.specs.State.{standing}
 use Rattle.calls.specs.declared.standing_call.StandingCall.{StandingCall}
 use Rattle.dialogs.specs.Making.{callees_dialog}
 use Rattle.dialogs.specs.declared.state.Dialog.{Dialog}
-use Rattle.legs.specs.Messages.{new_leg}
+use Rattle.call_messages.specs.Messages.{new_leg}
 use Rattle.call_core.specs.declared.plan.Plan.{Plan}
 use Rattle.call_core.specs.Calls.{new_call}
 use Rattle.call_core.specs.Plans.{carried, description_sent}

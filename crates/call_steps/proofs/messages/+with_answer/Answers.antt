@@ -1,7 +1,7 @@
 use Rattle.std.proofs.Common.{◌∙◌, ap, sym}
 use Rattle.std.specs.Prelude.{Option, option_to_list}
 use Rattle.events.specs.declared.sent.Sent.{Sent}
-use Rattle.legs.specs.Dressed.{Dressed}
+use Rattle.call_messages.specs.Dressed.{Dressed}
 use Rattle.call_steps.specs.Messages.{first_sent}
 use Rattle.call_steps.proofs.CopyLaws.{first_answer}
 use Rattle.call_steps.proofs.messages.+with_answer.Goals as goal

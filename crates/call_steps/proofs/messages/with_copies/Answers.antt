@@ -3,8 +3,8 @@ use Rattle.call_media.specs.declared.end.End.TheVariants.{Caller}
 use Rattle.call_core.specs.declared.action.Action.TheVariants.{Ack, Trying}
 use Rattle.std.specs.Prelude.{Option, option_to_list}
 use Rattle.events.specs.declared.sent.Sent.{Sent}
-use Rattle.legs.specs.Dressed.{Dressed, behind}
-use Rattle.legs.specs.Dressing.{dressed}
+use Rattle.call_messages.specs.Dressed.{Dressed, behind}
+use Rattle.call_messages.specs.Dressing.{dressed}
 use Rattle.call_steps.specs.Messages.{first_sent}
 use Rattle.call_steps.proofs.CopyLaws.{behind_ack, first_ack}
 use Rattle.call_steps.proofs.messages.with_copies.Goals as goal

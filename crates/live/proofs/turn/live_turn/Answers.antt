@@ -1,6 +1,6 @@
 use Rattle.std.proofs.Common.{rules, ◌≡◌, List, subst}
 use Rattle.events.specs.declared.sent.Sent.{Sent}
-use Rattle.checks.specs.Rows.{row}
+use Rattle.event_rows.specs.Rows.{row}
 use Rattle.live.specs.Sending.{Sends}
 use Rattle.live.specs.Turns.{published}
 use Rattle.live.proofs.TableLaws.{has_table_again}

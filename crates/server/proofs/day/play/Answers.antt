@@ -2,8 +2,8 @@ use Rattle.std.proofs.Common.{rules, ◌≡◌, ◌∙◌, ◌++◌, ◌∷◌, 
 use Rattle.std.proofs.lemmas.List.{take_more}
 use Rattle.std.specs.Io.KnownBytes.{Appends}
 use Rattle.events.specs.declared.event.Event.{Event}
-use Rattle.checks.specs.Rows.{after, row}
-use Rattle.checks.specs.State.{Contents}
+use Rattle.event_rows.specs.Rows.{after, row}
+use Rattle.event_rows.specs.State.{Contents}
 use Rattle.server.specs.Replay.{after_all, run_text, text_of, RunLeaves}
 use Rattle.server.proofs.InputLaws.{appends_more}
 use Rattle.server.proofs.ReplayLaws.{after_more, stopped_at, text_more}

@@ -1,6 +1,6 @@
 use Rattle.std.proofs.Common.{◌∙◌, ap}
 use Rattle.events.specs.declared.event.Event.{Event}
-use Rattle.checks.specs.Rows.{row}
+use Rattle.event_rows.specs.Rows.{row}
 use Rattle.server.proofs.single.sent_for.Goals as goal
 
 pub returns-clause-sent : goal.returns-clause-sent

@@ -1,5 +1,5 @@
 use Rattle.std.proofs.Common.{rules, sym, subst}
-use Rattle.promised.specs.Living.{ListsLive}
+use Rattle.media_laws.specs.Living.{ListsLive}
 use Rattle.agent.proofs.agent.Agent.calls.Goals as goal
 
 pub returns-clause-live : goal.returns-clause-live

@@ -1,5 +1,5 @@
 use Rattle.std.proofs.Common.{◌∙◌, ◌++◌, ◌∷◌, [], List, ap}
-use Rattle.checks.specs.Trace.{Entry}
+use Rattle.event_rows.specs.Trace.{Entry}
 use Rattle.agent.proofs.TraceLaws.{ran_one}
 use Rattle.agent.proofs.agent.Agent.enter.Goals as goal
 

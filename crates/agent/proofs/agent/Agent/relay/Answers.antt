@@ -1,5 +1,5 @@
 use Rattle.std.proofs.Common.{rules, sym, subst}
-use Rattle.promised.specs.Keeping.{RelaysLive}
+use Rattle.media_laws.specs.Keeping.{RelaysLive}
 use Rattle.agent.proofs.agent.Agent.relay.Goals as goal
 
 pub returns-clause-live : goal.returns-clause-live

@@ -1,5 +1,5 @@
 use Rattle.std.proofs.Common.{rules, subst}
-use Rattle.promised.specs.Standing.{StandsThrough}
+use Rattle.media_laws.specs.Standing.{StandsThrough}
 use Rattle.agent.proofs.StandingLaws.{if_done, if_refused}
 use Rattle.agent.proofs.agent.Agent.run.Goals as goal
 

@@ -1,7 +1,7 @@
 use Rattle.std.proofs.Common.{rules, ◌≡◌, ◌++◌, ◌∷◌, ◌+◌, [], List, sym, subst, take}
 use Rattle.std.proofs.lemmas.List.{take_more}
 use Rattle.events.specs.declared.event.Event.{Event}
-use Rattle.checks.specs.Trace.{Ran}
+use Rattle.event_rows.specs.Trace.{Ran}
 use Rattle.agent.proofs.TraceLaws.{ran_more, ran_none, ran_same, stopped}
 use Rattle.agent.proofs.agent.Agent.run_in.Goals as goal
 

@@ -1,5 +1,5 @@
 use Rattle.std.proofs.Common.{take}
-use Rattle.checks.specs.Trace.{Ran}
+use Rattle.event_rows.specs.Trace.{Ran}
 use Rattle.agent.proofs.agent.Agent.run_in.Given as goal
 
 -- the events so far were entered

@@ -1,6 +1,6 @@
 use Rattle.std.specs.Prelude.{◌≡◌, ◌++◌}
-use Rattle.checks.specs.Rows.{row}
-use Rattle.promised.specs.Standing.{SaysMessages}
+use Rattle.event_rows.specs.Rows.{row}
+use Rattle.media_laws.specs.Standing.{SaysMessages}
 use Rattle.agent.proofs.StandingLaws.{if_done, step_stands}
 use Rattle.agent.proofs.agent.Agent.step.Goals as goal
 

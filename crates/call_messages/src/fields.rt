@@ -1,0 +1,64 @@
+//! Header fields that what the server says to an end has behind those that every message has.
+
+ghost use Rattle.std.specs.Prelude.{◌≡◌, [], ◌∷◌, IfOk};
+ghost use Rattle.call_messages.specs.Messages.{contact, content_type, description_headers, retry_after};
+
+use sip_message::{FieldValue, Header};
+use sip_uri::{Addr, put_ip4};
+use std::alloc::{AllocError, Global};
+use text::{Text, put_number};
+
+/// Where the server is reached: `Contact: <sip:ADDRESS:PORT>` (RFC 3261 sections 8.1.1.8 and 12.1.1).
+pub fn contact_header(alloc: Global, server: Addr) -> Result<Header<'static>, AllocError>
+    ensures contact { IfOk result (λ h. h ≡ contact server) }
+{
+    let mut out = Vec::with_capacity(alloc, 64)?;
+    out.extend_from_slice(b"<sip:")?;
+    put_ip4(&mut out, &server.ip)?;
+    out.extend_from_slice(b":")?;
+    put_number(&mut out, u64::from(server.port))?;
+    out.extend_from_slice(b">")?;
+    Ok(Header {
+        name: Text::lent(b"Contact"),
+        value: FieldValue::whole(Text::from_vec(out)),
+    })
+}
+
+/// When a request that clashed with another may come again: `Retry-After: 5` alone (RFC 3261 sections 14.2 and 20.33).
+pub fn retry_alone(alloc: Global) -> Result<Vec<Header<'static>>, AllocError>
+    ensures { IfOk result (λ hs. hs.items ≡ retry_after ∷ []) }
+{
+    let mut headers = Vec::new(alloc);
+    headers.push(Header::of(alloc, b"Retry-After", b"5")?)?;
+    Ok(headers)
+}
+
+/// The Contact alone.
+pub(crate) fn contact_alone(alloc: Global, server: Addr) -> Result<Vec<Header<'static>>, AllocError>
+    ensures { IfOk result (λ hs. hs.items ≡ contact server ∷ []) }
+{
+    let mut headers = Vec::new(alloc);
+    headers.push(contact_header(alloc, server)?)?;
+    Ok(headers)
+}
+
+fn content_type() -> Header<'static>
+    ensures { result ≡ content_type }
+{
+    Header {
+        name: Text::lent(b"Content-Type"),
+        value: FieldValue::whole(Text::lent(b"application/sdp")),
+    }
+}
+
+/// The header fields of a message with a description.
+pub(crate) fn description_headers(
+    alloc: Global,
+    server: Addr,
+) -> Result<Vec<Header<'static>>, AllocError>
+    ensures { IfOk result (λ hs. hs.items ≡ description_headers server) }
+{
+    let mut headers = contact_alone(alloc, server)?;
+    headers.push(content_type())?;
+    Ok(headers)
+}

@@ -1,0 +1,159 @@
+-- Which rule a request falls under that begins a transaction: the order of checks. The first line that applies decides.
+use Rattle.std.specs.Prelude.{ℕ, ◌==◌, ◌||◌, Bool, true, false, not, List, [], ◌∷◌, codes, Option, Some, None, is_some}
+use Rattle.sip_uri.specs.declared.uri.Uri.{Uri}
+use Rattle.sip_message.specs.declared.message.Request.{Request}
+use Rattle.sip_message.specs.Contact.{contacts_of}
+use Rattle.sip_message.specs.Words.{tag_value}
+use Rattle.registrar.specs.Bound.{target_of}
+use Rattle.registrar.specs.Registering.{user_of, is_known}
+use Rattle.registrar.specs.Registrar.{rules_of, bindings_at}
+use Rattle.transactions.specs.Contents.{merged}
+use Rattle.transactions.specs.Slots.{named}
+use Rattle.event_rows.specs.declared.rule.Rule.{Rule}
+use Rattle.event_rows.specs.declared.rule.Rule.TheVariants.{Alone, Call}
+use Rattle.plans.specs.declared.rule.Reply.TheVariants.{CancelOf, Refusal, MethodUnoffered, TypeRefused, EncodingRefused, ExtensionRefused, MethodsListed, Registration}
+use Rattle.plans.specs.declared.rule.CallRule.TheVariants as calls
+use Rattle.sdp.specs.declared.description.Description.{Description}
+use Rattle.calls.specs.declared.standing_call.StandingCall.{StandingCall}
+use Rattle.calls.specs.Finding.{place_by_offer}
+use Rattle.call_rules.specs.declared.requests.DialogRule.{DialogRule}
+use Rattle.call_rules.specs.declared.requests.DialogRule.TheVariants as dialog
+use Rattle.call_rules.specs.declared.content.ContentRule.{ContentRule}
+use Rattle.call_rules.specs.declared.content.ContentRule.TheVariants as content
+use Rattle.call_rules.specs.Requests.{dialog_rule}
+use Rattle.call_rules.specs.Content.{content_rule, described}
+use Rattle.call_rules.specs.Reach.{contact_address}
+use Rattle.plans.specs.Office.{Office}
+use Rattle.responses.specs.Words.{is_method, has_header, is_declined_method, is_offered_method}
+
+-- None: the line does not apply
+abbrev pub when : Bool → Rule → Option Rule
+when true rule = Some rule
+when false rule = None
+
+abbrev pub otherwise : Option Rule → Rule → Rule
+otherwise (Some rule) next = rule
+otherwise None next = next
+
+abbrev pub refused : ℕ → Rule
+refused status = Alone (Refusal status)
+
+-- ---- the lines
+
+-- the call whose offer it cancels takes it
+abbrev pub cancels : ℕ → Option ℕ → Rule
+cancels id None = Alone (CancelOf id)
+cancels id (Some place) = Call (calls.Cancels place)
+
+abbrev pub cancel_rule : List StandingCall → Option ℕ → Rule
+cancel_rule standing None = refused 481
+cancel_rule standing (Some id) = cancels id (place_by_offer id standing)
+
+-- a CANCEL gets 200 where a request has its branch and sent-by (RFC 3261 section 9.2)
+abbrev pub cancel_line : Office → Request → Option Rule
+cancel_line s r = when (is_method (codes "CANCEL") r) (cancel_rule s.calls.calls (named s.table.slots r.parts))
+
+-- a request that came on another way too (section 8.2.2.2)
+abbrev pub merged_line : Office → Request → Option Rule
+merged_line s r = when (merged s.table r.parts) (refused 482)
+
+-- a method that is known and not offered (section 8.2.1)
+abbrev pub declined_line : Request → Option Rule
+declined_line r = when (is_declined_method r) (Alone MethodUnoffered)
+
+-- a method that is not known
+abbrev pub unknown_line : Request → Option Rule
+unknown_line r = when (not (is_offered_method r)) (refused 501)
+
+-- an extension is required (section 8.2.2.3)
+abbrev pub extension_line : Request → Option Rule
+extension_line r = when (has_header (codes "Require") r.headers) (Alone ExtensionRefused)
+
+-- a proxy stands between, which is not served
+abbrev pub route_line : Request → Option Rule
+route_line r = when (has_header (codes "Record-Route") r.headers) (refused 400)
+
+abbrev pub options_line : Request → Option Rule
+options_line r = when (is_method (codes "OPTIONS") r) (Alone MethodsListed)
+
+abbrev pub register_line : Request → Option Rule
+register_line r = when (is_method (codes "REGISTER") r) (Alone Registration)
+
+-- ---- dialogs (section 12.2.2)
+
+abbrev pub of_dialog : DialogRule → Rule
+of_dialog dialog.NoDialog = refused 481
+of_dialog (dialog.OldNumber place end) = refused 500
+of_dialog (dialog.Leaves place end) = Call (calls.Leaves place end)
+of_dialog (dialog.Offers place end) = Call (calls.Offers place end)
+of_dialog (dialog.Plain place end) = Call (calls.Refreshes place end)
+
+-- a request that is no INVITE, or whose To has a tag, stands in a dialog
+abbrev pub dialog_line : Office → Request → Option Rule
+dialog_line s r =
+    when (not (is_method (codes "INVITE") r) || is_some (tag_value r.parts.to.params)) (of_dialog (dialog_rule s.calls.calls r))
+
+-- ---- a first call
+
+-- no further hop is left (section 16.3)
+abbrev pub hops_line : Request → Option Rule
+hops_line r = when (r.max_forwards == 0) (refused 483)
+
+abbrev pub contact_line : Request → Option Rule
+contact_line r = when (not (is_some (contact_address (contacts_of r.headers)))) (refused 400)
+
+-- what can be read of an offer (section 8.2.3)
+abbrev pub described_rule : Option ContentRule → Option Description → Rule
+described_rule (Some content.Type) offer = Alone TypeRefused
+described_rule (Some content.Encoding) offer = Alone EncodingRefused
+described_rule None None = refused 488
+described_rule None (Some offer) = Call calls.Begins
+
+abbrev pub offer_rule : Request → Rule
+offer_rule r = described_rule (content_rule r.headers) (described r.headers r.body)
+
+-- what a first call comes to whose callee is bound
+abbrev pub target_by : Rule → Option Uri → Rule
+target_by last None = refused 480
+target_by last (Some target) = last
+
+abbrev pub known_by : Rule → Office → List ℕ → ℕ → Bool → Rule
+known_by last s user now false = refused 404
+known_by last s user now true = target_by last (target_of (bindings_at s.registrar user now))
+
+abbrev pub user_by : Rule → Office → ℕ → Option (List ℕ) → Rule
+user_by last s now None = refused 404
+user_by last s now (Some user) = known_by last s user now (is_known (rules_of s.registrar) user)
+
+-- the user whom the Request-URI names, and where that is (section 16.5)
+abbrev pub callee_by : Rule → Office → Request → ℕ → Rule
+callee_by last s r now = user_by last s now (user_of (rules_of s.registrar) r.uri)
+
+abbrev pub first_call_by : Rule → Office → Request → ℕ → Rule
+first_call_by last s r now = otherwise (hops_line r) (otherwise (contact_line r) (callee_by last s r now))
+
+-- ---- all, in their order
+
+unfoldable pub invite_by : Rule → Office → Request → ℕ → Rule
+invite_by last s r now = otherwise (dialog_line s r) (first_call_by last s r now)
+
+unfoldable pub offered_by : Rule → Office → Request → ℕ → Rule
+offered_by last s r now =
+    otherwise (extension_line r)
+    (otherwise (route_line r)
+    (otherwise (options_line r)
+    (otherwise (register_line r)
+    (invite_by last s r now))))
+
+-- whatever the last line gives, where no line before it applies
+unfoldable pub rule_by : Rule → Office → Request → ℕ → Rule
+rule_by last s r now =
+    otherwise (cancel_line s r)
+    (otherwise (merged_line s r)
+    (otherwise (declined_line r)
+    (otherwise (unknown_line r)
+    (offered_by last s r now))))
+
+-- the last line is what can be read of the offer
+unfoldable pub request_rule : Office → Request → ℕ → Rule
+request_rule s r now = rule_by (offer_rule r) s r now

@@ -1,0 +1,136 @@
+-- What the agent knows.
+use Rattle.std.specs.Prelude.{◌≡◌, ◌≢◌, ℕ, ◌<◌, ◌≤◌, ◌^◌, ◌+◌, ◌-◌, ◌*◌, max, List, [], Option, Some, None}
+use Rattle.configuration.specs.declared.config.Config.{Config}
+use Rattle.configuration.specs.declared.error.ConfigError.{ConfigError}
+use Rattle.configuration.specs.declared.error.ConfigError.TheVariants.{OutOfMemory, RelayPorts, Address, Users, MinExpires, Domain, File}
+use Rattle.configuration.specs.Domain.{domain_text}
+use Rattle.configuration.specs.Rules.{first_broken}
+use Rattle.registrar.specs.Registering.{Rules}
+use Rattle.registrar.specs.Registrar.{after_plan, PlanContents, StandsAfter, rules_given}
+use Rattle.registrar.specs.Registrar as registrar
+use Rattle.transactions.specs.Contents as transactions
+use Rattle.transactions.specs.Changes.{entered_all}
+use Rattle.event_rows.specs.declared.tally.Tally.{Tally}
+use Rattle.plans.specs.declared.taken.Taken.{Taken}
+use Rattle.sip_uri.specs.declared.uri.Addr.{Addr}
+use Rattle.port_pool.specs.Pool.{new_pool}
+use Rattle.port_pool.specs.declared.changes.Change.{Change}
+use Rattle.offer_answer.specs.declared.range.OwnRange.{OwnRange}
+use Rattle.offer_answer.specs.Direct.{hold_address}
+use Rattle.calls.specs.State.{Standing}
+use Rattle.plans.specs.declared.acks.KeptAck.{KeptAck}
+use Rattle.plans.specs.Effect.{Effect}
+use Rattle.plans.specs.Office.{Office}
+use Rattle.event_rows.specs.Tally.{counted, none_counted}
+
+-- the registrar, the transactions, the calls with their pool, the ACKs that go again, and the changes that the last event made in the
+-- relay table; where the server is reached, its relay ports, and the seconds that a binding has to last at least; the greatest moment
+-- so far in milliseconds, how many tokens were made, and how many events were answered how
+pub record Contents : Type 0 where
+  pub registrar : registrar.Contents
+  pub table : transactions.Contents
+  pub calls : Standing
+  pub acks : List KeptAck
+  pub changes : List Change
+  pub server : Addr
+  pub range : OwnRange
+  pub least : ℕ
+  pub moment : ℕ
+  pub tokens : ℕ
+  pub tally : Tally
+
+-- what a plan looks at
+abbrev pub office : Contents → Office
+office s = record {
+  registrar = s.registrar;
+  table = s.table;
+  calls = s.calls;
+  acks = s.acks;
+  server = s.server;
+  range = s.range;
+  least = s.least;
+  tokens = s.tokens;
+}
+
+-- a moment that can be counted with
+abbrev pub moments_end : ℕ
+moments_end = 2 ^ 60
+
+-- as many tokens may be made before an event
+abbrev pub most_tokens : ℕ
+most_tokens = 2 ^ 63
+
+-- every moment is before the end; each call that began made tokens, of which one more can be counted; and the server has an address
+pub record IsCounted (moment tokens begun : ℕ) (range : OwnRange) : Type 0 where
+  pub early : moment < 2 ^ 60
+  pub few : tokens + 1 < 2 ^ 64
+  pub counted : begun ≤ tokens
+  pub somewhere : range.ip ≢ hold_address
+
+-- the moment of an event is the greatest so far
+abbrev pub moment_at : Contents → ℕ → ℕ
+moment_at s now = max s.moment now
+
+abbrev pub registered_by : registrar.Contents → Option PlanContents → registrar.Contents
+registered_by r None = r
+registered_by r (Some plan) = after_plan r plan
+
+-- the agent after an event of this moment that had this effect
+unfoldable pub after_event : Contents → ℕ → Effect → Contents
+after_event s now e = record {
+  registrar = registered_by s.registrar e.plan.registration;
+  table = entered_all now s.table e.plan.changes;
+  calls = e.calls.standing;
+  acks = e.acks;
+  changes = e.calls.changes;
+  server = s.server;
+  range = s.range;
+  least = s.least;
+  moment = now;
+  tokens = s.tokens + e.plan.made;
+  tally = counted s.tally e.plan.taken;
+}
+
+-- the agent after an event that was only counted
+abbrev pub after_count : Contents → ℕ → Taken → Contents
+after_count s now taken = record s { changes = []; moment = now; tally = counted s.tally taken }
+
+-- ---- the agent of a configuration
+
+abbrev pub rules_by : Config → Rules
+rules_by c = rules_given c.users c.ip c.sip_port (domain_text c) c.min_expires
+
+abbrev pub server_of : Config → Addr
+server_of c = record { ip = c.ip; port = c.sip_port }
+
+-- from the first relay port to the last
+abbrev pub range_of : Config → OwnRange
+range_of c = record { ip = c.ip; first = c.relay_first; last = c.relay_first + (2 * c.relay_pairs - 1) }
+
+-- nothing has happened: no REGISTER was taken, no transaction stands, and no timer is set
+pub record IsNew (c : Config) (s : Contents) : Type 0 where
+  pub registers : StandsAfter s.registrar (rules_by c) []
+  pub slots : s.table.slots ≡ []
+  pub timers : s.table.timers ≡ []
+  pub calls : s.calls.calls ≡ []
+  pub begun : s.calls.begun ≡ 0
+  pub call_timers : s.calls.timers ≡ []
+  pub pool : s.calls.pool ≡ new_pool c.relay_first c.relay_pairs
+  pub acks : s.acks ≡ []
+  pub changes : s.changes ≡ []
+  pub server : s.server ≡ server_of c
+  pub range : s.range ≡ range_of c
+  pub least : s.least ≡ c.min_expires
+  pub moment : s.moment ≡ 0
+  pub tokens : s.tokens ≡ 0
+  pub tally : s.tally ≡ none_counted
+
+-- the first rule that is broken is told; memory is asked for where none is
+abbrev pub RefusesConfig : Config → ConfigError → Type 0
+RefusesConfig c OutOfMemory = first_broken c ≡ None
+RefusesConfig c RelayPorts = first_broken c ≡ Some RelayPorts
+RefusesConfig c Address = first_broken c ≡ Some Address
+RefusesConfig c Users = first_broken c ≡ Some Users
+RefusesConfig c MinExpires = first_broken c ≡ Some MinExpires
+RefusesConfig c Domain = first_broken c ≡ Some Domain
+RefusesConfig c File = ⊥

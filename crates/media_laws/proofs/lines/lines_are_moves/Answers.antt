@@ -1,0 +1,5 @@
+use Rattle.media_laws.proofs.Stages.{stage_moves}
+use Rattle.media_laws.proofs.lines.lines_are_moves.Goals as goal
+
+pub returns : goal.returns
+returns c = record { line = stage_moves }

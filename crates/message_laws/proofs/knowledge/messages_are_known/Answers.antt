@@ -1,0 +1,5 @@
+use Rattle.message_laws.proofs.Lists.{new_list}
+use Rattle.message_laws.proofs.knowledge.messages_are_known.Goals as goal
+
+pub returns : goal.returns
+returns c = record { known = new_list }

@@ -1,5 +1,0 @@
-use Rattle.promise.proofs.AskerKnown.{after_kept}
-use Rattle.promise.proofs.datagrams.open_offers_keep_their_requests.Goals as goal
-
-pub returns : goal.returns
-returns c = after_kept c.bodies_describe.ensures

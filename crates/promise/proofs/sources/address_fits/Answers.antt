@@ -1,4 +1,0 @@
-use Rattle.promise.proofs.sources.address_fits.Goals as goal
-
-pub returns : goal.returns
-returns c = record { octets = c.octets_fit.ensures; port = c.port_fits.ensures }

@@ -1,5 +1,0 @@
-use Rattle.promise.proofs.WrittenRequests.{cancel_stands, refusal_ack_stands}
-use Rattle.promise.proofs.written.cancels_are_written.Goals as goal
-
-pub returns : goal.returns
-returns c = record { cancel = cancel_stands; ack = refusal_ack_stands }

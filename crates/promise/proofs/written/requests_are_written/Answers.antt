@@ -1,5 +1,0 @@
-use Rattle.promise.proofs.WrittenRequests.{ack_stands, bye_stands, offer_stands}
-use Rattle.promise.proofs.written.requests_are_written.Goals as goal
-
-pub returns : goal.returns
-returns c = record { offer = offer_stands; ack = ack_stands; bye = bye_stands }

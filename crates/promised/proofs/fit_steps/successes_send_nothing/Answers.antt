@@ -1,5 +1,0 @@
-use Rattle.promised.proofs.Silence.{success_silent}
-use Rattle.promised.proofs.fit_steps.successes_send_nothing.Goals as goal
-
-pub returns : goal.returns
-returns c = success_silent

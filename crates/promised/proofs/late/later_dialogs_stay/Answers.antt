@@ -1,9 +1,0 @@
-use Rattle.promised.proofs.LaterKnown.{later_known}
-use Rattle.promised.proofs.LegsKept.{dialog_moved}
-use Rattle.promised.proofs.late.later_dialogs_stay.Goals as goal
-
-pub returns-clause-kept : goal.returns-clause-kept
-returns-clause-kept c = dialog_moved
-
-pub returns-clause-known : goal.returns-clause-known
-returns-clause-known c = later_known

@@ -1,9 +1,0 @@
-use Rattle.promised.proofs.StepsOn.{goes_on_at}
-use Rattle.promised.proofs.SignalSteps.{signal_row}
-use Rattle.promised.proofs.steps.signal_steps_are_lines.Goals as goal
-
-pub returns-clause-step : goal.returns-clause-step
-returns-clause-step c = signal_row
-
-pub returns-clause-put : goal.returns-clause-put
-returns-clause-put c = goes_on_at

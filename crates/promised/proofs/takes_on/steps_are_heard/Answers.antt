@@ -1,5 +1,0 @@
-use Rattle.promised.proofs.HeardSteps.{step_heard}
-use Rattle.promised.proofs.takes_on.steps_are_heard.Goals as goal
-
-pub returns : goal.returns
-returns c = step_heard (record { same = c.bytes_say_all.ensures.one; bytes = c.bytes_say_all.ensures.bytes; back = c.written_is_read.ensures }) c.bodies_describe.ensures c.sent_is_read.ensures

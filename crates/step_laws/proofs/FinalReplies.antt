@@ -1,0 +1,132 @@
+-- What the server answers by itself to an INVITE or UPDATE: one final response.
+use Rattle.std.proofs.Common.{◌≡◌, ◌∙◌, ℕ, ◌≤◌, ◌<◌, ◌^◌, true, false, nat_le, List, [], ◌∷◌, codes, None, Ok, inl, refl, sym, subst, arith}
+use Rattle.std.specs.Prelude.{IsTrue}
+use Rattle.std.proofs.lemmas.Bool.{false≢true, le-leb}
+use Rattle.events.specs.declared.sent.Sent.{Sent}
+use Rattle.sip_message.specs.Read.{message_of}
+use Rattle.sip_message.specs.declared.headers.Header.{Header}
+use Rattle.sip_message.specs.declared.message.Message.TheVariants as Kinds
+use Rattle.sip_message.specs.declared.message.Parts.{Parts}
+use Rattle.sip_message.specs.declared.message.Request.{Request}
+use Rattle.sip_writing.specs.Reply.{replied, reply_of}
+use Rattle.sip_writing.specs.Writing.{message_text}
+use Rattle.responses.specs.Responding.{allow, responds}
+use Rattle.call_messages.specs.Messages.{contact, retry_after}
+use Rattle.transactions.specs.declared.change.Entry.{Entry}
+use Rattle.call_rules.specs.Speaking.{may_offer}
+use Rattle.plans.specs.CallRows.{okay_plan}
+use Rattle.plans.specs.Office.{Office}
+use Rattle.plans.specs.Plan.{Plan}
+use Rattle.plans.specs.Replies.{accept, accept_encoding, fresh_tag, reply_row, responds_in, unsupported}
+use Rattle.plans.specs.declared.rule.Reply.{Reply}
+use Rattle.plans.specs.declared.rule.Reply.TheVariants as replies
+use Rattle.plans.specs.declared.setting.Setting.{Setting}
+use Rattle.plans.specs.declared.taken.Taken.TheVariants.{Done}
+use Rattle.call_trace.specs.declared.datagram.Kind.{Kind}
+use Rattle.call_trace.specs.declared.datagram.Message.{Message}
+use Rattle.call_trace.specs.Listed.{AnyOf}
+use Rattle.call_trace.specs.Messages.{is_final}
+use Rattle.trace_reading.specs.Message.{trace_message}
+use Rattle.message_laws.specs.Addresses.{IsReached, IsSource}
+use Rattle.message_laws.specs.Seeing.{SeesResponse}
+use Rattle.message_laws.proofs.Further.{FollowsIn, IsPlain, accept_encoding_plain, accept_plain, allow_plain, contact_follows, none_follows, plain_follows, refusal_needs_none, retry_after_plain}
+use Rattle.message_laws.proofs.Grounds.{read_repeats}
+use Rattle.message_laws.proofs.ReadParts.{IsStatus, same_method}
+use Rattle.message_laws.proofs.Repeats.{CanAnswer, FitsReply, fresh_token, responds_written}
+use Rattle.message_laws.proofs.SeenMessages.{response_sees}
+use Rattle.message_laws.proofs.UnsupportedField.{unsupported_written}
+use Rattle.message_laws.specs.Said.{IsSaid}
+use Rattle.message_laws.specs.Messages.{AreMessages}
+use Rattle.media_laws.proofs.Leaving.{request_of}
+use Rattle.media_laws.proofs.Reading.{Reading, message_is}
+use Rattle.media_laws.proofs.SeenWords.{response_replies}
+use Rattle.step_laws.specs.Offers.{IsFinalTo}
+use Rattle.step_laws.proofs.Refusals.{any_reply_tag}
+
+-- ---- one final response to the request of these parts
+
+pub record SeesFinal (parts : Parts) (m : Message) : Type 0 where
+  pub status : ℕ
+  pub tag : List ℕ
+  pub final : 200 ≤ status
+  pub seen : SeesResponse parts status tag None m
+
+pub record IsFinalReply (parts : Parts) (p : Plan) : Type 0 where
+  pub taken : p.taken ≡ Done
+  pub datagram : Sent
+  pub whole : p.sends ≡ datagram ∷ []
+  pub said : IsSaid (SeesFinal parts) datagram
+
+final_kind : (status : ℕ) → 200 ≤ status → nat_le 200 status ≡ true
+final_kind status high = le-leb 200 status high
+
+-- the request gets it
+pub final_goes : Reading → (bytes : List ℕ) (r : Request) (p : Plan) → IsFinalReply r.parts p → (ms : List Message) → AreMessages p.sends ms → AnyOf (IsFinalTo (trace_message bytes (Kinds.Request r))) ms
+final_goes reads bytes r p h ms are = by_one ms (subst (λ l. AreMessages l ms) h.whole are)
+  where
+    by_one : (ms : List Message) → AreMessages (h.datagram ∷ []) ms → AnyOf (IsFinalTo (trace_message bytes (Kinds.Request r))) ms
+    by_one [] are = absurd are
+    by_one (m ∷ later) are =
+        let seen : SeesFinal r.parts m = subst (SeesFinal r.parts) (sym (message_is reads h.datagram.bytes m h.said.0 are.0 h.said.1 h.said.2)) h.said.3 in
+        inl (
+          subst (λ (k : Kind). IsTrue (is_final k)) (sym seen.seen.kind) (final_kind seen.status seen.final),
+          response_replies r.parts seen.status seen.tag None m (trace_message bytes (Kinds.Request r)) (request_of bytes r) seen.seen (any_reply_tag r.parts seen.status seen.tag),
+        )
+
+-- ---- the replies
+
+module _ (s : Office) (e : Setting) (r : Request) (begun : List Entry) (id : ℕ) (can : CanAnswer s e r) where
+  pub responds_once : (status : ℕ) (further : List Header) → IsStatus status → 200 ≤ status → FollowsIn status r.parts.cseq.method further
+      → IsFinalReply r.parts (responds_in s e r begun id status further None)
+  unfolding responds reply_of replied
+  responds_once status further is final follows =
+      let response = Kinds.Response (responds r.parts e.source status (fresh_tag s e) further) in
+      record {
+        taken = refl;
+        datagram = _;
+        whole = refl;
+        said = (
+          response,
+          refl,
+          responds_written r.parts e.source status (fresh_tag s e) further [] can.from can.repeats (fresh_token s e can.few) is follows (omega arith),
+          record { status = status; tag = fresh_tag s e; final = final; seen = response_sees (message_text response) r.parts e.source status (fresh_tag s e) further },
+        );
+      }
+
+  pub refuses_once : (status : ℕ) → 300 ≤ status → status ≤ 699 → IsFinalReply r.parts (responds_in s e r begun id status [] None)
+  refuses_once status low most = responds_once status [] (record { low = omega (arith, low); high = most }) (omega (arith, low)) (none_follows status r.parts.cseq.method (refusal_needs_none status r.parts.cseq.method low))
+
+  -- with one header field more
+  plain_once : (status : ℕ) (h : Header) → 300 ≤ status → status ≤ 699 → IsPlain h → IsFinalReply r.parts (responds_in s e r begun id status (h ∷ []) None)
+  plain_once status h low most plain =
+      responds_once status (h ∷ []) (record { low = omega (arith, low); high = most }) (omega (arith, low)) (plain_follows status r.parts.cseq.method h (refusal_needs_none status r.parts.cseq.method low) plain)
+
+  -- the 200 to an UPDATE without an offer
+  pub okay_once : IsReached s.server → IsFinalReply r.parts (okay_plan s e r begun id)
+  okay_once reached = responds_once 200 (contact s.server ∷ []) (record { low = omega arith; high = omega arith }) (omega arith) (contact_follows s.server 200 r.parts.cseq.method reached)
+
+  module _ (may : may_offer r.parts ≡ true) where
+    -- a method by which no end can offer
+    pub no_other : (name : List ℕ) → r.method ≡ name → (may_offer (record r.parts { cseq = record r.parts.cseq { method = name } }) ≡ false) → ⊥
+    no_other name is none = false≢true (sym none ∙ subst (λ (n : List ℕ). may_offer (record r.parts { cseq = record r.parts.cseq { method = n } }) ≡ true) (can.method ∙ is) may)
+
+    pub reply_once : (reply : Reply) → FitsReply r reply → IsFinalReply r.parts (reply_row s e r begun id reply)
+    unfolding reply_row
+    reply_once (replies.CancelOf other) fits = absurd (no_other (codes "CANCEL") fits refl)
+    reply_once (replies.Refusal status) fits = refuses_once status fits.0 fits.1
+    reply_once replies.RetryLater fits = plain_once 500 retry_after (omega arith) (omega arith) retry_after_plain
+    reply_once replies.MethodUnoffered fits = plain_once 405 allow (omega arith) (omega arith) allow_plain
+    reply_once replies.ExtensionRefused fits = plain_once 420 (unsupported r) (omega arith) (omega arith) can.refused
+    reply_once replies.MethodsListed fits = absurd (no_other (codes "OPTIONS") fits refl)
+    reply_once replies.TypeRefused fits = plain_once 415 accept (omega arith) (omega arith) accept_plain
+    reply_once replies.EncodingRefused fits = plain_once 415 accept_encoding (omega arith) (omega arith) accept_encoding_plain
+    reply_once replies.Registration fits = absurd (no_other (codes "REGISTER") fits refl)
+
+pub can_answer : (bytes : List ℕ) (s : Office) (e : Setting) (r : Request) → message_of bytes ≡ Ok (Kinds.Request r) → IsSource e.source → s.tokens < 2 ^ 63 → CanAnswer s e r
+can_answer bytes s e r read from few = record {
+  repeats = read_repeats bytes (Kinds.Request r) read;
+  method = same_method bytes r read;
+  refused = record { written = unsupported_written bytes r read; repeats = refl; no_length = refl; no_contact = refl; no_hops = refl; no_type = refl };
+  from = from;
+  few = few;
+}

@@ -1,0 +1,126 @@
+-- An INVITE or UPDATE inside a dialog that is no repeat: it is passed on, or gets its final response.
+use Rattle.std.proofs.Common.{◌≡◌, ◌∙◌, ℕ, codes, List, Option, Some, None, inl, inr, refl, ap, sym, subst}
+use Rattle.std.specs.List.{All}
+use Rattle.std.proofs.lemmas.Option.{none-some}
+use Rattle.std.proofs.lemmas.Slice.Eq.{bytes_eq-Decides}
+use Rattle.sip_uri.specs.declared.uri.Addr.{Addr}
+use Rattle.sip_message.specs.declared.message.Message.TheVariants as Kinds
+use Rattle.sip_message.specs.declared.message.Request.{Request}
+use Rattle.sdp.specs.declared.description.Description.{Description}
+use Rattle.events.specs.declared.event.Event.{Event}
+use Rattle.events.specs.declared.sent.Sent.{Sent}
+use Rattle.call_media.specs.declared.end.End.{End}
+use Rattle.call_rules.specs.Content.{described}
+use Rattle.call_rules.specs.Requests.{dialog_rule}
+use Rattle.call_rules.specs.declared.requests.DialogRule.TheVariants as dialogrules
+use Rattle.calls.specs.declared.standing_call.StandingCall.{StandingCall}
+use Rattle.plans.specs.CallRows.{passes}
+use Rattle.plans.specs.Effect.{Effect}
+use Rattle.plans.specs.declared.rule.Reply.TheVariants as replies
+use Rattle.plans.specs.declared.setting.Setting.{Setting}
+use Rattle.event_rows.specs.Rows.{after, row}
+use Rattle.event_rows.specs.State.{Contents, after_event, office}
+use Rattle.transactions.specs.declared.change.Entry.{Entry}
+use Rattle.transactions.specs.declared.transaction.Transaction.{Transaction}
+use Rattle.call_trace.specs.declared.call.Call.{Call}
+use Rattle.call_trace.specs.declared.datagram.Datagram.{Datagram}
+use Rattle.call_trace.specs.declared.datagram.Message.{Message}
+use Rattle.call_trace.specs.Listed.{AnyOf}
+use Rattle.trace_reading.specs.Message.{trace_message}
+use Rattle.message_laws.specs.Addresses.{IsSource}
+use Rattle.message_laws.specs.OpenRequests.{HasAsked}
+use Rattle.message_laws.proofs.Asking.{all_asked}
+use Rattle.message_laws.proofs.Describing.{BodiesDescribe}
+use Rattle.message_laws.proofs.Events.{few_tokens}
+use Rattle.message_laws.proofs.FitReplies.{FitsAlone, FitsReplyIf, offer_reply_fits, request_fits}
+use Rattle.message_laws.proofs.ReadBack.{SentIsRead}
+use Rattle.message_laws.proofs.Reading.{Reading as ReadsNames}
+use Rattle.message_laws.proofs.Repeats.{CanAnswer}
+use Rattle.message_laws.proofs.RequestViews.{IsPassedOffer}
+use Rattle.message_laws.specs.Serving.{KnowsServing}
+use Rattle.message_laws.specs.Messages.{AreMessages}
+use Rattle.media_laws.specs.Beginning.{entries_of}
+use Rattle.media_laws.specs.Standing.{AgentStands}
+use Rattle.media_laws.specs.Taking.{KnowsLegs}
+use Rattle.media_laws.specs.Ties.{AreTied}
+use Rattle.media_laws.proofs.Cases.{later_case}
+use Rattle.media_laws.proofs.Leaving.{rule_fits}
+use Rattle.media_laws.proofs.Reading.{Reading}
+use Rattle.media_laws.proofs.RequestCases.{RequestCase, request_view}
+use Rattle.media_laws.proofs.RequestCases as cases
+use Rattle.step_laws.specs.Coming.{BeginsTransaction}
+use Rattle.step_laws.specs.Offers.{IsFinalTo, IsLaterRequest, IsServed, PassedOrAnswered}
+use Rattle.step_laws.proofs.ComingRows.{begun_row, setting_of}
+use Rattle.step_laws.proofs.FinalReplies.{IsFinalReply, can_answer, final_goes, no_other, okay_once, refuses_once, reply_once}
+use Rattle.step_laws.proofs.AlikeOffers.{Serves}
+use Rattle.step_laws.proofs.Known.{tied_of}
+use Rattle.step_laws.proofs.LaterSends.{passed_alike, passes_on, passes_row}
+
+final_served : (came : Message) (o : Option Description) (ms : List Message) → AnyOf (IsFinalTo came) ms → PassedOrAnswered came o ms
+final_served came None ms h = h
+final_served came (Some offer) ms h = inr h
+
+module _ (reads : Reading) (names : ReadsNames) (describes : BodiesDescribe) (law : SentIsRead) (serves : Serves) (s : Contents) (event : Event) (begun : List Transaction) (sent : List Sent) (t : List Datagram) (old : List Call) (serving : KnowsServing (office s)) (tied : AreTied (office s) begun sent t old) (requests : All (HasAsked begun) s.calls.calls) (knows : KnowsLegs (office s)) (source : Addr) (bytes : List ℕ) (r : Request) (id : ℕ) (from : IsSource source) (came : BeginsTransaction s event source bytes r id) (later : IsLaterRequest r) where
+  abbrev e : Setting
+  e = setting_of s event source
+
+  abbrev entries : List Entry
+  entries = entries_of (office s) e r
+
+  can : CanAnswer (office s) e r
+  can = can_answer bytes (office s) e r came.comes.read from tied.scenes.few
+
+  abbrev Served : Type 0
+  Served = IsServed bytes r (row s event)
+
+  -- ---- the server's own final response
+
+  answered : (x : Effect) → row s event ≡ x → IsFinalReply r.parts x.plan → Served
+  answered x is h = record {
+    taken = ap (λ (y : Effect). y.plan.taken) is ∙ h.taken;
+    sends = λ ms are. final_served (trace_message bytes (Kinds.Request r)) (described r.headers r.body) ms (final_goes reads bytes r x.plan h ms (subst (λ (y : Effect). AreMessages y.plan.sends ms) is are));
+  }
+
+  -- ---- it is passed on
+
+  passed : (place : ℕ) (end : End) (c : StandingCall) (offer : Description) → dialog_rule s.calls.calls r ≡ dialogrules.Offers place end → IsPassedOffer (office s) e.now r place end c offer
+      → row s event ≡ passes (office s) e r entries id place end offer → Served
+  unfolding after_event
+  passed place end c offer rule why is =
+      let p = later_case (office s) e.now r place end c offer rule why in
+      let whole = is ∙ passes_row reads names describes law (office s) begun sent t old tied requests knows e from bytes r id came.comes.read later.method place end c offer p in
+      let alike = passed_alike reads names describes law (office s) begun sent t old tied requests knows e from bytes r id came.comes.read later.method place end c offer p (office (after s event)) (serves s event serving)
+      (ap (λ (y : Effect). y.calls.standing.calls) whole) in
+      record {
+        taken = ap (λ (y : Effect). y.plan.taken) whole;
+        sends = λ ms are.
+            subst (λ o. PassedOrAnswered (trace_message bytes (Kinds.Request r)) o ms) (sym why.described)
+            (inl (passes_on reads names describes law (office s) begun sent t old tied requests knows e from bytes r id came.comes.read later.method place end c offer p alike ms (subst (λ (y : Effect). AreMessages y.plan.sends ms) whole are)));
+      }
+
+  -- ---- by its case
+
+  by_case : (x : Effect) → row s event ≡ x → RequestCase (office s) e r entries id x → Served
+  by_case x is (cases.replied reply rule eq) = answered _ (is ∙ eq) (reply_once (office s) e r entries id can later.method reply (subst (FitsAlone r) rule (request_fits (office s) r e.now)))
+  by_case x is (cases.unfit status low most eq) = answered _ (is ∙ eq) (refuses_once (office s) e r entries id can status low most)
+  by_case x is (cases.asks_callee to offer why eq) = absurd (none-some later.tag (sym why.no_tag ∙ later.has_tag))
+  by_case x is (cases.cancelled other place why found eq) = absurd (no_other (office s) e r entries id can later.method (codes "CANCEL") ((bytes_eq-Decides r.method (codes "CANCEL")).0 why.method) refl)
+  by_case x is (cases.left place end rule eq) =
+      let bye = (rule_fits s.calls.calls r (dialogrules.Leaves place end) rule).1 in
+      absurd (no_other (office s) e r entries id can later.method (codes "BYE") (sym can.method ∙ (bytes_eq-Decides r.parts.cseq.method (codes "BYE")).0 bye) refl)
+  by_case x is (cases.counted place end reply rule why eq) = answered _ (is ∙ eq) (reply_once (office s) e r entries id can later.method reply (subst (FitsReplyIf r) why (offer_reply_fits r rule)))
+  by_case x is (cases.counted_refused place end status low most eq) = answered _ (is ∙ eq) (reply_once (office s) e r entries id can later.method (replies.Refusal status) (low, most))
+  by_case x is (cases.passed_on place end c offer rule why eq) = passed place end c offer rule why (is ∙ eq)
+  by_case x is (cases.refreshed place end why eq) = answered _ (is ∙ eq) (okay_once (office s) e r entries id can tied.scenes.askers.server)
+
+  pub served : Served
+  served = by_case _ (begun_row s event source bytes r id came) (request_view (office s) e r entries id)
+
+pub later_requests : Reading → ReadsNames → BodiesDescribe → SentIsRead → Serves → (s : Contents) (event : Event) (t : List Datagram) (k : ℕ) → AgentStands s t k → (source : Addr) (bytes : List ℕ) (r : Request) (id : ℕ) → IsSource source
+    → BeginsTransaction s event source bytes r id → IsLaterRequest r → IsServed bytes r (row s event)
+later_requests reads names describes law serves s event t k stands source bytes r id from came later =
+    let up = stands.2.1 in
+    let known = up.known in
+    let tied = tied_of s stands.0 stands.1 t stands.2.0 k up (few_tokens s event came.comes.counts) in
+    served reads names describes law serves s event stands.0 stands.1 t stands.2.0 known.serving tied (all_asked s stands.0 known.callees known.requests) (record { dialogs = known.dialogs; callees = known.callees; left = known.left })
+    source bytes r id from came later

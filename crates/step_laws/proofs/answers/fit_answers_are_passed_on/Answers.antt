@@ -1,0 +1,15 @@
+use Rattle.sip_message.specs.declared.message.Message.TheVariants as Kinds
+use Rattle.message_laws.proofs.ReadMessages.{message_reads, name_reads}
+use Rattle.step_laws.proofs.FitAnswerEvents.{fit_answers}
+use Rattle.step_laws.proofs.answers.fit_answers_are_passed_on.Goals as goal
+
+pub returns : goal.returns
+returns c =
+    fit_answers (record { same = c.bytes_say_all.ensures.one; bytes = c.bytes_say_all.ensures.bytes; back = c.written_is_read.ensures })
+    (
+    record {
+      reading = record { message = message_reads; name = name_reads; callee = c.dialogs_are_sound.ensures.callee; contact = c.contacts_are_read.ensures };
+      names = λ text r read. c.invites_name_a_contact.ensures.answer text r (message_reads text (Kinds.Response r) read);
+      replies = c.replies.ensures.reply;
+    }
+    ) c.bodies_describe.ensures c.sent_is_read.ensures c.calls_are_served.ensures.step
