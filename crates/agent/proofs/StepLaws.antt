@@ -10,7 +10,7 @@ use Rattle.plans.specs.CallRows.{of_plan}
 use Rattle.plans.specs.Effect.{Effect}
 use Rattle.plans.specs.Plan.{nothing}
 use Rattle.event_rows.specs.Rows.{after, moment_after, only_counts, row, row_by, what_row}
-use Rattle.event_rows.specs.State.{Contents, after_count, after_event, moment_at, moments_end, most_tokens, office}
+use Rattle.event_rows.specs.State.{Contents, after_count, after_event, moment_at, moments_end, max_tokens, office}
 use Rattle.event_rows.specs.Tally.{counted}
 
 looked_at : (a b : Bool) (x y : Taken) (w : Option Taken) → cond a (Some x) (cond b (Some y) w) ≡ None → (a ≡ false) × (b ≡ false)
@@ -18,15 +18,15 @@ looked_at true b x y w h = absurd cc
 looked_at false true x y w h = absurd cc
 looked_at false false x y w h = (refl, refl)
 
-counts : (s : Contents) (e : Event) → only_counts s e ≡ None → (nat_le moments_end e.now ≡ false) × (nat_le most_tokens s.tokens ≡ false)
+counts : (s : Contents) (e : Event) → only_counts s e ≡ None → (nat_le moments_end e.now ≡ false) × (nat_le max_tokens s.tokens ≡ false)
 unfolding only_counts
-counts s e h = looked_at (nat_le moments_end e.now) (nat_le most_tokens s.tokens) _ _ _ h
+counts s e h = looked_at (nat_le moments_end e.now) (nat_le max_tokens s.tokens) _ _ _ h
 
 pub early : (s : Contents) (e : Event) → only_counts s e ≡ None → e.now < 2 ^ 60
 early s e h = leb-false moments_end e.now (counts s e h).0
 
 pub few : (s : Contents) (e : Event) → only_counts s e ≡ None → s.tokens < 2 ^ 63
-few s e h = leb-false most_tokens s.tokens (counts s e h).1
+few s e h = leb-false max_tokens s.tokens (counts s e h).1
 
 pub looked : (s : Contents) (e : Event) → only_counts s e ≡ None → row s e ≡ what_row (office s) (moment_at s e.now) e.salt e.what
 unfolding row

@@ -13,7 +13,7 @@ ghost use Rattle.event_rows.specs.State.{after_count, after_event, office};
 
 use crate::acks::keep;
 use crate::commit::{commit, enter, stop};
-use crate::timing::earlier;
+use crate::moments::earlier;
 use calls::{Calls, StandingCall};
 use event_plans::plan_event;
 use event_rows::Tally;

@@ -5,9 +5,9 @@
 mod acks;
 mod agent;
 mod commit;
-mod making;
+mod moments;
+mod new_agent;
 mod run;
-mod timing;
 
 pub use agent::Agent;
 pub use event_rows::{Rule, Tally};

@@ -4,7 +4,7 @@ use Rattle.std.specs.Prelude.{is_some}
 use Rattle.port_pool.specs.Pool.{Contents}
 use Rattle.sdp.specs.declared.description.Description.{Description}
 use Rattle.offer_answer.specs.Checks.{answer_fault}
-use Rattle.call_media.specs.declared.answering.PlannedAnswer.{PlannedAnswer}
+use Rattle.call_media.specs.declared.answer_plan.PlannedAnswer.{PlannedAnswer}
 use Rattle.call_media.specs.declared.session.OpenOffer.{OpenOffer}
 use Rattle.call_media.specs.Answers.{IsFit}
 use Rattle.call_core.specs.declared.call.Call.{Call}

@@ -10,7 +10,7 @@ use Rattle.call_media.specs.Serving.{Serves}
 use Rattle.call_media.specs.Versions.{none_sent}
 use Rattle.dialogs.specs.declared.method.Method.TheVariants.{Invite}
 use Rattle.dialogs.specs.declared.state.Dialog.{Dialog}
-use Rattle.dialogs.specs.Counting.{following, greatest_for, last_number}
+use Rattle.dialogs.specs.Counting.{following, max_for, last_number}
 use Rattle.call_core.specs.declared.call.Call.{Call}
 use Rattle.call_core.specs.declared.clash.Clash.{Clash}
 use Rattle.call_core.specs.declared.plan.Numbers.{Numbers}
@@ -87,7 +87,7 @@ number_to end c = option_map following (dialog_of end c)
 -- the last number of all is left for a BYE (RFC 3261 section 8.1.1.5)
 abbrev pub has_number_left : Option Dialog → Bool
 has_number_left None = true
-has_number_left (Some d) = nat_lt (last_number d) (greatest_for Invite)
+has_number_left (Some d) = nat_lt (last_number d) (max_for Invite)
 
 abbrev pub numbers_to : End → Option ℕ → Numbers
 numbers_to Caller number = record { to_caller = number; to_callee = None }

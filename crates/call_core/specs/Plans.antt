@@ -4,7 +4,7 @@ use Rattle.std.specs.List.{list_any}
 use Rattle.port_pool.specs.declared.changes.Change.{Change}
 use Rattle.port_pool.specs.Pool.{Contents, changes_of, with_changes, with_pairs, without_call, without_others}
 use Rattle.sdp.specs.declared.description.Description.{Description}
-use Rattle.call_media.specs.declared.answering.PlannedAnswer.{PlannedAnswer}
+use Rattle.call_media.specs.declared.answer_plan.PlannedAnswer.{PlannedAnswer}
 use Rattle.call_media.specs.declared.session.OpenOffer.{OpenOffer}
 use Rattle.call_media.specs.declared.state.CallMedia.{CallMedia}
 use Rattle.call_media.specs.Answers.{IsFit, session_planned, with_session}

@@ -11,7 +11,7 @@ use call_media::End;
 use std::alloc::{AllocError, Global};
 
 /// The stage of the first INVITE, or of one inside the call.
-fn waiting(inside: bool, interval: u64) -> Stage
+fn waiting_stage(inside: bool, interval: u64) -> Stage
     ensures { result ≡ waiting inside interval }
 {
     if inside {
@@ -33,7 +33,12 @@ fn repeats(
     let interval = twice_to_t2(interval);
     let again = Action::AnswerAgain(offerer);
     let set = Action::Set(CallTimer::Repeat, interval);
-    leads(alloc, &[again, set], offerer, waiting(inside, interval))
+    leads(
+        alloc,
+        &[again, set],
+        offerer,
+        waiting_stage(inside, interval),
+    )
 }
 
 #[tactic(auto, unfolding(crate::specs::Answered::answered_row))]

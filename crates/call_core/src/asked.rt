@@ -5,7 +5,7 @@ ghost use Rattle.call_core.specs.Asked.{asked_row, given_up, rings};
 ghost use Rattle.call_core.specs.Rows.{row};
 
 use crate::action::{Action, CallTimer};
-use crate::passing::status_passed_on;
+use crate::refusal_status::status_passed_on;
 use crate::row::{RINGING, Row, SHORT, T1, WAIT, ends, leads};
 use crate::signal::Signal;
 use crate::stage::Stage;

@@ -5,7 +5,7 @@ ghost use Rattle.call_core.specs.Reasked.{cancelled_inside, has_lost_the_call, l
 
 use crate::action::{Action, CallTimer};
 use crate::asked::rings;
-use crate::passing::status_passed_on;
+use crate::refusal_status::status_passed_on;
 use crate::row::{Row, SHORT, T1, WAIT, ends, leads};
 use crate::signal::Signal;
 use crate::stage::{Cancelled, Stage};

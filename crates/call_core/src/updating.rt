@@ -4,8 +4,8 @@ ghost use Rattle.std.specs.Prelude.{◌≡◌, IfOk, Some};
 ghost use Rattle.call_core.specs.Updating.{fails, update_refused, updating_row};
 
 use crate::action::Action;
-use crate::passing::status_passed_on;
 use crate::reasked::has_lost_the_call;
+use crate::refusal_status::status_passed_on;
 use crate::row::{Row, ends, leads};
 use crate::signal::Signal;
 use crate::stage::Stage;

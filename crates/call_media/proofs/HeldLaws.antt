@@ -3,7 +3,7 @@ use Rattle.std.proofs.Common.{◌≡◌, ◌≢◌, ◌==◌, ◌||◌, ◌∙�
 use Rattle.std.specs.Prelude.{is_some}
 use Rattle.std.specs.List.{list_all}
 use Rattle.std.proofs.lemmas.Bool.{and_parts, and_from, eqb-true, eq-eqb}
-use Rattle.port_pool.specs.Limits.{least_port}
+use Rattle.port_pool.specs.Limits.{min_port}
 use Rattle.port_pool.specs.declared.hop.Hop.{Hop}
 use Rattle.port_pool.specs.declared.pair.Pair.{Pair}
 use Rattle.port_pool.specs.Holdings.{LeadsPair, even_of, holder_at, holder_of, is_among, is_call}
@@ -19,7 +19,7 @@ use Rattle.call_media.proofs.SeatLaws.{imply}
 pub even_itself : (n : ℕ) → is_even n ≡ true → even_of n ≡ n
 even_itself n h = let even : n % 2 ≡ 0 = eqb-true (n % 2) 0 h in omega (arith, even)
 
-pub not_zero : (n : ℕ) → least_port ≤ n → is_port n ≡ true
+pub not_zero : (n : ℕ) → min_port ≤ n → is_port n ≡ true
 not_zero n h = step (n == 0) refl where
   step : (b : Bool) → (n == 0) ≡ b → not b ≡ true
   step true e = let zero : n ≡ 0 = eqb-true n 0 e in absurd (omega (arith, zero, h))

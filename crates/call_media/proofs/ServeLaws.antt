@@ -19,7 +19,7 @@ use Rattle.call_media.specs.declared.seat.Seat.{Seat}
 use Rattle.call_media.specs.declared.session.OpenOffer.{OpenOffer}
 use Rattle.call_media.specs.declared.session.Session.{Session}
 use Rattle.call_media.specs.declared.state.CallMedia.{CallMedia}
-use Rattle.call_media.specs.declared.offering.PlannedOffer.{PlannedOffer}
+use Rattle.call_media.specs.declared.offer_plan.PlannedOffer.{PlannedOffer}
 use Rattle.call_media.specs.Seats.{are_seated, pairs_of, port_to_answerer, port_to_offerer}
 use Rattle.call_media.specs.Sessions.{pairs_listed, pairs_of_session}
 use Rattle.call_media.specs.Offers.{IsPassedOn, IsReady, is_own_or_fresh, is_port, with_offer, without_offer}

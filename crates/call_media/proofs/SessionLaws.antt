@@ -5,7 +5,7 @@ use Rattle.port_pool.specs.Holdings.{even_of, holder_at, is_call}
 use Rattle.port_pool.specs.Pool.{AreBareBut, Contents, is_port_of, with_changes}
 use Rattle.call_media.specs.declared.session.OpenOffer.{OpenOffer}
 use Rattle.call_media.specs.declared.state.CallMedia.{CallMedia}
-use Rattle.call_media.specs.declared.answering.PlannedAnswer.{PlannedAnswer}
+use Rattle.call_media.specs.declared.answer_plan.PlannedAnswer.{PlannedAnswer}
 use Rattle.call_media.specs.Answers.{IsFit, session_planned, with_session}
 use Rattle.call_media.specs.Offers.{ended}
 use Rattle.call_media.specs.Seats.{evens, stands_in}

@@ -17,7 +17,7 @@ use Rattle.call_media.specs.declared.session.SessionRows.{SessionRows}
 use Rattle.call_media.specs.declared.refusal.AnswerRefusal.{AnswerRefusal}
 use Rattle.call_media.specs.declared.refusal.AnswerRefusal.TheVariants.{OutOfMemory, Unfit}
 use Rattle.call_media.specs.declared.state.CallMedia.{CallMedia}
-use Rattle.call_media.specs.declared.answering.PlannedAnswer.{PlannedAnswer}
+use Rattle.call_media.specs.declared.answer_plan.PlannedAnswer.{PlannedAnswer}
 use Rattle.call_media.specs.Seats.{pairs_at, port_to_offerer}
 use Rattle.call_media.specs.Sessions.{pairs_of_session}
 use Rattle.call_media.specs.Serving.{are_held}

@@ -18,7 +18,7 @@ use Rattle.call_media.specs.declared.session.OpenOffer.{OpenOffer}
 use Rattle.call_media.specs.declared.refusal.OfferRefusal.{OfferRefusal}
 use Rattle.call_media.specs.declared.refusal.OfferRefusal.TheVariants.{OutOfMemory, Unfit, NoPorts}
 use Rattle.call_media.specs.declared.state.CallMedia.{CallMedia}
-use Rattle.call_media.specs.declared.offering.PlannedOffer.{PlannedOffer}
+use Rattle.call_media.specs.declared.offer_plan.PlannedOffer.{PlannedOffer}
 use Rattle.call_media.specs.Ends.{other, is_same}
 use Rattle.call_media.specs.Seats.{are_seated, pairs_needed, pairs_of, port_to_answerer, seated}
 use Rattle.call_media.specs.Sessions.{previous, seats_kept}

@@ -2,26 +2,26 @@
 //! or sockets.
 #![tactic(auto)]
 
-mod answering;
-mod changing;
+mod answer_plan;
+mod changes;
 mod end;
 mod laws;
-mod offering;
+mod offer_plan;
 mod previous;
 mod refusal;
 mod seat;
-mod seating;
+mod seats;
 mod session;
 mod state;
 mod versions;
 
-pub use answering::PlannedAnswer;
+pub use answer_plan::PlannedAnswer;
 pub use end::End;
 pub use laws::{seats_are_apart, session_is_direct, spared_call_serves};
-pub use offering::PlannedOffer;
+pub use offer_plan::PlannedOffer;
 pub use refusal::{AnswerRefusal, OfferRefusal};
 pub use seat::Seat;
-pub use seating::{pairs_needed, ports_to_answerer, ports_to_offerer, seated, seats_in_use};
+pub use seats::{pairs_needed, ports_to_answerer, ports_to_offerer, seat_media, seats_in_use};
 pub use session::{OpenOffer, Pairs, Seats, Session, SessionRows};
 pub use state::CallMedia;
 pub use versions::Versions;

@@ -7,7 +7,7 @@ ghost use Rattle.call_media.specs.Sessions.{pairs_listed, previous, seats_kept, 
 
 use crate::end::End;
 use crate::seat::Seat;
-use crate::seating::seats_in_use;
+use crate::seats::seats_in_use;
 use crate::session::Session;
 use port_pool::Pair;
 use sdp::Description;

@@ -16,7 +16,7 @@ use Rattle.sdp.specs.Writing.{description_text}
 use Rattle.dialogs.specs.declared.method.Method.{Method}
 use Rattle.dialogs.specs.declared.method.Method.TheVariants.{Bye}
 use Rattle.dialogs.specs.declared.state.Dialog.{Dialog}
-use Rattle.dialogs.specs.Counting.{following, greatest_for, last_number, method_text}
+use Rattle.dialogs.specs.Counting.{following, max_for, last_number, method_text}
 use Rattle.dialogs.specs.Making.{party_named}
 use Rattle.dialogs.specs.Requests.{ack_text, request_in}
 use Rattle.responses.specs.Responding.{responds}
@@ -96,7 +96,7 @@ new_leg server caller target token tag = record {
 -- the next request in a dialog, where a number is left
 abbrev pub next_request : Dialog → Method → Via → ℕ → List Header → List ℕ → Option Request
 next_request d method via hops further body =
-    if nat_lt (last_number d) (greatest_for method) then Some (request_in d via (method_text method) (following d) hops further body) else None
+    if nat_lt (last_number d) (max_for method) then Some (request_in d via (method_text method) (following d) hops further body) else None
 
 -- a request that is passed on (section 16.6)
 abbrev pub one_hop_less : ℕ → ℕ

@@ -3,19 +3,19 @@
 //! which ports are free.
 #![tactic(auto)]
 
-mod beginning;
-mod dressed;
-mod dressing;
+mod action_messages;
+mod callee_leg;
+mod dress_result;
+mod end_responses;
 mod fields;
+mod one_action;
 mod requests;
-mod responding;
-mod saying;
 mod scene;
 
-pub use beginning::new_leg;
-pub use dressed::Dressed;
+pub use callee_leg::new_leg;
+pub use dress_result::Dressed;
+pub use end_responses::{answer, okay, provisional, refusal, retry_later, trying};
 pub use fields::{contact_header, retry_alone};
+pub use one_action::Saying;
 pub use requests::{ack, bye, offer};
-pub use responding::{answer, okay, provisional, refusal, retry_later, trying};
-pub use saying::Saying;
 pub use scene::{Asker, Scene};

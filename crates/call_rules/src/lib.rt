@@ -3,13 +3,13 @@
 #![tactic(auto)]
 
 mod content;
+mod methods;
 mod offers;
 mod reach;
 mod requests;
 mod responses;
-mod speaking;
 
-pub use content::{ContentRule, content_rule, described};
+pub use content::{ContentRule, content_rule, description_in};
 pub use offers::{OfferRule, offer_rule, plain_rule};
 pub use reach::{contact_address, is_reached, is_unreachable};
 pub use requests::{DialogRule, dialog_rule, with_remote_number};

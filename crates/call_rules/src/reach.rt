@@ -4,7 +4,7 @@ ghost use Rattle.std.specs.Prelude.{◌≡◌, IfOk};
 ghost use Rattle.sip_message.specs.Contact.{contacts_of};
 ghost use Rattle.call_rules.specs.Reach.{address_in, contact_address, is_lost, is_reached, is_unreachable, leaves_unreached};
 
-use crate::speaking::{is_invite, is_success, is_update};
+use crate::methods::{is_invite, is_success, is_update};
 use sip_message::{ContactValue, Parts, Response, contact_values};
 use sip_uri::{Addr, address_of};
 use std::alloc::{AllocError, Global};

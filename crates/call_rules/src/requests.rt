@@ -7,7 +7,7 @@ ghost use Rattle.call_media.specs.declared.end.End.TheVariants.{Callee};
 ghost use Rattle.calls.specs.Finding.{place_by_end};
 ghost use Rattle.call_rules.specs.Requests.{NamesCall, counted_rule, dialog_rule, has_left, in_call, in_dialog, left_in, of_callee, with_remote_number};
 
-use crate::speaking::{is_bye, is_offer};
+use crate::methods::{is_bye, is_offer};
 use call_core::{End, Stage, Standing};
 use calls::{Calls, StandingCall};
 use dialogs::Dialog;

@@ -9,7 +9,7 @@ ghost use Rattle.calls.specs.Finding.{is_text, place_by_tag};
 ghost use Rattle.call_rules.specs.Places.{StandsIfAny};
 ghost use Rattle.call_rules.specs.Responses.{NamesCall, asked_end, asked_place, at_place, awaits_final, callless_rule, further_rule, gone_rule, has_their_tag, in_call, is_cancelling, is_first, is_first_to, is_last_in, is_of_known_dialog, is_open, is_open_at, is_open_in, late_rule, open_at, open_rule, place_if_open, response_rule, timeout_rule};
 
-use crate::speaking::{is_acknowledged, may_offer};
+use crate::methods::{is_acknowledged, may_offer};
 use call_core::{End, Stage, Standing};
 use calls::{Calls, StandingCall};
 use dialogs::Dialog;

@@ -15,7 +15,7 @@ use Rattle.call_messages.specs.declared.scene.Asker.{Asker}
 use Rattle.call_messages.specs.declared.scene.Scene.{Scene}
 use Rattle.call_messages.specs.Dressed.{Dressed}
 use Rattle.call_messages.specs.Dressing.{dressed}
-use Rattle.call_steps.specs.declared.coming.Coming.{Coming}
+use Rattle.call_steps.specs.declared.arrival.Coming.{Coming}
 
 -- a request of an end's, which waits for a response of the server's: the number of its transaction, where it came from, and the
 -- tag that To has in its responses

@@ -2,24 +2,24 @@
 //! planned with nothing changed. Nothing here knows of the order of checks, of bytes that came or of sockets.
 #![tactic(auto)]
 
-mod answering;
-mod beginning;
+mod answer_dialog;
+mod arrival;
 mod call_step;
-mod coming;
-mod counting;
-mod forking;
+mod forks;
+mod inputs;
+mod later_offers;
 mod messages;
+mod new_call;
+mod numbers;
 mod occasion;
-mod offering;
 mod scene;
-mod taking;
 
-pub use answering::answers_leg;
-pub use beginning::first_call;
+pub use answer_dialog::answers_leg;
 pub use call_step::CallStep;
-pub use counting::{counts, refreshes};
-pub use forking::{fork, late_ack};
+pub use forks::{fork, late_ack};
+pub use inputs::takes;
+pub use later_offers::offers;
+pub use new_call::first_call;
+pub use numbers::{counts, refreshes};
 pub use occasion::Occasion;
-pub use offering::offers;
 pub use scene::offerer_tag;
-pub use taking::takes;

@@ -25,7 +25,7 @@ pub struct Occasion {
 }
 
 impl Occasion {
-    /// The token that is so many-th of those that this step makes.
+    /// The nth token of this step.
     pub(crate) fn fresh(self, alloc: Global, nth: u64) -> Result<Text<'static>, AllocError>
         requires { self.tokens + nth < 2 ^ 64 }
         ensures { IfOk result (λ t. t ≡ fresh self nth) }

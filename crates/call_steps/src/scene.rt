@@ -10,7 +10,7 @@ ghost use Rattle.call_steps.specs.Rows.{messages_of};
 ghost use Rattle.call_steps.specs.Scenes.{asker_by, asker_in, at_id, dialog_in, offerer_tag, passed_id, scene, tag_or, tag_to, tag_with};
 ghost use Rattle.call_steps.specs.Values.{asker_value, coming_value, scene_value};
 
-use crate::coming::Coming;
+use crate::arrival::Coming;
 use crate::messages::{StepMessages, messages};
 use crate::occasion::Occasion;
 use call_core::{Call, End, Plan};
@@ -148,21 +148,21 @@ fn asker_again<'s, 'a>(asker: &'s Option<Asker<'_, 'a>>) -> Option<Asker<'s, 'a>
 /// What the messages of a plan are dressed with, where this INVITE was passed on and still waits for a final response.
 fn scene<'m, 'a>(
     table: &'m Table,
-    o: Occasion,
+    occasion: Occasion,
     coming: &'m Coming<'_, 'a>,
     call: &'m StandingCall,
     description: Option<&'m Description<'a>>,
     passed: Option<usize>,
 ) -> Scene<'m, 'a>
     requires passed { passed ≡ passed_id table.now call.now }
-    ensures scene { scene_value result ≡ scene table.now o (coming_value coming.now) call.now (option_copied description.entry) }
-    ensures tokens { result.tokens ≡ o.tokens }
+    ensures scene { scene_value result ≡ scene table.now occasion (coming_value coming.now) call.now (option_copied description.entry) }
+    ensures tokens { result.tokens ≡ occasion.tokens }
 {
     let leg = coming.leg.as_ref();
     Scene {
-        server: o.server,
-        salt: o.salt,
-        tokens: o.tokens,
+        server: occasion.server,
+        salt: occasion.salt,
+        tokens: occasion.tokens,
         offer: asker_in(
             asker_again(&coming.offer),
             call,
@@ -182,17 +182,24 @@ fn scene<'m, 'a>(
 pub(crate) fn messages_of(
     alloc: Global,
     table: &Table,
-    o: Occasion,
+    occasion: Occasion,
     coming: &Coming<'_, '_>,
     call: &StandingCall,
     plan: &Plan,
 ) -> Result<StepMessages, AllocError>
-    requires few { o.tokens ≤ 2 ^ 63 }
-    ensures messages { (pool : Contents) (now : ℕ) → IfOk result (λ m. m ≡ messages_of table.now o (coming_value coming.now) call.now
+    requires few { occasion.tokens ≤ 2 ^ 63 }
+    ensures messages { (pool : Contents) (now : ℕ) → IfOk result (λ m. m ≡ messages_of table.now occasion (coming_value coming.now) call.now
         (carried call.now.call pool now plan.now)) }
     ensures few { IfOk result (λ m. m.dressed.made ≤ length plan.now.actions) }
 {
     let passed = passed_id(table, call);
-    let scene = scene(table, o, coming, call, plan.media.description(), passed);
+    let scene = scene(
+        table,
+        occasion,
+        coming,
+        call,
+        plan.media.description(),
+        passed,
+    );
     messages(alloc, &scene, passed, plan.actions.as_slice())
 }

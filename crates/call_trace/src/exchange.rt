@@ -8,7 +8,7 @@ ghost use Rattle.call_trace.specs.Places.{HoldsAt};
 use crate::datagram::{Datagram, Dialog, Message};
 use crate::dialogs::names;
 use crate::kinds::{is_answer, is_final, is_offer, is_taken};
-use crate::replying::is_reply;
+use crate::reply_words::is_reply;
 use crate::search::is_last_at;
 use text::{Text, Texts};
 

@@ -5,31 +5,31 @@
 #![tactic(auto)]
 
 mod call;
-mod calling;
+mod calls;
 mod datagram;
+mod dialog_laws;
 mod dialogs;
 mod exchange;
 mod kinds;
-mod knowing;
-mod lasting;
+mod last_exchanges;
 mod laws;
 mod lives;
-mod moving;
+mod move_laws;
 mod offers;
-mod passing;
-mod replying;
+mod pass_on;
+mod reply_words;
 mod search;
 
 pub use call::{Call, Offer, Session, Settled, Stage};
-pub use calling::is_call;
+pub use calls::is_call;
 pub use datagram::{Datagram, Dialog, Direction, Kind, Message};
+pub use dialog_laws::{calls_are_spared, dialogs_are_known};
 pub use dialogs::{dialog_of, is_named};
 pub use exchange::{Places, is_exchange, is_last};
-pub use knowing::{calls_are_spared, dialogs_are_known};
-pub use lasting::are_last;
+pub use last_exchanges::are_last;
 pub use laws::{calls_stay, exchanges_stay, relayed_is_promised};
 pub use lives::{has_begun, has_ended, is_live};
-pub use moving::{calls_are_moves, moves_are_promised, moves_keep, standing_is_promised};
+pub use move_laws::{calls_are_moves, moves_are_promised, moves_keep, standing_is_promised};
 pub use offers::is_open;
-pub use passing::{are_passed_together, is_passed_on};
-pub use replying::replies;
+pub use pass_on::{are_passed_together, is_passed_on};
+pub use reply_words::replies;

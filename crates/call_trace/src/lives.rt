@@ -7,7 +7,7 @@ ghost use Rattle.call_trace.specs.Computed.{is_sent_in, is_accepted, invites_wit
 use crate::datagram::{Datagram, Dialog};
 use crate::dialogs::names;
 use crate::kinds::{ACK, BYE, INVITE, accepts, is_ok, is_request_of, is_taken};
-use crate::replying::is_reply;
+use crate::reply_words::is_reply;
 use text::Text;
 
 /// Whether this was sent in the dialog.

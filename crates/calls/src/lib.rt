@@ -4,15 +4,15 @@
 #![tactic(auto)]
 
 mod beside;
-mod carrying;
+mod call_timers;
+mod carry_out;
 mod change;
-mod entering;
-mod finding;
+mod entry;
+mod lookup;
 mod standing_call;
 mod state;
 mod tags;
 mod timer_id;
-mod timing;
 
 pub use change::{Beside, CallChange, LegDialog};
 pub use standing_call::{OfferRequest, StandingCall, TakenOffer, offerer_of};

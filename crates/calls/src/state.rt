@@ -2,7 +2,7 @@
 
 ghost use Rattle.std.specs.Prelude.{◌≡◌, ◌+◌, ◌<◌, ◌≤◌, ◌*◌, ◌%◌, ℕ, [], IfOk, IfSome, false, slice_get};
 ghost use Rattle.std.specs.Option.{option_copied};
-ghost use Rattle.port_pool.specs.Limits.{least_port, last_port, most_pairs};
+ghost use Rattle.port_pool.specs.Limits.{min_port, last_port, max_pairs};
 ghost use Rattle.port_pool.specs.Pool.{is_port_of, new_pool};
 ghost use Rattle.call_core.specs.Calls.{IsServed};
 
@@ -69,9 +69,9 @@ impl Calls {
     /// key. No answer depends on the key.
     pub fn new(alloc: Global, key: PrintKey, first: u16, pairs: u16) -> Result<Calls, AllocError>
         requires even { first % 2 ≡ 0 }
-        requires least { least_port ≤ first }
+        requires least { min_port ≤ first }
         requires some { 1 ≤ pairs }
-        requires most { pairs ≤ most_pairs }
+        requires most { pairs ≤ max_pairs }
         requires last { first + 2 * pairs ≤ last_port + 1 }
         ensures calls { IfOk result (λ c. c.calls ≡ []) }
         ensures pool { IfOk result (λ c. c.pool ≡ new_pool first pairs) }

@@ -5,7 +5,7 @@ use Rattle.std.specs.Result.{result_ok}
 use Rattle.toml.specs.Data.{Data, Items, no_items, item, Members, no_members, member, as_integer, as_str, as_array, get_member}
 use Rattle.hex.specs.Hex.{decode_sized}
 use Rattle.sip_uri.specs.Hosts.{ip4_of}
-use Rattle.configuration.specs.Limits.{most_workers, usual_workers}
+use Rattle.configuration.specs.Limits.{max_workers, usual_workers}
 use Rattle.configuration.specs.declared.config.Config.{Config}
 use Rattle.configuration.specs.declared.numbers.Numbers.{Numbers}
 
@@ -46,7 +46,7 @@ abbrev pub seconds_of : ℤ → ℕ
 seconds_of z = fitting 4294967295 z
 
 abbrev pub few : ℕ → Option ℕ
-few n = if nat_le 1 n && nat_le n most_workers then Some n else None
+few n = if nat_le 1 n && nat_le n max_workers then Some n else None
 
 -- 1 to 8 workers
 abbrev pub workers_in : Data → Option ℕ

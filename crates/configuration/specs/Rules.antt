@@ -3,7 +3,7 @@ use Rattle.std.specs.Prelude.{◌≡◌, ◌≢◌, ◌==◌, ◌≤◌, ℕ, �
 use Rattle.std.specs.List.{list_all}
 use Rattle.text.specs.Class.{passes_if_there}
 use Rattle.registrar.specs.Registering.{are_distinct}
-use Rattle.configuration.specs.Limits.{least_relay_port, most_relay_pairs, all_ports, most_users, most_min_expires}
+use Rattle.configuration.specs.Limits.{min_relay_port, max_relay_pairs, all_ports, max_users, max_min_expires}
 use Rattle.configuration.specs.Names.{is_user, is_domain}
 use Rattle.configuration.specs.declared.config.Config.{Config}
 use Rattle.configuration.specs.declared.error.ConfigError.{ConfigError}
@@ -25,7 +25,7 @@ has_room_for_ports c = nat_le (relay_end c) all_ports
 -- an even first port, 1024 or above; 1 to 2,048 pairs; no port above 65535; the port for SIP is none of them
 unfoldable pub has_relay_ports : Config → Bool
 has_relay_ports c =
-    c.relay_first % 2 == 0 && nat_le least_relay_port c.relay_first && nat_le 1 c.relay_pairs && nat_le c.relay_pairs most_relay_pairs
+    c.relay_first % 2 == 0 && nat_le min_relay_port c.relay_first && nat_le 1 c.relay_pairs && nat_le c.relay_pairs max_relay_pairs
     && has_room_for_ports c && not (is_relay_port c c.sip_port)
 
 -- ---- where the server is
@@ -41,10 +41,10 @@ has_address c = is_server_address c.ip && not (c.sip_port == 0)
 
 -- 1 to 1,000 users, each of them well formed, none twice
 unfoldable pub has_users : Config → Bool
-has_users c = nat_le 1 (length c.users) && nat_le (length c.users) most_users && list_all is_user c.users && are_distinct c.users
+has_users c = nat_le 1 (length c.users) && nat_le (length c.users) max_users && list_all is_user c.users && are_distinct c.users
 
 unfoldable pub has_lifetime : Config → Bool
-has_lifetime c = nat_le 1 c.min_expires && nat_le c.min_expires most_min_expires
+has_lifetime c = nat_le 1 c.min_expires && nat_le c.min_expires max_min_expires
 
 -- ---- the domain
 
@@ -70,9 +70,9 @@ first_broken c =
 -- What a configuration that keeps the rules has.
 pub record KeepsRules (c : Config) : Type 0 where
   pub even : c.relay_first % 2 ≡ 0
-  pub least : least_relay_port ≤ c.relay_first
+  pub least : min_relay_port ≤ c.relay_first
   pub some_pairs : 1 ≤ c.relay_pairs
-  pub most_pairs : c.relay_pairs ≤ most_relay_pairs
+  pub max_pairs : c.relay_pairs ≤ max_relay_pairs
   pub last : c.relay_first + 2 * c.relay_pairs ≤ all_ports
   pub apart : IsTrue (not (is_relay_port c c.sip_port))
   pub address : IsTrue (is_server_address c.ip)
@@ -80,9 +80,9 @@ pub record KeepsRules (c : Config) : Type 0 where
   pub unicast : IsTrue (nat_lt (slice_index c.ip 0) 224)
   pub port : 1 ≤ c.sip_port
   pub some_users : 1 ≤ length c.users
-  pub room : length c.users ≤ most_users
+  pub room : length c.users ≤ max_users
   pub formed : IsTrue (list_all is_user c.users)
   pub distinct : IsTrue (are_distinct c.users)
   pub least_lifetime : 1 ≤ c.min_expires
-  pub bounded_lifetime : c.min_expires ≤ most_min_expires
+  pub bounded_lifetime : c.min_expires ≤ max_min_expires
   pub domain : IsTrue (passes_if_there is_domain c.domain)

@@ -9,12 +9,12 @@ mod example;
 mod fields;
 mod names;
 mod numbers;
-mod reading;
+mod read;
 mod rules;
 mod tables;
 
 pub use config::Config;
 pub use error::ConfigError;
 pub use example::example_config;
-pub use reading::read_config;
+pub use read::read_config;
 pub use rules::check;

@@ -1,6 +1,6 @@
 -- The order of a dialog's requests (RFC 3261 sections 12.2.1.1 and 12.2.2).
 use Rattle.std.specs.Prelude.{ℕ, ◌+◌, ◌-◌, ◌<◌, ◌≤◌, Bool, true, nat_lt, List, codes, Option, Some, None, unwrap_or}
-use Rattle.sip_message.specs.CSeq.{greatest_number}
+use Rattle.sip_message.specs.CSeq.{max_cseq}
 use Rattle.dialogs.specs.declared.error.DialogError.{DialogError}
 use Rattle.dialogs.specs.declared.error.DialogError.TheVariants.{OutOfMemory, OldNumber, NoNumberLeft}
 use Rattle.dialogs.specs.declared.method.Method.{Method}
@@ -45,19 +45,19 @@ abbrev pub following : Dialog → ℕ
 following d = last_number d + 1
 
 -- the greatest number of all (section 8.1.1.5) is left for a BYE, so that a dialog can always be ended
-abbrev pub greatest_for : Method → ℕ
-greatest_for Invite = greatest_number - 1
-greatest_for Update = greatest_number - 1
-greatest_for Bye = greatest_number
+abbrev pub max_for : Method → ℕ
+max_for Invite = max_cseq - 1
+max_for Update = max_cseq - 1
+max_for Bye = max_cseq
 
 -- why there is no number for a new request
 abbrev pub RefusesNumber : Dialog → Method → DialogError → Type 0
 RefusesNumber d method OutOfMemory = ⊥
 RefusesNumber d method OldNumber = ⊥
-RefusesNumber d method NoNumberLeft = greatest_for method ≤ last_number d
+RefusesNumber d method NoNumberLeft = max_for method ≤ last_number d
 
 -- why there is no new request
 abbrev pub RefusesNext : Dialog → Method → DialogError → Type 0
 RefusesNext d method OutOfMemory = Unit {0}
 RefusesNext d method OldNumber = ⊥
-RefusesNext d method NoNumberLeft = greatest_for method ≤ last_number d
+RefusesNext d method NoNumberLeft = max_for method ≤ last_number d

@@ -9,10 +9,10 @@ use Rattle.sip_message.specs.declared.message.Request.{Request}
 use Rattle.sip_message.specs.declared.start.Start.TheVariants.{Asking}
 use Rattle.sip_message.specs.declared.via.Via.{Via}
 use Rattle.sip_message.specs.Contact.{contacts_of, contact_need}
-use Rattle.sip_message.specs.CSeq.{greatest_number}
+use Rattle.sip_message.specs.CSeq.{max_cseq}
 use Rattle.sip_message.specs.Grammar.{SaysContact, SaysType}
 use Rattle.sip_message.specs.Lookup.{values_named}
-use Rattle.sip_message.specs.ContentLength.{greatest_length}
+use Rattle.sip_message.specs.ContentLength.{max_content_length}
 use Rattle.sip_message.specs.Written.{is_written}
 use Rattle.sip_writing.specs.Requests.{name_with_tag, cseq_text, headers_with, IsReadVia, is_further}
 use Rattle.dialogs.specs.declared.state.Dialog.{Dialog}
@@ -53,11 +53,11 @@ ack_text = codes "ACK"
 
 -- what a request of this method and number may have besides what the dialog says, so that it is read again
 pub record MayHave (d : Dialog) (via : Via) (method : List ℕ) (number : ℕ) (further : List Header) (body : List ℕ) : Type 0 where
-  pub low : number ≤ greatest_number
+  pub low : number ≤ max_cseq
   pub read_via : IsReadVia via
   pub all_written : IsTrue (list_all is_written further)
   pub all_further : IsTrue (list_all is_further further)
   -- an INVITE needs a Contact, and an UPDATE may have one (section 8.1.1.8, RFC 3311 section 4)
   pub contact : SaysContact (contact_need (Asking (record { method = method; uri = d.target })) method) (contacts_of further)
   pub content_type : SaysType (values_named (codes "Content-Type") further)
-  pub small : length body ≤ greatest_length
+  pub small : length body ≤ max_content_length

@@ -4,13 +4,13 @@
 
 mod contact;
 mod copies;
-mod counting;
+mod creation;
 mod error;
 mod identifiers;
 mod laws;
-mod making;
 mod method;
 mod requests;
+mod sequence;
 mod state;
 
 pub use contact::contact_uri;

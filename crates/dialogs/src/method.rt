@@ -11,7 +11,7 @@ pub enum Method {
 
 impl Method {
     ghost use Rattle.std.specs.Prelude.{◌≡◌};
-    ghost use Rattle.dialogs.specs.Counting.{method_text, greatest_for};
+    ghost use Rattle.dialogs.specs.Counting.{method_text, max_for};
 
     /// The method as it is written. Takes no memory.
     pub fn as_bytes(self) -> &'static [u8]
@@ -25,8 +25,8 @@ impl Method {
     }
 
     /// The greatest number that a new request of this method may have.
-    pub(crate) fn greatest_number(self) -> u32
-        ensures { result ≡ greatest_for self }
+    pub(crate) fn max_cseq(self) -> u32
+        ensures { result ≡ max_for self }
     {
         match self {
             Method::Bye => 2_147_483_647,

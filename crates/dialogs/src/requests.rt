@@ -3,7 +3,7 @@
 ghost use Rattle.std.specs.Prelude.{◌≡◌, ◌≤◌, OnOk, IfOk, IfErr};
 ghost use Rattle.sip_message.specs.declared.message.Message.TheVariants as Kinds;
 ghost use Rattle.sip_writing.specs.Writing.{message_text};
-ghost use Rattle.dialogs.specs.Counting.{method_text, following, greatest_for, RefusesNext};
+ghost use Rattle.dialogs.specs.Counting.{method_text, following, max_for, RefusesNext};
 ghost use Rattle.sip_writing.specs.Unkept.{end_name};
 ghost use Rattle.dialogs.specs.Requests.{ack_text, our_name, parts_in, request_in, their_name};
 
@@ -94,7 +94,7 @@ impl Dialog {
         extras: &Extras<'_, '_>,
     ) -> Result<NextRequest, DialogError>
         ensures number { IfOk result (λ next. next.number ≡ following self.now) }
-        ensures left { OnOk result (following self.now ≤ greatest_for method) }
+        ensures left { OnOk result (following self.now ≤ max_for method) }
         ensures parts { IfOk result (λ next. next.parts ≡ parts_in self.now extras.now.via.now (method_text method) (following self.now)) }
         ensures bytes { IfOk result (λ next. next.bytes ≡ message_text (Kinds.Request (request_in self.now extras.now.via.now (method_text method)
             (following self.now) extras.now.max_forwards extras.now.further.now extras.now.body.now))) }

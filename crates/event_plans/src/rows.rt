@@ -48,20 +48,22 @@ fn parts_of<'m, 'a>(message: &'m Message<'a>) -> &'m Parts<'a>
 #[inline(never)]
 fn rule_row(
     office: &Office<'_>,
-    e: Setting,
+    setting: Setting,
     request: &Request<'_>,
     begun: Vec<Change>,
     id: usize,
     rule: Rule,
 ) -> Result<Doing, AllocError>
-    requires early { e.now < 2 ^ 60 }
+    requires early { setting.now < 2 ^ 60 }
     requires few { office.now.tokens < 2 ^ 63 }
-    ensures row { IfOk result (λ d. effect office.now.calls office.now.acks e.now d ≡ rule_row office.now e request.now begun.items id rule) }
-    ensures fits { IfOk result (Fits office.now.calls e.now) }
+    ensures row { IfOk result (λ d. effect office.now.calls office.now.acks setting.now d ≡ rule_row office.now setting request.now begun.items id rule) }
+    ensures fits { IfOk result (Fits office.now.calls setting.now) }
 {
     match rule {
-        Rule::Alone(reply) => Ok(Doing::alone(office.reply_row(e, request, begun, id, reply)?)),
-        Rule::Call(rule) => office.call_row(e, request, begun, id, rule),
+        Rule::Alone(reply) => Ok(Doing::alone(office.reply_row(
+            setting, request, begun, id, reply,
+        )?)),
+        Rule::Call(rule) => office.call_row(setting, request, begun, id, rule),
     }
 }
 
@@ -69,18 +71,18 @@ fn rule_row(
 #[inline(never)]
 fn ruled_row(
     office: &Office<'_>,
-    e: Setting,
+    setting: Setting,
     request: &Request<'_>,
     begun: Vec<Change>,
     id: usize,
 ) -> Result<Doing, AllocError>
-    requires early { e.now < 2 ^ 60 }
+    requires early { setting.now < 2 ^ 60 }
     requires few { office.now.tokens < 2 ^ 63 }
-    ensures row { IfOk result (λ d. effect office.now.calls office.now.acks e.now d ≡ rule_row office.now e request.now begun.items id (request_rule office.now request.now e.now)) }
-    ensures fits { IfOk result (Fits office.now.calls e.now) }
+    ensures row { IfOk result (λ d. effect office.now.calls office.now.acks setting.now d ≡ rule_row office.now setting request.now begun.items id (request_rule office.now request.now setting.now)) }
+    ensures fits { IfOk result (Fits office.now.calls setting.now) }
 {
-    let rule = request_rule(office, request, e.now)?;
-    rule_row(office, e, request, begun, id, rule)
+    let rule = request_rule(office, request, setting.now)?;
+    rule_row(office, setting, request, begun, id, rule)
 }
 
 /// What a request comes to, by what the transactions say of it.
@@ -88,23 +90,23 @@ fn ruled_row(
 #[inline(never)]
 fn request_by(
     office: &Office<'_>,
-    e: Setting,
+    setting: Setting,
     request: &Request<'_>,
     begun: Vec<Change>,
     verdict: Verdict,
     send: Option<Outgoing>,
 ) -> Result<Doing, AllocError>
-    requires early { e.now < 2 ^ 60 }
+    requires early { setting.now < 2 ^ 60 }
     requires few { office.now.tokens < 2 ^ 63 }
-    ensures row { IfOk result (λ d. effect office.now.calls office.now.acks e.now d ≡ request_by office.now e request.now begun.items verdict send) }
-    ensures fits { IfOk result (Fits office.now.calls e.now) }
+    ensures row { IfOk result (λ d. effect office.now.calls office.now.acks setting.now d ≡ request_by office.now setting request.now begun.items verdict send) }
+    ensures fits { IfOk result (Fits office.now.calls setting.now) }
 {
     match verdict {
-        Verdict::New(id) => ruled_row(office, e, request, begun, id),
+        Verdict::New(id) => ruled_row(office, setting, request, begun, id),
         Verdict::Repeat => office.moves_row(begun, send),
         Verdict::Swallowed => office.moves_row(begun, send),
-        Verdict::Up(_) => office.ack_row(e, request, begun),
-        Verdict::Stray => office.ack_row(e, request, begun),
+        Verdict::Up(_) => office.ack_row(setting, request, begun),
+        Verdict::Stray => office.ack_row(setting, request, begun),
     }
 }
 
@@ -113,22 +115,22 @@ fn request_by(
 #[inline(never)]
 fn response_by(
     office: &Office<'_>,
-    e: Setting,
+    setting: Setting,
     response: &Response<'_>,
     begun: Vec<Change>,
     verdict: Verdict,
     send: Option<Outgoing>,
 ) -> Result<Doing, AllocError>
-    requires early { e.now < 2 ^ 60 }
+    requires early { setting.now < 2 ^ 60 }
     requires few { office.now.tokens < 2 ^ 63 }
-    ensures row { IfOk result (λ d. effect office.now.calls office.now.acks e.now d ≡ response_by office.now e response.now begun.items verdict send) }
-    ensures fits { IfOk result (Fits office.now.calls e.now) }
+    ensures row { IfOk result (λ d. effect office.now.calls office.now.acks setting.now d ≡ response_by office.now setting response.now begun.items verdict send) }
+    ensures fits { IfOk result (Fits office.now.calls setting.now) }
 {
     match verdict {
         Verdict::New(_) => Ok(office.drops_row(Taken::Dropped(Why::Stray))),
         Verdict::Repeat => office.moves_row(begun, send),
         Verdict::Swallowed => office.moves_row(begun, send),
-        Verdict::Up(id) => office.response_row(e, response, begun, send, id),
+        Verdict::Up(id) => office.response_row(setting, response, begun, send, id),
         Verdict::Stray => Ok(office.drops_row(Taken::Dropped(Why::Stray))),
     }
 }
@@ -136,99 +138,111 @@ fn response_by(
 #[inline(never)]
 fn received_by(
     office: &Office<'_>,
-    e: Setting,
+    setting: Setting,
     message: &Message<'_>,
     begun: Vec<Change>,
     verdict: Verdict,
     send: Option<Outgoing>,
 ) -> Result<Doing, AllocError>
-    requires early { e.now < 2 ^ 60 }
+    requires early { setting.now < 2 ^ 60 }
     requires few { office.now.tokens < 2 ^ 63 }
-    ensures row { IfOk result (λ d. effect office.now.calls office.now.acks e.now d ≡ received_by office.now e message.now begun.items verdict send) }
-    ensures fits { IfOk result (Fits office.now.calls e.now) }
+    ensures row { IfOk result (λ d. effect office.now.calls office.now.acks setting.now d ≡ received_by office.now setting message.now begun.items verdict send) }
+    ensures fits { IfOk result (Fits office.now.calls setting.now) }
 {
     match message {
-        Message::Request(request) => request_by(office, e, request, begun, verdict, send),
-        Message::Response(response) => response_by(office, e, response, begun, verdict, send),
+        Message::Request(request) => request_by(office, setting, request, begun, verdict, send),
+        Message::Response(response) => response_by(office, setting, response, begun, verdict, send),
     }
 }
 
 #[inline(never)]
 fn foreseen_row(
     office: &Office<'_>,
-    e: Setting,
+    setting: Setting,
     message: &Message<'_>,
     foreseen: Foreseen,
 ) -> Result<Doing, AllocError>
-    requires early { e.now < 2 ^ 60 }
+    requires early { setting.now < 2 ^ 60 }
     requires few { office.now.tokens < 2 ^ 63 }
-    ensures row { IfOk result (λ d. effect office.now.calls office.now.acks e.now d ≡ received_by office.now e message.now (foreseen.change ∷ []) foreseen.reception.verdict foreseen.reception.send) }
-    ensures fits { IfOk result (Fits office.now.calls e.now) }
+    ensures row { IfOk result (λ d. effect office.now.calls office.now.acks setting.now d ≡ received_by office.now setting message.now (foreseen.change ∷ []) foreseen.reception.verdict foreseen.reception.send) }
+    ensures fits { IfOk result (Fits office.now.calls setting.now) }
 {
     let Foreseen { reception, change } = foreseen;
     let Reception { verdict, send, .. } = reception;
     let begun = one_change(office.alloc, change)?;
-    received_by(office, e, message, begun, verdict, send)
+    received_by(office, setting, message, begun, verdict, send)
 }
 
 #[tactic(auto, unfolding(event_rows::specs::Rows::received), using(crate::proofs::RoomLaws::has_room, crate::proofs::RoomLaws::has_none))]
 #[inline(never)]
-fn received(office: &Office<'_>, e: Setting, message: &Message<'_>) -> Result<Doing, AllocError>
-    requires early { e.now < 2 ^ 60 }
+fn received_row(
+    office: &Office<'_>,
+    setting: Setting,
+    message: &Message<'_>,
+) -> Result<Doing, AllocError>
+    requires early { setting.now < 2 ^ 60 }
     requires few { office.now.tokens < 2 ^ 63 }
-    ensures row { IfOk result (λ d. effect office.now.calls office.now.acks e.now d ≡ received office.now e message.now) }
-    ensures fits { IfOk result (Fits office.now.calls e.now) }
+    ensures row { IfOk result (λ d. effect office.now.calls office.now.acks setting.now d ≡ received office.now setting message.now) }
+    ensures fits { IfOk result (Fits office.now.calls setting.now) }
 {
-    match office.table.foresee(message, e.source) {
-        Ok(foreseen) => foreseen_row(office, e, message, foreseen),
+    match office.table.foresee(message, setting.source) {
+        Ok(foreseen) => foreseen_row(office, setting, message, foreseen),
         Err(TableError::Full) => Ok(office.drops_row(Taken::Shed)),
         Err(TableError::OutOfMemory) => Err(AllocError),
         Err(TableError::Unknown | TableError::AfterFinal) => unreachable!(),
     }
 }
 
-fn fit_row(office: &Office<'_>, e: Setting, message: &Message<'_>) -> Result<Doing, AllocError>
-    requires early { e.now < 2 ^ 60 }
+fn fit_row(
+    office: &Office<'_>,
+    setting: Setting,
+    message: &Message<'_>,
+) -> Result<Doing, AllocError>
+    requires early { setting.now < 2 ^ 60 }
     requires few { office.now.tokens < 2 ^ 63 }
-    ensures row { IfOk result (λ d. effect office.now.calls office.now.acks e.now d ≡ fit_row office.now e message.now) }
-    ensures fits { IfOk result (Fits office.now.calls e.now) }
+    ensures row { IfOk result (λ d. effect office.now.calls office.now.acks setting.now d ≡ fit_row office.now setting message.now) }
+    ensures fits { IfOk result (Fits office.now.calls setting.now) }
 {
     if is_unreachable_message(office.alloc, message)? {
         return Ok(office.drops_row(Taken::Dropped(Why::Stray)));
     }
-    received(office, e, message)
+    received_row(office, setting, message)
 }
 
 #[tactic(auto, unfolding(event_rows::specs::Rows::read_row))]
 #[inline(never)]
-fn read_row(office: &Office<'_>, e: Setting, message: &Message<'_>) -> Result<Doing, AllocError>
-    requires early { e.now < 2 ^ 60 }
+fn read_row(
+    office: &Office<'_>,
+    setting: Setting,
+    message: &Message<'_>,
+) -> Result<Doing, AllocError>
+    requires early { setting.now < 2 ^ 60 }
     requires few { office.now.tokens < 2 ^ 63 }
-    ensures row { IfOk result (λ d. effect office.now.calls office.now.acks e.now d ≡ read_row office.now e message.now) }
-    ensures fits { IfOk result (Fits office.now.calls e.now) }
+    ensures row { IfOk result (λ d. effect office.now.calls office.now.acks setting.now d ≡ read_row office.now setting message.now) }
+    ensures fits { IfOk result (Fits office.now.calls setting.now) }
 {
     if !has_fit_branch(&parts_of(message).vias) {
-        return Ok(Doing::alone(unfit_branch(office.alloc, e, message)?));
+        return Ok(Doing::alone(unfit_branch(office.alloc, setting, message)?));
     }
-    fit_row(office, e, message)
+    fit_row(office, setting, message)
 }
 
 /// What a datagram comes to.
 #[tactic(auto, unfolding(event_rows::specs::Rows::datagram_row))]
 #[inline(never)]
-fn datagram_row(office: &Office<'_>, e: Setting, bytes: &[u8]) -> Result<Doing, AllocError>
-    requires early { e.now < 2 ^ 60 }
+fn datagram_row(office: &Office<'_>, setting: Setting, bytes: &[u8]) -> Result<Doing, AllocError>
+    requires early { setting.now < 2 ^ 60 }
     requires few { office.now.tokens < 2 ^ 63 }
-    ensures row { IfOk result (λ d. effect office.now.calls office.now.acks e.now d ≡ datagram_row office.now e bytes.now) }
-    ensures fits { IfOk result (Fits office.now.calls e.now) }
+    ensures row { IfOk result (λ d. effect office.now.calls office.now.acks setting.now d ≡ datagram_row office.now setting bytes.now) }
+    ensures fits { IfOk result (Fits office.now.calls setting.now) }
 {
     match read_message(office.alloc, bytes) {
         Ok(message) => {
-            let doing = read_row(office, e, &message);
+            let doing = read_row(office, setting, &message);
             drop(message);
             doing
         }
-        Err(fault) => Ok(Doing::alone(unread_row(office.alloc, e, bytes, fault)?)),
+        Err(fault) => Ok(Doing::alone(unread_row(office.alloc, setting, bytes, fault)?)),
     }
 }
 

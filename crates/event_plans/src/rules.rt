@@ -17,7 +17,7 @@ use sip_uri::Uri;
 use std::alloc::{AllocError, Global};
 use text::Text;
 
-fn refused(status: u16) -> Rule
+fn refuse(status: u16) -> Rule
     ensures { result ≡ refused status }
 {
     Rule::Alone(Reply::Refusal(status))
@@ -39,7 +39,7 @@ fn unknown_line(request: &Request<'_>) -> Option<Rule>
     if is_offered_method(request) {
         None
     } else {
-        Some(refused(501))
+        Some(refuse(501))
     }
 }
 
@@ -57,7 +57,7 @@ fn route_line(request: &Request<'_>) -> Option<Rule>
     ensures { result ≡ route_line request.now }
 {
     if has_header(b"Record-Route", request.headers.as_slice()) {
-        Some(refused(400))
+        Some(refuse(400))
     } else {
         None
     }
@@ -87,7 +87,7 @@ fn hops_line(request: &Request<'_>) -> Option<Rule>
     ensures { result ≡ hops_line request.now }
 {
     if request.max_forwards == 0 {
-        Some(refused(483))
+        Some(refuse(483))
     } else {
         None
     }
@@ -100,7 +100,7 @@ fn contact_line(alloc: Global, request: &Request<'_>) -> Result<Option<Rule>, Al
     if contact_address(&values).is_some() {
         return Ok(None);
     }
-    Ok(Some(refused(400)))
+    Ok(Some(refuse(400)))
 }
 
 /// The rule of a body: whether a description can be read of it, the call looks that begins.
@@ -122,7 +122,7 @@ fn target_rule(
     ensures { IfOk result (λ rule. rule ≡ target_by (unread request.now) (option_copied target.entry)) }
 {
     match target {
-        None => Ok(refused(480)),
+        None => Ok(refuse(480)),
         Some(_) => {
             let rule = content_rule(alloc, request.headers.as_slice())?;
             Ok(content_by(rule))
@@ -134,8 +134,8 @@ fn of_dialog(rule: DialogRule) -> Rule
     ensures { result ≡ of_dialog rule }
 {
     match rule {
-        DialogRule::NoDialog => refused(481),
-        DialogRule::OldNumber { .. } => refused(500),
+        DialogRule::NoDialog => refuse(481),
+        DialogRule::OldNumber { .. } => refuse(500),
         DialogRule::Leaves { place, end } => Rule::Call(CallRule::Leaves(place, end)),
         DialogRule::Offers { place, end } => Rule::Call(CallRule::Offers(place, end)),
         DialogRule::Plain { place, end } => Rule::Call(CallRule::Refreshes(place, end)),
@@ -155,7 +155,7 @@ fn cancel_line(office: &Office<'_>, request: &Request<'_>) -> Option<Rule>
         return None;
     }
     match office.table.cancels(request) {
-        None => Some(refused(481)),
+        None => Some(refuse(481)),
         Some(id) => Some(cancels_rule(office, id)),
     }
 }
@@ -181,8 +181,8 @@ fn dialog_line(office: &Office<'_>, request: &Request<'_>) -> Option<Rule>
 fn merged_line(office: &Office<'_>, request: &Request<'_>) -> Option<Rule>
     ensures { result ≡ merged_line office.now request.now }
 {
-    if office.table.merged(request) {
-        Some(refused(482))
+    if office.table.is_merged_request(request) {
+        Some(refuse(482))
     } else {
         None
     }
@@ -198,7 +198,7 @@ fn known_rule(
     ensures { IfOk result (λ rule. rule ≡ known_by (unread request.now) office.now user.now now known) }
 {
     if !known {
-        return Ok(refused(404));
+        return Ok(refuse(404));
     }
     target_rule(office.alloc, request, office.registrar.target(user, now))
 }
@@ -212,7 +212,7 @@ fn user_rule(
     ensures { IfOk result (λ rule. rule ≡ user_by (unread request.now) office.now now (option_copied user.entry)) }
 {
     match user {
-        None => Ok(refused(404)),
+        None => Ok(refuse(404)),
         Some(user) => known_rule(office, request, user, now, office.registrar.knows(user)),
     }
 }

@@ -25,40 +25,45 @@ fn stateless() -> &'static [u8]
     STATELESS
 }
 
-fn replies(alloc: Global, e: Setting, parts: &Parts<'_>, status: u16) -> Result<Plan, AllocError>
-    ensures { IfOk result (λ p. p ≡ replies (answer_address parts.now.vias e.source) (responds parts.now e.source status stateless [])) }
+fn replies(
+    alloc: Global,
+    setting: Setting,
+    parts: &Parts<'_>,
+    status: u16,
+) -> Result<Plan, AllocError>
+    ensures { IfOk result (λ p. p ≡ replies (answer_address parts.now.vias setting.source) (responds parts.now setting.source status stateless [])) }
 {
-    let bytes = response_with(alloc, parts, e.source, status, stateless(), &[])?;
-    Plan::replies(alloc, reply_address(parts, e.source), bytes)
+    let bytes = response_with(alloc, parts, setting.source, status, stateless(), &[])?;
+    Plan::replies(alloc, reply_address(parts, setting.source), bytes)
 }
 
 fn unread_by(
     alloc: Global,
-    e: Setting,
+    setting: Setting,
     fault: MessageError,
     status: u16,
     parts: Option<&Parts<'_>>,
 ) -> Result<Plan, AllocError>
-    ensures { IfOk result (λ p. p ≡ unread_by e fault status (option_copied parts.entry)) }
+    ensures { IfOk result (λ p. p ≡ unread_by setting fault status (option_copied parts.entry)) }
 {
     match parts {
         None => Ok(Plan::nothing(alloc, Taken::Dropped(Why::Unread(fault)))),
-        Some(parts) => replies(alloc, e, parts, status),
+        Some(parts) => replies(alloc, setting, parts, status),
     }
 }
 
 /// A datagram with this fault: where something can be answered, it is.
 fn unread_with(
     alloc: Global,
-    e: Setting,
+    setting: Setting,
     datagram: &[u8],
     fault: MessageError,
     status: u16,
 ) -> Result<Plan, AllocError>
-    ensures { IfOk result (λ p. p ≡ unread_by e fault status (answerable_of datagram.now)) }
+    ensures { IfOk result (λ p. p ≡ unread_by setting fault status (answerable_of datagram.now)) }
 {
     let parts = answerable(alloc, datagram)?;
-    unread_by(alloc, e, fault, status, parts.as_ref())
+    unread_by(alloc, setting, fault, status, parts.as_ref())
 }
 
 /// What a datagram comes to that can't be read.
@@ -66,45 +71,45 @@ fn unread_with(
 #[inline(never)]
 pub(crate) fn unread_row(
     alloc: Global,
-    e: Setting,
+    setting: Setting,
     datagram: &[u8],
     fault: MessageError,
 ) -> Result<Plan, AllocError>
     requires { Fails fault (message_of datagram.now) }
-    ensures { (s : Office) → IfOk result (λ p. of_plan s p ≡ datagram_row s e datagram.now) }
+    ensures { (s : Office) → IfOk result (λ p. of_plan s p ≡ datagram_row s setting datagram.now) }
 {
     match fault {
         MessageError::OutOfMemory => Err(AllocError),
         MessageError::TooLong => Ok(Plan::nothing(alloc, Taken::Dropped(Why::Unread(fault)))),
-        MessageError::Version => unread_with(alloc, e, datagram, fault, 505),
-        MessageError::StartLine => unread_with(alloc, e, datagram, fault, 400),
-        MessageError::HeaderLine => unread_with(alloc, e, datagram, fault, 400),
-        MessageError::Missing(_) => unread_with(alloc, e, datagram, fault, 400),
-        MessageError::Unreadable(_) => unread_with(alloc, e, datagram, fault, 400),
-        MessageError::Short => unread_with(alloc, e, datagram, fault, 400),
+        MessageError::Version => unread_with(alloc, setting, datagram, fault, 505),
+        MessageError::StartLine => unread_with(alloc, setting, datagram, fault, 400),
+        MessageError::HeaderLine => unread_with(alloc, setting, datagram, fault, 400),
+        MessageError::Missing(_) => unread_with(alloc, setting, datagram, fault, 400),
+        MessageError::Unreadable(_) => unread_with(alloc, setting, datagram, fault, 400),
+        MessageError::Short => unread_with(alloc, setting, datagram, fault, 400),
     }
 }
 
-fn unfit_request(alloc: Global, e: Setting, request: &Request<'_>) -> Result<Plan, AllocError>
-    ensures { IfOk result (λ p. p ≡ unfit_request e request.now) }
+fn unfit_request(alloc: Global, setting: Setting, request: &Request<'_>) -> Result<Plan, AllocError>
+    ensures { IfOk result (λ p. p ≡ unfit_request setting request.now) }
 {
     if is_method(b"ACK", request) {
         return Ok(Plan::nothing(alloc, Taken::Dropped(Why::NoBranch)));
     }
-    replies(alloc, e, &request.parts, 400)
+    replies(alloc, setting, &request.parts, 400)
 }
 
 /// What a message comes to whose branch does not begin as it has to.
 #[inline(never)]
 pub(crate) fn unfit_branch(
     alloc: Global,
-    e: Setting,
+    setting: Setting,
     message: &Message<'_>,
 ) -> Result<Plan, AllocError>
-    ensures { IfOk result (λ p. p ≡ unfit_branch e message.now) }
+    ensures { IfOk result (λ p. p ≡ unfit_branch setting message.now) }
 {
     match message {
-        Message::Request(request) => unfit_request(alloc, e, request),
+        Message::Request(request) => unfit_request(alloc, setting, request),
         Message::Response(_) => Ok(Plan::nothing(alloc, Taken::Dropped(Why::NoBranch))),
     }
 }

@@ -11,7 +11,7 @@ use Rattle.sip_message.specs.declared.message.Request.{Request}
 use Rattle.sip_message.specs.AnswerableParts.{answerable_of}
 use Rattle.sip_message.specs.Lookup.{named}
 use Rattle.sip_message.specs.Party.{has_tag}
-use Rattle.sip_message.specs.Read.{greatest_datagram, message_of}
+use Rattle.sip_message.specs.Read.{max_datagram, message_of}
 use Rattle.sip_message.specs.Words.{tag_value}
 use Rattle.sip_writing.specs.Reply.{answer_address}
 use Rattle.registrar.specs.declared.binding.Binding.{Binding}
@@ -30,7 +30,7 @@ use Rattle.transactions.specs.declared.transaction.TimerId.{TimerId}
 use Rattle.transactions.specs.declared.transaction.Transaction.{Transaction}
 use Rattle.transactions.specs.Changes.{change_of, fire_of}
 use Rattle.transactions.specs.Contents.{reception_of, fired_of}
-use Rattle.transactions.specs.Limits.{most_served}
+use Rattle.transactions.specs.Limits.{max_served}
 use Rattle.transactions.specs.Slots.{at, serving}
 use Rattle.events.specs.declared.event.Event.{Event}
 use Rattle.events.specs.declared.event.What.{What}
@@ -46,7 +46,7 @@ use Rattle.responses.specs.Registering.{register_of}
 use Rattle.responses.specs.Responding.{allow, contact_header, refusal_headers, status_of, responds, stateless}
 use Rattle.event_rows.specs.Rules.{request_rule}
 use Rattle.plans.specs.Office.{Office}
-use Rattle.event_rows.specs.State.{Contents, after_event, moment_at, moments_end, most_tokens, office}
+use Rattle.event_rows.specs.State.{Contents, after_event, moment_at, moments_end, max_tokens, office}
 use Rattle.responses.specs.Tags.{joined_tags, required_tags}
 use Rattle.responses.specs.Tokens.{token}
 use Rattle.responses.specs.Words.{has_fit_branch, is_method}
@@ -92,7 +92,7 @@ begins verdicts.Stray = false
 
 -- there are as many server transactions as there may be
 abbrev pub is_full : Office → Reception → Bool
-is_full s reception = begins reception.verdict && nat_le most_served (serving s.table.slots)
+is_full s reception = begins reception.verdict && nat_le max_served (serving s.table.slots)
 
 unfoldable pub received : Office → Setting → Message → Effect
 received s e message =
@@ -171,14 +171,14 @@ due_row s e (Some timer) (Some other) = if nat_le timer.at other.at then timer_r
 -- whether a datagram has more bytes than are read, or no timer is due: nothing is looked at further
 abbrev pub what_counts : Contents → ℕ → What → Option Taken
 what_counts s now (whats.Datagram source bytes) =
-    if nat_lt greatest_datagram (length bytes) then Some (Dropped (Unread faults.TooLong)) else None
+    if nat_lt max_datagram (length bytes) then Some (Dropped (Unread faults.TooLong)) else None
 what_counts s now whats.Due = if is_some (first_due s.table.timers now) || is_some (first_due s.calls.timers now) then None else Some Idle
 
 -- an event that is only counted takes no memory
 unfoldable pub only_counts : Contents → Event → Option Taken
 only_counts s e =
     if nat_le moments_end e.now then Some (Dropped Clock)
-    else if nat_le most_tokens s.tokens then Some (Dropped Spent)
+    else if nat_le max_tokens s.tokens then Some (Dropped Spent)
     else what_counts s (moment_at s e.now) e.what
 
 -- a Clock event leaves the moment as it was

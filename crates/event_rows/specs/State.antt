@@ -57,8 +57,8 @@ abbrev pub moments_end : ℕ
 moments_end = 2 ^ 60
 
 -- as many tokens may be made before an event
-abbrev pub most_tokens : ℕ
-most_tokens = 2 ^ 63
+abbrev pub max_tokens : ℕ
+max_tokens = 2 ^ 63
 
 -- every moment is before the end; each call that began made tokens, of which one more can be counted; and the server has an address
 pub record IsCounted (moment tokens begun : ℕ) (range : OwnRange) : Type 0 where

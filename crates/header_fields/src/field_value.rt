@@ -5,7 +5,7 @@ ghost use Rattle.std.specs.Str.{str_eq_ignore_ascii_case};
 ghost use Rattle.header_fields.specs.FieldValue.{said};
 ghost use Rattle.header_fields.specs.Folded.{unfolded_text};
 
-use crate::folded::{is_unfolded_without_case, put_unfolded};
+use crate::folds::{is_unfolded_without_case, put_unfolded};
 use std::alloc::{AllocError, Global};
 use std::marker::Model;
 use text::{Text, same_without_case};
@@ -47,7 +47,7 @@ impl<'a> FieldValue<'a> {
     }
 
     /// The value that these lines are.
-    pub(crate) fn folded(raw: &'a [u8]) -> FieldValue<'a>
+    pub(crate) fn from_lines(raw: &'a [u8]) -> FieldValue<'a>
         ensures { result ≡ unfolded_text raw.now }
     {
         FieldValue {

@@ -4,7 +4,7 @@
 
 mod field;
 mod field_value;
-mod folded;
+mod folds;
 mod head;
 mod header_names;
 pub mod headers;

@@ -14,10 +14,10 @@ use crate::header_names::long_name;
 use crate::headers::Header;
 use crate::lines::is_clean;
 use std::alloc::{AllocError, Global};
-use text::{Text, trimmed};
+use text::{Text, trim};
 
 /// The lines at the front that continue a field.
-fn continued<'a, 'b>(lines: &'a [&'b [u8]]) -> &'a [&'b [u8]]
+fn continuation_lines<'a, 'b>(lines: &'a [&'b [u8]]) -> &'a [&'b [u8]]
     ensures { texts result.now ≡ continued (texts lines.now) }
 {
     for at in 0..lines.len() {
@@ -60,12 +60,12 @@ fn glue(value: &mut Vec<u8>, piece: &[u8]) -> Result<(), AllocError>
 }
 
 /// A value whose line ends, with the blanks around them, read as one space (RFC 3261 section 7.3.1).
-fn unfolded(alloc: Global, begun: &[u8], more: &[&[u8]]) -> Result<Text<'static>, AllocError>
+fn unfold(alloc: Global, begun: &[u8], more: &[&[u8]]) -> Result<Text<'static>, AllocError>
     ensures { IfOk result (λ value. value ≡ unfolded (map trimmed (begun.now ∷ texts more.now))) }
 {
-    let mut value = Vec::from_slice(alloc, trimmed(begun))?;
+    let mut value = Vec::from_slice(alloc, trim(begun))?;
     for line in more {
-        glue(&mut value, trimmed(line))?;
+        glue(&mut value, trim(line))?;
     }
     Ok(Text::from_vec(value))
 }
@@ -81,7 +81,7 @@ fn made<'a>(
 {
     Ok(Header {
         name: Text::lent(long_name(name)),
-        value: FieldValue::whole(unfolded(alloc, begun, more)?),
+        value: FieldValue::whole(unfold(alloc, begun, more)?),
     })
 }
 
@@ -115,7 +115,7 @@ pub fn readable_headers<'a>(
         if begins_blank(lines[at]) {
             continue;
         }
-        let Some(header) = readable(alloc, lines[at], continued(&lines[at + 1..]))? else {
+        let Some(header) = readable(alloc, lines[at], continuation_lines(&lines[at + 1..]))? else {
             continue;
         };
         headers.push(header)?;

@@ -1,6 +1,6 @@
 -- Rounds that were made so far.
 use Rattle.std.proofs.Common.{◌≡◌, ◌∙◌, ℕ, zero, suc, Bool, true, false, cond, nat_le, List, [], ◌∷◌, length, Option, Some, None, ◌⊎◌, inl, inr, refl, ap, sym, subst, arith}
-use Rattle.live.specs.Rounds.{end_after, is_behind, most_in_a_row, streaks_after}
+use Rattle.live.specs.Rounds.{end_after, is_behind, max_in_a_row, streaks_after}
 use Rattle.live.specs.Serving.{AreLeft, EndsAt, GoOn, Leads, Made, Office, Served, none_failed, one_less, streaks_of, told_in, with_trouble}
 use Rattle.live.specs.Troubles.{trouble_between}
 use Rattle.live.specs.declared.round.Round.{Round}
@@ -107,5 +107,5 @@ ended a b c told told_now told_after turns left streaks after round end h leads 
       rounds = round ∷ h.rounds;
       made = (b, h.made, leads);
       told_there = told_more told told_now told_after h.rounds round streaks after h.told_there h.counts counted said;
-      ends = ends_by turns round h.rounds end (end_cases (is_behind round) (nat_le most_in_a_row after.failed) (nat_le most_in_a_row after.lost) end ends) ends_there h.go_on;
+      ends = ends_by turns round h.rounds end (end_cases (is_behind round) (nat_le max_in_a_row after.failed) (nat_le max_in_a_row after.lost) end ends) ends_there h.go_on;
     }

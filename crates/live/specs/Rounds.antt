@@ -25,13 +25,13 @@ is_due now None = false
 is_due now (Some at) = nat_le at now
 
 -- so long is waited at most
-abbrev pub longest_wait : ℕ
-longest_wait = 100
+abbrev pub max_wait : ℕ
+max_wait = 100
 
 -- until the next moment that is due
 abbrev pub wait_until : ℕ → Option ℕ → ℕ
-wait_until now None = longest_wait
-wait_until now (Some at) = min longest_wait (at - now)
+wait_until now None = max_wait
+wait_until now (Some at) = min max_wait (at - now)
 
 -- ---- a round
 
@@ -52,8 +52,8 @@ Rounds now salt s s_after lists lists_after taken taken_after tried tried_after 
 -- ---- what ends the signalling
 
 -- so many failures in a row
-abbrev pub most_in_a_row : ℕ
-most_in_a_row = 100
+abbrev pub max_in_a_row : ℕ
+max_in_a_row = 100
 
 abbrev pub one_more : ℕ → ℕ
 one_more n = min (n + 1) (2 ^ 32 - 1)
@@ -86,8 +86,8 @@ is_behind Failed = false
 abbrev pub end_after : Streaks → Round → Option End
 end_after x round =
     if is_behind round then Some ends.Memory
-    else if nat_le most_in_a_row x.failed then Some ends.Socket
-    else if nat_le most_in_a_row x.lost then Some ends.Memory
+    else if nat_le max_in_a_row x.failed then Some ends.Socket
+    else if nat_le max_in_a_row x.lost then Some ends.Memory
     else None
 
 -- the board's table is the agent's, but where memory was refused

@@ -4,7 +4,7 @@
 
 mod round;
 mod salt;
-mod serving;
+mod service;
 mod streaks;
 mod trouble;
 mod turn;
@@ -12,7 +12,7 @@ mod wire;
 
 pub use round::{Round, Signalling, datagram_buffer};
 pub use salt::{next_print_key, next_salt, salts_of};
-pub use serving::{Clock, serve};
+pub use service::{Clock, serve};
 pub use streaks::{End, Streaks};
 pub use trouble::{Operator, Trouble};
 pub use turn::{Turned, live_turn};

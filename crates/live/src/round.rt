@@ -23,7 +23,7 @@ use text::Text;
 const BUFFER: usize = 16_385;
 
 /// So many milliseconds are waited at most.
-const LONGEST_WAIT: u64 = 100;
+const MAX_WAIT: u64 = 100;
 
 /// What a round did.
 #[derive(Clone, Copy)]
@@ -59,8 +59,8 @@ fn wait_until(now: u64, due: Option<u64>) -> u64
     ensures { result ≡ wait_until now due }
 {
     match due {
-        None => LONGEST_WAIT,
-        Some(at) => LONGEST_WAIT.min(at.saturating_sub(now)),
+        None => MAX_WAIT,
+        Some(at) => MAX_WAIT.min(at.saturating_sub(now)),
     }
 }
 

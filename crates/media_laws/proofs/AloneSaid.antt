@@ -8,7 +8,7 @@ use Rattle.sip_message.specs.declared.message.Message.TheVariants as Kinds
 use Rattle.sip_message.specs.declared.message.Response.{Response}
 use Rattle.sip_message.specs.declared.words.Class.TheVariants.{Failure, Provisional, Success}
 use Rattle.sip_message.specs.Words.{class_of}
-use Rattle.dialogs.specs.Counting.{greatest_for, last_number}
+use Rattle.dialogs.specs.Counting.{max_for, last_number}
 use Rattle.dialogs.specs.declared.method.Method.TheVariants as methods
 use Rattle.dialogs.specs.declared.state.Dialog.{Dialog as LegDialog}
 use Rattle.transaction_machines.specs.declared.input.Input.TheVariants as inputs
@@ -144,7 +144,7 @@ module _ (reads : Reading) (describes : BodiesDescribe) (s : Office) (e : Settin
       record { ack = first.message; whole = first.whole ∙ ap (λ l. first.message ∷ l) first.more; acks = record { leg = leg; token = branch alone s.tokens; number = last_number leg; seen = first.heard; in_leg = refl } }
 
   -- where a number is left for a BYE
-  module _ (numbered : nat_lt (last_number leg) (greatest_for methods.Bye) ≡ true) where
+  module _ (numbered : nat_lt (last_number leg) (max_for methods.Bye) ≡ true) where
     in_leg : LegIn alone Callee (dialog_named leg.id)
     in_leg = record { leg = leg; has = refl; is = refl; leads = leads; numbered = numbered }
 

@@ -8,12 +8,12 @@ use Rattle.port_pool.specs.Pool as pools
 use Rattle.sip_uri.specs.declared.uri.Addr.{Addr}
 use Rattle.sip_uri.specs.declared.uri.Uri.{Uri}
 use Rattle.sip_message.specs.Contact.{contacts_of}
-use Rattle.sip_message.specs.CSeq.{greatest_number}
+use Rattle.sip_message.specs.CSeq.{max_cseq}
 use Rattle.sip_message.specs.declared.message.Parts.{Parts}
 use Rattle.sip_message.specs.declared.message.Request.{Request}
 use Rattle.sip_message.specs.declared.message.Response.{Response}
 use Rattle.sdp.specs.declared.description.Description.{Description}
-use Rattle.dialogs.specs.Counting.{following, greatest_for, last_number}
+use Rattle.dialogs.specs.Counting.{following, max_for, last_number}
 use Rattle.dialogs.specs.Making.{reached_at}
 use Rattle.dialogs.specs.declared.method.Method.TheVariants.{Bye, Invite}
 use Rattle.dialogs.specs.declared.state.Dialog.{Dialog}
@@ -66,7 +66,7 @@ no_offer_left c input pool now n = let fits = takes_fits c input pool now n in s
 
 -- an offer counts the next number, where one is left for it
 following_left : (d : Dialog) → has_number_left (Some d) ≡ true → HasByeLeft (Some (record d { local_number = Some (following d) }))
-following_left d left = lt-ltb (last_number d + 1) greatest_number (let low = ltb-true (last_number d) (greatest_for Invite) left in omega (arith, low))
+following_left d left = lt-ltb (last_number d + 1) max_cseq (let low = ltb-true (last_number d) (max_for Invite) left in omega (arith, low))
 
 following_if : (d : Option Dialog) → has_number_left d ≡ true → HasByeLeft (with_number_if (option_map following d) d)
 following_if None left = tt
@@ -159,7 +159,7 @@ refreshes_left calls place end r all = leg_at_left (reached_at (contacts_of r.he
 
 -- the first INVITE of a leg has number 1
 made_left : (asked : Parts) (r : Response) (target : Uri) (d : Option Dialog) → IsCounted asked.cseq.number d → HasByeLeft d → HasByeLeft (Some (dialog_after asked r target d))
-made_left asked r target None counted h = ap (λ n. nat_lt n (greatest_for Bye)) counted
+made_left asked r target None counted h = ap (λ n. nat_lt n (max_for Bye)) counted
 made_left asked r target (Some d) counted h = h
 
 leg_by_left : (asked : Parts) (r : Response) (target : Option Uri) (c : StandingCall) → IsCounted asked.cseq.number (dialog_of (other (offerer_of c.call.standing)) c.call) → HasNumbersLeft c → IsLeftPut (leg_by asked r target (Some c))

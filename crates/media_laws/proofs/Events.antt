@@ -60,7 +60,7 @@ use Rattle.media_laws.proofs.CallInputs.{shown, ties}
 use Rattle.call_core.specs.declared.action.CallTimer.{CallTimer}
 use Rattle.call_core.specs.declared.action.CallTimer.TheVariants as timers
 use Rattle.call_core.specs.declared.signal.Signal.{Signal}
-use Rattle.event_rows.specs.State.{moments_end, most_tokens}
+use Rattle.event_rows.specs.State.{moments_end, max_tokens}
 use Rattle.plans.specs.declared.taken.Taken.TheVariants.{Dropped, Idle}
 use Rattle.plans.specs.declared.taken.Why.TheVariants.{Clock, Spent, Unread}
 use Rattle.sip_message.specs.declared.error.MessageError.TheVariants.{TooLong}
@@ -107,7 +107,7 @@ only_counted : (s : Contents) (event : Event) (answer : Taken) → only_counts s
 unfolding only_counts
 only_counted s event answer is =
     not_done_if (nat_le moments_end event.now) (Dropped Clock) answer _ tt
-    (λ early. not_done_if (nat_le most_tokens s.tokens) (Dropped Spent) answer (what_counts s (moment_at s event.now) event.what) tt (λ looked. counted_so s (moment_at s event.now) event.what answer looked) early) is
+    (λ early. not_done_if (nat_le max_tokens s.tokens) (Dropped Spent) answer (what_counts s (moment_at s event.now) event.what) tt (λ looked. counted_so s (moment_at s event.now) event.what answer looked) early) is
 
 module _ (laws : Laws) (s : Contents) (event : Event) (begun : List Transaction) (sent : List Sent) (t : List Datagram) (old : List Call) (k : ℕ) (tied : IsTied (office s) begun sent t old k) (later : IsAfter (office s) (office (after_step s event)) (begun ++ begun_of (row s event).plan.changes)) (askers : KnowsAskers (office (after_step s event))) (from : ComesFromSource event.what) (taken : Option Message) (ms : List Message) where
   abbrev more : List Transaction

@@ -8,7 +8,7 @@ use Rattle.sip_message.specs.Contact.{contacts_of, is_success}
 use Rattle.sip_message.specs.Read.{message_of}
 use Rattle.sip_message.specs.declared.message.Message.TheVariants as Kinds
 use Rattle.sip_message.specs.declared.message.Response.{Response}
-use Rattle.dialogs.specs.Counting.{greatest_for}
+use Rattle.dialogs.specs.Counting.{max_for}
 use Rattle.dialogs.specs.Making.{callers_dialog, reached_at}
 use Rattle.dialogs.specs.declared.method.Method.TheVariants as methods
 use Rattle.transactions.specs.Contents.{reception_of}
@@ -114,7 +114,7 @@ module _ (reads : Reading) (names : ReadsNames) (describes : BodiesDescribe) (s 
     said_move reached ms (Some to) at_to are =
         let why = fork_reason s.calls.calls x.parts r rule in
         let leg = callers_dialog x.parts r to in
-        let numbered : nat_lt x.parts.cseq.number (greatest_for methods.Bye) ≡ true = subst (λ n. nat_lt n (greatest_for methods.Bye) ≡ true) (sym why.first) refl in
+        let numbered : nat_lt x.parts.cseq.number (max_for methods.Bye) ≡ true = subst (λ n. nat_lt n (max_for methods.Bye) ≡ true) (sym why.first) refl in
         let said = fork_said reads describes s e leg k.scenes (forked_can names s bytes r id x to k.scenes read there (answered_client r.parts x answers) at_to) (leads_to names r x answers reached success offers to at_to) numbered ms are in
         subst (λ l. Move offering t ds came l ds) (sym said.whole) (pair_move to said.ack said.bye said.acks said.leaves)
 

@@ -10,7 +10,7 @@ use Rattle.sip_message.specs.Words.{tag_text}
 use Rattle.sdp.specs.declared.description.Description.{Description}
 use Rattle.dialogs.specs.declared.method.Method.TheVariants as methods
 use Rattle.dialogs.specs.declared.state.Dialog.{Dialog as LegDialog}
-use Rattle.dialogs.specs.Counting.{greatest_for, last_number}
+use Rattle.dialogs.specs.Counting.{max_for, last_number}
 use Rattle.dialogs.specs.Making.{callers_dialog}
 use Rattle.call_media.specs.declared.end.End.{End}
 use Rattle.call_media.specs.declared.end.End.TheVariants.{Callee, Caller}
@@ -79,23 +79,23 @@ is_in c (Some x) end old sound fits is = put_in c x.end end x.dialog old sound f
 
 -- ---- numbers
 
-callee_left : (o : Option LegDialog) (old : LegDialog) → o ≡ Some old → HasByeLeft o → nat_lt (last_number old) (greatest_for methods.Bye) ≡ true
+callee_left : (o : Option LegDialog) (old : LegDialog) → o ≡ Some old → HasByeLeft o → nat_lt (last_number old) (max_for methods.Bye) ≡ true
 callee_left o old is h = subst HasByeLeft is h
 
-pub number_left : (c : StandingCall) (end : End) (old : LegDialog) → HasNumbersLeft c → dialog_of end c.call ≡ Some old → nat_lt (last_number old) (greatest_for methods.Bye) ≡ true
+pub number_left : (c : StandingCall) (end : End) (old : LegDialog) → HasNumbersLeft c → dialog_of end c.call ≡ Some old → nat_lt (last_number old) (max_for methods.Bye) ≡ true
 number_left c Caller old h is = callee_left (Some c.call.caller) old is h.caller
 number_left c Callee old h is = callee_left c.call.callee old is h.callee
 
 -- ---- legs of a call that stands
 
 leg_of : (s : Office) (e : Setting) (w : ComingValue) (c : StandingCall) (description : Option Description) (end : End) (old : LegDialog) (y : Dialog) → y ≡ dialog_named old.id
-    → nat_lt (last_number old) (greatest_for methods.Bye) ≡ true → IsIn c w.leg end old → LegIn (scene_at s e w c description) end y
+    → nat_lt (last_number old) (max_for methods.Bye) ≡ true → IsIn c w.leg end old → LegIn (scene_at s e w c description) end y
 leg_of s e w c description end old y shown left found = record {
   leg = found.now;
   has = scene_dialog s.table (occasion s e) w c description end ∙ found.there;
   is = ap dialog_named found.goes_on.id ∙ sym shown;
   leads = found.goes_on.sound.leads;
-  numbered = ap (λ n. nat_lt n (greatest_for methods.Bye)) found.goes_on.number ∙ left;
+  numbered = ap (λ n. nat_lt n (max_for methods.Bye)) found.goes_on.number ∙ left;
 }
 
 pub leg_in : (s : Office) (e : Setting) (w : ComingValue) (c : StandingCall) (description : Option Description) (d : Call) (end : End) (old : LegDialog) → HasSoundLegs c → HasNumbersLeft c → ShowsLegs c d
@@ -126,12 +126,12 @@ first_in s e w c description d p asked bytes r target none came is counted reque
   is = ap (λ (x : List ℕ). record { call_id = x; ours = tag_text asked.from.params; theirs = tag_text r.parts.to.params }) (sym request.call_id ∙ call_id)
       ∙ ap (λ (x : List ℕ). record { call_id = d.callee.call_id; ours = x; theirs = tag_text r.parts.to.params }) (sym request.from_tag ∙ ours);
   leads = is.leads;
-  numbered = ap (λ n. nat_lt n (greatest_for methods.Bye)) (first_number c.call.callee asked.cseq.number none counted);
+  numbered = ap (λ n. nat_lt n (max_for methods.Bye)) (first_number c.call.callee asked.cseq.number none counted);
 }
 
 -- ---- the leg in which an offer is passed on
 
-left_for : (d : LegDialog) (method : OfferMethod) → has_number_left (Some d) ≡ true → nat_lt (last_number d) (greatest_for (method_of method)) ≡ true
+left_for : (d : LegDialog) (method : OfferMethod) → has_number_left (Some d) ≡ true → nat_lt (last_number d) (max_for (method_of method)) ≡ true
 left_for d Invite h = h
 left_for d Update h = h
 
@@ -144,7 +144,7 @@ asked_in s e w c description d end method old sound shows fits is left =
       has = scene_dialog s.table (occasion s e) w c description end ∙ found.there;
       is = ap dialog_named found.goes_on.id ∙ sym (leg_shown c d end old shows is);
       leads = found.goes_on.sound.leads;
-      numbered = ap (λ n. nat_lt n (greatest_for (method_of method))) found.goes_on.number ∙ left_for old method (subst (λ o. has_number_left o ≡ true) is left);
+      numbered = ap (λ n. nat_lt n (max_for (method_of method))) found.goes_on.number ∙ left_for old method (subst (λ o. has_number_left o ≡ true) is left);
     }
 
 -- the new leg of a first offer, in which nothing was sent

@@ -10,7 +10,7 @@ use Rattle.sdp.specs.declared.description.Description.{Description}
 use Rattle.dialogs.specs.declared.method.Method.{Method}
 use Rattle.dialogs.specs.declared.method.Method.TheVariants as methods
 use Rattle.dialogs.specs.declared.state.Dialog.{Dialog}
-use Rattle.dialogs.specs.Counting.{following, greatest_for, last_number, method_text}
+use Rattle.dialogs.specs.Counting.{following, max_for, last_number, method_text}
 use Rattle.dialogs.specs.Requests.{request_in}
 use Rattle.sip_message.specs.declared.headers.Header.{Header}
 use Rattle.sip_message.specs.declared.via.Via.{Via}
@@ -72,17 +72,17 @@ ack_one s tokens end l is leads =
     subst (λ (o : Option Dialog). (x : Sent) × ((says_ack s tokens o).sends ≡ x ∷ [])) (sym is) (asks_one (messages.ack s.server l (branch s tokens)) 1 leads)
 
 -- a request with a number that is left
-numbered_one : (l : Dialog) (via : Via) (method : Method) (hops : ℕ) (further : List Header) (body : List ℕ) (made : ℕ) → nat_lt (last_number l) (greatest_for method) ≡ true → is_some (address_of l.target) ≡ true
+numbered_one : (l : Dialog) (via : Via) (method : Method) (hops : ℕ) (further : List Header) (body : List ℕ) (made : ℕ) → nat_lt (last_number l) (max_for method) ≡ true → is_some (address_of l.target) ≡ true
     → (x : Sent) × ((asks_if (messages.next_request l method via hops further body) made).sends ≡ x ∷ [])
 unfolding request_in
 numbered_one l via method hops further body made numbered leads =
-    by_number (nat_lt (last_number l) (greatest_for method)) numbered
+    by_number (nat_lt (last_number l) (max_for method)) numbered
   where
     by_number : (b : Bool) → b ≡ true → (x : Sent) × ((asks_if (cond b (Some (request_in l via (method_text method) (following l) hops further body)) None) made).sends ≡ x ∷ [])
     by_number true e = asks_one (request_in l via (method_text method) (following l) hops further body) made leads
     by_number false e = absurd (cc)
 
-pub bye_one : (s : Scene) (tokens : ℕ) (end : End) (l : Dialog) → dialog_with end s ≡ Some l → nat_lt (last_number l) (greatest_for methods.Bye) ≡ true → is_some (address_of l.target) ≡ true → SaysOne s tokens (Bye end)
+pub bye_one : (s : Scene) (tokens : ℕ) (end : End) (l : Dialog) → dialog_with end s ≡ Some l → nat_lt (last_number l) (max_for methods.Bye) ≡ true → is_some (address_of l.target) ≡ true → SaysOne s tokens (Bye end)
 unfolding dress_one
 bye_one s tokens end l is numbered leads =
     subst (λ (o : Option Dialog). (x : Sent) × ((says_bye s tokens o).sends ≡ x ∷ [])) (sym is) (numbered_one l (server_via s.server (branch s tokens)) methods.Bye 70 [] [] 1 numbered leads)
@@ -106,7 +106,7 @@ answer_one s tokens end a d is said =
     (subst (λ (o : Option Description). (x : Sent) × ((says_answer s.server (Some a) o).sends ≡ x ∷ [])) (sym said) (_, refl))
 
 pub offer_one : (s : Scene) (tokens : ℕ) (end : End) (method : OfferMethod) (l : Dialog) (d : Description) → dialog_with end s ≡ Some l → option_copied s.description ≡ Some d
-    → nat_lt (last_number l) (greatest_for (method_of method)) ≡ true → is_some (address_of l.target) ≡ true → SaysOne s tokens (Offer end method)
+    → nat_lt (last_number l) (max_for (method_of method)) ≡ true → is_some (address_of l.target) ≡ true → SaysOne s tokens (Offer end method)
 unfolding dress_one
 offer_one s tokens end method l d is said numbered leads =
     subst (λ (o : Option Dialog). (x : Sent) × ((says_offer s tokens o method (option_copied s.description)).sends ≡ x ∷ [])) (sym is)

@@ -7,7 +7,7 @@ use Rattle.sip_message.specs.declared.message.Response.{Response}
 use Rattle.sdp.specs.declared.description.Description.{Description}
 use Rattle.dialogs.specs.declared.method.Method.TheVariants.{Bye}
 use Rattle.dialogs.specs.declared.state.Dialog.{Dialog}
-use Rattle.dialogs.specs.Counting.{greatest_for, last_number}
+use Rattle.dialogs.specs.Counting.{max_for, last_number}
 use Rattle.dialogs.specs.Making.{callers_dialog}
 use Rattle.call_media.specs.declared.end.End.TheVariants.{Callee}
 use Rattle.call_core.specs.Calls.{dialog_of}
@@ -52,11 +52,11 @@ first_dialog asked response target = record { end = Callee; dialog = callers_dia
 
 abbrev pub HasByeLeft : Option Dialog → Type 0
 HasByeLeft None = Unit {0}
-HasByeLeft (Some d) = nat_lt (last_number d) (greatest_for Bye) ≡ true
+HasByeLeft (Some d) = nat_lt (last_number d) (max_for Bye) ≡ true
 
 -- a BYE can be sent in each dialog of the call (section 8.1.1.5)
 pub record HasNumbersLeft (c : StandingCall) : Type 0 where
-  pub caller : nat_lt (last_number c.call.caller) (greatest_for Bye) ≡ true
+  pub caller : nat_lt (last_number c.call.caller) (max_for Bye) ≡ true
   pub callee : HasByeLeft c.call.callee
 
 -- so it is of all calls that stand

@@ -4,7 +4,7 @@ use Rattle.sip_uri.specs.Address.{address_of}
 use Rattle.sip_message.specs.Words.{tag_text}
 use Rattle.dialogs.specs.declared.method.Method.TheVariants as methods
 use Rattle.dialogs.specs.declared.state.Dialog.{Dialog as LegDialog}
-use Rattle.dialogs.specs.Counting.{greatest_for, last_number}
+use Rattle.dialogs.specs.Counting.{max_for, last_number}
 use Rattle.call_media.specs.declared.end.End.{End}
 use Rattle.call_core.specs.declared.signal.OfferMethod.{OfferMethod}
 use Rattle.call_messages.specs.declared.scene.Asker.{Asker}
@@ -40,7 +40,7 @@ pub record LegIn (s : Scene) (end : End) (y : Dialog) : Type 0 where
   pub has : dialog_with end s ≡ Some leg
   pub is : dialog_named leg.id ≡ y
   pub leads : is_some (address_of leg.target) ≡ true
-  pub numbered : nat_lt (last_number leg) (greatest_for methods.Bye) ≡ true
+  pub numbered : nat_lt (last_number leg) (max_for methods.Bye) ≡ true
 
 -- the leg with the end that is asked, in which a number is left
 pub record AskedLeg (s : Scene) (end : End) (method : OfferMethod) (y : Dialog) : Type 0 where
@@ -48,7 +48,7 @@ pub record AskedLeg (s : Scene) (end : End) (method : OfferMethod) (y : Dialog) 
   pub has : dialog_with end s ≡ Some leg
   pub is : dialog_named leg.id ≡ y
   pub leads : is_some (address_of leg.target) ≡ true
-  pub numbered : nat_lt (last_number leg) (greatest_for (method_of method)) ≡ true
+  pub numbered : nat_lt (last_number leg) (max_for (method_of method)) ≡ true
 
 -- ---- requests that came
 

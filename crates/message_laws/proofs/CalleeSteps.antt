@@ -16,7 +16,7 @@ use Rattle.sip_message.specs.declared.message.Request.{Request}
 use Rattle.sip_message.specs.declared.via.Via.{Via}
 use Rattle.sip_writing.specs.Requests.{server_via}
 use Rattle.sdp.specs.declared.description.Description.{Description}
-use Rattle.dialogs.specs.Counting.{following, greatest_for, last_number, method_text}
+use Rattle.dialogs.specs.Counting.{following, max_for, last_number, method_text}
 use Rattle.dialogs.specs.Making.{reached_at}
 use Rattle.dialogs.specs.Requests.{parts_in, request_in}
 use Rattle.dialogs.specs.declared.method.Method.TheVariants.{Invite as InviteMethod}
@@ -217,7 +217,7 @@ offer_invites : (s : Scene) (n : ℕ) (d : Option Dialog) (description : Option 
 offer_invites s n None description t opens = absurd opens
 offer_invites s n (Some d) None t opens = absurd opens
 offer_invites s n (Some d) (Some description) t opens =
-    said_invites d (server_via s.server (branch s n)) _ _ _ 1 (nat_lt (last_number d) (greatest_for InviteMethod)) t opens
+    said_invites d (server_via s.server (branch s n)) _ _ _ 1 (nat_lt (last_number d) (max_for InviteMethod)) t opens
 
 first_dressed : (s : Scene) (n : ℕ) (t : Transaction) → OpensIn t (dressed s n (Trying Caller ∷ Offer Callee Invite ∷ [])).changes → is_invite t.parts ≡ true
 unfolding dress_one

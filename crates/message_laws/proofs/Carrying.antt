@@ -13,7 +13,7 @@ use Rattle.sip_writing.specs.Writing.{message_text}
 use Rattle.sdp.specs.declared.description.Description.{Description}
 use Rattle.sdp.specs.Writing.{description_text}
 use Rattle.dialogs.specs.declared.state.Dialog.{Dialog}
-use Rattle.dialogs.specs.Counting.{following, greatest_for, last_number, method_text}
+use Rattle.dialogs.specs.Counting.{following, max_for, last_number, method_text}
 use Rattle.dialogs.specs.Requests.{request_in}
 use Rattle.transactions.specs.declared.change.Entry.TheVariants.{Opens, Leaves}
 use Rattle.transactions.specs.declared.transaction.Transaction.{Transaction}
@@ -68,7 +68,7 @@ offer_carries : (s : Scene) (n : ℕ) (d : Option Dialog) (method : OfferMethod)
 offer_carries s n None method description t h = absurd h
 offer_carries s n (Some d) method None t h = h
 offer_carries s n (Some d) method (Some description) t h =
-    carried_by d (server_via s.server (branch s n)) (method_text (method_of method)) _ _ description 1 (nat_lt (last_number d) (greatest_for (method_of method))) t h
+    carried_by d (server_via s.server (branch s n)) (method_text (method_of method)) _ _ description 1 (nat_lt (last_number d) (max_for (method_of method))) t h
 
 one_carries : (s : Scene) (n : ℕ) (action : Action) (t : Transaction) → OpensIn t (dress_one s n action).changes → IsOffering t → CarriesText (option_copied s.description) t
 unfolding dress_one

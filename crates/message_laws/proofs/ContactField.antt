@@ -12,7 +12,7 @@ use Rattle.std.proofs.lemmas.Slice.Eq.{bytes_eq-Decides}
 use Rattle.text.specs.Class.{is_blank, is_run_of}
 use Rattle.text.specs.Pieces.{pieces}
 use Rattle.text.specs.Trim.{trimmed, without_blanks, without_end}
-use Rattle.text.specs.declared.splitting.Within.TheVariants.{Angles, Nothing}
+use Rattle.text.specs.declared.split.Within.TheVariants.{Angles, Nothing}
 use Rattle.sip_uri.specs.declared.uri.Addr.{Addr}
 use Rattle.sip_uri.specs.declared.uri.NameAddr.{NameAddr}
 use Rattle.sip_uri.specs.FieldParams.{field_params_of}

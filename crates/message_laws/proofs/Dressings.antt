@@ -16,7 +16,7 @@ use Rattle.sdp.specs.declared.description.Description.{Description}
 use Rattle.dialogs.specs.declared.method.Method.{Method}
 use Rattle.dialogs.specs.declared.method.Method.TheVariants.{Bye as ByeMethod}
 use Rattle.dialogs.specs.declared.state.Dialog.{Dialog}
-use Rattle.dialogs.specs.Counting.{following, greatest_for, last_number, method_text}
+use Rattle.dialogs.specs.Counting.{following, max_for, last_number, method_text}
 use Rattle.dialogs.specs.Requests.{parts_in, request_in}
 use Rattle.events.specs.declared.sent.Sent.{Sent}
 use Rattle.transactions.specs.declared.change.Entry.TheVariants.{Opens, Leaves}
@@ -108,7 +108,7 @@ next_own_by made server salt tokens d method hops further body false le tag = tt
 next_own : (made : ℕ) (server : Addr) (salt tokens : ℕ) (d : Dialog) (method : Method) (hops : ℕ) (further : List Header) (body : List ℕ)
     → tokens + 1 ≤ made → IsMade made d.id.ours → IfOwn made (next_request d method (server_via server (token salt (tokens + 1))) hops further body)
 next_own made server salt tokens d method hops further body le tag =
-    next_own_by made server salt tokens d method hops further body (nat_lt (last_number d) (greatest_for method)) le tag
+    next_own_by made server salt tokens d method hops further body (nat_lt (last_number d) (max_for method)) le tag
 
 offer_own : (s : Scene) (n : ℕ) (d : Option Dialog) (method : _) (description : Option Description) → HasMadeTag n d → OwnMade n (says_offer s n d method description)
 offer_own s n None method description tag = tt

@@ -9,7 +9,7 @@ use Rattle.events.specs.declared.event.Event.{Event}
 use Rattle.plans.specs.declared.taken.Taken.{Taken}
 use Rattle.plans.specs.Effect.{Effect}
 use Rattle.event_rows.specs.Rows.{after, moment_after, only_counts, row, row_by}
-use Rattle.event_rows.specs.State.{Contents, IsNew, after_event, moment_at, moments_end, most_tokens, office}
+use Rattle.event_rows.specs.State.{Contents, IsNew, after_event, moment_at, moments_end, max_tokens, office}
 use Rattle.message_laws.specs.Knowing.{HasMadeTags, KnowsCalls, KnowsTokens}
 use Rattle.message_laws.specs.Tokens.{IsOwnIf}
 use Rattle.message_laws.proofs.Growing.{calls_more, slots_more}
@@ -30,7 +30,7 @@ few_by false false late over other e = refl
 -- fewer tokens were made than may be
 pub few_tokens : (s : Contents) (e : Event) → only_counts s e ≡ None → s.tokens < 2 ^ 63
 unfolding only_counts
-few_tokens s e none = leb-false most_tokens s.tokens (few_by (nat_le moments_end e.now) (nat_le most_tokens s.tokens) _ _ _ none)
+few_tokens s e none = leb-false max_tokens s.tokens (few_by (nat_le moments_end e.now) (nat_le max_tokens s.tokens) _ _ _ none)
 
 event_owns : (s : Contents) → KnowsTokens (office s) → (e : Event) (taken : Option Taken) → only_counts s e ≡ taken → OwnEffect (office s) (row_by s e taken)
 event_owns s k e (Some taken) is = record { entries = tt; calls = calls_more s.tokens (s.tokens + 0) s.calls.calls (omega arith) k.calls }

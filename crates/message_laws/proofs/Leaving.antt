@@ -12,7 +12,7 @@ use Rattle.sip_writing.specs.Requests.{server_via}
 use Rattle.sdp.specs.declared.description.Description.{Description}
 use Rattle.dialogs.specs.declared.method.Method.TheVariants.{Bye as ByeMethod}
 use Rattle.dialogs.specs.declared.state.Dialog.{Dialog}
-use Rattle.dialogs.specs.Counting.{following, greatest_for, last_number, method_text}
+use Rattle.dialogs.specs.Counting.{following, max_for, last_number, method_text}
 use Rattle.dialogs.specs.Requests.{parts_in, request_in}
 use Rattle.transaction_machines.specs.declared.state.State.{State}
 use Rattle.transaction_machines.specs.declared.state.State.TheVariants as machine
@@ -67,7 +67,7 @@ offer_no_bye : (s : Scene) (n : ℕ) (d : Option Dialog) (method : OfferMethod) 
 offer_no_bye s n None method description t opens bye = opens
 offer_no_bye s n (Some d) method None t opens bye = opens
 offer_no_bye s n (Some d) method (Some description) t opens bye =
-    offer_no_bye_by d (server_via s.server (branch s n)) method _ _ _ 1 (nat_lt (last_number d) (greatest_for (method_of method))) t opens bye
+    offer_no_bye_by d (server_via s.server (branch s n)) method _ _ _ 1 (nat_lt (last_number d) (max_for (method_of method))) t opens bye
 
 ack_no_bye : (s : Scene) (n : ℕ) (d : Option Dialog) (t : Transaction) → OpensIn t (says_ack s n d).changes → IsBye t → ⊥
 unfolding request_in parts_in
@@ -105,7 +105,7 @@ left_by d via made true t opens =
 
 left : (s : Scene) (n : ℕ) (d : Option Dialog) (t : Transaction) → OpensIn t (says_bye s n d).changes → IsByeTo d t
 left s n None t opens = opens
-left s n (Some d) t opens = left_by d (server_via s.server (branch s n)) 1 (nat_lt (last_number d) (greatest_for ByeMethod)) t opens
+left s n (Some d) t opens = left_by d (server_via s.server (branch s n)) 1 (nat_lt (last_number d) (max_for ByeMethod)) t opens
 
 left_to : (s : Scene) (n : ℕ) (end : End) (t : Transaction) → OpensIn t (says_bye s n (dialog_with end s)).changes → IsByeFrom s t
 left_to s n Caller t opens = inl (left s n (dialog_with Caller s) t opens)

@@ -5,7 +5,7 @@ use Rattle.std.specs.List.{All}
 use Rattle.std.proofs.lemmas.List.Elements.{All-push, All-set}
 use Rattle.events.specs.declared.sent.Sent.{Sent}
 use Rattle.sip_uri.specs.declared.uri.Uri.{Uri}
-use Rattle.sip_message.specs.CSeq.{greatest_number}
+use Rattle.sip_message.specs.CSeq.{max_cseq}
 use Rattle.sip_message.specs.Contact.{contacts_of}
 use Rattle.sip_message.specs.declared.message.Parts.{Parts}
 use Rattle.sip_message.specs.declared.message.Request.{Request}
@@ -108,11 +108,11 @@ unfolding refreshes
 refreshes_low calls place end r all = leg_at_low (reached_at (contacts_of r.headers)) (counts calls place end r.parts.cseq.number) (counts_low calls place end r.parts.cseq.number all)
 
 -- the dialog of a 2xx counts the number of its request, or goes on
-after_low : (asked : Parts) (r : Response) (target : Uri) (d : Option Dialog) → asked.cseq.number ≤ greatest_number → CountsLowIf d → CountsLow (dialog_after asked r target d)
+after_low : (asked : Parts) (r : Response) (target : Uri) (d : Option Dialog) → asked.cseq.number ≤ max_cseq → CountsLowIf d → CountsLow (dialog_after asked r target d)
 after_low asked r target None low h = low
 after_low asked r target (Some d) low h = h
 
-leg_by_low : (asked : Parts) (r : Response) (target : Option Uri) (calls : List StandingCall) (place : ℕ) (c : Option StandingCall) → asked.cseq.number ≤ greatest_number → slice_get calls place ≡ c
+leg_by_low : (asked : Parts) (r : Response) (target : Option Uri) (calls : List StandingCall) (place : ℕ) (c : Option StandingCall) → asked.cseq.number ≤ max_cseq → slice_get calls place ≡ c
     → All HasLowNumbers calls → IsLowPut (leg_by asked r target c)
 leg_by_low asked r None calls place c low there all = tt
 leg_by_low asked r (Some target) calls place None low there all = tt
@@ -120,7 +120,7 @@ leg_by_low asked r (Some target) calls place (Some c) low there all =
     let end = other (offerer_of c.call.standing) in
     after_low asked r target (dialog_of end c.call) low (dialog_low c end (all_at HasLowNumbers calls place c all there))
 
-pub answers_low : (asked : Parts) (r : Response) (calls : List StandingCall) (place : ℕ) → asked.cseq.number ≤ greatest_number → All HasLowNumbers calls → IsLowPut (answers_leg calls place asked r)
+pub answers_low : (asked : Parts) (r : Response) (calls : List StandingCall) (place : ℕ) → asked.cseq.number ≤ max_cseq → All HasLowNumbers calls → IsLowPut (answers_leg calls place asked r)
 unfolding answers_leg
 answers_low asked r calls place low all = leg_by_low asked r (reached_at (contacts_of r.headers)) calls place (slice_get calls place) low refl all
 

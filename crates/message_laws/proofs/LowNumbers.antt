@@ -2,12 +2,12 @@
 use Rattle.std.proofs.Common.{◌≡◌, ℕ, ◌+◌, ◌<◌, ◌≤◌, true, cond, Option, Some, None, option_map, arith}
 use Rattle.std.proofs.lemmas.Bool.{ltb-true}
 use Rattle.port_pool.specs.Pool as pools
-use Rattle.sip_message.specs.CSeq.{greatest_number}
+use Rattle.sip_message.specs.CSeq.{max_cseq}
 use Rattle.sdp.specs.declared.description.Description.{Description}
 use Rattle.dialogs.specs.declared.method.Method.{Method}
 use Rattle.dialogs.specs.declared.method.Method.TheVariants.{Bye, Invite, Update}
 use Rattle.dialogs.specs.declared.state.Dialog.{Dialog}
-use Rattle.dialogs.specs.Counting.{following, greatest_for, last_number}
+use Rattle.dialogs.specs.Counting.{following, max_for, last_number}
 use Rattle.call_media.specs.Ends.{other}
 use Rattle.call_media.specs.declared.end.End.{End}
 use Rattle.call_media.specs.declared.end.End.TheVariants.{Callee, Caller}
@@ -29,7 +29,7 @@ use Rattle.message_laws.specs.SoundClients.{CountsLowIf}
 use Rattle.message_laws.specs.SoundScenes.{CountsLow}
 
 -- a number is left for a request of this method
-pub number_low : (last : ℕ) (method : Method) → last < greatest_for method → last + 1 ≤ greatest_number
+pub number_low : (last : ℕ) (method : Method) → last < max_for method → last + 1 ≤ max_cseq
 number_low last Invite lt = omega (arith, lt)
 number_low last Update lt = omega (arith, lt)
 number_low last Bye lt = omega (arith, lt)
@@ -44,8 +44,8 @@ moved_low c next media = record { caller = λ h. h; callee = λ h. h }
 
 -- an offer is passed on to the end across
 
-left_low : (d : Dialog) → has_number_left (Some d) ≡ true → following d ≤ greatest_number
-left_low d left = number_low (last_number d) Invite (ltb-true (last_number d) (greatest_for Invite) left)
+left_low : (d : Dialog) → has_number_left (Some d) ≡ true → following d ≤ max_cseq
+left_low d left = number_low (last_number d) Invite (ltb-true (last_number d) (max_for Invite) left)
 
 callee_low : (d : Option Dialog) → has_number_left d ≡ true → CountsLowIf (with_number_if (option_map following d) d)
 callee_low None left = tt

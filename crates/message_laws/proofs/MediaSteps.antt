@@ -7,7 +7,7 @@ use Rattle.std.proofs.lemmas.List.{length-take-le}
 use Rattle.std.specs.FinMap.{get}
 use Rattle.sip_uri.specs.declared.uri.Addr.{Addr}
 use Rattle.std.proofs.lemmas.List.Elements.{All-cons, All-head, All-nil, All-tail}
-use Rattle.port_pool.specs.Limits.{least_port}
+use Rattle.port_pool.specs.Limits.{min_port}
 use Rattle.port_pool.specs.declared.pair.Pair.{Pair}
 use Rattle.port_pool.specs.Holdings.{even_of, free_pairs, holder_at, is_among, is_call}
 use Rattle.port_pool.specs.RelayTable.{Rows}
@@ -179,12 +179,12 @@ module _ (own : Owns) (once : Once) (have : HaveRows) (server : OwnRange) (m : C
     count = length-take-le (fresh_needed m x offer) (free_pairs now pool.holdings) enough
 
     unheld : (port : ℕ) → is_among fresh (even_of port) ≡ true → holder_at pool.holdings port ≡ None
-    unheld port among = given_unheld now (fresh_needed m x offer) least_port pool.holdings (even_of port) is.pairs among
+    unheld port among = given_unheld now (fresh_needed m x offer) min_port pool.holdings (even_of port) is.pairs among
 
     suits : Suit m pool (is_same x Caller) offer.media (seats_kept x m.session) fresh
     suits =
-        suit m pool x (is_same x Caller) offer.media fresh serves (λ even call. held_leads least_port pool.holdings even call (omega arith) is.pairs) count unheld
-        (leads_given now (fresh_needed m x offer) least_port pool.holdings (omega arith) is.pairs) (rising_given now (fresh_needed m x offer) least_port pool.holdings is.pairs)
+        suit m pool x (is_same x Caller) offer.media fresh serves (λ even call. held_leads min_port pool.holdings even call (omega arith) is.pairs) count unheld
+        (leads_given now (fresh_needed m x offer) min_port pool.holdings (omega arith) is.pairs) (rising_given now (fresh_needed m x offer) min_port pool.holdings is.pairs)
 
     passed : IsPassedOn m.range.ip (opened m pool x offer now)
     passed =
@@ -246,7 +246,7 @@ module _ (own : Owns) (once : Once) (have : HaveRows) (server : OwnRange) (m : C
     sends =
         let from = origin m.number m.range.ip o.offerer m.versions in
         let ports = map port_to_offerer o.seats in
-        let leads = λ (even call : ℕ). held_leads least_port pool.holdings even call (omega arith) is.pairs in
+        let leads = λ (even call : ℕ). held_leads min_port pool.holdings even call (omega arith) is.pairs in
         record {
           alike = readdressed_alike from ports answer (answer_ports_there m pool o answer opening fits) (answer_ports m pool o answer opening fits leads) serves.server;
           at_server = readdressed_at_server from ports answer;

@@ -17,7 +17,7 @@ use Rattle.sip_writing.specs.Writing.{message_text}
 use Rattle.sdp.specs.declared.description.Description.{Description}
 use Rattle.dialogs.specs.declared.method.Method.TheVariants.{Bye as ByeMethod}
 use Rattle.dialogs.specs.declared.state.Dialog.{Dialog}
-use Rattle.dialogs.specs.Counting.{following, greatest_for, last_number, method_text}
+use Rattle.dialogs.specs.Counting.{following, max_for, last_number, method_text}
 use Rattle.dialogs.specs.Requests.{parts_in, request_in}
 use Rattle.transaction_machines.specs.declared.state.State.{State}
 use Rattle.transaction_machines.specs.declared.state.State.TheVariants as machine
@@ -94,7 +94,7 @@ offered : (s : Scene) (n : ℕ) (d : Option Dialog) (method : _) (description : 
 offered s n None method description t h = h
 offered s n (Some d) method None t h = absurd h
 offered s n (Some d) method (Some description) t h =
-    offered_by d (server_via s.server (branch s n)) (method_text (method_of method)) _ _ _ 1 (nat_lt (last_number d) (greatest_for (method_of method))) t h
+    offered_by d (server_via s.server (branch s n)) (method_text (method_of method)) _ _ _ 1 (nat_lt (last_number d) (max_for (method_of method))) t h
 
 -- ---- ACK, BYE, CANCEL
 
@@ -111,7 +111,7 @@ bye_by d via true q e = ap (λ (x : Request). may_offer x.parts) (sym (same_Some
 bye_none : (s : Scene) (n : ℕ) (d : Option Dialog) (t : Transaction) → OpensIn t (says_bye s n d).changes → IsOffering t → ⊥
 bye_none s n None t h offers = h
 bye_none s n (Some d) t h offers =
-    no_offer_if (bye s.server d (branch s n)) 1 t (λ q e. bye_by d (server_via s.server (branch s n)) (nat_lt (last_number d) (greatest_for ByeMethod)) q e) h offers
+    no_offer_if (bye s.server d (branch s n)) 1 t (λ q e. bye_by d (server_via s.server (branch s n)) (nat_lt (last_number d) (max_for ByeMethod)) q e) h offers
 
 cancel_none_with : (t : Transaction) (vias : List Via) (made : ℕ) (u : Transaction) → OpensIn u (asks_if (cancel_with t.uri t.parts vias) made).changes → IsOffering u → ⊥
 unfolding request_like parts_like

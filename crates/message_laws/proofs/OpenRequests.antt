@@ -15,7 +15,7 @@ use Rattle.sip_message.specs.declared.via.Via.{Via}
 use Rattle.sip_writing.specs.Requests.{server_via}
 use Rattle.sip_writing.specs.Writing.{message_text}
 use Rattle.sdp.specs.declared.description.Description.{Description}
-use Rattle.dialogs.specs.Counting.{following, greatest_for, last_number, method_text}
+use Rattle.dialogs.specs.Counting.{following, max_for, last_number, method_text}
 use Rattle.dialogs.specs.Requests.{parts_in, request_in}
 use Rattle.dialogs.specs.declared.state.Dialog.{Dialog}
 use Rattle.transaction_machines.specs.Machines.{is_server}
@@ -165,7 +165,7 @@ numbered_one : (r : Request) (b : Bool) → b ≡ true → BeginsOne (asks r 1).
 numbered_one r true is h = h
 numbered_one r false is h = absurd (false≢true is)
 
-number_left : (method : OfferMethod) (d : Dialog) → nat_lt (last_number d) (greatest_for (method_of Invite)) ≡ true → nat_lt (last_number d) (greatest_for (method_of method)) ≡ true
+number_left : (method : OfferMethod) (d : Dialog) → nat_lt (last_number d) (max_for (method_of Invite)) ≡ true → nat_lt (last_number d) (max_for (method_of method)) ≡ true
 number_left Invite d h = h
 number_left Update d h = h
 
@@ -176,13 +176,13 @@ pub record CanOffer (s : Scene) (y : End) : Type 0 where
   pub there : dialog_with y s ≡ Some leg
   pub says : option_copied s.description ≡ Some description
   pub leads : is_some (address_of leg.target) ≡ true
-  pub numbered : nat_lt (last_number leg) (greatest_for (method_of Invite)) ≡ true
+  pub numbered : nat_lt (last_number leg) (max_for (method_of Invite)) ≡ true
 
 says_one : (s : Scene) (n : ℕ) (y : End) (method : OfferMethod) → CanOffer s y → BeginsOne (says_offer s n (dialog_with y s) method (option_copied s.description)).changes
 says_one s n y method can =
     let d = can.leg in
     let one : BeginsOne (says_offer s n (Some d) method (Some can.description)).changes =
-    numbered_one _ (nat_lt (last_number d) (greatest_for (method_of method))) (number_left method d can.numbered) (in_one d (server_via s.server (branch s n)) method _ _ _ can.leads) in
+    numbered_one _ (nat_lt (last_number d) (max_for (method_of method))) (number_left method d can.numbered) (in_one d (server_via s.server (branch s n)) method _ _ _ can.leads) in
     subst (λ o. BeginsOne (says_offer s n o method (option_copied s.description)).changes) (sym can.there)
     (subst (λ e. BeginsOne (says_offer s n (Some d) method e).changes) (sym can.says) one)
 

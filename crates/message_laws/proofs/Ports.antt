@@ -12,7 +12,7 @@ use Rattle.port_pool.specs.Holdings.{HasOdd, freed_at, free_pairs, held_by, hold
 use Rattle.port_pool.specs.Pool.{Contents, lowest_free, new_pool, with_pairs, without_call, without_others}
 use Rattle.sdp.specs.declared.description.Description.{Description}
 use Rattle.sdp.specs.declared.description.Media.{Media}
-use Rattle.offer_answer.specs.declared.readdressing.ServerOrigin.{ServerOrigin}
+use Rattle.offer_answer.specs.declared.sent_description.ServerOrigin.{ServerOrigin}
 use Rattle.offer_answer.specs.Readdressing.{readdressed_description, readdressed_media, readdressed_medium}
 use Rattle.call_media.specs.declared.end.End.{End}
 use Rattle.call_media.specs.declared.seat.Seat.{Seat}

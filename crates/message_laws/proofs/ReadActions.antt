@@ -16,7 +16,7 @@ use Rattle.sip_writing.specs.WritingMessage.{IsWrittenMessage}
 use Rattle.sdp.specs.declared.description.Description.{Description}
 use Rattle.dialogs.specs.declared.method.Method.{Method}
 use Rattle.dialogs.specs.declared.method.Method.TheVariants as methods
-use Rattle.dialogs.specs.Counting.{following, greatest_for, last_number, method_text}
+use Rattle.dialogs.specs.Counting.{following, max_for, last_number, method_text}
 use Rattle.dialogs.specs.Requests.{parts_in, request_in}
 use Rattle.dialogs.specs.Sound.{IsSound}
 use Rattle.dialogs.specs.declared.state.Dialog.{Dialog}
@@ -91,7 +91,7 @@ method_no_ack d via methods.Update number hops further body = refl
 method_no_ack d via methods.Bye number hops further body = refl
 
 next_no_ack : (d : Dialog) (method : Method) (via : Via) (hops : ℕ) (further : List Header) (body : List ℕ) (q : Request) → next_request d method via hops further body ≡ Some q → is_method (codes "ACK") q.parts ≡ false
-next_no_ack d method via hops further body q is = by_left (nat_lt (last_number d) (greatest_for method)) is
+next_no_ack d method via hops further body q is = by_left (nat_lt (last_number d) (max_for method)) is
   where
     by_left : (b : Bool) → cond b (Some (request_in d via (method_text method) (following d) hops further body)) None ≡ Some q → is_method (codes "ACK") q.parts ≡ false
     by_left true e = subst (λ (x : Request). is_method (codes "ACK") x.parts ≡ false) (same_Some _ q e) (method_no_ack d via method (following d) hops further body)

@@ -6,7 +6,7 @@ use Rattle.sdp.specs.declared.description.Description.{Description}
 use Rattle.sdp.specs.Addresses.{is_unicast}
 use Rattle.sdp.specs.Grammar.{ReadsDescription}
 use Rattle.sdp.specs.Writing.{description_text}
-use Rattle.offer_answer.specs.declared.readdressing.ServerOrigin.{ServerOrigin}
+use Rattle.offer_answer.specs.declared.sent_description.ServerOrigin.{ServerOrigin}
 use Rattle.offer_answer.specs.Readdressing.{AreOfTheirSizes, readdressed_description}
 use Rattle.call_media.specs.declared.session.OpenOffer.{OpenOffer}
 use Rattle.call_media.specs.declared.session.Session.{Session}

@@ -16,7 +16,7 @@ use Rattle.sip_message.specs.Fields.{headers_of}
 use Rattle.sip_message.specs.Head.{head_of}
 use Rattle.sip_message.specs.Lines.{after_line_end, before_line_end, begins_line_end, is_clean, line_of, lines_within, next_lines, with_lines}
 use Rattle.sip_message.specs.Lookup.{at_most_one, values_named}
-use Rattle.sip_message.specs.Read.{behind_start, clean_start, contents_of, greatest_datagram, greatest_lines, message_by, message_of, message_with, with_fields}
+use Rattle.sip_message.specs.Read.{behind_start, clean_start, contents_of, max_datagram, max_lines, message_by, message_of, message_with, with_fields}
 use Rattle.sip_message.specs.Content.{has_description_type, is_uncoded}
 use Rattle.sip_message.specs.Start.{start_of}
 use Rattle.sip_message.specs.Values.{values_of}
@@ -181,11 +181,11 @@ fields_within n start (Some x) h = message_within n start x.0 x.1 h
 
 start_within : (n : ℕ) (start : Start) (rest : Option (List ℕ)) → IsWithin n rest → IsShortMessage n (behind_start start rest)
 start_within n start None h = tt
-start_within n start (Some rest) h = fields_within n start (head_of (greatest_lines + 1) rest) (behind_more (length rest) n (head_of (greatest_lines + 1) rest) h (head_within (greatest_lines + 1) rest))
+start_within n start (Some rest) h = fields_within n start (head_of (max_lines + 1) rest) (behind_more (length rest) n (head_of (max_lines + 1) rest) h (head_within (max_lines + 1) rest))
 
-pub message_short : (text : List ℕ) → IsShortMessage greatest_datagram (message_of text)
+pub message_short : (text : List ℕ) → IsShortMessage max_datagram (message_of text)
 unfolding message_of
-message_short text = by (nat_lt greatest_datagram (length text)) refl
+message_short text = by (nat_lt max_datagram (length text)) refl
   where
     clean : (n : ℕ) (t : Bool) (start : Start) (rest : Option (List ℕ)) → IsWithin n rest → IsShortMessage n (cond t (behind_start start rest) (Err HeaderLine))
     clean n true start rest h = start_within n start rest h
@@ -195,9 +195,9 @@ message_short text = by (nat_lt greatest_datagram (length text)) refl
     begun n (Ok start) le = clean n (is_clean (before_line_end text)) start (after_line_end text) (within_more (length text) n (after_line_end text) le (after_within text))
     begun n (Err e) le = tt
 
-    by : (t : Bool) → nat_lt greatest_datagram (length text) ≡ t → IsShortMessage greatest_datagram (cond t (Err TooLong) (and_then (start_of (before_line_end text)) (clean_start (before_line_end text) (after_line_end text))))
+    by : (t : Bool) → nat_lt max_datagram (length text) ≡ t → IsShortMessage max_datagram (cond t (Err TooLong) (and_then (start_of (before_line_end text)) (clean_start (before_line_end text) (after_line_end text))))
     by true e = tt
-    by false e = begun greatest_datagram (start_of (before_line_end text)) (ltb-false greatest_datagram (length text) e)
+    by false e = begun max_datagram (start_of (before_line_end text)) (ltb-false max_datagram (length text) e)
 
 -- ---- what a body describes
 
@@ -223,7 +223,7 @@ pub body_read : BodiesDescribe → (bytes : List ℕ) (m : Message) (d : Descrip
 body_read describes bytes m d read said = record {
   text = body_in m;
   reads = ((describes bytes m d).0 (description_seen bytes m ∙ said)).1;
-  fits = subst (IsShortMessage greatest_datagram) read (message_short bytes);
+  fits = subst (IsShortMessage max_datagram) read (message_short bytes);
 }
 
 pub body_read_if : BodiesDescribe → (bytes : List ℕ) (m : Message) (d : Option Description) → message_of bytes ≡ Ok m → described (headers_in m) (body_in m) ≡ d → WasReadIf d

@@ -11,7 +11,7 @@ use Rattle.sip_message.specs.declared.headers.Header.{Header}
 use Rattle.sip_message.specs.declared.message.Message.TheVariants as Kinds
 use Rattle.sip_message.specs.declared.message.Parts.{Parts}
 use Rattle.sip_message.specs.declared.message.Request.{Request}
-use Rattle.sip_message.specs.ContentLength.{greatest_length}
+use Rattle.sip_message.specs.ContentLength.{max_content_length}
 use Rattle.sip_message.specs.Repeatable.{CanBeRepeated}
 use Rattle.sip_message.specs.Words.{tag_value}
 use Rattle.sip_writing.specs.Reply.{replied, reply_of}
@@ -43,7 +43,7 @@ use Rattle.message_laws.proofs.TokenRuns.{token_run}
 -- ---- one response
 
 pub responds_written : (parts : Parts) (source : Addr) (status : ℕ) (tag : List ℕ) (further : List Header) (body : List ℕ) → IsSource source → CanBeRepeated parts → IsTokenRun tag → IsStatus status
-    → FollowsIn status parts.cseq.method further → length body ≤ greatest_length → IsWrittenMessage (Kinds.Response (with_body body (responds parts source status tag further)))
+    → FollowsIn status parts.cseq.method further → length body ≤ max_content_length → IsWrittenMessage (Kinds.Response (with_body body (responds parts source status tag further)))
 unfolding responds reply_of replied
 responds_written parts source status tag further body from repeats token is follows small = reply_is_read parts source status tag from repeats token is.low is.high further body follows small
 
@@ -58,7 +58,7 @@ responds_read parts source status tag further from repeats token is follows = re
 
 -- with a body
 pub body_read : (parts : Parts) (source : Addr) (status : ℕ) (tag : List ℕ) (further : List Header) (body : List ℕ) → IsSource source → CanBeRepeated parts → IsTokenRun tag → IsStatus status
-    → FollowsIn status parts.cseq.method further → length body ≤ greatest_length → IsReadResponse (message_text (Kinds.Response (with_body body (responds parts source status tag further))))
+    → FollowsIn status parts.cseq.method further → length body ≤ max_content_length → IsReadResponse (message_text (Kinds.Response (with_body body (responds parts source status tag further))))
 body_read parts source status tag further body from repeats token is follows small = record {
   response = with_body body (responds parts source status tag further);
   said = refl;

@@ -19,7 +19,7 @@ use Rattle.sdp.specs.Writing.{description_text}
 use Rattle.dialogs.specs.declared.method.Method.{Method}
 use Rattle.dialogs.specs.declared.method.Method.TheVariants.{Bye}
 use Rattle.dialogs.specs.declared.state.Dialog.{Dialog}
-use Rattle.dialogs.specs.Counting.{following, greatest_for, last_number, method_text}
+use Rattle.dialogs.specs.Counting.{following, max_for, last_number, method_text}
 use Rattle.dialogs.specs.Requests.{ack_text, parts_in, request_in}
 use Rattle.transaction_machines.specs.declared.state.State.{State}
 use Rattle.transaction_machines.specs.declared.state.State.TheVariants as machine
@@ -65,7 +65,7 @@ request_says describes bytes server d via method number hops description reads =
 -- a request that there is, where a number is left
 next_is : (d : Dialog) (method : Method) (via : Via) (hops : ℕ) (further : List Header) (body : List ℕ) (request : Request) → next_request d method via hops further body ≡ Some request
     → request_in d via (method_text method) (following d) hops further body ≡ request
-next_is d method via hops further body request h = step (nat_lt (last_number d) (greatest_for method)) h
+next_is d method via hops further body request h = step (nat_lt (last_number d) (max_for method)) h
   where
     step : (b : Bool) → cond b (Some (request_in d via (method_text method) (following d) hops further body)) None ≡ Some request → request_in d via (method_text method) (following d) hops further body ≡ request
     step true e = cc

@@ -6,7 +6,7 @@ use Rattle.std.proofs.lemmas.Bool.{ltb-true}
 use Rattle.text.specs.Class.{is_token_byte}
 use Rattle.sip_uri.specs.declared.uri.Addr.{Addr}
 use Rattle.sip_uri.specs.Address.{address_of}
-use Rattle.sip_message.specs.CSeq.{greatest_number}
+use Rattle.sip_message.specs.CSeq.{max_cseq}
 use Rattle.sip_message.specs.Words.{is_method}
 use Rattle.sip_message.specs.declared.headers.Header.{Header}
 use Rattle.sip_message.specs.declared.message.Message.TheVariants as Kinds
@@ -16,7 +16,7 @@ use Rattle.sip_writing.specs.Requests.{name_with_tag, server_via, IsEnd, IsReadV
 use Rattle.sip_writing.specs.Writing.{message_text}
 use Rattle.sip_writing.proofs.TagTrip.{run_is, tag_stands}
 use Rattle.sdp.specs.declared.description.Description.{Description}
-use Rattle.dialogs.specs.Counting.{following, greatest_for, last_number, method_text}
+use Rattle.dialogs.specs.Counting.{following, max_for, last_number, method_text}
 use Rattle.dialogs.specs.Requests.{ack_text, parts_in, request_in}
 use Rattle.dialogs.specs.Sound.{IsReadParty, IsSound}
 use Rattle.dialogs.specs.declared.method.Method.{Method}
@@ -85,7 +85,7 @@ end_is party tag h token = record {
   tagged = refl;
 }
 
-in_sound : (d : Dialog) (via : Via) (method : List ℕ) (number hops : ℕ) (further : List Header) (body : List ℕ) → IsSound d → IsReadVia via → number ≤ greatest_number
+in_sound : (d : Dialog) (via : Via) (method : List ℕ) (number hops : ℕ) (further : List Header) (body : List ℕ) → IsSound d → IsReadVia via → number ≤ max_cseq
     → IfSound (Some (request_in d via method number hops further body))
 unfolding request_in parts_in
 in_sound d via method number hops further body h reads low = record {
@@ -103,10 +103,10 @@ in_sound d via method number hops further body h reads low = record {
 }
 
 next_sound : (d : Dialog) (method : Method) (via : Via) (hops : ℕ) (further : List Header) (body : List ℕ) → IsSound d → IsReadVia via → IfSound (next_request d method via hops further body)
-next_sound d method via hops further body h reads = by_left (nat_lt (last_number d) (greatest_for method)) refl
+next_sound d method via hops further body h reads = by_left (nat_lt (last_number d) (max_for method)) refl
   where
-    by_left : (b : Bool) → nat_lt (last_number d) (greatest_for method) ≡ b → IfSound (cond b (Some (request_in d via (method_text method) (following d) hops further body)) None)
-    by_left true e = in_sound d via (method_text method) (following d) hops further body h reads (number_low (last_number d) method (ltb-true (last_number d) (greatest_for method) e))
+    by_left : (b : Bool) → nat_lt (last_number d) (max_for method) ≡ b → IfSound (cond b (Some (request_in d via (method_text method) (following d) hops further body)) None)
+    by_left true e = in_sound d via (method_text method) (following d) hops further body h reads (number_low (last_number d) method (ltb-true (last_number d) (max_for method) e))
     by_left false e = tt
 
 branch_reads : (s : Scene) (tokens : ℕ) → IsReached s.server → IsReadVia (server_via s.server (branch s tokens))

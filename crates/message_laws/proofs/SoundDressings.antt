@@ -10,7 +10,7 @@ use Rattle.sip_message.specs.declared.message.Request.{Request}
 use Rattle.sip_message.specs.declared.via.Via.{Via}
 use Rattle.sip_writing.specs.Requests.{server_via}
 use Rattle.sdp.specs.declared.description.Description.{Description}
-use Rattle.dialogs.specs.Counting.{following, greatest_for, last_number, method_text}
+use Rattle.dialogs.specs.Counting.{following, max_for, last_number, method_text}
 use Rattle.dialogs.specs.Requests.{parts_in, request_in}
 use Rattle.dialogs.specs.Sound.{IsReadParty}
 use Rattle.dialogs.specs.declared.method.Method.TheVariants.{Bye as ByeMethod}
@@ -88,7 +88,7 @@ offer_says s n None method description h t opens = absurd opens
 offer_says s n (Some d) method None h t opens = absurd opens
 offer_says s n (Some d) method (Some description) h t opens =
     asks_if_say (offer s.server d (method_of method) s.hops description (branch s n)) 1
-    (next_says d (server_via s.server (branch s n)) (method_text (method_of method)) _ _ _ (nat_lt (last_number d) (greatest_for (method_of method))) h) t opens
+    (next_says d (server_via s.server (branch s n)) (method_text (method_of method)) _ _ _ (nat_lt (last_number d) (max_for (method_of method))) h) t opens
 
 ack_says : (s : Scene) (n : ℕ) (d : Option Dialog) → SaysEndsIf d → AllSay (says_ack s n d).changes
 ack_says s n None h t opens = absurd opens
@@ -97,7 +97,7 @@ ack_says s n (Some d) h t opens = asks_say (ack s.server d (branch s n)) 1 (in_s
 bye_says : (s : Scene) (n : ℕ) (d : Option Dialog) → SaysEndsIf d → AllSay (says_bye s n d).changes
 bye_says s n None h t opens = absurd opens
 bye_says s n (Some d) h t opens =
-    asks_if_say (bye s.server d (branch s n)) 1 (next_says d (server_via s.server (branch s n)) (method_text ByeMethod) 70 [] [] (nat_lt (last_number d) (greatest_for ByeMethod)) h) t opens
+    asks_if_say (bye s.server d (branch s n)) 1 (next_says d (server_via s.server (branch s n)) (method_text ByeMethod) 70 [] [] (nat_lt (last_number d) (max_for ByeMethod)) h) t opens
 
 -- an INVITE of the server's own that was passed on, if there is one
 abbrev pub SaysIfInvite : Option Transaction → Type 0

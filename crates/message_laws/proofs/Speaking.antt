@@ -12,7 +12,7 @@ use Rattle.sip_uri.specs.Address.{address_of}
 use Rattle.sip_message.specs.declared.message.Message.TheVariants as Kinds
 use Rattle.sip_message.specs.declared.message.Parts.{Parts}
 use Rattle.sip_message.specs.declared.message.Request.{Request}
-use Rattle.sip_message.specs.ContentLength.{greatest_length}
+use Rattle.sip_message.specs.ContentLength.{max_content_length}
 use Rattle.sip_message.specs.Repeatable.{CanBeRepeated}
 use Rattle.sip_message.specs.Words.{is_method}
 use Rattle.sip_writing.specs.Writing.{message_text}
@@ -155,7 +155,7 @@ provisional_own server (Some a) status reached is h =
 -- no longer than Content-Length can say
 abbrev pub IsShortIf : Option Description → Type 0
 IsShortIf None = Unit {0}
-IsShortIf (Some description) = length (description_text description) ≤ greatest_length
+IsShortIf (Some description) = length (description_text description) ≤ max_content_length
 
 answer_own : (server : Addr) (a : Option Asker) (description : Option Description) → IsReached server → CanSayIf a → IsShortIf description → SaysOwn (says_answer server a description)
 answer_own server None description reached h short = silent

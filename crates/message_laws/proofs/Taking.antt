@@ -9,7 +9,7 @@ use Rattle.text.proofs.CutLaws.{Lacks, Lacks-from_class, before_at}
 use Rattle.sip_message.specs.AnswerableParts.{answerable_of, asks_answer, is_asking_line, parts_behind}
 use Rattle.sip_message.specs.Grammar.{ReadsResponse}
 use Rattle.sip_message.specs.Lines.{after_line_end, before_line_end}
-use Rattle.sip_message.specs.Read.{greatest_datagram, message_of}
+use Rattle.sip_message.specs.Read.{max_datagram, message_of}
 use Rattle.sip_message.specs.Start.{begins_sip}
 use Rattle.sip_message.specs.Words.{top_branch}
 use Rattle.sip_message.specs.declared.error.MessageError.{MessageError}
@@ -41,7 +41,7 @@ use Rattle.plans.specs.declared.taken.Taken.{Taken}
 use Rattle.plans.specs.declared.taken.Taken.TheVariants.{Done, Dropped, Idle, Shed}
 use Rattle.plans.specs.declared.taken.Why.TheVariants.{Clock, NoBranch, Spent, Stray, Unread}
 use Rattle.event_rows.specs.Rows.{by_reading, datagram_row, fit_row, is_full, is_unreachable_message, only_counts, read_row, received, response_by, row, row_by, setting, unread_by, unread_row, what_counts, what_row}
-use Rattle.event_rows.specs.State.{Contents, moment_at, moments_end, most_tokens, office}
+use Rattle.event_rows.specs.State.{Contents, moment_at, moments_end, max_tokens, office}
 use Rattle.message_laws.specs.Knowing.{KnowsTokens}
 use Rattle.message_laws.specs.Tokens.{IsMadeBranch, IsOwn, IsOwnIf}
 use Rattle.message_laws.proofs.MessageViews.{begun_by}
@@ -164,14 +164,14 @@ NotDone None = Unit {0}
 NotDone (Some taken) = taken ≡ Done → ⊥
 
 counts_none : (s : Contents) (now : ℕ) (what : What) → NotDone (what_counts s now what)
-counts_none s now (whats.Datagram source bytes) = by_if NotDone (nat_lt greatest_datagram (length bytes)) (Some (Dropped (Unread faults.TooLong))) None (λ b done. cc) (λ b. tt)
+counts_none s now (whats.Datagram source bytes) = by_if NotDone (nat_lt max_datagram (length bytes)) (Some (Dropped (Unread faults.TooLong))) None (λ b done. cc) (λ b. tt)
 counts_none s now whats.Due = by_if NotDone (is_some (first_due s.table.timers now) || is_some (first_due s.calls.timers now)) None (Some Idle) (λ b. tt) (λ b done. cc)
 
 counted_none : (s : Contents) (e : Event) → NotDone (only_counts s e)
 unfolding only_counts
 counted_none s e =
-    by_if NotDone (nat_le moments_end e.now) (Some (Dropped Clock)) (cond (nat_le most_tokens s.tokens) (Some (Dropped Spent)) (what_counts s (moment_at s e.now) e.what)) (λ b done. cc)
-    (λ b. by_if NotDone (nat_le most_tokens s.tokens) (Some (Dropped Spent)) (what_counts s (moment_at s e.now) e.what) (λ c done. cc) (λ c. counts_none s (moment_at s e.now) e.what))
+    by_if NotDone (nat_le moments_end e.now) (Some (Dropped Clock)) (cond (nat_le max_tokens s.tokens) (Some (Dropped Spent)) (what_counts s (moment_at s e.now) e.what)) (λ b done. cc)
+    (λ b. by_if NotDone (nat_le max_tokens s.tokens) (Some (Dropped Spent)) (what_counts s (moment_at s e.now) e.what) (λ c done. cc) (λ c. counts_none s (moment_at s e.now) e.what))
 
 counted_done : (s : Contents) (e : Event) (taken : Taken) → only_counts s e ≡ Some taken → taken ≡ Done → ⊥
 counted_done s e taken is = subst NotDone is (counted_none s e)

@@ -5,7 +5,7 @@ use Rattle.std.proofs.lemmas.Bool.{and_from, and_parts}
 use Rattle.std.proofs.lemmas.List.{append-nil}
 use Rattle.text.specs.Pieces.{pieces}
 use Rattle.text.specs.Trim.{trimmed, without_end}
-use Rattle.text.specs.declared.splitting.Within.TheVariants.{Nothing}
+use Rattle.text.specs.declared.split.Within.TheVariants.{Nothing}
 use Rattle.sip_message.specs.declared.headers.Header.{Header}
 use Rattle.sip_message.specs.declared.message.Message.TheVariants as Kinds
 use Rattle.sip_message.specs.declared.message.Request.{Request}

@@ -6,7 +6,7 @@ use Rattle.std.specs.List.{flat_map, list_all, onto_first}
 use Rattle.std.specs.Str.Parse.{digits_value}
 use Rattle.std.proofs.lemmas.Bool.{and_parts, leb-true}
 use Rattle.std.proofs.lemmas.Fmt.{length-decimal-le}
-use Rattle.sip_message.specs.ContentLength.{greatest_length}
+use Rattle.sip_message.specs.ContentLength.{max_content_length}
 use Rattle.sdp.specs.declared.address.Address.{Address}
 use Rattle.sdp.specs.declared.address.Address.TheVariants.{Ip4}
 use Rattle.sdp.specs.declared.description.Description.{Description}
@@ -16,7 +16,7 @@ use Rattle.sdp.specs.Grammar.{BeginsMedium, ReadsDescription, SaysDescription, S
 use Rattle.sdp.specs.Lines.{Ends, IsLines}
 use Rattle.sdp.specs.MediumLines.{RawMedium, count_of, formats_of, raw_medium_text}
 use Rattle.sdp.specs.Writing.{address_text, connection_lines, count_text, description_lines, description_text, ended, formats_text, info_lines, line_text, media_lines, medium_line, origin_line}
-use Rattle.offer_answer.specs.declared.readdressing.ServerOrigin.{ServerOrigin}
+use Rattle.offer_answer.specs.declared.sent_description.ServerOrigin.{ServerOrigin}
 use Rattle.offer_answer.specs.Alike.{is_kept, kept_lines}
 use Rattle.offer_answer.specs.Direct.{hold_address, is_hold}
 use Rattle.offer_answer.specs.Readdressing.{AreOfTheirSizes, origin_of, readdressed_address, readdressed_description, readdressed_media, readdressed_medium, told_port}
@@ -255,7 +255,7 @@ text_written : (text : List ℕ) (d : Description) (origin : ServerOrigin) (port
 unfolding weight description_text
 text_written text d origin ports h sizes = omega (arith, lines_written origin ports d h.lines sizes h.says, lines_weigh h.lines text h.are_lines)
 
-pub written_short : (ip : List ℕ) (d : Description) → IsOfRead ip d → length (description_text d) ≤ greatest_length
+pub written_short : (ip : List ℕ) (d : Description) → IsOfRead ip d → length (description_text d) ≤ max_content_length
 written_short ip d h =
     let r = h.readdressed in
-    subst (λ (x : Description). length (description_text x) ≤ greatest_length) (sym r.whole) (omega (arith, text_written h.read.text h.taken r.origin r.ports h.read.reads r.sizes, h.read.fits))
+    subst (λ (x : Description). length (description_text x) ≤ max_content_length) (sym r.whole) (omega (arith, text_written h.read.text h.taken r.origin r.ports h.read.reads r.sizes, h.read.fits))

@@ -11,8 +11,8 @@ use Rattle.sip_message.specs.declared.message.Message.TheVariants as Kinds
 use Rattle.sip_message.specs.declared.message.Parts.{Parts}
 use Rattle.sip_message.specs.declared.message.Request.{Request}
 use Rattle.sip_message.specs.declared.via.Via.{Via}
-use Rattle.sip_message.specs.CSeq.{greatest_number}
-use Rattle.sip_message.specs.ContentLength.{greatest_length}
+use Rattle.sip_message.specs.CSeq.{max_cseq}
+use Rattle.sip_message.specs.ContentLength.{max_content_length}
 use Rattle.sip_writing.specs.Requests.{server_via, IsEnd, IsReadVia}
 use Rattle.sip_writing.specs.WritingMessage.{IsWrittenMessage}
 use Rattle.sdp.specs.declared.description.Description.{Description}
@@ -20,7 +20,7 @@ use Rattle.sdp.specs.Writing.{description_text}
 use Rattle.dialogs.specs.declared.method.Method.{Method}
 use Rattle.dialogs.specs.declared.method.Method.TheVariants.{Bye, Invite, Update}
 use Rattle.dialogs.specs.declared.state.Dialog.{Dialog}
-use Rattle.dialogs.specs.Counting.{following, greatest_for, last_number, method_text}
+use Rattle.dialogs.specs.Counting.{following, max_for, last_number, method_text}
 use Rattle.dialogs.specs.Requests.{ack_text, request_in, MayHave}
 use Rattle.dialogs.specs.Sound.{IsSound}
 use Rattle.dialogs.proofs.DraftLaws.{request_stands}
@@ -39,17 +39,17 @@ via_reads server token reached run = via_stands server token reached.source.octe
 -- ---- what each request has besides what its dialog says
 
 -- with a description
-description_may : (server : Addr) (d : Dialog) (via : Via) (method : List ℕ) (number : ℕ) (body : List ℕ) → IsReached server → IsReadVia via → number ≤ greatest_number → length body ≤ greatest_length
+description_may : (server : Addr) (d : Dialog) (via : Via) (method : List ℕ) (number : ℕ) (body : List ℕ) → IsReached server → IsReadVia via → number ≤ max_cseq → length body ≤ max_content_length
     → MayHave d via method number (description_headers server) body
 description_may server d via method number body reached reads low small =
     let follows = description_follows server 200 method reached in
     record { low = low; read_via = reads; all_written = follows.written; all_further = refl; contact = follows.says_contact; content_type = follows.says_type; small = small }
 
 -- without one
-bye_may : (d : Dialog) (via : Via) (number : ℕ) → IsReadVia via → number ≤ greatest_number → MayHave d via (codes "BYE") number [] []
+bye_may : (d : Dialog) (via : Via) (number : ℕ) → IsReadVia via → number ≤ max_cseq → MayHave d via (codes "BYE") number [] []
 bye_may d via number reads low = record { low = low; read_via = reads; all_written = refl; all_further = refl; contact = tt; content_type = tt; small = omega arith }
 
-ack_may : (d : Dialog) (via : Via) (number : ℕ) → IsReadVia via → number ≤ greatest_number → MayHave d via ack_text number [] []
+ack_may : (d : Dialog) (via : Via) (number : ℕ) → IsReadVia via → number ≤ max_cseq → MayHave d via ack_text number [] []
 ack_may d via number reads low = record { low = low; read_via = reads; all_written = refl; all_further = refl; contact = tt; content_type = tt; small = omega arith }
 
 -- ---- the next request
@@ -59,33 +59,33 @@ method_run Invite = refl
 method_run Update = refl
 method_run Bye = refl
 
-number_low : (last : ℕ) (method : Method) → last < greatest_for method → last + 1 ≤ greatest_number
+number_low : (last : ℕ) (method : Method) → last < max_for method → last + 1 ≤ max_cseq
 number_low last Invite lt = omega (arith, lt)
 number_low last Update lt = omega (arith, lt)
 number_low last Bye lt = omega (arith, lt)
 
 next_stands : (d : Dialog) (method : Method) (via : Via) (hops : ℕ) (further : List Header) (body : List ℕ) (request : Request) → hops ≤ 255 → IsSound d
-    → (following d ≤ greatest_number → MayHave d via (method_text method) (following d) further body) → next_request d method via hops further body ≡ Some request
+    → (following d ≤ max_cseq → MayHave d via (method_text method) (following d) further body) → next_request d method via hops further body ≡ Some request
     → IsWrittenMessage (Kinds.Request request)
-next_stands d method via hops further body request low sound has is = step (nat_lt (last_number d) (greatest_for method)) refl is where
-  step : (b : Bool) → nat_lt (last_number d) (greatest_for method) ≡ b → cond b (Some (request_in d via (method_text method) (following d) hops further body)) None ≡ Some request
+next_stands d method via hops further body request low sound has is = step (nat_lt (last_number d) (max_for method)) refl is where
+  step : (b : Bool) → nat_lt (last_number d) (max_for method) ≡ b → cond b (Some (request_in d via (method_text method) (following d) hops further body)) None ≡ Some request
       → IsWrittenMessage (Kinds.Request request)
   step true e k =
       let same : request_in d via (method_text method) (following d) hops further body ≡ request = cc in
-      let number = number_low (last_number d) method (ltb-true (last_number d) (greatest_for method) e) in
+      let number = number_low (last_number d) method (ltb-true (last_number d) (max_for method) e) in
       subst (λ (r : Request). IsWrittenMessage (Kinds.Request r)) same (request_stands d via (method_text method) (following d) hops further body low (method_run method) sound (has number))
   step false e k = absurd cc
 
 -- ---- the requests that a call says
 
 pub offer_stands : (server : Addr) (d : Dialog) (method : Method) (hops : ℕ) (description : Description) (token : List ℕ) (request : Request) → IsReached server → IsSound d
-    → IsTrue (is_run_of is_token_byte token) → hops ≤ 255 → length (description_text description) ≤ greatest_length → offer server d method hops description token ≡ Some request
+    → IsTrue (is_run_of is_token_byte token) → hops ≤ 255 → length (description_text description) ≤ max_content_length → offer server d method hops description token ≡ Some request
     → IsWrittenMessage (Kinds.Request request)
 offer_stands server d method hops description token request reached sound run low small is =
     next_stands d method (server_via server token) (hops - 1) (description_headers server) (description_text description) request (omega (arith, low)) sound
     (λ number. description_may server d (server_via server token) (method_text method) (following d) (description_text description) reached (via_reads server token reached run) number small) is
 
-pub ack_stands : (server : Addr) (d : Dialog) (token : List ℕ) → IsReached server → IsSound d → IsTrue (is_run_of is_token_byte token) → last_number d ≤ greatest_number
+pub ack_stands : (server : Addr) (d : Dialog) (token : List ℕ) → IsReached server → IsSound d → IsTrue (is_run_of is_token_byte token) → last_number d ≤ max_cseq
     → IsWrittenMessage (Kinds.Request (ack server d token))
 ack_stands server d token reached sound run number =
     request_stands d (server_via server token) ack_text (last_number d) 70 [] [] (omega arith) refl sound (ack_may d (server_via server token) (last_number d) (via_reads server token reached run) number)

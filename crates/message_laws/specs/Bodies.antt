@@ -1,12 +1,12 @@
 -- The descriptions that the calls keep: each was read, or is what the server sends in place of one that was read (RFC 3264).
 use Rattle.std.specs.Prelude.{◌≡◌, ℕ, ◌≤◌, List, length, Option, Some, None}
 use Rattle.std.specs.List.{All}
-use Rattle.sip_message.specs.Read.{greatest_datagram}
+use Rattle.sip_message.specs.Read.{max_datagram}
 use Rattle.sdp.specs.declared.description.Description.{Description}
 use Rattle.sdp.specs.Grammar.{ReadsDescription}
 use Rattle.port_pool.specs.Holdings.{HasOdd}
 use Rattle.port_pool.specs.Pool as pools
-use Rattle.offer_answer.specs.declared.readdressing.ServerOrigin.{ServerOrigin}
+use Rattle.offer_answer.specs.declared.sent_description.ServerOrigin.{ServerOrigin}
 use Rattle.offer_answer.specs.Readdressing.{AreOfTheirSizes, readdressed_description}
 use Rattle.call_media.specs.declared.seat.Seat.{Seat}
 use Rattle.call_media.specs.declared.session.OpenOffer.{OpenOffer}
@@ -26,7 +26,7 @@ use Rattle.message_laws.specs.Addresses.{IsServerAddress}
 pub record WasRead (d : Description) : Type 0 where
   pub text : List ℕ
   pub reads : ReadsDescription text d
-  pub fits : length text ≤ greatest_datagram
+  pub fits : length text ≤ max_datagram
 
 -- what the server sends in its place: with this address, and ports of its own
 pub record IsReaddressed (ip : List ℕ) (taken sent : Description) : Type 0 where

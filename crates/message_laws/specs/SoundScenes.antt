@@ -6,8 +6,8 @@ use Rattle.text.specs.Class.{is_run_of, is_token_byte}
 use Rattle.sip_uri.specs.declared.uri.Addr.{Addr}
 use Rattle.sip_uri.specs.declared.uri.Uri.{Uri}
 use Rattle.sip_message.specs.declared.message.Parts.{Parts}
-use Rattle.sip_message.specs.ContentLength.{greatest_length}
-use Rattle.sip_message.specs.CSeq.{greatest_number}
+use Rattle.sip_message.specs.ContentLength.{max_content_length}
+use Rattle.sip_message.specs.CSeq.{max_cseq}
 use Rattle.sip_message.specs.Repeatable.{CanBeRepeated}
 use Rattle.sip_writing.specs.Requests.{IsEnd}
 use Rattle.sdp.specs.declared.description.Description.{Description}
@@ -28,7 +28,7 @@ use Rattle.message_laws.specs.Saying.{ReadsBackIf}
 
 -- its last number is one that CSeq can say (RFC 3261 section 8.1.1.5)
 abbrev pub CountsLow : Dialog → Type 0
-CountsLow d = last_number d ≤ greatest_number
+CountsLow d = last_number d ≤ max_cseq
 
 -- a dialog in which a request can be said
 pub record CanAskIn (d : Dialog) : Type 0 where
@@ -103,7 +103,7 @@ HaveFitStatuses (action ∷ later) = HasFitStatus action × HaveFitStatuses late
 -- no longer than Content-Length can say
 abbrev pub IsShortIf : Option Description → Type 0
 IsShortIf None = Unit {0}
-IsShortIf (Some d) = length (description_text d) ≤ greatest_length
+IsShortIf (Some d) = length (description_text d) ≤ max_content_length
 
 -- ---- the whole
 

@@ -23,7 +23,7 @@ ghost use Rattle.sdp.specs.Grammar.{ReadsDescription};
 ghost use Rattle.sdp.specs.Writing.{description_text};
 ghost use Rattle.sip_message.specs.declared.message.Message.{Message};
 ghost use Rattle.sip_message.specs.Contact.{headers_in};
-ghost use Rattle.sip_message.specs.ContentLength.{greatest_length};
+ghost use Rattle.sip_message.specs.ContentLength.{max_content_length};
 ghost use Rattle.sip_message.specs.Read.{message_of};
 ghost use Rattle.trace_reading.specs.Message.{body_in, trace_message};
 
@@ -79,7 +79,7 @@ pub fn descriptions_read_back()
     ensures session { (s : Office) (place : ℕ) (c : StandingCall) (x : Session) → KnowsDescriptions s → slice_get s.calls.calls place ≡ Some c →
         c.call.media.session ≡ Some x →
         ReadsDescription (description_text x.offer_sent) x.offer_sent × ReadsDescription (description_text x.answer_sent) x.answer_sent }
-    ensures short { (ip : List ℕ) (sent : Description) → IsOfRead ip sent → length (description_text sent) ≤ greatest_length }
+    ensures short { (ip : List ℕ) (sent : Description) → IsOfRead ip sent → length (description_text sent) ≤ max_content_length }
 {
     offer_answer::sent_is_read();
 }

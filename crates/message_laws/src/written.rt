@@ -9,8 +9,8 @@ ghost use Rattle.call_messages.specs.Messages.{ack, bye, offer};
 ghost use Rattle.message_laws.specs.Addresses.{IsReached};
 ghost use Rattle.sdp.specs.Writing.{description_text};
 ghost use Rattle.sdp.specs.declared.description.Description.{Description};
-ghost use Rattle.sip_message.specs.CSeq.{greatest_number};
-ghost use Rattle.sip_message.specs.ContentLength.{greatest_length};
+ghost use Rattle.sip_message.specs.CSeq.{max_cseq};
+ghost use Rattle.sip_message.specs.ContentLength.{max_content_length};
 ghost use Rattle.sip_message.specs.declared.message.Message.TheVariants as Kinds;
 ghost use Rattle.sip_message.specs.declared.message.Parts.{Parts};
 ghost use Rattle.sip_message.specs.declared.message.Request.{Request};
@@ -26,10 +26,10 @@ ghost use Rattle.transactions.specs.declared.transaction.Transaction.{Transactio
 /// made of a token: the offer with a description that is no longer than Content-Length can say, the ACK with a number that CSeq can say.
 pub fn requests_are_written()
     ensures offer { (server : Addr) (d : Dialog) (method : Method) (hops : ℕ) (description : Description) (token : List ℕ) (request : Request) →
-        IsReached server → IsSound d → IsTrue (is_run_of is_token_byte token) → hops ≤ 255 → length (description_text description) ≤ greatest_length →
+        IsReached server → IsSound d → IsTrue (is_run_of is_token_byte token) → hops ≤ 255 → length (description_text description) ≤ max_content_length →
         offer server d method hops description token ≡ Some request → IsWrittenMessage (Kinds.Request request) }
     ensures ack { (server : Addr) (d : Dialog) (token : List ℕ) → IsReached server → IsSound d → IsTrue (is_run_of is_token_byte token) →
-        last_number d ≤ greatest_number → IsWrittenMessage (Kinds.Request (ack server d token)) }
+        last_number d ≤ max_cseq → IsWrittenMessage (Kinds.Request (ack server d token)) }
     ensures bye { (server : Addr) (d : Dialog) (token : List ℕ) (request : Request) → IsReached server → IsSound d →
         IsTrue (is_run_of is_token_byte token) → bye server d token ≡ Some request → IsWrittenMessage (Kinds.Request request) }
 {}

@@ -18,7 +18,7 @@ use Rattle.sdp.specs.Classes.{is_token, is_visible, is_word, is_number}
 use Rattle.sdp.specs.Grammar.{ReadsDescription}
 use Rattle.sdp.specs.Limits.{max_media, max_formats}
 use Rattle.sdp.specs.Lines.{is_formed}
-use Rattle.sdp.specs.MediumLines.{greatest_port}
+use Rattle.sdp.specs.MediumLines.{max_media_port}
 use Rattle.sdp.specs.Origins.{is_origin}
 use Rattle.sdp.specs.PlaceOf.{address_of_medium}
 use Rattle.sdp.specs.Reading.{is_placed}
@@ -26,7 +26,7 @@ use Rattle.sdp.specs.Writing.{ip4_text, description_text}
 use Rattle.sdp.proofs.AddressLaws.{ip4_again}
 use Rattle.sdp.proofs.RoundTrip.{ip4_written, with_port}
 use Rattle.sdp.proofs.WrittenForm.{ConnectionForm, MediumForm, MediaForm, DescriptionForm, form_of_read, form_reads}
-use Rattle.offer_answer.specs.declared.readdressing.ServerOrigin.{ServerOrigin}
+use Rattle.offer_answer.specs.declared.sent_description.ServerOrigin.{ServerOrigin}
 use Rattle.offer_answer.specs.Direct.{hold_address, is_hold}
 use Rattle.offer_answer.specs.Readdressing.{AreOfTheirSizes, origin_of, readdressed_address, told_port, readdressed_medium, readdressed_media, readdressed_description}
 use Rattle.offer_answer.proofs.KeptOrder.{all_kept, media_after_kept, after_kept}
@@ -108,13 +108,13 @@ origin_told o id version octets = and_from _ _ (and_from _ _ (and_from _ _ (and_
 
 -- ---- media
 
-port_told : (port : ℕ) (m : Media) → port ≤ greatest_port → told_port port m ≤ greatest_port
+port_told : (port : ℕ) (m : Media) → port ≤ max_media_port → told_port port m ≤ max_media_port
 port_told port m small = step (eqb m.port 0) where
-  step : (b : Bool) → cond b 0 port ≤ greatest_port
+  step : (b : Bool) → cond b 0 port ≤ max_media_port
   step true = omega arith
   step false = small
 
-medium_told : (ip : List ℕ) → IsPlace ip → (port : ℕ) → port ≤ greatest_port → (m : Media) → MediumForm m → MediumForm (readdressed_medium ip port m)
+medium_told : (ip : List ℕ) → IsPlace ip → (port : ℕ) → port ≤ max_media_port → (m : Media) → MediumForm m → MediumForm (readdressed_medium ip port m)
 unfolding readdressed_medium
 medium_told ip place port small m f = record {
   line = with_port m (readdressed_medium ip port m) f.line (record { kind = refl; count = refl; proto = refl; formats = refl }) (port_told port m small);
@@ -124,7 +124,7 @@ medium_told ip place port small m f = record {
   after_formed = all_kept is_formed m.after f.after_formed;
 }
 
-media_told : (ip : List ℕ) → IsPlace ip → (ports : List ℕ) → ((i : ℕ) → slice_index ports i ≤ greatest_port) → (ms : List Media) → MediaForm ms → MediaForm (readdressed_media ip ports ms)
+media_told : (ip : List ℕ) → IsPlace ip → (ports : List ℕ) → ((i : ℕ) → slice_index ports i ≤ max_media_port) → (ms : List Media) → MediaForm ms → MediaForm (readdressed_media ip ports ms)
 media_told ip place [] small ms f = tt
 media_told ip place (port ∷ ports) small [] f = tt
 media_told ip place (port ∷ ports) small (m ∷ ms) f = (medium_told ip place port (small 0) m f.0, media_told ip place ports (λ i. small (suc i)) ms f.1)

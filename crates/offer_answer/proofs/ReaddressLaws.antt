@@ -9,7 +9,7 @@ use Rattle.sdp.specs.declared.address.Address.TheVariants.{Ip4}
 use Rattle.sdp.specs.declared.line.Line.{Line}
 use Rattle.sdp.specs.declared.description.Media.{Media}
 use Rattle.sdp.specs.declared.description.Description.{Description}
-use Rattle.offer_answer.specs.declared.readdressing.ServerOrigin.{ServerOrigin}
+use Rattle.offer_answer.specs.declared.sent_description.ServerOrigin.{ServerOrigin}
 use Rattle.offer_answer.specs.Direct.{hold_address, is_hold}
 use Rattle.offer_answer.specs.Joined.{is_server, is_own_or_hold, is_at_server}
 use Rattle.offer_answer.specs.Alike.{Alike, bare_media, is_kept, kept_lines}

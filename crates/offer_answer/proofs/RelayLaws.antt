@@ -3,7 +3,7 @@ use Rattle.std.proofs.Common.{◌≡◌, ◌∙◌, ℕ, true, List, sym, ap, su
 use Rattle.offer_answer.specs.Alike.{Alike}
 use Rattle.std.specs.List.{list_all}
 use Rattle.sdp.specs.declared.description.Description.{Description}
-use Rattle.offer_answer.specs.declared.readdressing.ServerOrigin.{ServerOrigin}
+use Rattle.offer_answer.specs.declared.sent_description.ServerOrigin.{ServerOrigin}
 use Rattle.offer_answer.specs.Direct.{direct}
 use Rattle.offer_answer.specs.Joined.{is_at_server, joined}
 use Rattle.offer_answer.specs.Readdressing.{readdressed_description}

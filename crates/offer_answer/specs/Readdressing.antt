@@ -6,7 +6,7 @@ use Rattle.sdp.specs.declared.address.Address.TheVariants.{Ip4}
 use Rattle.sdp.specs.declared.description.Origin.{Origin}
 use Rattle.sdp.specs.declared.description.Media.{Media}
 use Rattle.sdp.specs.declared.description.Description.{Description}
-use Rattle.offer_answer.specs.declared.readdressing.ServerOrigin.{ServerOrigin}
+use Rattle.offer_answer.specs.declared.sent_description.ServerOrigin.{ServerOrigin}
 use Rattle.offer_answer.specs.Direct.{hold_address, is_hold}
 use Rattle.offer_answer.specs.Alike.{kept_lines}
 

@@ -1,7 +1,7 @@
 -- That a description was sent by a server in place of another.
 use Rattle.std.specs.Prelude.{◌≡◌, ◌≢◌, ℕ, List, length, IsTrue}
 use Rattle.sdp.specs.declared.description.Description.{Description}
-use Rattle.offer_answer.specs.declared.readdressing.ServerOrigin.{ServerOrigin}
+use Rattle.offer_answer.specs.declared.sent_description.ServerOrigin.{ServerOrigin}
 use Rattle.offer_answer.specs.Direct.{hold_address}
 use Rattle.offer_answer.specs.Readdressing.{readdressed_description, has_ports}
 

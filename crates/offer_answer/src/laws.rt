@@ -14,7 +14,7 @@ ghost use Rattle.sdp.specs.Grammar.{ReadsDescription};
 ghost use Rattle.sdp.specs.PlaceOf.{address_of_medium};
 ghost use Rattle.sdp.specs.Writing.{description_text};
 ghost use Rattle.offer_answer.specs.declared.range.OwnRange.{OwnRange};
-ghost use Rattle.offer_answer.specs.declared.readdressing.ServerOrigin.{ServerOrigin};
+ghost use Rattle.offer_answer.specs.declared.sent_description.ServerOrigin.{ServerOrigin};
 ghost use Rattle.offer_answer.specs.Alike.{Alike};
 ghost use Rattle.offer_answer.specs.Checks.{is_carried, is_same_media, medium_fault, answered_fault};
 ghost use Rattle.offer_answer.specs.Direct.{hold_address, direct};

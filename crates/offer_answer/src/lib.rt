@@ -9,7 +9,7 @@ mod fault;
 mod formats;
 mod laws;
 mod range;
-mod readdressing;
+mod sent_description;
 mod session;
 mod stream;
 
@@ -21,6 +21,6 @@ pub use laws::{
     relayed_is_direct, rows_lead, rows_of_session_stand, sent_is_read,
 };
 pub use range::OwnRange;
-pub use readdressing::{ServerOrigin, readdress};
+pub use sent_description::{ServerOrigin, readdress};
 pub use session::{plan_session, session_lines, session_pairs};
 pub use stream::{Side, Stream};

@@ -7,7 +7,7 @@ use Rattle.calls.specs.Changes.{FitsChange, entered}
 use Rattle.call_steps.specs.Effects as steps
 use Rattle.call_steps.specs.declared.call_step.CallStep.{CallStep}
 use Rattle.plans.specs.declared.acks.KeptAck.{KeptAck}
-use Rattle.plans.specs.declared.doing.Doing.{Doing}
+use Rattle.plans.specs.declared.effects_of_events.Doing.{Doing}
 use Rattle.sip_message.specs.declared.message.Request.{Request}
 use Rattle.plans.specs.declared.setting.Setting.{Setting}
 use Rattle.plans.specs.CallRows.{are_full, of_plan, unless_full, with_step}

@@ -120,11 +120,11 @@ takes_request s e r begun id place input leg tag =
 -- ---- a first INVITE
 
 -- as many calls stand as may (the server's own)
-abbrev pub most_calls : ℕ
-most_calls = 256
+abbrev pub max_calls : ℕ
+max_calls = 256
 
 abbrev pub are_full : Office → Bool
-are_full s = nat_le most_calls (length s.calls.calls)
+are_full s = nat_le max_calls (length s.calls.calls)
 
 -- enough pairs are free for its media
 abbrev pub has_pairs : Office → ℕ → Description → Bool

@@ -8,7 +8,7 @@ use Rattle.call_steps.specs.declared.call_step.CallStep.{CallStep}
 use Rattle.plans.specs.declared.acks.AckChange.{AckChange}
 use Rattle.plans.specs.declared.acks.AckChange.TheVariants.{Stay, Keeps, Ends}
 use Rattle.plans.specs.declared.acks.KeptAck.{KeptAck}
-use Rattle.plans.specs.declared.doing.Doing.{Doing}
+use Rattle.plans.specs.declared.effects_of_events.Doing.{Doing}
 use Rattle.plans.specs.Plan.{Plan}
 
 -- what is answered, sent and changed in transactions and registrar; the calls afterwards, with the changes of the relay table; and the

@@ -15,14 +15,14 @@ ghost use Rattle.plans.specs.Effect.{CanEnter, Fits, effect};
 ghost use Rattle.plans.specs.declared.rule.CallRule.TheVariants as rules;
 ghost use Rattle.plans.specs.Replies.{responds_in};
 
-use crate::doing::{Before, Doing};
+use crate::effects_of_events::{Before, Doing};
 use crate::office::Office;
 use crate::plan::Plan;
 use crate::rule::CallRule;
 use crate::setting::Setting;
 use call_core::{CallRefusal, End, Input};
 use call_messages::Asker;
-use call_rules::described;
+use call_rules::description_in;
 use call_steps::{CallStep, counts, first_call, offerer_tag};
 use calls::{LegDialog, StandingCall};
 use responses::STATELESS;
@@ -34,7 +34,7 @@ use text::Text;
 use transactions::Change;
 
 /// As many calls stand as may.
-const MOST_CALLS: usize = 256;
+const MAX_CALLS: usize = 256;
 
 /// The server's tag in the responses to the call's offer.
 fn tag_at(call: Option<&StandingCall>) -> &[u8]
@@ -46,13 +46,18 @@ fn tag_at(call: Option<&StandingCall>) -> &[u8]
     }
 }
 
-fn asker<'m, 'a>(request: &'m Request<'a>, e: Setting, id: usize, tag: &'m [u8]) -> Asker<'m, 'a>
-    ensures { asker_value result ≡ asker request.now e id tag.now }
+fn asker<'m, 'a>(
+    request: &'m Request<'a>,
+    setting: Setting,
+    id: usize,
+    tag: &'m [u8],
+) -> Asker<'m, 'a>
+    ensures { asker_value result ≡ asker request.now setting id tag.now }
 {
     Asker {
         id,
         parts: &request.parts,
-        source: e.source,
+        source: setting.source,
         tag,
     }
 }
@@ -63,18 +68,18 @@ impl<'o> Office<'o> {
     #[inline(never)]
     pub(crate) fn step_at(
         &self,
-        e: Setting,
+        setting: Setting,
         place: usize,
         input: &Input<'_>,
         leg: Option<LegDialog>,
         request: Option<Asker<'_, '_>>,
     ) -> Result<CallStep, AllocError>
         requires few { self.now.tokens < 2 ^ 63 }
-        ensures row { (timers : List (Timer CallTimerId)) → IfOk result (λ step. steps.effect (with_timers timers self.now.calls) e.now step
-            ≡ takes_row (with_timers timers self.now.calls) self.now.table (occasion self.now e) place input.now leg (option_map asker_value request.entry)) }
-        ensures can { (timers : List (Timer CallTimerId)) → IfOk result (CanEnter (with_timers timers self.now.calls) e.now) }
+        ensures row { (timers : List (Timer CallTimerId)) → IfOk result (λ step. steps.effect (with_timers timers self.now.calls) setting.now step
+            ≡ takes_row (with_timers timers self.now.calls) self.now.table (occasion self.now setting) place input.now leg (option_map asker_value request.entry)) }
+        ensures can { (timers : List (Timer CallTimerId)) → IfOk result (CanEnter (with_timers timers self.now.calls) setting.now) }
     {
-        let o = self.occasion(e);
+        let o = self.occasion(setting);
         match call_steps::takes(
             self.alloc, self.calls, self.table, o, place, input, leg, request,
         ) {
@@ -87,17 +92,17 @@ impl<'o> Office<'o> {
     #[inline(never)]
     pub(crate) fn takes(
         &self,
-        e: Setting,
+        setting: Setting,
         before: Before,
         place: usize,
         input: &Input<'_>,
         leg: Option<LegDialog>,
     ) -> Result<Doing, AllocError>
         requires few { self.now.tokens < 2 ^ 63 }
-        ensures row { IfOk result (λ d. effect self.now.calls self.now.acks e.now d ≡ takes self.now e before.begun.items before.send before.id place input.now leg) }
-        ensures fits { IfOk result (Fits self.now.calls e.now) }
+        ensures row { IfOk result (λ d. effect self.now.calls self.now.acks setting.now d ≡ takes self.now setting before.begun.items before.send before.id place input.now leg) }
+        ensures fits { IfOk result (Fits self.now.calls setting.now) }
     {
-        let step = self.step_at(e, place, input, leg, None)?;
+        let step = self.step_at(setting, place, input, leg, None)?;
         Doing::of_step(before, step)
     }
 
@@ -105,16 +110,16 @@ impl<'o> Office<'o> {
     #[inline(never)]
     pub(crate) fn takes_alone(
         &self,
-        e: Setting,
+        setting: Setting,
         before: Before,
         place: usize,
         input: Input<'_>,
     ) -> Result<Doing, AllocError>
         requires few { self.now.tokens < 2 ^ 63 }
-        ensures row { IfOk result (λ d. effect self.now.calls self.now.acks e.now d ≡ takes self.now e before.begun.items before.send before.id place input.entry None) }
-        ensures fits { IfOk result (Fits self.now.calls e.now) }
+        ensures row { IfOk result (λ d. effect self.now.calls self.now.acks setting.now d ≡ takes self.now setting before.begun.items before.send before.id place input.entry None) }
+        ensures fits { IfOk result (Fits self.now.calls setting.now) }
     {
-        let doing = self.takes(e, before, place, &input, None);
+        let doing = self.takes(setting, before, place, &input, None);
         drop(input);
         doing
     }
@@ -123,7 +128,7 @@ impl<'o> Office<'o> {
     #[inline(never)]
     fn takes_request(
         &self,
-        e: Setting,
+        setting: Setting,
         request: &Request<'_>,
         begun: Vec<Change>,
         id: usize,
@@ -133,11 +138,11 @@ impl<'o> Office<'o> {
         tag: &[u8],
     ) -> Result<Doing, AllocError>
         requires few { self.now.tokens < 2 ^ 63 }
-        ensures row { IfOk result (λ d. effect self.now.calls self.now.acks e.now d ≡ takes_request self.now e request.now begun.items id place input.now leg tag.now) }
-        ensures fits { IfOk result (Fits self.now.calls e.now) }
+        ensures row { IfOk result (λ d. effect self.now.calls self.now.acks setting.now d ≡ takes_request self.now setting request.now begun.items id place input.now leg tag.now) }
+        ensures fits { IfOk result (Fits self.now.calls setting.now) }
     {
-        let asker = asker(request, e, id, tag);
-        let step = self.step_at(e, place, input, leg, Some(asker))?;
+        let asker = asker(request, setting, id, tag);
+        let step = self.step_at(setting, place, input, leg, Some(asker))?;
         Doing::of_step(Before::alone(begun), step)
     }
 
@@ -146,17 +151,17 @@ impl<'o> Office<'o> {
     #[inline(never)]
     fn refuses(
         &self,
-        e: Setting,
+        setting: Setting,
         request: &Request<'_>,
         begun: Vec<Change>,
         id: usize,
         status: u16,
     ) -> Result<Doing, AllocError>
-        ensures row { IfOk result (λ d. effect self.now.calls self.now.acks e.now d ≡ of_plan self.now (responds_in self.now e request.now begun.items id status [] None)) }
-        ensures fits { IfOk result (Fits self.now.calls e.now) }
+        ensures row { IfOk result (λ d. effect self.now.calls self.now.acks setting.now d ≡ of_plan self.now (responds_in self.now setting request.now begun.items id status [] None)) }
+        ensures fits { IfOk result (Fits self.now.calls setting.now) }
     {
         let further = Vec::new(self.alloc);
-        Ok(Doing::alone(self.responds_in(e, request, begun, id, status, further)?))
+        Ok(Doing::alone(self.responds_in(setting, request, begun, id, status, further)?))
     }
 
     fn target_by(&self, user: Option<&Text<'_>>, now: u64) -> Option<&Uri<'static>>
@@ -175,26 +180,26 @@ impl<'o> Office<'o> {
     fn are_full(&self) -> bool
         ensures { result ≡ are_full self.now }
     {
-        self.calls.as_slice().len() >= MOST_CALLS
+        self.calls.as_slice().len() >= MAX_CALLS
     }
 
     /// The call that was planned begins, unless as many stand as may.
     #[inline(never)]
     fn begins_unless_full(
         &self,
-        e: Setting,
+        setting: Setting,
         request: &Request<'_>,
         begun: Vec<Change>,
         id: usize,
         step: CallStep,
     ) -> Result<Doing, AllocError>
-        requires { CanEnter self.now.calls e.now step }
-        ensures row { IfOk result (λ d. effect self.now.calls self.now.acks e.now d ≡ unless_full self.now e request.now begun.items id (steps.effect self.now.calls e.now step)) }
-        ensures fits { IfOk result (Fits self.now.calls e.now) }
+        requires { CanEnter self.now.calls setting.now step }
+        ensures row { IfOk result (λ d. effect self.now.calls self.now.acks setting.now d ≡ unless_full self.now setting request.now begun.items id (steps.effect self.now.calls setting.now step)) }
+        ensures fits { IfOk result (Fits self.now.calls setting.now) }
     {
         if self.are_full() {
             drop(step);
-            return self.refuses(e, request, begun, id, 503);
+            return self.refuses(setting, request, begun, id, 503);
         }
         Doing::of_step(Before::alone(begun), step)
     }
@@ -203,7 +208,7 @@ impl<'o> Office<'o> {
     #[inline(never)]
     fn first_by(
         &self,
-        e: Setting,
+        setting: Setting,
         request: &Request<'_>,
         begun: Vec<Change>,
         id: usize,
@@ -211,16 +216,23 @@ impl<'o> Office<'o> {
         offer: &Description<'_>,
     ) -> Result<Doing, AllocError>
         requires few { self.now.tokens < 2 ^ 63 }
-        ensures row { IfOk result (λ d. effect self.now.calls self.now.acks e.now d ≡ first_by self.now e request.now begun.items id target.now offer.now) }
-        ensures fits { IfOk result (Fits self.now.calls e.now) }
+        ensures row { IfOk result (λ d. effect self.now.calls self.now.acks setting.now d ≡ first_by self.now setting request.now begun.items id target.now offer.now) }
+        ensures fits { IfOk result (Fits self.now.calls setting.now) }
     {
-        let o = self.occasion(e);
+        let o = self.occasion(setting);
         match first_call(
-            self.alloc, self.calls, o, request, id, e.source, target, offer,
+            self.alloc,
+            self.calls,
+            o,
+            request,
+            id,
+            setting.source,
+            target,
+            offer,
         ) {
-            Ok(step) => self.begins_unless_full(e, request, begun, id, step),
-            Err(CallRefusal::Unfit(_)) => self.refuses(e, request, begun, id, 488),
-            Err(CallRefusal::NoPorts) => self.refuses(e, request, begun, id, 503),
+            Ok(step) => self.begins_unless_full(setting, request, begun, id, step),
+            Err(CallRefusal::Unfit(_)) => self.refuses(setting, request, begun, id, 488),
+            Err(CallRefusal::NoPorts) => self.refuses(setting, request, begun, id, 503),
             Err(CallRefusal::OutOfMemory) => Err(AllocError),
             Err(CallRefusal::Crosses(_)) => unreachable!(),
             Err(CallRefusal::Undescribed) => unreachable!(),
@@ -231,25 +243,25 @@ impl<'o> Office<'o> {
     #[inline(never)]
     fn begins_with(
         &self,
-        e: Setting,
+        setting: Setting,
         request: &Request<'_>,
         begun: Vec<Change>,
         id: usize,
         target: &Uri<'_>,
     ) -> Result<Doing, AllocError>
         requires few { self.now.tokens < 2 ^ 63 }
-        ensures row { IfOk result (λ d. effect self.now.calls self.now.acks e.now d ≡ begins_by self.now e request.now begun.items id (Some target.now) (described request.now.headers request.now.body)) }
-        ensures fits { IfOk result (Fits self.now.calls e.now) }
+        ensures row { IfOk result (λ d. effect self.now.calls self.now.acks setting.now d ≡ begins_by self.now setting request.now begun.items id (Some target.now) (described request.now.headers request.now.body)) }
+        ensures fits { IfOk result (Fits self.now.calls setting.now) }
     {
-        let offer = described(
+        let offer = description_in(
             self.alloc,
             request.headers.as_slice(),
             request.body.as_bytes(),
         )?;
         let Some(offer) = offer else {
-            return self.refuses(e, request, begun, id, 488);
+            return self.refuses(setting, request, begun, id, 488);
         };
-        let doing = self.first_by(e, request, begun, id, target, &offer);
+        let doing = self.first_by(setting, request, begun, id, target, &offer);
         drop(offer);
         doing
     }
@@ -257,18 +269,18 @@ impl<'o> Office<'o> {
     #[inline(never)]
     fn begins(
         &self,
-        e: Setting,
+        setting: Setting,
         request: &Request<'_>,
         begun: Vec<Change>,
         id: usize,
     ) -> Result<Doing, AllocError>
         requires few { self.now.tokens < 2 ^ 63 }
-        ensures row { IfOk result (λ d. effect self.now.calls self.now.acks e.now d ≡ begins self.now e request.now begun.items id) }
-        ensures fits { IfOk result (Fits self.now.calls e.now) }
+        ensures row { IfOk result (λ d. effect self.now.calls self.now.acks setting.now d ≡ begins self.now setting request.now begun.items id) }
+        ensures fits { IfOk result (Fits self.now.calls setting.now) }
     {
-        match self.target(request, e.now) {
-            None => self.refuses(e, request, begun, id, 480),
-            Some(target) => self.begins_with(e, request, begun, id, target),
+        match self.target(request, setting.now) {
+            None => self.refuses(setting, request, begun, id, 480),
+            Some(target) => self.begins_with(setting, request, begun, id, target),
         }
     }
 
@@ -276,7 +288,7 @@ impl<'o> Office<'o> {
 
     /// The dialog of this request counts its number, whatever it is answered.
     #[inline(never)]
-    pub(crate) fn counted(
+    pub(crate) fn count_number(
         &self,
         request: &Request<'_>,
         place: usize,
@@ -300,25 +312,34 @@ impl<'o> Office<'o> {
     #[inline(never)]
     fn cancels_offer(
         &self,
-        e: Setting,
+        setting: Setting,
         request: &Request<'_>,
         begun: Vec<Change>,
         id: usize,
         place: usize,
     ) -> Result<Doing, AllocError>
         requires few { self.now.tokens < 2 ^ 63 }
-        ensures row { IfOk result (λ d. effect self.now.calls self.now.acks e.now d ≡ call_row self.now e request.now begun.items id (rules.Cancels place)) }
-        ensures fits { IfOk result (Fits self.now.calls e.now) }
+        ensures row { IfOk result (λ d. effect self.now.calls self.now.acks setting.now d ≡ call_row self.now setting request.now begun.items id (rules.Cancels place)) }
+        ensures fits { IfOk result (Fits self.now.calls setting.now) }
     {
         let tag = tag_at(self.calls.get(place));
-        self.takes_request(e, request, begun, id, place, &Input::Cancel, None, tag)
+        self.takes_request(
+            setting,
+            request,
+            begun,
+            id,
+            place,
+            &Input::Cancel,
+            None,
+            tag,
+        )
     }
 
     #[tactic(auto, unfolding(crate::specs::CallRows::call_row))]
     #[inline(never)]
     fn leaves(
         &self,
-        e: Setting,
+        setting: Setting,
         request: &Request<'_>,
         begun: Vec<Change>,
         id: usize,
@@ -326,8 +347,8 @@ impl<'o> Office<'o> {
         end: End,
     ) -> Result<Doing, AllocError>
         requires few { self.now.tokens < 2 ^ 63 }
-        ensures row { IfOk result (λ d. effect self.now.calls self.now.acks e.now d ≡ call_row self.now e request.now begun.items id (rules.Leaves place end)) }
-        ensures fits { IfOk result (Fits self.now.calls e.now) }
+        ensures row { IfOk result (λ d. effect self.now.calls self.now.acks setting.now d ≡ call_row self.now setting request.now begun.items id (rules.Leaves place end)) }
+        ensures fits { IfOk result (Fits self.now.calls setting.now) }
     {
         let leg = counts(
             self.alloc,
@@ -337,7 +358,7 @@ impl<'o> Office<'o> {
             request.parts.cseq.number,
         )?;
         let bye = Input::Bye(end);
-        let doing = self.takes_request(e, request, begun, id, place, &bye, leg, STATELESS);
+        let doing = self.takes_request(setting, request, begun, id, place, &bye, leg, STATELESS);
         drop(bye);
         doing
     }
@@ -347,23 +368,25 @@ impl<'o> Office<'o> {
     #[inline(never)]
     pub fn call_row(
         &self,
-        e: Setting,
+        setting: Setting,
         request: &Request<'_>,
         begun: Vec<Change>,
         id: usize,
         rule: CallRule,
     ) -> Result<Doing, AllocError>
         requires few { self.now.tokens < 2 ^ 63 }
-        requires moment { e.now < 2 ^ 60 }
-        ensures row { IfOk result (λ d. effect self.now.calls self.now.acks e.now d ≡ call_row self.now e request.now begun.items id rule) }
-        ensures fits { IfOk result (Fits self.now.calls e.now) }
+        requires moment { setting.now < 2 ^ 60 }
+        ensures row { IfOk result (λ d. effect self.now.calls self.now.acks setting.now d ≡ call_row self.now setting request.now begun.items id rule) }
+        ensures fits { IfOk result (Fits self.now.calls setting.now) }
     {
         match rule {
-            CallRule::Begins => self.begins(e, request, begun, id),
-            CallRule::Cancels(place) => self.cancels_offer(e, request, begun, id, place),
-            CallRule::Leaves(place, end) => self.leaves(e, request, begun, id, place, end),
-            CallRule::Offers(place, end) => self.offers(e, request, begun, id, place, end),
-            CallRule::Refreshes(place, end) => self.refreshes_at(e, request, begun, id, place, end),
+            CallRule::Begins => self.begins(setting, request, begun, id),
+            CallRule::Cancels(place) => self.cancels_offer(setting, request, begun, id, place),
+            CallRule::Leaves(place, end) => self.leaves(setting, request, begun, id, place, end),
+            CallRule::Offers(place, end) => self.offers(setting, request, begun, id, place, end),
+            CallRule::Refreshes(place, end) => self.refreshes_at(
+                setting, request, begun, id, place, end,
+            ),
         }
     }
 }

@@ -4,7 +4,7 @@
 
 mod acks;
 mod call_rows;
-mod doing;
+mod effects_of_events;
 mod offer_rows;
 mod office;
 mod plan;
@@ -15,7 +15,7 @@ mod setting;
 mod taken;
 
 pub use acks::{AckChange, KeptAck};
-pub use doing::Doing;
+pub use effects_of_events::Doing;
 pub use office::Office;
 pub use plan::{Plan, one_change};
 pub use rule::{CallRule, Reply};

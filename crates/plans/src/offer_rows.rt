@@ -13,14 +13,14 @@ ghost use Rattle.call_steps.specs.Rows.{offers_row};
 ghost use Rattle.plans.specs.CallRows.{clash_reply, content_reply, occasion, offer_method, offer_reply, offers, okay_plan, passes_at, passes_if, passes_in, refreshes_at, refreshes_by, refusal_reply, refuses};
 ghost use Rattle.plans.specs.Effect.{CanEnter, Fits, effect};
 
-use crate::doing::{Before, Doing};
+use crate::effects_of_events::{Before, Doing};
 use crate::office::Office;
 use crate::plan::Plan;
 use crate::rule::Reply;
 use crate::setting::Setting;
 use call_core::{CallRefusal, Clash, End, Input, OfferMethod};
 use call_messages::contact_header;
-use call_rules::{ContentRule, OfferRule, described, offer_rule, plain_rule};
+use call_rules::{ContentRule, OfferRule, description_in, offer_rule, plain_rule};
 use call_steps::{CallStep, refreshes};
 use calls::StandingCall;
 use responses::is_method;
@@ -99,7 +99,7 @@ impl<'o> Office<'o> {
     #[inline(never)]
     fn refuses_in(
         &self,
-        e: Setting,
+        setting: Setting,
         request: &Request<'_>,
         begun: Vec<Change>,
         id: usize,
@@ -107,12 +107,12 @@ impl<'o> Office<'o> {
         end: End,
         reply: Reply,
     ) -> Result<Doing, AllocError>
-        requires moment { e.now < 2 ^ 60 }
-        ensures row { IfOk result (λ d. effect self.now.calls self.now.acks e.now d ≡ refuses self.now e request.now begun.items id place end reply) }
-        ensures fits { IfOk result (Fits self.now.calls e.now) }
+        requires moment { setting.now < 2 ^ 60 }
+        ensures row { IfOk result (λ d. effect self.now.calls self.now.acks setting.now d ≡ refuses self.now setting request.now begun.items id place end reply) }
+        ensures fits { IfOk result (Fits self.now.calls setting.now) }
     {
-        let plan = self.reply_row(e, request, begun, id, reply)?;
-        self.counted(request, place, end, plan)
+        let plan = self.reply_row(setting, request, begun, id, reply)?;
+        self.count_number(request, place, end, plan)
     }
 
     // ---- an offer
@@ -122,7 +122,7 @@ impl<'o> Office<'o> {
     #[inline(never)]
     fn offer_step(
         &self,
-        e: Setting,
+        setting: Setting,
         request: &Request<'_>,
         id: usize,
         place: usize,
@@ -130,15 +130,24 @@ impl<'o> Office<'o> {
         input: &Input<'_>,
     ) -> Result<CallStep, CallRefusal>
         requires few { self.now.tokens < 2 ^ 63 }
-        ensures row { (timers : List (Timer CallTimerId)) → IfOk result (λ step. steps.effect (with_timers timers self.now.calls) e.now step
-            ≡ offers_row (with_timers timers self.now.calls) self.now.table (occasion self.now e) place input.now end request.now id e.source) }
-        ensures can { (timers : List (Timer CallTimerId)) → IfOk result (CanEnter (with_timers timers self.now.calls) e.now) }
-        ensures may { OnOk result (MayTakeThere (slice_get self.now.calls.calls place) self.now.calls.pool input.now e.now) }
-        ensures refused { IfErr result (RefusesTaken (slice_get self.now.calls.calls place) self.now.calls.pool input.now e.now) }
+        ensures row { (timers : List (Timer CallTimerId)) → IfOk result (λ step. steps.effect (with_timers timers self.now.calls) setting.now step
+            ≡ offers_row (with_timers timers self.now.calls) self.now.table (occasion self.now setting) place input.now end request.now id setting.source) }
+        ensures can { (timers : List (Timer CallTimerId)) → IfOk result (CanEnter (with_timers timers self.now.calls) setting.now) }
+        ensures may { OnOk result (MayTakeThere (slice_get self.now.calls.calls place) self.now.calls.pool input.now setting.now) }
+        ensures refused { IfErr result (RefusesTaken (slice_get self.now.calls.calls place) self.now.calls.pool input.now setting.now) }
     {
-        let o = self.occasion(e);
+        let o = self.occasion(setting);
         match call_steps::offers(
-            self.alloc, self.calls, self.table, o, place, input, end, request, id, e.source,
+            self.alloc,
+            self.calls,
+            self.table,
+            o,
+            place,
+            input,
+            end,
+            request,
+            id,
+            setting.source,
         ) {
             Ok(step) => Ok(step),
             Err(refusal) => Err(refusal),
@@ -149,7 +158,7 @@ impl<'o> Office<'o> {
     #[inline(never)]
     fn passes_if(
         &self,
-        e: Setting,
+        setting: Setting,
         request: &Request<'_>,
         begun: Vec<Change>,
         id: usize,
@@ -159,20 +168,20 @@ impl<'o> Office<'o> {
         offer: Description<'_>,
     ) -> Result<Doing, AllocError>
         requires few { self.now.tokens < 2 ^ 63 }
-        requires moment { e.now < 2 ^ 60 }
+        requires moment { setting.now < 2 ^ 60 }
         requires there { slice_get self.now.calls.calls place ≡ Some call.now }
         requires free { offer_rule self.now.calls.calls request.now place end ≡ Passes }
-        ensures row { IfOk result (λ d. effect self.now.calls self.now.acks e.now d ≡ passes_if self.now e request.now begun.items id place end call.now.call offer.entry) }
-        ensures fits { IfOk result (Fits self.now.calls e.now) }
+        ensures row { IfOk result (λ d. effect self.now.calls self.now.acks setting.now d ≡ passes_if self.now setting request.now begun.items id place end call.now.call offer.entry) }
+        ensures fits { IfOk result (Fits self.now.calls setting.now) }
     {
         let input = Input::Offer(end, offer_method(request), Some(offer));
-        let step = self.offer_step(e, request, id, place, end, &input);
+        let step = self.offer_step(setting, request, id, place, end, &input);
         drop(input);
         match step {
             Ok(step) => Doing::of_step(Before::alone(begun), step),
             Err(refusal) => match refusal_reply(refusal) {
                 None => Err(AllocError),
-                Some(reply) => self.refuses_in(e, request, begun, id, place, end, reply),
+                Some(reply) => self.refuses_in(setting, request, begun, id, place, end, reply),
             },
         }
     }
@@ -180,7 +189,7 @@ impl<'o> Office<'o> {
     #[inline(never)]
     fn passes_in(
         &self,
-        e: Setting,
+        setting: Setting,
         request: &Request<'_>,
         begun: Vec<Change>,
         id: usize,
@@ -189,24 +198,24 @@ impl<'o> Office<'o> {
         call: &StandingCall,
     ) -> Result<Doing, AllocError>
         requires few { self.now.tokens < 2 ^ 63 }
-        requires moment { e.now < 2 ^ 60 }
+        requires moment { setting.now < 2 ^ 60 }
         requires there { slice_get self.now.calls.calls place ≡ Some call.now }
         requires free { offer_rule self.now.calls.calls request.now place end ≡ Passes }
-        ensures row { IfOk result (λ d. effect self.now.calls self.now.acks e.now d
-            ≡ passes_in self.now e request.now begun.items id place end call.now.call (described request.now.headers request.now.body)) }
-        ensures fits { IfOk result (Fits self.now.calls e.now) }
+        ensures row { IfOk result (λ d. effect self.now.calls self.now.acks setting.now d
+            ≡ passes_in self.now setting request.now begun.items id place end call.now.call (described request.now.headers request.now.body)) }
+        ensures fits { IfOk result (Fits self.now.calls setting.now) }
     {
         let headers = request.headers.as_slice();
-        match described(self.alloc, headers, request.body.as_bytes())? {
-            None => self.refuses_in(e, request, begun, id, place, end, Reply::Refusal(488)),
-            Some(offer) => self.passes_if(e, request, begun, id, place, end, call, offer),
+        match description_in(self.alloc, headers, request.body.as_bytes())? {
+            None => self.refuses_in(setting, request, begun, id, place, end, Reply::Refusal(488)),
+            Some(offer) => self.passes_if(setting, request, begun, id, place, end, call, offer),
         }
     }
 
     #[inline(never)]
     fn passes_at(
         &self,
-        e: Setting,
+        setting: Setting,
         request: &Request<'_>,
         begun: Vec<Change>,
         id: usize,
@@ -214,15 +223,15 @@ impl<'o> Office<'o> {
         end: End,
     ) -> Result<Doing, AllocError>
         requires few { self.now.tokens < 2 ^ 63 }
-        requires moment { e.now < 2 ^ 60 }
+        requires moment { setting.now < 2 ^ 60 }
         requires free { offer_rule self.now.calls.calls request.now place end ≡ Passes }
-        ensures row { IfOk result (λ d. effect self.now.calls self.now.acks e.now d
-            ≡ passes_at self.now e request.now begun.items id place end (slice_get self.now.calls.calls place)) }
-        ensures fits { IfOk result (Fits self.now.calls e.now) }
+        ensures row { IfOk result (λ d. effect self.now.calls self.now.acks setting.now d
+            ≡ passes_at self.now setting request.now begun.items id place end (slice_get self.now.calls.calls place)) }
+        ensures fits { IfOk result (Fits self.now.calls setting.now) }
     {
         match self.calls.get(place) {
-            None => self.refuses_in(e, request, begun, id, place, end, Reply::Refusal(481)),
-            Some(call) => self.passes_in(e, request, begun, id, place, end, call),
+            None => self.refuses_in(setting, request, begun, id, place, end, Reply::Refusal(481)),
+            Some(call) => self.passes_in(setting, request, begun, id, place, end, call),
         }
     }
 
@@ -231,7 +240,7 @@ impl<'o> Office<'o> {
     #[inline(never)]
     pub(crate) fn offers(
         &self,
-        e: Setting,
+        setting: Setting,
         request: &Request<'_>,
         begun: Vec<Change>,
         id: usize,
@@ -239,14 +248,14 @@ impl<'o> Office<'o> {
         end: End,
     ) -> Result<Doing, AllocError>
         requires few { self.now.tokens < 2 ^ 63 }
-        requires moment { e.now < 2 ^ 60 }
-        ensures row { IfOk result (λ d. effect self.now.calls self.now.acks e.now d ≡ offers self.now e request.now begun.items id place end) }
-        ensures fits { IfOk result (Fits self.now.calls e.now) }
+        requires moment { setting.now < 2 ^ 60 }
+        ensures row { IfOk result (λ d. effect self.now.calls self.now.acks setting.now d ≡ offers self.now setting request.now begun.items id place end) }
+        ensures fits { IfOk result (Fits self.now.calls setting.now) }
     {
         let rule = offer_rule(self.alloc, self.calls, request, place, end)?;
         match offer_reply(rule) {
-            Some(reply) => self.refuses_in(e, request, begun, id, place, end, reply),
-            None => self.passes_at(e, request, begun, id, place, end),
+            Some(reply) => self.refuses_in(setting, request, begun, id, place, end, reply),
+            None => self.passes_at(setting, request, begun, id, place, end),
         }
     }
 
@@ -255,32 +264,32 @@ impl<'o> Office<'o> {
     #[inline(never)]
     fn okay_plan(
         &self,
-        e: Setting,
+        setting: Setting,
         request: &Request<'_>,
         begun: Vec<Change>,
         id: usize,
     ) -> Result<Plan, AllocError>
-        ensures { IfOk result (λ p. p ≡ okay_plan self.now e request.now begun.items id) }
+        ensures { IfOk result (λ p. p ≡ okay_plan self.now setting request.now begun.items id) }
     {
         let header = contact_header(self.alloc, self.server)?;
         let further = one_header(self.alloc, header)?;
-        self.responds_in(e, request, begun, id, 200, further)
+        self.responds_in(setting, request, begun, id, 200, further)
     }
 
     #[inline(never)]
     fn okays(
         &self,
-        e: Setting,
+        setting: Setting,
         request: &Request<'_>,
         begun: Vec<Change>,
         id: usize,
         place: usize,
         end: End,
     ) -> Result<Doing, AllocError>
-        ensures row { IfOk result (λ d. effect self.now.calls self.now.acks e.now d ≡ refreshes_by self.now e request.now begun.items id place end None) }
-        ensures fits { IfOk result (Fits self.now.calls e.now) }
+        ensures row { IfOk result (λ d. effect self.now.calls self.now.acks setting.now d ≡ refreshes_by self.now setting request.now begun.items id place end None) }
+        ensures fits { IfOk result (Fits self.now.calls setting.now) }
     {
-        let plan = self.okay_plan(e, request, begun, id)?;
+        let plan = self.okay_plan(setting, request, begun, id)?;
         let leg = refreshes(self.alloc, self.calls, place, end, request)?;
         Ok(Doing::puts(plan, place, leg))
     }
@@ -290,21 +299,21 @@ impl<'o> Office<'o> {
     #[inline(never)]
     pub(crate) fn refreshes_at(
         &self,
-        e: Setting,
+        setting: Setting,
         request: &Request<'_>,
         begun: Vec<Change>,
         id: usize,
         place: usize,
         end: End,
     ) -> Result<Doing, AllocError>
-        requires moment { e.now < 2 ^ 60 }
-        ensures row { IfOk result (λ d. effect self.now.calls self.now.acks e.now d ≡ refreshes_at self.now e request.now begun.items id place end) }
-        ensures fits { IfOk result (Fits self.now.calls e.now) }
+        requires moment { setting.now < 2 ^ 60 }
+        ensures row { IfOk result (λ d. effect self.now.calls self.now.acks setting.now d ≡ refreshes_at self.now setting request.now begun.items id place end) }
+        ensures fits { IfOk result (Fits self.now.calls setting.now) }
     {
         let rule = plain_rule(self.alloc, self.calls, request, place, end)?;
         match offer_reply(rule) {
-            Some(reply) => self.refuses_in(e, request, begun, id, place, end, reply),
-            None => self.okays(e, request, begun, id, place, end),
+            Some(reply) => self.refuses_in(setting, request, begun, id, place, end, reply),
+            None => self.okays(setting, request, begun, id, place, end),
         }
     }
 }

@@ -6,7 +6,7 @@ ghost use Rattle.plans.specs.Effect.{Fits, effect};
 ghost use Rattle.plans.specs.Plan.{moves, nothing};
 
 use crate::acks::KeptAck;
-use crate::doing::Doing;
+use crate::effects_of_events::Doing;
 use crate::plan::Plan;
 use crate::setting::Setting;
 use crate::taken::Taken;
@@ -54,14 +54,14 @@ impl<'o> Model for Office<'o> {
 }
 
 impl<'o> Office<'o> {
-    pub(crate) fn occasion(&self, e: Setting) -> Occasion
-        ensures { result ≡ occasion self.now e }
+    pub(crate) fn occasion(&self, setting: Setting) -> Occasion
+        ensures { result ≡ occasion self.now setting }
     {
         Occasion {
             server: self.server,
             range: self.range,
-            now: e.now,
-            salt: e.salt,
+            now: setting.now,
+            salt: setting.salt,
             tokens: self.tokens,
         }
     }

@@ -68,7 +68,7 @@ fn one_send(alloc: Global, sent: Sent) -> Result<Vec<Sent>, AllocError>
 }
 
 /// The changes so far, and the response of transaction `id`, which has this status and these bytes.
-fn answered(
+fn with_response(
     alloc: Global,
     mut begun: Vec<Change>,
     id: usize,
@@ -150,7 +150,7 @@ impl Plan {
           made = made;
         }) }
     {
-        let changes = answered(alloc, begun, id, status, &bytes)?;
+        let changes = with_response(alloc, begun, id, status, &bytes)?;
         let sends = one_send(alloc, Sent { to, bytes })?;
         Ok(Plan {
             taken: Taken::Done,

@@ -117,7 +117,7 @@ fn tags_made(request: &Request<'_>) -> u8
 #[tactic(auto, unfolding(responses::specs::Responding::responds, sip_writing::specs::Reply::reply_of))]
 fn answers(
     alloc: Global,
-    e: Setting,
+    setting: Setting,
     request: &Request<'_>,
     begun: Vec<Change>,
     id: usize,
@@ -126,21 +126,21 @@ fn answers(
     further: &[Header<'_>],
     made: u8,
 ) -> Result<Plan, AllocError>
-    ensures { IfOk result (λ p. p ≡ answers begun.items id (answer_address request.now.parts.vias e.source)
-        (responds request.now.parts e.source status tag.now further.now) None made) }
+    ensures { IfOk result (λ p. p ≡ answers begun.items id (answer_address request.now.parts.vias setting.source)
+        (responds request.now.parts setting.source status tag.now further.now) None made) }
 {
     let parts = &request.parts;
-    let to = reply_address(parts, e.source);
-    let bytes = response_with(alloc, parts, e.source, status, tag, further)?;
+    let to = reply_address(parts, setting.source);
+    let bytes = response_with(alloc, parts, setting.source, status, tag, further)?;
     Plan::answers(alloc, begun, id, to, status, bytes, made)
 }
 
 impl<'o> Office<'o> {
     /// The first token of an event.
-    fn fresh_tag(&self, e: Setting) -> Result<Text<'static>, AllocError>
-        ensures { IfOk result (λ t. t ≡ fresh_tag self.now e) }
+    fn fresh_tag(&self, setting: Setting) -> Result<Text<'static>, AllocError>
+        ensures { IfOk result (λ t. t ≡ fresh_tag self.now setting) }
     {
-        token(self.alloc, e.salt, self.tokens + 1)
+        token(self.alloc, setting.salt, self.tokens + 1)
     }
 
     /// The tag of the responses to the request of this transaction.
@@ -157,19 +157,19 @@ impl<'o> Office<'o> {
     #[inline(never)]
     pub(crate) fn responds_in(
         &self,
-        e: Setting,
+        setting: Setting,
         request: &Request<'_>,
         begun: Vec<Change>,
         id: usize,
         status: u16,
         further: Vec<Header<'static>>,
     ) -> Result<Plan, AllocError>
-        ensures { IfOk result (λ p. p ≡ responds_in self.now e request.now begun.items id status further.entry.items None) }
+        ensures { IfOk result (λ p. p ≡ responds_in self.now setting request.now begun.items id status further.entry.items None) }
     {
-        let tag = self.fresh_tag(e)?;
+        let tag = self.fresh_tag(setting)?;
         let planned = answers(
             self.alloc,
-            e,
+            setting,
             request,
             begun,
             id,
@@ -185,72 +185,72 @@ impl<'o> Office<'o> {
     #[inline(never)]
     fn cancels(
         &self,
-        e: Setting,
+        setting: Setting,
         request: &Request<'_>,
         begun: Vec<Change>,
         id: usize,
         other: usize,
     ) -> Result<Plan, AllocError>
-        ensures { IfOk result (λ p. p ≡ cancels self.now e request.now begun.items id other) }
+        ensures { IfOk result (λ p. p ≡ cancels self.now setting request.now begun.items id other) }
     {
         let tag = self.response_tag_in(other)?;
         let tag = tag.as_bytes();
-        answers(self.alloc, e, request, begun, id, 200, tag, &[], 0)
+        answers(self.alloc, setting, request, begun, id, 200, tag, &[], 0)
     }
 
     #[inline(never)]
-    fn registered(
+    fn registration_plan(
         &self,
-        e: Setting,
+        setting: Setting,
         request: &Request<'_>,
         begun: Vec<Change>,
         id: usize,
         plan: registrar::Plan,
     ) -> Result<Plan, AllocError>
-        requires { AllLast e.now plan.bindings }
-        ensures { IfOk result (λ p. p ≡ registers_by self.now e request.now begun.items id (Some plan.user) (Ok plan.bindings)) }
+        requires { AllLast setting.now plan.bindings }
+        ensures { IfOk result (λ p. p ≡ registers_by self.now setting request.now begun.items id (Some plan.user) (Ok plan.bindings)) }
     {
-        let further = contact_headers(self.alloc, plan.bindings(), e.now)?;
-        let planned = self.responds_in(e, request, begun, id, 200, further)?;
+        let further = contact_headers(self.alloc, plan.bindings(), setting.now)?;
+        let planned = self.responds_in(setting, request, begun, id, 200, further)?;
         Ok(planned.with_registration(plan))
     }
 
     #[inline(never)]
     fn not_registered(
         &self,
-        e: Setting,
+        setting: Setting,
         request: &Request<'_>,
         begun: Vec<Change>,
         id: usize,
         refusal: Refusal,
     ) -> Result<Plan, AllocError>
-        ensures { IfOk result (λ p. p ≡ not_registered self.now e request.now begun.items id refusal) }
+        ensures { IfOk result (λ p. p ≡ not_registered self.now setting request.now begun.items id refusal) }
     {
         let further = refusal_headers(self.alloc, self.least, refusal)?;
-        self.responds_in(e, request, begun, id, status_of(refusal), further)
+        self.responds_in(setting, request, begun, id, status_of(refusal), further)
     }
 
     /// A REGISTER for which this is the registrar's answer, or for which memory ran out.
     #[inline(never)]
-    fn refused(
+    fn refusal_plan(
         &self,
-        e: Setting,
+        setting: Setting,
         request: &Request<'_>,
         begun: Vec<Change>,
         id: usize,
         refusal: Refusal,
     ) -> Result<Plan, AllocError>
         ensures { (user : Option (List ℕ)) (answer : Result (List Binding) Refusal) → Fails refusal answer →
-            IfOk result (λ p. p ≡ registers_by self.now e request.now begun.items id user answer) }
+            IfOk result (λ p. p ≡ registers_by self.now setting request.now begun.items id user answer) }
     {
         match refusal {
             Refusal::OutOfMemory => Err(AllocError),
-            Refusal::UnknownUser => self.not_registered(e, request, begun, id, refusal),
-            Refusal::StarMisused => self.not_registered(e, request, begun, id, refusal),
-            Refusal::TooBrief => self.not_registered(e, request, begun, id, refusal),
-            Refusal::OutOfOrder => self.not_registered(e, request, begun, id, refusal),
-            Refusal::TooManyBindings => self.not_registered(e, request, begun, id, refusal),
-            Refusal::BadContact => self.not_registered(e, request, begun, id, refusal),
+            Refusal::UnknownUser => self.not_registered(setting, request, begun, id, refusal),
+            Refusal::StarMisused => self.not_registered(setting, request, begun, id, refusal),
+            Refusal::TooBrief => self.not_registered(setting, request, begun, id, refusal),
+            Refusal::OutOfOrder => self.not_registered(setting, request, begun, id, refusal),
+            Refusal::TooManyBindings => self.not_registered(setting, request, begun, id, refusal),
+            Refusal::BadContact => self.not_registered(setting, request, begun, id, refusal),
         }
     }
 
@@ -258,66 +258,66 @@ impl<'o> Office<'o> {
     #[inline(never)]
     fn registers(
         &self,
-        e: Setting,
+        setting: Setting,
         request: &Request<'_>,
         begun: Vec<Change>,
         id: usize,
     ) -> Result<Plan, AllocError>
-        requires { e.now < 2 ^ 60 }
-        ensures { IfOk result (λ p. p ≡ registers self.now e request.now begun.items id) }
+        requires { setting.now < 2 ^ 60 }
+        ensures { IfOk result (λ p. p ≡ registers self.now setting request.now begun.items id) }
     {
         let register = register_of(self.alloc, self.registrar, request)?;
-        match self.registrar.plan(&register, e.now) {
-            Ok(plan) => self.registered(e, request, begun, id, plan),
-            Err(refusal) => self.refused(e, request, begun, id, refusal),
+        match self.registrar.plan(&register, setting.now) {
+            Ok(plan) => self.registration_plan(setting, request, begun, id, plan),
+            Err(refusal) => self.refusal_plan(setting, request, begun, id, refusal),
         }
     }
 
     #[inline(never)]
     fn lists_methods(
         &self,
-        e: Setting,
+        setting: Setting,
         request: &Request<'_>,
         begun: Vec<Change>,
         id: usize,
         status: u16,
     ) -> Result<Plan, AllocError>
-        ensures { IfOk result (λ p. p ≡ responds_in self.now e request.now begun.items id status (allow ∷ []) None) }
+        ensures { IfOk result (λ p. p ≡ responds_in self.now setting request.now begun.items id status (allow ∷ []) None) }
     {
         let further = allow_header(self.alloc)?;
-        self.responds_in(e, request, begun, id, status, further)
+        self.responds_in(setting, request, begun, id, status, further)
     }
 
     #[inline(never)]
     fn refuses_extensions(
         &self,
-        e: Setting,
+        setting: Setting,
         request: &Request<'_>,
         begun: Vec<Change>,
         id: usize,
     ) -> Result<Plan, AllocError>
-        ensures { IfOk result (λ p. p ≡ responds_in self.now e request.now begun.items id 420 (unsupported request.now ∷ []) None) }
+        ensures { IfOk result (λ p. p ≡ responds_in self.now setting request.now begun.items id 420 (unsupported request.now ∷ []) None) }
     {
         let further = unsupported_header(self.alloc, request.headers.as_slice())?;
-        self.responds_in(e, request, begun, id, 420, further)
+        self.responds_in(setting, request, begun, id, 420, further)
     }
 
     /// 415, with what is taken in place of it.
     #[inline(never)]
     fn refuses_body(
         &self,
-        e: Setting,
+        setting: Setting,
         request: &Request<'_>,
         begun: Vec<Change>,
         id: usize,
         name: &[u8],
         taken: &[u8],
     ) -> Result<Plan, AllocError>
-        ensures { IfOk result (λ p. p ≡ responds_in self.now e request.now begun.items id 415 (named name.now taken.now ∷ []) None) }
+        ensures { IfOk result (λ p. p ≡ responds_in self.now setting request.now begun.items id 415 (named name.now taken.now ∷ []) None) }
     {
         let mut further = Vec::new(self.alloc);
         further.push(Header::of(self.alloc, name, taken)?)?;
-        self.responds_in(e, request, begun, id, 415, further)
+        self.responds_in(setting, request, begun, id, 415, further)
     }
 
     /// What a reply comes to, to a request that began transaction `id`.
@@ -325,27 +325,27 @@ impl<'o> Office<'o> {
     #[inline(never)]
     pub fn reply_row(
         &self,
-        e: Setting,
+        setting: Setting,
         request: &Request<'_>,
         begun: Vec<Change>,
         id: usize,
         reply: Reply,
     ) -> Result<Plan, AllocError>
-        requires { e.now < 2 ^ 60 }
-        ensures { IfOk result (λ p. p ≡ reply_row self.now e request.now begun.items id reply) }
+        requires { setting.now < 2 ^ 60 }
+        ensures { IfOk result (λ p. p ≡ reply_row self.now setting request.now begun.items id reply) }
     {
         match reply {
-            Reply::CancelOf(other) => self.cancels(e, request, begun, id, other),
+            Reply::CancelOf(other) => self.cancels(setting, request, begun, id, other),
             Reply::Refusal(status) => {
-                self.responds_in(e, request, begun, id, status, Vec::new(self.alloc))
+                self.responds_in(setting, request, begun, id, status, Vec::new(self.alloc))
             }
             Reply::RetryLater => {
                 let further = retry_alone(self.alloc)?;
-                self.responds_in(e, request, begun, id, 500, further)
+                self.responds_in(setting, request, begun, id, 500, further)
             }
-            Reply::MethodUnoffered => self.lists_methods(e, request, begun, id, 405),
+            Reply::MethodUnoffered => self.lists_methods(setting, request, begun, id, 405),
             Reply::TypeRefused => self.refuses_body(
-                e,
+                setting,
                 request,
                 begun,
                 id,
@@ -353,16 +353,16 @@ impl<'o> Office<'o> {
                 b"application/sdp",
             ),
             Reply::EncodingRefused => self.refuses_body(
-                e,
+                setting,
                 request,
                 begun,
                 id,
                 b"Accept-Encoding",
                 b"identity",
             ),
-            Reply::ExtensionRefused => self.refuses_extensions(e, request, begun, id),
-            Reply::MethodsListed => self.lists_methods(e, request, begun, id, 200),
-            Reply::Registration => self.registers(e, request, begun, id),
+            Reply::ExtensionRefused => self.refuses_extensions(setting, request, begun, id),
+            Reply::MethodsListed => self.lists_methods(setting, request, begun, id, 200),
+            Reply::Registration => self.registers(setting, request, begun, id),
         }
     }
 }

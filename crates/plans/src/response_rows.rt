@@ -10,13 +10,13 @@ ghost use Rattle.plans.specs.CallRows.{ack_row, acks_again, again, call_timer_at
 ghost use Rattle.plans.specs.Effect.{Fits, effect};
 
 use crate::acks::{KeptAck, kept_ack};
-use crate::doing::{Before, Doing};
+use crate::effects_of_events::{Before, Doing};
 use crate::office::Office;
 use crate::plan::Plan;
 use crate::setting::Setting;
 use crate::taken::{Taken, Why};
 use call_core::{CallTimer, Input};
-use call_rules::{ResponseRule, described, response_rule, timeout_rule};
+use call_rules::{ResponseRule, description_in, response_rule, timeout_rule};
 use call_steps::{answers_leg, fork, late_ack};
 use calls::CallTimerId;
 use events::Sent;
@@ -63,17 +63,17 @@ impl<'o> Office<'o> {
     #[inline(never)]
     pub fn ack_row(
         &self,
-        e: Setting,
+        setting: Setting,
         request: &Request<'_>,
         begun: Vec<Change>,
     ) -> Result<Doing, AllocError>
         requires few { self.now.tokens < 2 ^ 63 }
-        ensures row { IfOk result (λ d. effect self.now.calls self.now.acks e.now d ≡ ack_row self.now e request.now begun.items) }
-        ensures fits { IfOk result (Fits self.now.calls e.now) }
+        ensures row { IfOk result (λ d. effect self.now.calls self.now.acks setting.now d ≡ ack_row self.now setting request.now begun.items) }
+        ensures fits { IfOk result (Fits self.now.calls setting.now) }
     {
         match self.calls.place_by_ack(request) {
             None => Ok(self.drops_row(Taken::Dropped(Why::Ack))),
-            Some(place) => self.takes(e, Before::alone(begun), place, &Input::Ack, None),
+            Some(place) => self.takes(setting, Before::alone(begun), place, &Input::Ack, None),
         }
     }
 
@@ -98,21 +98,21 @@ impl<'o> Office<'o> {
     #[inline(never)]
     fn answers_offer(
         &self,
-        e: Setting,
+        setting: Setting,
         response: &Response<'_>,
         before: Before,
         asked: &Transaction,
         place: usize,
     ) -> Result<Doing, AllocError>
         requires few { self.now.tokens < 2 ^ 63 }
-        ensures row { IfOk result (λ d. effect self.now.calls self.now.acks e.now d
-            ≡ takes self.now e before.begun.items before.send before.id place (inputs.Answer (described response.now.headers response.now.body)) (answers_leg self.now.calls.calls place asked.now.parts response.now)) }
-        ensures fits { IfOk result (Fits self.now.calls e.now) }
+        ensures row { IfOk result (λ d. effect self.now.calls self.now.acks setting.now d
+            ≡ takes self.now setting before.begun.items before.send before.id place (inputs.Answer (described response.now.headers response.now.body)) (answers_leg self.now.calls.calls place asked.now.parts response.now)) }
+        ensures fits { IfOk result (Fits self.now.calls setting.now) }
     {
         let leg = answers_leg(self.alloc, self.calls, place, asked, response)?;
         let headers = response.headers.as_slice();
-        let answer = Input::Answer(described(self.alloc, headers, response.body.as_bytes())?);
-        let doing = self.takes(e, before, place, &answer, leg);
+        let answer = Input::Answer(description_in(self.alloc, headers, response.body.as_bytes())?);
+        let doing = self.takes(setting, before, place, &answer, leg);
         drop(answer);
         doing
     }
@@ -121,17 +121,17 @@ impl<'o> Office<'o> {
     #[inline(never)]
     fn forks(
         &self,
-        e: Setting,
+        setting: Setting,
         response: &Response<'_>,
         before: Before,
         asked: &Transaction,
     ) -> Result<Doing, AllocError>
         requires few { self.now.tokens < 2 ^ 63 }
-        ensures row { IfOk result (λ d. effect self.now.calls self.now.acks e.now d
-            ≡ with_step self.now.acks before.begun.items before.send before.id (fork_row self.now.calls (occasion self.now e) asked.now.parts response.now)) }
-        ensures fits { IfOk result (Fits self.now.calls e.now) }
+        ensures row { IfOk result (λ d. effect self.now.calls self.now.acks setting.now d
+            ≡ with_step self.now.acks before.begun.items before.send before.id (fork_row self.now.calls (occasion self.now setting) asked.now.parts response.now)) }
+        ensures fits { IfOk result (Fits self.now.calls setting.now) }
     {
-        let step = fork(self.alloc, self.occasion(e), asked, response)?;
+        let step = fork(self.alloc, self.occasion(setting), asked, response)?;
         Doing::of_step(before, step)
     }
 
@@ -139,24 +139,24 @@ impl<'o> Office<'o> {
     #[inline(never)]
     fn acks_late(
         &self,
-        e: Setting,
+        setting: Setting,
         response: &Response<'_>,
         before: Before,
         asked: &Transaction,
     ) -> Result<Doing, AllocError>
         requires few { self.now.tokens < 2 ^ 63 }
-        ensures row { IfOk result (λ d. effect self.now.calls self.now.acks e.now d
-            ≡ with_step self.now.acks before.begun.items before.send before.id (late_row self.now.calls (occasion self.now e) asked.now.parts response.now)) }
-        ensures fits { IfOk result (Fits self.now.calls e.now) }
+        ensures row { IfOk result (λ d. effect self.now.calls self.now.acks setting.now d
+            ≡ with_step self.now.acks before.begun.items before.send before.id (late_row self.now.calls (occasion self.now setting) asked.now.parts response.now)) }
+        ensures fits { IfOk result (Fits self.now.calls setting.now) }
     {
-        let step = late_ack(self.alloc, self.occasion(e), asked, response)?;
+        let step = late_ack(self.alloc, self.occasion(setting), asked, response)?;
         Doing::of_step(before, step)
     }
 
     #[inline(never)]
     fn responds_by(
         &self,
-        e: Setting,
+        setting: Setting,
         response: &Response<'_>,
         begun: Vec<Change>,
         send: Option<Outgoing>,
@@ -165,27 +165,32 @@ impl<'o> Office<'o> {
         rule: ResponseRule,
     ) -> Result<Doing, AllocError>
         requires few { self.now.tokens < 2 ^ 63 }
-        ensures row { IfOk result (λ d. effect self.now.calls self.now.acks e.now d ≡ responds_by self.now e response.now begun.items send id asked.now rule) }
-        ensures fits { IfOk result (Fits self.now.calls e.now) }
+        ensures row { IfOk result (λ d. effect self.now.calls self.now.acks setting.now d ≡ responds_by self.now setting response.now begun.items send id asked.now rule) }
+        ensures fits { IfOk result (Fits self.now.calls setting.now) }
     {
         match rule {
             ResponseRule::Silent => self.moves_row(begun, send),
             ResponseRule::Provisional { place, status } => {
-                let before = Before::sending(begun, send);
-                self.takes_alone(e, before, place, Input::Provisional(status))
+                let before = Before::with_sent(begun, send);
+                self.takes_alone(setting, before, place, Input::Provisional(status))
             }
             ResponseRule::Answer { place } => {
-                let before = Before::keeping(begun, send, id);
-                self.answers_offer(e, response, before, asked, place)
+                let before = Before::with_kept(begun, send, id);
+                self.answers_offer(setting, response, before, asked, place)
             }
             ResponseRule::Again { .. } => Ok(Doing::alone(self.acks_again(begun, id)?)),
-            ResponseRule::Fork => self.forks(e, response, Before::sending(begun, send), asked),
+            ResponseRule::Fork => self.forks(
+                setting,
+                response,
+                Before::with_sent(begun, send),
+                asked,
+            ),
             ResponseRule::AckAlone => {
-                self.acks_late(e, response, Before::sending(begun, send), asked)
+                self.acks_late(setting, response, Before::with_sent(begun, send), asked)
             }
             ResponseRule::Refusal { place, status } => {
-                let before = Before::sending(begun, send);
-                self.takes_alone(e, before, place, Input::Refusal(status))
+                let before = Before::with_sent(begun, send);
+                self.takes_alone(setting, before, place, Input::Refusal(status))
             }
         }
     }
@@ -195,21 +200,21 @@ impl<'o> Office<'o> {
     #[inline(never)]
     pub fn response_row(
         &self,
-        e: Setting,
+        setting: Setting,
         response: &Response<'_>,
         begun: Vec<Change>,
         send: Option<Outgoing>,
         id: usize,
     ) -> Result<Doing, AllocError>
         requires few { self.now.tokens < 2 ^ 63 }
-        ensures row { IfOk result (λ d. effect self.now.calls self.now.acks e.now d ≡ response_row self.now e response.now begun.items send id) }
-        ensures fits { IfOk result (Fits self.now.calls e.now) }
+        ensures row { IfOk result (λ d. effect self.now.calls self.now.acks setting.now d ≡ response_row self.now setting response.now begun.items send id) }
+        ensures fits { IfOk result (Fits self.now.calls setting.now) }
     {
         match self.table.transaction(id) {
             None => self.moves_row(begun, send),
             Some(asked) => {
                 let rule = response_rule(self.calls, asked, response);
-                self.responds_by(e, response, begun, send, id, asked, rule)
+                self.responds_by(setting, response, begun, send, id, asked, rule)
             }
         }
     }
@@ -219,20 +224,20 @@ impl<'o> Office<'o> {
     #[inline(never)]
     fn timed_out(
         &self,
-        e: Setting,
+        setting: Setting,
         begun: Vec<Change>,
         asked: Option<&Transaction>,
     ) -> Result<Doing, AllocError>
         requires few { self.now.tokens < 2 ^ 63 }
-        ensures row { IfOk result (λ d. effect self.now.calls self.now.acks e.now d ≡ timed_out self.now e begun.items (option_copied asked.entry)) }
-        ensures fits { IfOk result (Fits self.now.calls e.now) }
+        ensures row { IfOk result (λ d. effect self.now.calls self.now.acks setting.now d ≡ timed_out self.now setting begun.items (option_copied asked.entry)) }
+        ensures fits { IfOk result (Fits self.now.calls setting.now) }
     {
         let Some(asked) = asked else {
             return self.moves_row(begun, None);
         };
         match timeout_rule(self.calls, asked) {
             None => self.moves_row(begun, None),
-            Some(place) => self.takes(e, Before::alone(begun), place, &Input::TimedOut, None),
+            Some(place) => self.takes(setting, Before::alone(begun), place, &Input::TimedOut, None),
         }
     }
 
@@ -241,30 +246,35 @@ impl<'o> Office<'o> {
     #[inline(never)]
     pub fn timeout_row(
         &self,
-        e: Setting,
+        setting: Setting,
         timer: TimerId,
         begun: Vec<Change>,
     ) -> Result<Doing, AllocError>
         requires few { self.now.tokens < 2 ^ 63 }
         requires begun { begun.items ≡ fire_of timer ∷ [] }
-        ensures row { IfOk result (λ d. effect self.now.calls self.now.acks e.now d ≡ timeout_row self.now e timer) }
-        ensures fits { IfOk result (Fits self.now.calls e.now) }
+        ensures row { IfOk result (λ d. effect self.now.calls self.now.acks setting.now d ≡ timeout_row self.now setting timer) }
+        ensures fits { IfOk result (Fits self.now.calls setting.now) }
     {
         if !times_responses(timer.kind) {
             return self.moves_row(begun, None);
         }
-        self.timed_out(e, begun, self.table.transaction(timer.id))
+        self.timed_out(setting, begun, self.table.transaction(timer.id))
     }
 
     /// A timer of the call at this place fires, and is set no more.
     #[inline(never)]
-    fn takes_timer(&self, e: Setting, place: usize, timer: CallTimerId) -> Result<Doing, AllocError>
+    fn takes_timer(
+        &self,
+        setting: Setting,
+        place: usize,
+        timer: CallTimerId,
+    ) -> Result<Doing, AllocError>
         requires few { self.now.tokens < 2 ^ 63 }
-        ensures row { IfOk result (λ d. effect self.now.calls self.now.acks e.now d ≡ call_timer_at (without_call_timer timer self.now) e timer.timer (Some place)) }
-        ensures fits { IfOk result (Fits self.now.calls e.now) }
+        ensures row { IfOk result (λ d. effect self.now.calls self.now.acks setting.now d ≡ call_timer_at (without_call_timer timer self.now) setting timer.timer (Some place)) }
+        ensures fits { IfOk result (Fits self.now.calls setting.now) }
     {
         let input = timer_input(timer.timer);
-        let step = self.step_at(e, place, &input, None, None);
+        let step = self.step_at(setting, place, &input, None, None);
         drop(input);
         let step = step?;
         let before = Before::alone(Vec::new(self.alloc));
@@ -274,14 +284,17 @@ impl<'o> Office<'o> {
     /// What a timer of a call comes to.
     #[tactic(auto, unfolding(crate::specs::CallRows::call_timer_row))]
     #[inline(never)]
-    pub fn call_timer_row(&self, e: Setting, timer: CallTimerId) -> Result<Doing, AllocError>
+    pub fn call_timer_row(&self, setting: Setting, timer: CallTimerId) -> Result<Doing, AllocError>
         requires few { self.now.tokens < 2 ^ 63 }
-        ensures row { IfOk result (λ d. effect self.now.calls self.now.acks e.now d ≡ call_timer_row self.now e timer) }
-        ensures fits { IfOk result (Fits self.now.calls e.now) }
+        ensures row { IfOk result (λ d. effect self.now.calls self.now.acks setting.now d ≡ call_timer_row self.now setting timer) }
+        ensures fits { IfOk result (Fits self.now.calls setting.now) }
     {
         match self.calls.place_by_number(timer.number) {
-            None => Ok(Doing::fired(Plan::moves(self.alloc, Vec::new(self.alloc), None)?, timer)),
-            Some(place) => self.takes_timer(e, place, timer),
+            None => Ok(Doing::of_fired_timer(
+                Plan::moves(self.alloc, Vec::new(self.alloc), None)?,
+                timer,
+            )),
+            Some(place) => self.takes_timer(setting, place, timer),
         }
     }
 }

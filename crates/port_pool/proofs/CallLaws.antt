@@ -10,7 +10,7 @@ use Rattle.index.specs.declared.index.Entry.{Entry}
 use Rattle.index.specs.Entries.{numbers_of}
 use Rattle.index.specs.Numbers.{Indexed, put_number, remove_number}
 use Rattle.index.proofs.NumberLaws.{set_same, set_put, set_remove, set_fewer}
-use Rattle.port_pool.specs.Limits.{least_port, last_port}
+use Rattle.port_pool.specs.Limits.{min_port, last_port}
 use Rattle.port_pool.specs.declared.pair.Pair.{Pair}
 use Rattle.port_pool.specs.declared.holdings.Holding.{Holding}
 use Rattle.port_pool.specs.Holdings.{unheld, unheld_pairs, is_call, holds, held_by, freed_at, is_among, is_other, holding_after_freeing_others, others_freed}
@@ -69,7 +69,7 @@ none_call q o is = rw is refl
 pub IsIndexed-kept : (f : Holding → Holding) (holdings : List Holding) (calls : Indexed) (i : ℕ) (d : Holding) → ((s : Holding) → (f s).even ≡ s.even) → ((s : Holding) → (f s).holder ≡ s.holder)
     → i < length holdings → IsIndexed holdings calls → IsIndexed (at_place i f holdings) calls
 IsIndexed-kept f holdings calls i d even holder less h = record {
-  rising = PairsFrom-at f even least_port holdings i h.rising;
+  rising = PairsFrom-at f even min_port holdings i h.rising;
   by_call = λ q. h.by_call q ∙ sym (places_same q f d holdings i (ap (is_call q) (holder (get_or holdings i d))));
   room =
       let count = unheld_at f holdings i d less in
@@ -94,7 +94,7 @@ IsIndexed-vacated holdings calls calls' i call d h less was removed more =
     let old = ap length (h.by_call call) in
     let new = ap length (by call) in
     record {
-      rising = PairsFrom-at vacated (λ s. refl) least_port holdings i h.rising;
+      rising = PairsFrom-at vacated (λ s. refl) min_port holdings i h.rising;
       by_call = by;
       room = omega (arith, h.room, count, held, fewer, old, new, more);
     }
@@ -113,7 +113,7 @@ IsIndexed-occupied holdings calls calls' i call d h less was put more =
     let count = unheld_at (held_by call) holdings i d less in
     let free = ap (λ o. cond {A = ℕ} (is_none o) 1 0) was in
     record {
-      rising = PairsFrom-at (held_by call) (λ s. refl) least_port holdings i h.rising;
+      rising = PairsFrom-at (held_by call) (λ s. refl) min_port holdings i h.rising;
       by_call = by;
       room = omega (arith, h.room, count, free, more);
     }
@@ -292,10 +292,10 @@ count_unheld : (first n k : ℕ) → unheld_in (map (unheld first) (range_with_l
 count_unheld first zero k = refl
 count_unheld first (suc n) k = ap suc (count_unheld first n (k + 1))
 
-pub IsIndexed-new : (first pairs : ℕ) (calls : Indexed) → first % 2 ≡ 0 → least_port ≤ first → first + 2 * pairs ≤ last_port + 1 → calls.entries ≡ [] → pairs ≤ calls.room
+pub IsIndexed-new : (first pairs : ℕ) (calls : Indexed) → first % 2 ≡ 0 → min_port ≤ first → first + 2 * pairs ≤ last_port + 1 → calls.entries ≡ [] → pairs ≤ calls.room
     → IsIndexed (unheld_pairs first pairs) calls
 IsIndexed-new first pairs calls even from upto none room = record {
-  rising = PairsFrom-unheld first pairs 0 least_port even (omega arith) (omega arith);
+  rising = PairsFrom-unheld first pairs 0 min_port even (omega arith) (omega arith);
   by_call = λ call. ap (λ es. numbers_of es call) none ∙ sym (places_unheld call first pairs 0 0);
   room = (let count = count_unheld first pairs 0 in omega (arith, count, room));
 }

@@ -6,7 +6,7 @@ use Rattle.std.proofs.lemmas.Bool.Decides.{nat_tests}
 use Rattle.std.proofs.lemmas.Bool.{eqb-true, ltb-true}
 use Rattle.std.proofs.lemmas.List.Elements.{All-cons, All-nil}
 use Rattle.std.proofs.lemmas.List.Kept.{AllPairs-cons}
-use Rattle.port_pool.specs.Limits.{least_port, last_port, rest_time}
+use Rattle.port_pool.specs.Limits.{min_port, last_port, rest_time}
 use Rattle.port_pool.specs.declared.pair.Pair.{Pair}
 use Rattle.port_pool.specs.declared.holdings.Holding.{Holding}
 use Rattle.port_pool.specs.Holdings.{unheld, is_call, holds, is_free, pair_of, free_pairs, has_even, holder_of, is_among, is_resting, held_by, freed_at, holding_after_taking, holding_after_release, holding_after_drop, taken, released, dropped, LeadsPair, AreRising, PairsFrom, PairsRise, is_other, holding_after_freeing_others, others_freed}
@@ -263,7 +263,7 @@ above_given m now (suc n) least (s ∷ ss) below h =
     ]
 
 -- each leads a pair
-pub leads_given : (now n least : ℕ) (holdings : List Holding) → least_port ≤ least → PairsFrom least holdings → All (λ p. LeadsPair p.even) (take n (free_pairs now holdings))
+pub leads_given : (now n least : ℕ) (holdings : List Holding) → min_port ≤ least → PairsFrom least holdings → All (λ p. LeadsPair p.even) (take n (free_pairs now holdings))
 leads_given now n least [] from h = none_above LeadsPair n
 leads_given now zero least (s ∷ ss) from h = All-nil (λ p. LeadsPair p.even)
 leads_given now (suc n) least (s ∷ ss) from h =
@@ -287,7 +287,7 @@ rising_given now (suc n) least (s ∷ ss) h =
     ]
 
 -- only a port that leads a pair has a holder
-pub held_leads : (n : ℕ) (holdings : List Holding) (e call : ℕ) → least_port ≤ n → PairsFrom n holdings → holder_of holdings e ≡ Some call → LeadsPair e
+pub held_leads : (n : ℕ) (holdings : List Holding) (e call : ℕ) → min_port ≤ n → PairsFrom n holdings → holder_of holdings e ≡ Some call → LeadsPair e
 held_leads n [] e call from h = λ held. cc held
 held_leads n (s ∷ ss) e call from h =
     (elim (s.even == e) as (λ b. (s.even == e) ≡ b → option_and_then (λ (t : Holding). t.holder) (cond b (Some s) (find (has_even e) ss)) ≡ Some call → LeadsPair e) [

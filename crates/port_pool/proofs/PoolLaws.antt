@@ -6,7 +6,7 @@ use Rattle.std.specs.Ordering.{nat_cmp}
 use Rattle.std.specs.FinMap.{get, get-empty}
 use Rattle.std.proofs.lemmas.Bool.Decides.{nat_tests}
 use Rattle.std.proofs.lemmas.Bool.{eqb-true}
-use Rattle.port_pool.specs.Limits.{least_port, last_port}
+use Rattle.port_pool.specs.Limits.{min_port, last_port}
 use Rattle.port_pool.specs.declared.hop.Hop.{Hop}
 use Rattle.port_pool.specs.declared.pair.Pair.{Pair}
 use Rattle.port_pool.specs.declared.relay_line.RelayLine.{RelayLine}
@@ -21,9 +21,9 @@ use Rattle.port_pool.proofs.HoldingLaws.{PairsFrom-unheld, PairsFrom-taken, Pair
 use Rattle.port_pool.proofs.PortLaws.{PortsFrom-pairs, port_in, ports_own}
 use Rattle.port_pool.proofs.ChangeLaws.{own, between_own, get-change_to, get_after, changes_each, changes_rise, changes_within}
 
-pub IsPool-new_pool : (first pairs : ℕ) → first % 2 ≡ 0 → least_port ≤ first → first + 2 * pairs ≤ last_port + 1 → IsPool (new_pool first pairs)
+pub IsPool-new_pool : (first pairs : ℕ) → first % 2 ≡ 0 → min_port ≤ first → first + 2 * pairs ≤ last_port + 1 → IsPool (new_pool first pairs)
 IsPool-new_pool first pairs even from upto = record {
-  pairs = PairsFrom-unheld first pairs 0 least_port even (omega arith) (omega arith);
+  pairs = PairsFrom-unheld first pairs 0 min_port even (omega arith) (omega arith);
   held = λ port some. cc (sym (ap is_some (get-empty nat_cmp port)) ∙ some);
 }
 
@@ -31,7 +31,7 @@ IsPool-new_pool first pairs even from upto = record {
 
 pub IsPool-with_pairs : (pool : Contents) (call : ℕ) (pairs : List Pair) (now : ℕ) → IsPool pool → AreFree pool now pairs → IsPool (with_pairs pool call pairs)
 IsPool-with_pairs pool call pairs now is free = record {
-  pairs = PairsFrom-taken call pairs least_port pool.holdings is.pairs;
+  pairs = PairsFrom-taken call pairs min_port pool.holdings is.pairs;
   held = λ port some. rw (holder_of-held now call pairs pool.holdings (even_of port) free)
       (elim (is_among pairs (even_of port)) as (λ b. is_some (cond b (Some call) (holder_at pool.holdings port)) ≡ true) [
         | true ↦ refl
@@ -59,7 +59,7 @@ no_row pool pair port none (inr at) = ap (get pool.rows) at ∙ none.1
 
 pub IsPool-freed : (pool : Contents) (pair : Pair) (now : ℕ) → IsPool pool → HasNoRow pool pair → IsPool (freed pool pair now)
 IsPool-freed pool pair now is none = record {
-  pairs = PairsFrom-released pair now least_port pool.holdings is.pairs;
+  pairs = PairsFrom-released pair now min_port pool.holdings is.pairs;
   held = λ port some. rw (holder_of-released pair now pool.holdings (even_of port))
       ((elim (even_of port == pair.even) as (λ b. (even_of port == pair.even) ≡ b → is_some (cond b None (holder_at pool.holdings port)) ≡ true) [
         | true ↦ λ at. cc (sym (ap is_some (no_row pool pair port none (port_of_pair port pair.even (eqb-true (even_of port) pair.even at)))) ∙ some)
@@ -74,7 +74,7 @@ no_other false b o h = refl
 
 pub IsPool-others : (pool : Contents) (call : ℕ) (kept : List Pair) (now : ℕ) → IsPool pool → AreBareBut pool call kept → IsPool (without_others pool call kept now)
 IsPool-others pool call kept now is bare = record {
-  pairs = PairsFrom-others call kept now least_port pool.holdings is.pairs;
+  pairs = PairsFrom-others call kept now min_port pool.holdings is.pairs;
   held = λ port some. rw (holder_of-others call kept now pool.holdings (even_of port))
       (rw (no_other (is_port_of pool call port) (is_among kept (even_of port)) (holder_at pool.holdings port) (λ own out. cc (sym (ap is_some (bare port own out)) ∙ some)))
       (is.held port some));
@@ -85,15 +85,15 @@ IsPool-others pool call kept now is bare = record {
 pub row-committed : (pool : Contents) (call : ℕ) (lines : List RelayLine) (port : ℕ) → IsPool pool → get (committed pool call lines).rows port ≡ row_after pool call lines port
 row-committed pool call lines port is =
     get_after pool.rows lines (ports_of call pool.holdings) port
-    ∙ ap (λ b. cond b (hop_of lines port) (get pool.rows port)) (port_in call least_port pool.holdings port is.pairs)
+    ∙ ap (λ b. cond b (hop_of lines port) (get pool.rows port)) (port_in call min_port pool.holdings port is.pairs)
 
 pub LeadFrom-committed : (pool : Contents) (call : ℕ) (lines : List RelayLine) → IsPool pool → LeadFrom pool.rows (committed pool call lines).rows (changes_of pool call lines)
 LeadFrom-committed pool call lines is =
     let ports = ports_of call pool.holdings in
-    let rise = PortsFrom-pairs call least_port pool.holdings is.pairs in
+    let rise = PortsFrom-pairs call min_port pool.holdings is.pairs in
     record {
-      rising = changes_rise pool.rows lines least_port ports rise;
-      each = λ port. changes_each pool.rows lines port least_port ports rise
+      rising = changes_rise pool.rows lines min_port ports rise;
+      each = λ port. changes_each pool.rows lines port min_port ports rise
           ∙ (elim (list_any (λ p. p == port) ports) as (λ b. cond b (changes_of_port pool.rows lines port) []
           ≡ changes_between port (get pool.rows port) (cond b (hop_of lines port) (get pool.rows port))) [
             | true ↦ refl
@@ -136,7 +136,7 @@ pub changes_held : (pool : Contents) (call : ℕ) (lines : List RelayLine) → I
 changes_held pool call lines is =
     changes_within (λ p. is_some (holder_at pool.holdings p) ≡ true) pool.rows lines (ports_of call pool.holdings)
     (λ k d within. some_call call (holder_at pool.holdings (get_or (ports_of call pool.holdings) k d))
-    (sym (port_in call least_port pool.holdings (get_or (ports_of call pool.holdings) k d) is.pairs) ∙ ports_own (ports_of call pool.holdings) k d within))
+    (sym (port_in call min_port pool.holdings (get_or (ports_of call pool.holdings) k d) is.pairs) ∙ ports_own (ports_of call pool.holdings) k d within))
 
 pub IsPool-committed : (pool : Contents) (call : ℕ) (lines : List RelayLine) → IsPool pool → IsPool (committed pool call lines)
 IsPool-committed pool call lines is = IsPool-with_changes pool (changes_of pool call lines) is (changes_held pool call lines is)
@@ -153,7 +153,7 @@ held_less h call row none keep some =
 pub IsPool-without_rows : (pool : Contents) (call now : ℕ) → IsPool pool → ((port : ℕ) → is_port_of pool call port ≡ true → get pool.rows port ≡ None)
     → IsPool (record { holdings = dropped call now pool.holdings; rows = pool.rows })
 IsPool-without_rows pool call now is none = record {
-  pairs = PairsFrom-dropped call now least_port pool.holdings is.pairs;
+  pairs = PairsFrom-dropped call now min_port pool.holdings is.pairs;
   held = λ port some. rw (holder_of-dropped call now pool.holdings (even_of port))
       (held_less (holder_at pool.holdings port) call (get pool.rows port) (none port) (is.held port) some);
 }
@@ -198,5 +198,5 @@ meet a b port even_a even_b (inr at) (inr also) = omega arith
 
 pub NeverMeet-pool : (pool : Contents) → IsPool pool → NeverMeet pool
 NeverMeet-pool pool is a b port call rival in_a in_b of_a of_b =
-    let same : a.even ≡ b.even = meet a b port (held_leads least_port pool.holdings a.even call (omega arith) is.pairs of_a).1 (held_leads least_port pool.holdings b.even rival (omega arith) is.pairs of_b).1 in_a in_b in
+    let same : a.even ≡ b.even = meet a b port (held_leads min_port pool.holdings a.even call (omega arith) is.pairs of_a).1 (held_leads min_port pool.holdings b.even rival (omega arith) is.pairs of_b).1 in_a in_b in
     let both : Some call ≡ Some rival = sym of_a ∙ ap (holder_of pool.holdings) same ∙ of_b in cc

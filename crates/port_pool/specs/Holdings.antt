@@ -1,7 +1,7 @@
 -- Pairs of ports, and the calls that hold them.
 use Rattle.std.specs.Prelude.{◌≡◌, ◌==◌, ◌+◌, ◌-◌, ◌*◌, ◌%◌, ◌<◌, ◌≤◌, ◌&&◌, ℕ, Bool, false, not, nat_lt, List, [], ◌∷◌, map, filter, find, Option, Some, None, is_none, option_and_then, if◌then◌else◌}
 use Rattle.std.specs.List.{list_any, range_with_len, AllPairs}
-use Rattle.port_pool.specs.Limits.{least_port, last_port, rest_time}
+use Rattle.port_pool.specs.Limits.{min_port, last_port, rest_time}
 use Rattle.port_pool.specs.declared.pair.Pair.{Pair}
 use Rattle.port_pool.specs.declared.holdings.Holding.{Holding}
 
@@ -102,7 +102,7 @@ others_freed call kept now holdings = map (holding_after_freeing_others call kep
 
 -- a port that leads a pair: it is even, not below 1024, and there is a port above it
 abbrev pub LeadsPair : ℕ → Type 0
-LeadsPair even = (least_port ≤ even) × (even % 2 ≡ 0) × (even + 1 ≤ last_port)
+LeadsPair even = (min_port ≤ even) × (even % 2 ≡ 0) × (even + 1 ≤ last_port)
 
 -- each of these pairs stands above all ports of those before it
 abbrev pub AreRising : List Pair → Type 0

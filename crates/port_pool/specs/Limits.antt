@@ -2,8 +2,8 @@
 use Rattle.std.specs.Prelude.{ℕ}
 
 -- the least port that may lead the first pair
-abbrev pub least_port : ℕ
-least_port = 1024
+abbrev pub min_port : ℕ
+min_port = 1024
 
 -- the greatest port that there is
 abbrev pub last_port : ℕ
@@ -14,8 +14,8 @@ abbrev pub ports : ℕ
 ports = 65536
 
 -- the pairs that a pool has at most
-abbrev pub most_pairs : ℕ
-most_pairs = 2048
+abbrev pub max_pairs : ℕ
+max_pairs = 2048
 
 -- for how long a pair rests after it was freed, in milliseconds
 abbrev pub rest_time : ℕ

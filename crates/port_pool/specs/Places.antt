@@ -7,7 +7,7 @@ use Rattle.index.specs.Numbers.{Indexed}
 use Rattle.index.specs.Passing.{numbers_from}
 use Rattle.port_pool.specs.declared.pair.Pair.{Pair}
 use Rattle.port_pool.specs.declared.holdings.Holding.{Holding}
-use Rattle.port_pool.specs.Limits.{least_port}
+use Rattle.port_pool.specs.Limits.{min_port}
 use Rattle.port_pool.specs.Holdings.{holds, is_other, PairsFrom}
 use Rattle.port_pool.specs.Pool.{coded_holding}
 
@@ -52,6 +52,6 @@ resting_from now holding = record { even = holding.even; holder = holding.holder
 -- Pairs rise. Under each call are the places of the pairs that it holds, and of no other; each pair that nobody holds can be
 -- put under a call without memory.
 pub record IsIndexed (holdings : List Holding) (calls : Indexed) : Type 0 where
-  pub rising : PairsFrom least_port holdings
+  pub rising : PairsFrom min_port holdings
   pub by_call : (call : ℕ) → numbers_of calls.entries call ≡ places_of call 0 holdings
   pub room : length (filter is_unheld holdings) ≤ calls.room

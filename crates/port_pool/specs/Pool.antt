@@ -11,7 +11,7 @@ use Rattle.port_pool.specs.declared.error.PoolError.{PoolError}
 use Rattle.port_pool.specs.declared.error.PoolError.TheVariants.{OutOfMemory, TooFew, NotHeld}
 use Rattle.port_pool.specs.declared.holdings.Holding.{Holding}
 use Rattle.port_pool.specs.RelayTable.{Rows, coded_rows, changed_by}
-use Rattle.port_pool.specs.Limits.{least_port, rest_time}
+use Rattle.port_pool.specs.Limits.{min_port, rest_time}
 use Rattle.port_pool.specs.Changes.{port_of, changes_between}
 use Rattle.port_pool.specs.Holdings.{unheld_pairs, is_call, is_among, even_of, holds, free_pairs, holder_of, holder_at, taken, released, dropped, others_freed, PairsFrom}
 
@@ -145,7 +145,7 @@ abbrev pub RowsAreHeld : Contents → Type 0
 RowsAreHeld pool = (port : ℕ) → is_some (get pool.rows port) ≡ true → is_some (holder_at pool.holdings port) ≡ true
 
 pub record IsPool (pool : Contents) : Type 0 where
-  pub pairs : PairsFrom least_port pool.holdings
+  pub pairs : PairsFrom min_port pool.holdings
   pub held : RowsAreHeld pool
 
 abbrev pub IsPortOfPair : Pair → ℕ → Type 0

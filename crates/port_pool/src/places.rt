@@ -1,7 +1,7 @@
 //! The places of the pool: all pairs by rising port, and an index of those that each call holds.
 
 ghost use Rattle.std.specs.Prelude.{◌≡◌, ◌+◌, ◌*◌, ◌%◌, ◌<◌, ◌≤◌, [], ◌∷◌, IfOk, length, map, slice_index_or, true};
-ghost use Rattle.port_pool.specs.Limits.{least_port, last_port};
+ghost use Rattle.port_pool.specs.Limits.{min_port, last_port};
 ghost use Rattle.port_pool.specs.Holdings.{unheld_pairs, held_by, freed_at, taken, released, dropped, others_freed, PairsRise};
 ghost use Rattle.port_pool.specs.Places.{no_holding, places_of, kept_from, at_place, vacated, resting_from};
 
@@ -37,7 +37,7 @@ impl Places {
     /// Pairs from a port on, none of which is held. It makes all room that any call of them needs.
     pub(crate) fn new(alloc: Global, first: u16, pairs: u16) -> Result<Places, AllocError>
         requires even { first % 2 ≡ 0 }
-        requires least { least_port ≤ first }
+        requires least { min_port ≤ first }
         requires last { first + 2 * pairs ≤ last_port + 1 }
         ensures { IfOk result (λ p. p ≡ unheld_pairs first pairs) }
     {

@@ -2,7 +2,7 @@
 
 ghost use Rattle.std.specs.Prelude.{ℕ, ◌≡◌, ◌==◌, ◌≤◌, ◌+◌, ◌*◌, ◌%◌, ◌&&◌, not, [], All, true, false, None, Some, IfErr, IfOk, OnOk, OnErr, is_some, length, if◌then◌else◌};
 ghost use Rattle.std.specs.FinMap as map;
-ghost use Rattle.port_pool.specs.Limits.{least_port, last_port, most_pairs};
+ghost use Rattle.port_pool.specs.Limits.{min_port, last_port, max_pairs};
 ghost use Rattle.port_pool.specs.Changes.{LeadFrom};
 ghost use Rattle.port_pool.specs.Holdings.{even_of, is_among, holder_of, holder_at, LeadsPair, AreRising, PairsRise};
 ghost use Rattle.port_pool.specs.Pool.{new_pool, lowest_free, AreLowestFree, AreFree, with_pairs, reserved, freed, RestsFrom, RefusesReserve, RefusesRelease, is_port_of, HasNoRow, AreOwn, StandOnce, row_after, changes_of, AreHeld, AreBareBut, with_changes, without_others, committed, without_call, RowsAreHeld, NeverMeet};
@@ -51,9 +51,9 @@ impl Pool {
     /// A pool of this many pairs, the first of which begins at this even port. It makes all room that `release` needs.
     pub fn new(alloc: Global, first: u16, pairs: u16) -> Result<Pool, AllocError>
         requires even { first % 2 ≡ 0 }
-        requires least { least_port ≤ first }
+        requires least { min_port ≤ first }
         requires some { 1 ≤ pairs }
-        requires most { pairs ≤ most_pairs }
+        requires most { pairs ≤ max_pairs }
         requires last { first + 2 * pairs ≤ last_port + 1 }
         ensures { IfOk result (λ pool. pool ≡ new_pool first pairs) }
     {

@@ -11,7 +11,7 @@ use Rattle.left_right.specs.Register.{Admits, Turns, TurnsAt, Forks, Merges}
 use Rattle.atomic_table.proofs.Lists.{at_set, at_snoc}
 use Rattle.port_pool.specs.declared.changes.Change.{Change}
 use Rattle.port_pool.specs.RelayTable.{Rows, changed_by}
-use Rattle.relay.specs.declared.published.Published.{Published}
+use Rattle.relay.specs.declared.table_value.Published.{Published}
 use Rattle.relay.specs.Published.{contents, after_list}
 use Rattle.relay.specs.Rule.{Lists, StartsWith, table_after, IsAfter, Keeps, Reads, Adds}
 

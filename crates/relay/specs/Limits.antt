@@ -2,9 +2,9 @@
 use Rattle.std.specs.Prelude.{◌^◌, ℕ}
 
 -- so many viewers of a board at most
-abbrev pub most_viewers : ℕ
-most_viewers = 8
+abbrev pub max_viewers : ℕ
+max_viewers = 8
 
 -- so many lists are published at most
-abbrev pub most_lists : ℕ
-most_lists = 2 ^ 63
+abbrev pub max_lists : ℕ
+max_lists = 2 ^ 63

@@ -2,7 +2,7 @@
 use Rattle.std.specs.Prelude.{ℕ, ◌+◌, ◌%◌, ◌^◌, List}
 use Rattle.port_pool.specs.declared.changes.Change.{Change}
 use Rattle.port_pool.specs.RelayTable.{Rows, changed_by}
-use Rattle.relay.specs.declared.published.Published.{Published}
+use Rattle.relay.specs.declared.table_value.Published.{Published}
 
 -- the table, the number of lists that made it, and the last of these
 abbrev pub Contents : Type 0

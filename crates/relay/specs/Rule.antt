@@ -2,7 +2,7 @@
 use Rattle.std.specs.Prelude.{◌≡◌, ℕ, List, [], ◌∷◌, ◌++◌, length}
 use mathlib.Core.Option.{some}
 use lib.ListN.{get_elem?}
-use Rattle.relay.specs.declared.published.Published.{Published}
+use Rattle.relay.specs.declared.table_value.Published.{Published}
 pub use Rattle.relay.specs.Lists.{Lists, StartsWith, table_after}
 
 -- the published value is what these lists make

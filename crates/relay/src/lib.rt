@@ -4,17 +4,17 @@
 
 mod board;
 mod changes;
-mod forwarding;
-mod published;
+mod hop_lookup;
 mod rule;
 mod serve;
 mod socket;
+mod table_value;
 mod viewer;
 mod worker;
 
 pub use board::{Board, Refused, Unopened};
 pub use changes::Changes;
-pub use forwarding::{Out, forward};
+pub use hop_lookup::{Out, forward};
 pub use serve::serve_media;
 pub use socket::{MediaSocket, SocketFault};
 pub use viewer::{Sight, Sighted, Stamp, TableReader, Viewer};

@@ -5,8 +5,8 @@ ghost use Rattle.relay.specs.Lists.{table_after};
 ghost use Rattle.relay.specs.Lists.{StartsWith, BeginAlike};
 ghost use Rattle.left_right.specs.Sides as sides;
 
-use crate::published::Published;
 use crate::rule::{Known, Look, Prefixes};
+use crate::table_value::Published;
 use core::mem::replace_with;
 use left_right::reader::{Factory, Reader};
 use port_pool::Hop;

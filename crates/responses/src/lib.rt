@@ -2,16 +2,16 @@
 //! beside what every response repeats. Nothing here knows of transactions, dialogs or calls.
 #![tactic(auto)]
 
-mod registering;
-mod responding;
+mod own_responses;
+mod register;
 mod tags;
 mod tokens;
 mod words;
 
-pub use registering::register_of;
-pub use responding::{
+pub use own_responses::{
     STATELESS, allow_header, contact_headers, refusal_headers, response_with, status_of,
     unsupported_header,
 };
+pub use register::register_of;
 pub use tokens::token;
 pub use words::{has_fit_branch, has_header, is_declined_method, is_method, is_offered_method};

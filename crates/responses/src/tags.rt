@@ -7,14 +7,14 @@ ghost use Rattle.responses.specs.Tags.{is_some_text, tags_in, required_tags, beh
 
 use sip_message::{Header, values_named};
 use std::alloc::{AllocError, Global};
-use text::{Text, pieces, trimmed};
+use text::{Text, pieces, trim};
 
 fn push_tags<'a>(alloc: Global, tags: &mut Vec<&'a [u8]>, value: &'a [u8]) -> Result<(), AllocError>
     ensures { OnOk result (map (λ t. t.now) tags.new.items ≡ map (λ t. t.now) tags.old.items ++ tags_in value.now) }
 {
     let found = pieces(alloc, value, b',')?;
     for piece in &found {
-        let tag = trimmed(piece);
+        let tag = trim(piece);
         if tag.is_empty() {
             continue;
         }
@@ -68,7 +68,10 @@ fn put_joined(out: &mut Vec<u8>, tags: &[&[u8]]) -> Result<(), AllocError>
 }
 
 /// The tags of all Require header fields, with a comma and a space between each two.
-pub(crate) fn required(alloc: Global, headers: &[Header<'_>]) -> Result<Text<'static>, AllocError>
+pub(crate) fn join_required_tags(
+    alloc: Global,
+    headers: &[Header<'_>],
+) -> Result<Text<'static>, AllocError>
     ensures { IfOk result (λ t. t ≡ joined_tags (required_tags headers.now)) }
 {
     let texts = required_texts(alloc, headers)?;

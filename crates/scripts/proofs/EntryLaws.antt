@@ -14,7 +14,7 @@ use Rattle.sip_uri.specs.Hosts.{ip4_of, is_host}
 use Rattle.sip_uri.proofs.HostLaws.{host_lacks}
 use Rattle.events.specs.declared.event.Event.{Event}
 use Rattle.scripts.specs.declared.head.Head.{Head}
-use Rattle.scripts.specs.Limits.{most_number, most_bytes}
+use Rattle.scripts.specs.Limits.{max_number, max_bytes}
 use Rattle.scripts.specs.Numbers.{number_of, port_of}
 use Rattle.scripts.specs.Values.{Entry, due_at, datagram_at}
 use Rattle.scripts.specs.Reading.{is_same, timer_of, head_from, head_of, bytes_of, datagram_of, entry_of, next_of}
@@ -42,7 +42,7 @@ unfolding next_of
 next_by text line kind fields behind a b c d = rw (a, b, c, d) refl
 
 timer_by : (fields now_text salt_text behind : List ℕ) (now salt : ℕ) → before 32 fields ≡ now_text → after 32 fields ≡ Some salt_text
-    → number_of most_number now_text ≡ Some now → number_of most_number salt_text ≡ Some salt → timer_of fields behind ≡ Some (entry (due_at now salt) behind)
+    → number_of max_number now_text ≡ Some now → number_of max_number salt_text ≡ Some salt → timer_of fields behind ≡ Some (entry (due_at now salt) behind)
 unfolding timer_of
 timer_by fields now_text salt_text behind now salt a b c d = rw (a, b, c, d) refl
 
@@ -53,8 +53,8 @@ unfolding head_of
 head_by a b c d now_text salt_text ip_text port_text length_text e1 e2 e3 e4 e5 e6 e7 e8 = rw (e2, e4, e6, e8, e1, e3, e5, e7) refl
 
 head_is : (now_text salt_text ip_text port_text length_text : List ℕ) (now salt : ℕ) (ip : List ℕ) (port count : ℕ)
-    → number_of most_number now_text ≡ Some now → number_of most_number salt_text ≡ Some salt → ip4_of ip_text ≡ Some ip → port_of port_text ≡ Some port
-    → number_of most_bytes length_text ≡ Some count
+    → number_of max_number now_text ≡ Some now → number_of max_number salt_text ≡ Some salt → ip4_of ip_text ≡ Some ip → port_of port_text ≡ Some port
+    → number_of max_bytes length_text ≡ Some count
     → head_from now_text salt_text ip_text port_text length_text ≡ Some (head now salt ip port count)
 unfolding head_from
 head_is now_text salt_text ip_text port_text length_text now salt ip port count a b c d e = rw (a, b, c, d, e) refl
@@ -73,8 +73,8 @@ due_again : (text : List ℕ) (e : Event) (rest : List ℕ) → BeginsDue text e
 due_again text e rest h =
     let fields : List ℕ = spaced h.now_text h.salt_text in
     let line : List ℕ = spaced (codes "T") fields in
-    let now_out : (c : ℕ) → is_ascii_digit c ≡ false → Lacks c h.now_text = λ c out. number_lacks c most_number h.now h.now_text out h.now_is in
-    let salt_out : (c : ℕ) → is_ascii_digit c ≡ false → Lacks c h.salt_text = λ c out. number_lacks c most_number h.salt h.salt_text out h.salt_is in
+    let now_out : (c : ℕ) → is_ascii_digit c ≡ false → Lacks c h.now_text = λ c out. number_lacks c max_number h.now h.now_text out h.now_is in
+    let salt_out : (c : ℕ) → is_ascii_digit c ≡ false → Lacks c h.salt_text = λ c out. number_lacks c max_number h.salt h.salt_text out h.salt_is in
     let in_fields : Lacks 10 fields = Lacks-append 10 h.now_text (32 ∷ h.salt_text) (now_out 10 refl) (refl, salt_out 10 refl) in
     let in_line : Lacks 10 line = (refl, (refl, in_fields)) in
     let front : before 10 text ≡ line = ap (before 10) h.spelled ∙ before_at 10 line (Some rest) in_line in
@@ -94,10 +94,10 @@ datagram_again text e rest h =
     let a : List ℕ = spaced h.now_text b in
     let line : List ℕ = spaced (codes "D") a in
     let behind : List ℕ = lined h.bytes rest in
-    let now_out : (c : ℕ) → is_ascii_digit c ≡ false → Lacks c h.now_text = λ c out. number_lacks c most_number h.now h.now_text out h.now_is in
-    let salt_out : (c : ℕ) → is_ascii_digit c ≡ false → Lacks c h.salt_text = λ c out. number_lacks c most_number h.salt h.salt_text out h.salt_is in
+    let now_out : (c : ℕ) → is_ascii_digit c ≡ false → Lacks c h.now_text = λ c out. number_lacks c max_number h.now h.now_text out h.now_is in
+    let salt_out : (c : ℕ) → is_ascii_digit c ≡ false → Lacks c h.salt_text = λ c out. number_lacks c max_number h.salt h.salt_text out h.salt_is in
     let port_out : (c : ℕ) → is_ascii_digit c ≡ false → Lacks c h.port_text = λ c out. port_lacks c h.port h.port_text out h.port_is in
-    let length_out : Lacks 10 h.length_text = number_lacks 10 most_bytes (length h.bytes) h.length_text refl h.length_is in
+    let length_out : Lacks 10 h.length_text = number_lacks 10 max_bytes (length h.bytes) h.length_text refl h.length_is in
     let in_d : Lacks 10 d = Lacks-append 10 h.port_text (32 ∷ h.length_text) (port_out 10 refl) (refl, length_out) in
     let in_c : Lacks 10 c = Lacks-append 10 h.ip_text (32 ∷ d) (ip_lacks 10 refl refl refl h.ip_text h.ip h.ip_is) (refl, in_d) in
     let in_b : Lacks 10 b = Lacks-append 10 h.salt_text (32 ∷ c) (salt_out 10 refl) (refl, in_c) in
@@ -136,9 +136,9 @@ spaced_is text rest h = cut_is 32 text rest h
 due_is : (text fields behind : List ℕ) (n : Entry) → text ≡ lined (spaced (codes "T") fields) behind → timer_of fields behind ≡ Some n → Begins text n.event n.rest
 unfolding timer_of
 due_is text fields behind n spelled h =
-    let a = some_then (number_of most_number (before 32 fields)) _ n h in
+    let a = some_then (number_of max_number (before 32 fields)) _ n h in
     let b = some_then (after 32 fields) _ n a.2 in
-    let c = some_then (number_of most_number b.0) (λ salt. Some (entry (due_at a.0 salt) behind)) n b.2 in
+    let c = some_then (number_of max_number b.0) (λ salt. Some (entry (due_at a.0 salt) behind)) n b.2 in
     let begins : BeginsDue text (due_at a.0 c.0) behind = record {
       now_text = before 32 fields;
       salt_text = b.0;
@@ -200,21 +200,21 @@ head_says fields x h =
 
 -- what the values of a datagram's line are
 record HasValues (now_text salt_text ip_text port_text length_text : List ℕ) (x : Head) : Type 0 where
-  now_is : number_of most_number now_text ≡ Some x.now
-  salt_is : number_of most_number salt_text ≡ Some x.salt
+  now_is : number_of max_number now_text ≡ Some x.now
+  salt_is : number_of max_number salt_text ≡ Some x.salt
   ip_is : ip4_of ip_text ≡ Some x.source.ip
   port_is : port_of port_text ≡ Some x.source.port
-  length_is : number_of most_bytes length_text ≡ Some x.count
+  length_is : number_of max_bytes length_text ≡ Some x.count
 
 has_values : (now_text salt_text ip_text port_text length_text : List ℕ) (x : Head) → head_from now_text salt_text ip_text port_text length_text ≡ Some x
     → HasValues now_text salt_text ip_text port_text length_text x
 unfolding head_from
 has_values now_text salt_text ip_text port_text length_text x h =
-    let now = some_then (number_of most_number now_text) _ x h in
-    let salt = some_then (number_of most_number salt_text) _ x now.2 in
+    let now = some_then (number_of max_number now_text) _ x h in
+    let salt = some_then (number_of max_number salt_text) _ x now.2 in
     let ip = some_then (ip4_of ip_text) _ x salt.2 in
     let port = some_then (port_of port_text) _ x ip.2 in
-    let count = some_then (number_of most_bytes length_text) (λ count. Some (head now.0 salt.0 ip.0 port.0 count)) x port.2 in
+    let count = some_then (number_of max_bytes length_text) (λ count. Some (head now.0 salt.0 ip.0 port.0 count)) x port.2 in
     subst (λ (y : Head). HasValues now_text salt_text ip_text port_text length_text y) (some_is (head now.0 salt.0 ip.0 port.0 count.0) x count.2)
     (record { now_is = now.1; salt_is = salt.1; ip_is = ip.1; port_is = port.1; length_is = count.1 })
 

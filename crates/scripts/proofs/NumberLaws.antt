@@ -6,7 +6,7 @@ use Rattle.text.specs.Number.{number_upto}
 use Rattle.text.proofs.CutLaws.{Lacks}
 use Rattle.text.proofs.Lists.{run_lacks, some_then}
 use Rattle.text.proofs.Numbers.{number_is}
-use Rattle.scripts.specs.Limits.{most_port}
+use Rattle.scripts.specs.Limits.{max_port}
 use Rattle.scripts.specs.Numbers.{number_of, unless_zero, port_of}
 
 -- a number that was read
@@ -25,5 +25,5 @@ number_lacks c most n text out h = step (is_run_of is_ascii_digit text) refl h w
 
 pub port_lacks : (c n : ℕ) (text : List ℕ) → is_ascii_digit c ≡ false → port_of text ≡ Some n → Lacks c text
 port_lacks c n text out h =
-    let some = some_then (number_of most_port text) unless_zero n h in
-    number_lacks c most_port some.0 text out some.1
+    let some = some_then (number_of max_port text) unless_zero n h in
+    number_lacks c max_port some.0 text out some.1

@@ -4,7 +4,7 @@ use Rattle.sip_uri.specs.Hosts.{ip4_of}
 use Rattle.events.specs.declared.event.Event.{Event}
 use Rattle.scripts.specs.declared.error.ScriptError.{ScriptError}
 use Rattle.scripts.specs.declared.error.ScriptError.TheVariants.{OutOfMemory, Malformed}
-use Rattle.scripts.specs.Limits.{most_number, most_bytes}
+use Rattle.scripts.specs.Limits.{max_number, max_bytes}
 use Rattle.scripts.specs.Numbers.{number_of, port_of}
 use Rattle.scripts.specs.Values.{due_at, datagram_at}
 
@@ -23,8 +23,8 @@ pub record BeginsDue (text : List ℕ) (e : Event) (rest : List ℕ) : Type 0 wh
   pub now : ℕ
   pub salt : ℕ
   pub spelled : text ≡ lined (spaced (codes "T") (spaced now_text salt_text)) rest
-  pub now_is : number_of most_number now_text ≡ Some now
-  pub salt_is : number_of most_number salt_text ≡ Some salt
+  pub now_is : number_of max_number now_text ≡ Some now
+  pub salt_is : number_of max_number salt_text ≡ Some salt
   pub event : e ≡ due_at now salt
 
 -- the text is `D now salt ip port length`, a line feed, that many bytes, a line feed, and the rest
@@ -40,11 +40,11 @@ pub record BeginsDatagram (text : List ℕ) (e : Event) (rest : List ℕ) : Type
   pub port : ℕ
   pub bytes : List ℕ
   pub spelled : text ≡ lined (spaced (codes "D") (spaced now_text (spaced salt_text (spaced ip_text (spaced port_text length_text))))) (lined bytes rest)
-  pub now_is : number_of most_number now_text ≡ Some now
-  pub salt_is : number_of most_number salt_text ≡ Some salt
+  pub now_is : number_of max_number now_text ≡ Some now
+  pub salt_is : number_of max_number salt_text ≡ Some salt
   pub ip_is : ip4_of ip_text ≡ Some ip
   pub port_is : port_of port_text ≡ Some port
-  pub length_is : number_of most_bytes length_text ≡ Some (length bytes)
+  pub length_is : number_of max_bytes length_text ≡ Some (length bytes)
   pub event : e ≡ datagram_at now salt (record { ip = ip; port = port }) bytes
 
 -- the text begins with this event, and the rest stands behind it

@@ -2,12 +2,12 @@
 use Rattle.std.specs.Prelude.{ℕ}
 
 -- the greatest moment and salt: 2^64 - 1
-abbrev pub most_number : ℕ
-most_number = 18446744073709551615
+abbrev pub max_number : ℕ
+max_number = 18446744073709551615
 
-abbrev pub most_port : ℕ
-most_port = 65535
+abbrev pub max_port : ℕ
+max_port = 65535
 
 -- the bytes of a datagram
-abbrev pub most_bytes : ℕ
-most_bytes = 65535
+abbrev pub max_bytes : ℕ
+max_bytes = 65535

@@ -3,7 +3,7 @@ use Rattle.std.specs.Prelude.{ℕ, ◌+◌, Bool, ◌&&◌, ◌==◌, nat_eq, na
 use Rattle.std.specs.Cmp.Lexicographic.{pointwise}
 use Rattle.text.specs.Cut.{before, after}
 use Rattle.sip_uri.specs.Hosts.{ip4_of}
-use Rattle.scripts.specs.Limits.{most_number, most_bytes}
+use Rattle.scripts.specs.Limits.{max_number, max_bytes}
 use Rattle.scripts.specs.Numbers.{number_of, port_of}
 use Rattle.scripts.specs.Values.{Entry, event_at}
 use Rattle.scripts.specs.declared.head.Head.{Head}
@@ -18,7 +18,7 @@ timer_of fields behind =
     option_and_then (λ now.
     option_and_then (λ salt_text.
     option_and_then (λ salt. Some (record { event = event_at now salt None []; rest = behind }))
-    (number_of most_number salt_text)) (after 32 fields)) (number_of most_number (before 32 fields))
+    (number_of max_number salt_text)) (after 32 fields)) (number_of max_number (before 32 fields))
 
 -- ---- a datagram
 
@@ -30,7 +30,7 @@ head_from now_text salt_text ip_text port_text length_text =
     option_and_then (λ ip.
     option_and_then (λ port.
     option_and_then (λ count. Some (record { now = now; salt = salt; source = record { ip = ip; port = port }; count = count }))
-    (number_of most_bytes length_text)) (port_of port_text)) (ip4_of ip_text)) (number_of most_number salt_text)) (number_of most_number now_text)
+    (number_of max_bytes length_text)) (port_of port_text)) (ip4_of ip_text)) (number_of max_number salt_text)) (number_of max_number now_text)
 
 unfoldable pub head_of : List ℕ → Option Head
 head_of fields =

@@ -8,10 +8,10 @@ mod entry;
 mod error;
 mod head;
 mod number;
-mod reading;
-mod writing;
+mod read;
+mod write;
 
 pub use error::ScriptError;
 pub use number::number_of;
-pub use reading::read_script;
-pub use writing::{put_call, put_hop, put_sent};
+pub use read::read_script;
+pub use write::{put_call, put_hop, put_sent};

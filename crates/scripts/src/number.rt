@@ -2,7 +2,7 @@
 
 ghost use Rattle.std.specs.Prelude.{◌≡◌};
 ghost use Rattle.text.specs.Number.{number_upto};
-ghost use Rattle.scripts.specs.Limits.{most_number, most_bytes, most_port};
+ghost use Rattle.scripts.specs.Limits.{max_number, max_bytes, max_port};
 ghost use Rattle.scripts.specs.Numbers.{number_of, port_of};
 
 use text::is_run_of_digits;
@@ -13,7 +13,7 @@ const MAX_PORT: u32 = 65_535;
 const MAX_BYTES: u32 = 65_535;
 
 fn value_of(digits: &[u8]) -> Option<u64>
-    ensures { result ≡ number_upto most_number digits.now }
+    ensures { result ≡ number_upto max_number digits.now }
 {
     let mut number = 0u64;
     for digit in digits {
@@ -31,7 +31,7 @@ fn value_of(digits: &[u8]) -> Option<u64>
 
 /// A number that a text says: one decimal digit or more and nothing else, below 2^64. Takes no memory.
 pub fn number_of(text: &[u8]) -> Option<u64>
-    ensures { result ≡ number_of most_number text.now }
+    ensures { result ≡ number_of max_number text.now }
 {
     if is_run_of_digits(text) {
         value_of(text)
@@ -52,7 +52,7 @@ fn small_number(most: u32, text: &[u8]) -> Option<u32>
 
 /// The length of a datagram.
 pub(crate) fn length_of(text: &[u8]) -> Option<usize>
-    ensures { result ≡ number_of most_bytes text.now }
+    ensures { result ≡ number_of max_bytes text.now }
 {
     Some(small_number(MAX_BYTES, text)? as usize)
 }

@@ -10,14 +10,14 @@ use Rattle.text.specs.Number.{number_upto}
 use Rattle.text.proofs.CutLaws.{joined, Lacks, Lacks-append, Lacks-led_by, Lacks-from_pieces, AllLack-from_test, before_at, after_at}
 use Rattle.text.proofs.Lists.{run_lacks}
 use Rattle.sdp.specs.Classes.{is_token_char, is_token, is_number, is_integer, is_proto}
-use Rattle.sdp.specs.MediumLines.{RawMedium, raw_medium_text, raw_medium_of, greatest_port, is_port, is_count, formats_of, is_raw_medium}
+use Rattle.sdp.specs.MediumLines.{RawMedium, raw_medium_text, raw_medium_of, max_media_port, is_port, is_count, formats_of, is_raw_medium}
 use Rattle.sdp.specs.Origins.{behind_space}
 use Rattle.sdp.proofs.OriginLaws.{run_some, space_joined, front_some, front_at, back_at}
 
 pub record IsForm (r : RawMedium) : Type 0 where
   pub kind : is_run_of is_token_char r.kind ≡ true
   pub port : is_run_of is_ascii_digit r.port ≡ true
-  pub port_number : is_some (number_upto greatest_port r.port) ≡ true
+  pub port_number : is_some (number_upto max_media_port r.port) ≡ true
   pub count : passes_if_there is_count r.count ≡ true
   pub proto : is_proto r.proto ≡ true
   pub formats : list_all is_token (formats_of r.formats) ≡ true
@@ -29,7 +29,7 @@ form_of r h =
     let b = and_parts (is_token r.kind && is_port r.port && passes_if_there is_count r.count) (is_proto r.proto) a.0 in
     let c = and_parts (is_token r.kind && is_port r.port) (passes_if_there is_count r.count) b.0 in
     let d = and_parts (is_token r.kind) (is_port r.port) c.0 in
-    let e = and_parts (is_number r.port) (is_some (number_upto greatest_port r.port)) d.1 in
+    let e = and_parts (is_number r.port) (is_some (number_upto max_media_port r.port)) d.1 in
     record { kind = d.0; port = e.0; port_number = e.1; count = c.1; proto = b.1; formats = a.1 }
 
 -- ---- tokens between separators

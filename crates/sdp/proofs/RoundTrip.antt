@@ -21,7 +21,7 @@ use Rattle.sdp.specs.Addresses.{IsAddress, ip4_of, is_unicast, is_dotted_byte}
 use Rattle.sdp.specs.Classes.{begins, is_text_byte, is_token_char, is_token, is_number, is_integer, is_proto}
 use Rattle.sdp.specs.Grammar.{SaysConnection, SaysMedium}
 use Rattle.sdp.specs.Lines.{IsLines, is_formed}
-use Rattle.sdp.specs.MediumLines.{RawMedium, raw_medium_text, greatest_port, is_port, is_count, formats_of, is_raw_medium}
+use Rattle.sdp.specs.MediumLines.{RawMedium, raw_medium_text, max_media_port, is_port, is_count, formats_of, is_raw_medium}
 use Rattle.sdp.specs.Writing.{ended, ip4_text, address_text, connection_lines, count_text, formats_text, medium_line}
 use Rattle.sdp.proofs.AddressLaws.{octets_are, octets_again, decimal_begins}
 use Rattle.sdp.proofs.MediumLaws.{IsForm, form_of, tokens_lack}
@@ -68,14 +68,14 @@ connection_written lines (Some (Name t)) h formed = as_read lines h.0 (Name t) h
 
 -- ---- the numbers of m=
 
-port_small : (o : Option ℕ) (t : List ℕ) → number_upto greatest_port t ≡ o → unwrap_or o 0 ≤ greatest_port
+port_small : (o : Option ℕ) (t : List ℕ) → number_upto max_media_port t ≡ o → unwrap_or o 0 ≤ max_media_port
 port_small None t h = omega arith
-port_small (Some n) t h = number_is greatest_port n t h
+port_small (Some n) t h = number_is max_media_port n t h
 
-port_again : (n : ℕ) → n ≤ greatest_port → number_upto greatest_port (decimal n) ≡ Some n
-port_again n le = number_again greatest_port n le (omega arith)
+port_again : (n : ℕ) → n ≤ max_media_port → number_upto max_media_port (decimal n) ≡ Some n
+port_again n le = number_again max_media_port n le (omega arith)
 
-is_port_written : (n : ℕ) → n ≤ greatest_port → is_port (decimal n) ≡ true
+is_port_written : (n : ℕ) → n ≤ max_media_port → is_port (decimal n) ≡ true
 unfolding is_number
 is_port_written n le = and_from _ _ (decimal_run n (omega arith)) (rw (port_again n le) refl)
 
@@ -95,14 +95,14 @@ some_digits (c ∷ cs) h k =
       by_first (suc n) z v le = omega (arith, z, le)
 
 -- what a count is, by its text
-count_number : (t : List ℕ) (n : ℕ) → is_integer t ≡ true → number_upto greatest_port t ≡ Some n → (0 < n) × (n ≤ greatest_port)
+count_number : (t : List ℕ) (n : ℕ) → is_integer t ≡ true → number_upto max_media_port t ≡ Some n → (0 < n) × (n ≤ max_media_port)
 unfolding is_integer
 count_number t n h e =
     let parts = and_parts (is_run_of is_ascii_digit t) (not (begins (codes "0") t)) h in
     let other : begins (codes "0") t ≡ false = not-true (begins (codes "0") t) parts.1 in
     let some : 0 < digits_value 10 t = some_digits t parts.0 other in
-    let is : digits_value 10 t ≡ n = value_is (list_all is_ascii_digit t) (leb (digits_value 10 t) greatest_port) e in
-    (omega (arith, some, is), number_is greatest_port n t e) where
+    let is : digits_value 10 t ≡ n = value_is (list_all is_ascii_digit t) (leb (digits_value 10 t) max_media_port) e in
+    (omega (arith, some, is), number_is max_media_port n t e) where
       not-true : (b : Bool) → not b ≡ true → b ≡ false
       not-true true h = absurd cc
       not-true false h = refl
@@ -112,26 +112,26 @@ count_number t n h e =
       value_is true false e = absurd cc
       value_is false b e = absurd cc
 
-is_count_written : (n : ℕ) → 0 < n → n ≤ greatest_port → is_count (decimal n) ≡ true
+is_count_written : (n : ℕ) → 0 < n → n ≤ max_media_port → is_count (decimal n) ≡ true
 unfolding is_integer
 is_count_written n some le = and_from _ _ (and_from _ _ (decimal_run n (omega arith)) (rw (decimal_begins n some (omega arith)) refl)) (rw (port_again n le) refl)
 
 pub record CountAgain (c : Option ℕ) : Type 0 where
   pub form : passes_if_there is_count (option_map decimal c) ≡ true
-  pub value : c ≡ option_and_then (number_upto greatest_port) (option_map decimal c)
+  pub value : c ≡ option_and_then (number_upto max_media_port) (option_map decimal c)
   pub text : count_text c ≡ led_by 47 (option_map decimal c)
 
-count_by : (t : List ℕ) (o : Option ℕ) → number_upto greatest_port t ≡ o → is_integer t ≡ true → is_some o ≡ true → CountAgain o
+count_by : (t : List ℕ) (o : Option ℕ) → number_upto max_media_port t ≡ o → is_integer t ≡ true → is_some o ≡ true → CountAgain o
 count_by t None e h k = absurd (true≢false (sym k))
 count_by t (Some n) e h k =
     let is = count_number t n h e in
     record { form = is_count_written n is.0 is.1; value = sym (port_again n is.1); text = refl }
 
-count_again : (o : Option (List ℕ)) → passes_if_there is_count o ≡ true → CountAgain (option_and_then (number_upto greatest_port) o)
+count_again : (o : Option (List ℕ)) → passes_if_there is_count o ≡ true → CountAgain (option_and_then (number_upto max_media_port) o)
 count_again None h = record { form = refl; value = refl; text = refl }
 count_again (Some t) h =
-    let parts = and_parts (is_integer t) (is_some (number_upto greatest_port t)) h in
-    count_by t (number_upto greatest_port t) refl parts.0 parts.1
+    let parts = and_parts (is_integer t) (is_some (number_upto max_media_port t)) h in
+    count_by t (number_upto max_media_port t) refl parts.0 parts.1
 
 -- ---- the formats of m=
 
@@ -180,13 +180,13 @@ pub record MediumAgain (m : Media) : Type 0 where
   pub said : SaysMedium value m
   pub formed : is_formed (medium_line m) ≡ true
 
-raw_form : (m : Media) (raw : RawMedium) → IsForm raw → m.kind ≡ raw.kind → m.port ≤ greatest_port → CountAgain m.count → m.proto ≡ raw.proto → is_raw_medium (written_raw m raw.formats) ≡ true
+raw_form : (m : Media) (raw : RawMedium) → IsForm raw → m.kind ≡ raw.kind → m.port ≤ max_media_port → CountAgain m.count → m.proto ≡ raw.proto → is_raw_medium (written_raw m raw.formats) ≡ true
 unfolding is_raw_medium is_token
 raw_form m raw f kind small count proto =
     and_from _ _ (and_from _ _ (and_from _ _ (and_from _ _ (ap is_token kind ∙ f.kind) (is_port_written m.port small)) count.form) (ap is_proto proto ∙ f.proto)) f.formats
 
 -- a medium with the kind, protocol and formats of a line, and with a port and a count of their sizes
-medium_of : (m : Media) (raw : RawMedium) → IsForm raw → m.kind ≡ raw.kind → m.port ≤ greatest_port → CountAgain m.count → m.proto ≡ raw.proto → m.formats ≡ formats_of raw.formats → MediumAgain m
+medium_of : (m : Media) (raw : RawMedium) → IsForm raw → m.kind ≡ raw.kind → m.port ≤ max_media_port → CountAgain m.count → m.proto ≡ raw.proto → m.formats ≡ formats_of raw.formats → MediumAgain m
 medium_of m r f kind small count proto same_formats =
     let raw = written_raw m r.formats in
     let form = raw_form m r f kind small count proto in
@@ -217,7 +217,7 @@ count_of_line value m s = subst (λ (c : Option ℕ). CountAgain c) (sym s.count
 
 pub medium_written : (value : List ℕ) (m : Media) → SaysMedium value m → MediumAgain m
 medium_written value m s =
-    let small : m.port ≤ greatest_port = subst (λ (n : ℕ). n ≤ greatest_port) (sym s.port) (port_small (number_upto greatest_port s.raw.port) s.raw.port refl) in
+    let small : m.port ≤ max_media_port = subst (λ (n : ℕ). n ≤ max_media_port) (sym s.port) (port_small (number_upto max_media_port s.raw.port) s.raw.port refl) in
     medium_of m s.raw (form_of s.raw s.form) s.kind small (count_of_line value m s) s.proto s.formats
 
 -- the line of a medium but for its port
@@ -227,7 +227,7 @@ pub record SameLine (m n : Media) : Type 0 where
   pub proto : n.proto ≡ m.proto
   pub formats : n.formats ≡ m.formats
 
-pub with_port : (m n : Media) → MediumAgain m → SameLine m n → n.port ≤ greatest_port → MediumAgain n
+pub with_port : (m n : Media) → MediumAgain m → SameLine m n → n.port ≤ max_media_port → MediumAgain n
 with_port m n again same small =
     let s = again.said in
     let count = subst (λ (c : Option ℕ). CountAgain c) (sym same.count) (count_of_line again.value m s) in

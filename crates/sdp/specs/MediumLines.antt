@@ -27,15 +27,15 @@ raw_medium_of text =
 -- ---- the parts
 
 -- no port is above 65535
-abbrev pub greatest_port : ℕ
-greatest_port = 65535
+abbrev pub max_media_port : ℕ
+max_media_port = 65535
 
 -- digits, of any number
 abbrev pub is_port : List ℕ → Bool
-is_port text = is_number text && is_some (number_upto greatest_port text)
+is_port text = is_number text && is_some (number_upto max_media_port text)
 
 abbrev pub is_count : List ℕ → Bool
-is_count text = is_integer text && is_some (number_upto greatest_port text)
+is_count text = is_integer text && is_some (number_upto max_media_port text)
 
 -- the formats: one token or more
 abbrev pub formats_of : List ℕ → List (List ℕ)
@@ -48,7 +48,7 @@ is_raw_medium r =
 -- ---- what they mean
 
 abbrev pub port_of : RawMedium → ℕ
-port_of r = unwrap_or (number_upto greatest_port r.port) 0
+port_of r = unwrap_or (number_upto max_media_port r.port) 0
 
 abbrev pub count_of : RawMedium → Option ℕ
-count_of r = option_and_then (number_upto greatest_port) r.count
+count_of r = option_and_then (number_upto max_media_port) r.count

@@ -5,7 +5,7 @@ use Rattle.std.proofs.lemmas.List.{take_all, append-nil}
 use Rattle.std.specs.Io.KnownBytes.{Consumes, Appends, IsAtEnd, Keeps}
 use Rattle.server.specs.declared.fault.Fault.{Fault}
 use Rattle.events.specs.declared.sent.Sent.{Sent}
-use Rattle.server.specs.Input.{most_kept, Takes, Reads}
+use Rattle.server.specs.Input.{max_kept, Takes, Reads}
 use Rattle.server.specs.Replay.{HasText}
 use Rattle.server.specs.Once.{Answers, SendsFor, bytes_of}
 
@@ -44,17 +44,17 @@ takes_nothing a = ([], none a, nil_is) where
   none None = tt
   none (Some xs) = refl
 
-  nil_is : no_bytes ≡ take most_kept no_bytes
+  nil_is : no_bytes ≡ take max_kept no_bytes
   nil_is = refl
 
 -- more was taken
-pub takes_more : (a b c : Option (List ℕ)) (kept bytes kept_after : List ℕ) → Takes a b kept → Consumes b c bytes → kept_after ≡ take most_kept (kept ++ bytes) → Takes a c kept_after
+pub takes_more : (a b c : Option (List ℕ)) (kept bytes kept_after : List ℕ) → Takes a b kept → Consumes b c bytes → kept_after ≡ take max_kept (kept ++ bytes) → Takes a c kept_after
 takes_more a b c kept bytes kept_after h k e =
-    (h.0 ++ bytes, consumes_more a b c h.0 bytes h.1 k, e ∙ ap (λ (t : List ℕ). take most_kept (t ++ bytes)) h.2 ∙ take_kept most_kept h.0 bytes)
+    (h.0 ++ bytes, consumes_more a b c h.0 bytes h.1 k, e ∙ ap (λ (t : List ℕ). take max_kept (t ++ bytes)) h.2 ∙ take_kept max_kept h.0 bytes)
 
 -- nothing more was taken
 pub takes_same : (a b c : Option (List ℕ)) (kept : List ℕ) → Takes a b kept → Consumes b c [] → Takes a c kept
-takes_same a b c kept h k = (h.0 ++ [], consumes_more a b c h.0 [] h.1 k, h.2 ∙ ap (take most_kept) (sym (append-nil h.0)))
+takes_same a b c kept h k = (h.0 ++ [], consumes_more a b c h.0 [] h.1 k, h.2 ∙ ap (take max_kept) (sym (append-nil h.0)))
 
 -- what is sent for all that was read was written, where it was written
 pub answered_all : (r : Result (Unit {0}) Fault) (left left_after held held_after : Option (List ℕ)) (datagram : List ℕ) (sent : List Sent) (bytes : List ℕ)

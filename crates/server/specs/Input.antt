@@ -3,12 +3,12 @@ use Rattle.std.specs.Prelude.{◌≡◌, ℕ, List, take, Option}
 use Rattle.std.specs.Io.KnownBytes.{Consumes, IsAtEnd}
 
 -- of a datagram that is read, no more is kept than shows that it is too long
-abbrev pub most_kept : ℕ
-most_kept = 16385
+abbrev pub max_kept : ℕ
+max_kept = 16385
 
 -- these bytes were taken, and the first of them are kept
 abbrev pub Takes : Option (List ℕ) → Option (List ℕ) → List ℕ → Type 0
-Takes left left_after kept = (whole : List ℕ) × Consumes left left_after whole × (kept ≡ take most_kept whole)
+Takes left left_after kept = (whole : List ℕ) × Consumes left left_after whole × (kept ≡ take max_kept whole)
 
 -- all bytes were taken, and the first of them are kept
 abbrev pub Reads : Option (List ℕ) → Option (List ℕ) → List ℕ → Type 0

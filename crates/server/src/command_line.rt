@@ -9,7 +9,7 @@ use crate::day::replay;
 use crate::ending::Ending;
 use crate::fault::Fault;
 use crate::host::Host;
-use crate::serving::serve;
+use crate::service::serve;
 use crate::shelf::Shelf;
 use crate::single::once;
 use crate::words::{Asked, command};

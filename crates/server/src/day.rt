@@ -9,9 +9,9 @@ ghost use Rattle.server.specs.Leaves.{IsOfConfig, IsOfOffice, IsOfReading};
 ghost use Rattle.server.specs.State.{state_text};
 ghost use Rattle.server.specs.Replay.{after_all, day_text, run_text, text_of, EventLeaves, IsOffice, IsScript, Replays, ReplayLeaves, RunLeaves};
 
+use crate::agents::{agent_of, config_fault};
 use crate::fault::Fault;
 use crate::input::read_whole;
-use crate::making::{agent_of, config_fault};
 use crate::output::write_out;
 use crate::state::put_state;
 use agent::Agent;

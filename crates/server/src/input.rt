@@ -2,7 +2,7 @@
 
 ghost use Rattle.std.specs.Prelude.{◌≡◌, ◌≤◌, ◌++◌, take, length, vec_len, IfOk, IfErr, OnOk};
 ghost use Rattle.std.specs.Io.KnownBytes.{ReadConsumes};
-ghost use Rattle.server.specs.Input.{most_kept, Reads, ReadsAll};
+ghost use Rattle.server.specs.Input.{max_kept, Reads, ReadsAll};
 ghost use Rattle.server.specs.Leaves.{IsOfReading};
 
 use crate::fault::Fault;
@@ -10,18 +10,18 @@ use std::alloc::{AllocError, Global};
 use std::io::Read;
 
 /// So many reads are made before an input counts as endless.
-const MOST_READS: u32 = 1_048_576;
+const MAX_READS: u32 = 1_048_576;
 
 /// Bytes that are kept: one more than a datagram may have.
-const MOST_KEPT: usize = 16_385;
+const MAX_KEPT: usize = 16_385;
 
 /// Puts behind the kept bytes what there is room for.
 fn keep(whole: &mut Vec<u8>, bytes: &[u8]) -> Result<(), AllocError>
-    requires { vec_len whole.old ≤ most_kept }
-    ensures ok { OnOk result (whole.new.items ≡ take most_kept (whole.old.items ++ bytes.now)) }
-    ensures room { OnOk result (vec_len whole.new ≤ most_kept) }
+    requires { vec_len whole.old ≤ max_kept }
+    ensures ok { OnOk result (whole.new.items ≡ take max_kept (whole.old.items ++ bytes.now)) }
+    ensures room { OnOk result (vec_len whole.new ≤ max_kept) }
 {
-    let room = MOST_KEPT - whole.len();
+    let room = MAX_KEPT - whole.len();
     if bytes.len() <= room {
         whole.extend_from_slice(bytes)?;
         return Ok(());
@@ -49,7 +49,7 @@ pub fn read_datagram<R: Read>(alloc: Global, reader: &mut R) -> Result<Vec<u8>, 
 {
     let mut whole = Vec::new(alloc);
     let mut chunk = [0u8; 4096];
-    for _ in 0..MOST_READS {
+    for _ in 0..MAX_READS {
         let count = read_some(reader, &mut chunk)?;
         if count == 0 {
             return Ok(whole);
@@ -66,7 +66,7 @@ pub(crate) fn read_whole<R: Read>(alloc: Global, reader: &mut R) -> Result<Vec<u
 {
     let mut whole = Vec::new(alloc);
     let mut chunk = [0u8; 4096];
-    for _ in 0..MOST_READS {
+    for _ in 0..MAX_READS {
         let count = read_some(reader, &mut chunk)?;
         if count == 0 {
             return Ok(whole);

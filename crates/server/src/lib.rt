@@ -3,15 +3,15 @@
 //! handed in.
 #![tactic(auto)]
 
+mod agents;
 mod command_line;
 mod day;
 mod ending;
 mod fault;
 mod host;
 mod input;
-mod making;
 mod output;
-mod serving;
+mod service;
 mod shelf;
 mod single;
 mod state;
@@ -24,7 +24,7 @@ pub use ending::Ending;
 pub use fault::Fault;
 pub use host::{Host, HostFault};
 pub use input::read_datagram;
-pub use serving::serve;
+pub use service::serve;
 pub use shelf::Shelf;
 pub use single::once;
 pub use words::{Asked, CommandError, command};

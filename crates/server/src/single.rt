@@ -8,9 +8,9 @@ ghost use Rattle.event_rows.specs.State.{IsNew};
 ghost use Rattle.server.specs.Once.{Answers, SendsFor, bytes_of, single};
 ghost use Rattle.server.specs.Leaves.{Leaves};
 
+use crate::agents::agent_of;
 use crate::fault::Fault;
 use crate::input::read_datagram;
-use crate::making::agent_of;
 use crate::output::write_out;
 use agent::Agent;
 use configuration::example_config;

@@ -7,7 +7,7 @@ use Rattle.text.specs.Class.{is_blank, passes_if_there}
 use Rattle.text.specs.Cut.{before, after, led_by}
 use Rattle.text.specs.Pieces.{next_within, is_outside, pieces}
 use Rattle.text.specs.Trim.{without_end, trimmed}
-use Rattle.text.specs.declared.splitting.Within.{Within}
+use Rattle.text.specs.declared.split.Within.{Within}
 use Rattle.header_fields.specs.Lines.{is_text_byte, is_clean}
 use Rattle.sip_message.proofs.ValueLaws.{end_behind, trimmed_is, trimmed_clean}
 

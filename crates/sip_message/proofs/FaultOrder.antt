@@ -25,7 +25,7 @@ use Rattle.sip_message.specs.Party.{party_of}
 use Rattle.sip_message.specs.Read.{contents_of}
 use Rattle.sip_message.specs.Via.{each_via, via_texts, some_vias}
 use Rattle.sip_message.specs.Values.{if_tagged, with_text, from_for, to_of, call_id_of, of_method, with_number, cseq_for, one_address, contacts_for, contact_for, hops_by, hops_of, type_by, type_of, ends_for, parts_of, hops_behind, values_of}
-use Rattle.sip_message.specs.ContentLength.{greatest_length, long_enough, body_by, body_of}
+use Rattle.sip_message.specs.ContentLength.{max_content_length, long_enough, body_by, body_of}
 
 -- a fault of header fields or body
 abbrev pub IsContentsFault : MessageError → Type 0
@@ -155,8 +155,8 @@ length_fits (Some n) raw = step (leb n (length raw)) where
 by_length : (raw : List ℕ) (o : Option (List ℕ)) → FaultFits (body_by raw o)
 by_length raw None = tt
 by_length raw (Some text) = step (is_run_of is_ascii_digit text) where
-  step : (b : Bool) → FaultFits (cond b (long_enough (number_upto greatest_length text) raw) (Err (Unreadable Names.ContentLength)))
-  step true = length_fits (number_upto greatest_length text) raw
+  step : (b : Bool) → FaultFits (cond b (long_enough (number_upto max_content_length text) raw) (Err (Unreadable Names.ContentLength)))
+  step true = length_fits (number_upto max_content_length text) raw
   step false = tt
 
 pub contents_fit : (start : Start) (fields : List Header) (raw : List ℕ) → FaultFits (contents_of start fields raw)

@@ -17,7 +17,7 @@ use Rattle.sip_message.specs.Faults.{Gives, and_then}
 use Rattle.sip_message.specs.Grammar.{IsStartLine, Opens, lines_of, start_of_request, start_of_response, ReadsRequest, ReadsResponse, ReadsMessage, header_lines, IsShort, IsWithin, RefusesContents, Refuses}
 use Rattle.header_fields.specs.Head.{ReadsHead, head_of}
 use Rattle.header_fields.specs.Lines.{before_line_end, after_line_end, is_clean}
-use Rattle.sip_message.specs.Read.{greatest_datagram, greatest_lines, contents_of, message_with, message_by, with_fields, behind_start, clean_start, message_of}
+use Rattle.sip_message.specs.Read.{max_datagram, max_lines, contents_of, message_with, message_by, with_fields, behind_start, clean_start, message_of}
 use Rattle.sip_message.specs.Start.{start_of}
 use Rattle.sip_message.specs.ContentLength.{without_length}
 use Rattle.sip_message.proofs.FaultOrder.{IsContentsFault, FaultFits, contents_fit}
@@ -75,8 +75,8 @@ unfolding message_of
 message_again text m reads within =
     let o = opened text m reads in
     let cut = cuts o.opens in
-    let short : ltb greatest_datagram (length text) ≡ false = le-ltb greatest_datagram (length text) within.0 in
-    let head : head_of (greatest_lines + 1) o.opens.rest ≡ Some (o.fields, o.raw) = head_again (greatest_lines + 1) o.opens.rest o.fields o.raw o.opens.head (omega (arith, within.1, o.same)) in
+    let short : ltb max_datagram (length text) ≡ false = le-ltb max_datagram (length text) within.0 in
+    let head : head_of (max_lines + 1) o.opens.rest ≡ Some (o.fields, o.raw) = head_again (max_lines + 1) o.opens.rest o.fields o.raw o.opens.head (omega (arith, within.1, o.same)) in
     rw (short, cut.first, line_again o.opens.line o.start o.opens.begins, o.opens.clean, cut.behind, head) o.gives
 
 -- ---- what is read is a message
@@ -96,7 +96,7 @@ refused_contents text Short fits h = h
 refused_contents text TooLong fits h = absurd fits
 
 module _ (text : List ℕ) (short : IsShort text) where
-  with_contents : (start : Start) (fields : List Header) (raw : List ℕ) (opens : Opens text start fields raw) → lines_of opens ≤ greatest_lines
+  with_contents : (start : Start) (fields : List Header) (raw : List ℕ) (opens : Opens text start fields raw) → lines_of opens ≤ max_lines
       → (c : Result Contents MessageError) → contents_of start fields raw ≡ c → FaultFits c → MessageIs text (and_then c (λ x. ok (message_with start fields x)))
   with_contents (Asking line) fields raw opens few (Ok c) e fits =
       let reads : ReadsRequest text (record { method = line.method; uri = line.uri; parts = c.values.parts; max_forwards = c.values.max_forwards; headers = without_length fields; body = c.body }) =
@@ -111,10 +111,10 @@ module _ (text : List ℕ) (short : IsShort text) where
 
   module _ (s : Start) (line : IsStartLine (before_line_end text) s) where
     -- the text has a start line, and no header fields within the limit
-    refused_head : ((start : Start) (fields : List Header) (raw : List ℕ) (opens : Opens text start fields raw) → lines_of opens ≤ greatest_lines → ⊥) → Refuses text HeaderLine
+    refused_head : ((start : Start) (fields : List Header) (raw : List ℕ) (opens : Opens text start fields raw) → lines_of opens ≤ max_lines → ⊥) → Refuses text HeaderLine
     refused_head none = (short, (s, line), none)
 
-    with_head : (rest : List ℕ) → is_clean (before_line_end text) ≡ true → after_line_end text ≡ Some rest → (o : Option (List Header × List ℕ)) → head_of (greatest_lines + 1) rest ≡ o → MessageIs text (with_fields s o)
+    with_head : (rest : List ℕ) → is_clean (before_line_end text) ≡ true → after_line_end text ≡ Some rest → (o : Option (List Header × List ℕ)) → head_of (max_lines + 1) rest ≡ o → MessageIs text (with_fields s o)
     with_head rest clean behind None e = refused_head (λ start fields raw opens few. no_head opens few) where
       some_none : (x : List Header × List ℕ) → Some x ≡ None → ⊥
       some_none x k = cc
@@ -122,13 +122,13 @@ module _ (text : List ℕ) (short : IsShort text) where
       same_rest : (a b : List ℕ) → Some a ≡ Some b → a ≡ b
       same_rest a b k = cc
 
-      no_head : {start : Start} {fields : List Header} {raw : List ℕ} (opens : Opens text start fields raw) → lines_of opens ≤ greatest_lines → ⊥
+      no_head : {start : Start} {fields : List Header} {raw : List ℕ} (opens : Opens text start fields raw) → lines_of opens ≤ max_lines → ⊥
       no_head {fields = fields} {raw = raw} opens few =
           let same : opens.rest ≡ rest = same_rest opens.rest rest (sym (cuts opens).behind ∙ behind) in
-          let head = head_again (greatest_lines + 1) opens.rest fields raw opens.head (omega (arith, few)) in
-          some_none (fields, raw) (sym head ∙ ap (head_of (greatest_lines + 1)) same ∙ e)
+          let head = head_again (max_lines + 1) opens.rest fields raw opens.head (omega (arith, few)) in
+          some_none (fields, raw) (sym head ∙ ap (head_of (max_lines + 1)) same ∙ e)
     with_head rest clean behind (Some x) e =
-        let is = head_is (greatest_lines + 1) rest x e in
+        let is = head_is (max_lines + 1) rest x e in
         let opens : Opens text s x.0 x.1 = record { line = before_line_end text; rest = rest; whole = first_line_joined text rest behind; clean = clean; begins = line; head = is.reads } in
         with_contents s x.0 x.1 opens (omega (arith, is.few)) (contents_of s x.0 x.1) refl (contents_fit s x.0 x.1)
 
@@ -136,7 +136,7 @@ module _ (text : List ℕ) (short : IsShort text) where
     with_rest clean None e = refused_head (λ start fields raw opens few. some_none opens.rest (sym (cuts opens).behind ∙ e)) where
       some_none : (t : List ℕ) → Some t ≡ None → ⊥
       some_none t k = cc
-    with_rest clean (Some rest) e = with_head rest clean e (head_of (greatest_lines + 1) rest) refl
+    with_rest clean (Some rest) e = with_head rest clean e (head_of (max_lines + 1) rest) refl
 
     with_line : (b : Bool) → is_clean (before_line_end text) ≡ b → MessageIs text (cond b (behind_start s (after_line_end text)) (Err HeaderLine))
     with_line true e = with_rest e (after_line_end text) refl
@@ -155,10 +155,10 @@ module _ (text : List ℕ) (short : IsShort text) where
 
 pub message_is : (text : List ℕ) → MessageIs text (message_of text)
 unfolding message_of
-message_is text = step (ltb greatest_datagram (length text)) refl where
-  step : (b : Bool) → ltb greatest_datagram (length text) ≡ b → MessageIs text (cond b (Err TooLong) (and_then (start_of (before_line_end text)) (clean_start (before_line_end text) (after_line_end text))))
-  step true e = ltb-true greatest_datagram (length text) e
-  step false e = let short : IsShort text = ltb-false greatest_datagram (length text) e in with_start text short (start_of (before_line_end text)) (start_is (before_line_end text))
+message_is text = step (ltb max_datagram (length text)) refl where
+  step : (b : Bool) → ltb max_datagram (length text) ≡ b → MessageIs text (cond b (Err TooLong) (and_then (start_of (before_line_end text)) (clean_start (before_line_end text) (after_line_end text))))
+  step true e = ltb-true max_datagram (length text) e
+  step false e = let short : IsShort text = ltb-false max_datagram (length text) e in with_start text short (start_of (before_line_end text)) (start_is (before_line_end text))
 
 -- ---- at a call that gives what reading gives
 

@@ -35,7 +35,7 @@ use Rattle.sip_message.specs.Party.{is_tagged_for, party_of}
 use Rattle.sip_message.specs.Read.{contents_of}
 use Rattle.sip_message.specs.Via.{with_via, each_via, via_texts, some_vias, via_of}
 use Rattle.sip_message.specs.Values.{if_tagged, with_text, from_for, to_of, call_id_of, of_method, with_number, cseq_for, one_address, contacts_for, contact_for, hops_by, hops_of, type_by, type_of, ends_for, parts_with, parts_of, hops_behind, values_of}
-use Rattle.sip_message.specs.ContentLength.{greatest_length, long_enough, body_by, body_of}
+use Rattle.sip_message.specs.ContentLength.{max_content_length, long_enough, body_by, body_of}
 
 -- ---- steps
 
@@ -302,9 +302,9 @@ long_is (Some n) raw body h = step (leb n (length raw)) (λ e. leb-true n (lengt
 body_is : (values : List (List ℕ)) (raw body : List ℕ) → and_then (at_most_one Names.ContentLength values) (body_by raw) ≡ Ok body → SaysBody values raw body
 body_is [] raw body h = sym (ok_is raw body h)
 body_is (text ∷ []) raw body h = step (is_run_of is_ascii_digit text) h where
-  step : (b : Bool) → cond b (long_enough (number_upto greatest_length text) raw) (failed (Unreadable Names.ContentLength)) ≡ Ok body
-      → (b ≡ true) × (number_upto greatest_length text ≡ Some (length body)) × ((behind : List ℕ) × (raw ≡ body ++ behind))
-  step true k = let is = long_is (number_upto greatest_length text) raw body k in (refl, is.0, is.1)
+  step : (b : Bool) → cond b (long_enough (number_upto max_content_length text) raw) (failed (Unreadable Names.ContentLength)) ≡ Ok body
+      → (b ≡ true) × (number_upto max_content_length text ≡ Some (length body)) × ((behind : List ℕ) × (raw ≡ body ++ behind))
+  step true k = let is = long_is (number_upto max_content_length text) raw body k in (refl, is.0, is.1)
   step false k = absurd (no_ok (Unreadable Names.ContentLength) body k)
 body_is (one ∷ two ∷ more) raw body h = no_ok (Unreadable Names.ContentLength) body h
 

@@ -11,11 +11,11 @@ use Rattle.sip_message.specs.declared.start.Start.{Start}
 use Rattle.sip_message.specs.declared.start.Start.TheVariants.{Asking, Answering}
 
 -- a sequence number is below 2^31 (section 8.1.1.5)
-abbrev pub greatest_number : ℕ
-greatest_number = 2147483647
+abbrev pub max_cseq : ℕ
+max_cseq = 2147483647
 
 abbrev pub cseq_from : List ℕ → List ℕ → Option CSeq
-cseq_from digits method = option_map (λ n. record { number = n; method = method }) (number_upto greatest_number digits)
+cseq_from digits method = option_map (λ n. record { number = n; method = method }) (number_upto max_cseq digits)
 
 unfoldable pub cseq_of : List ℕ → Option CSeq
 cseq_of text =

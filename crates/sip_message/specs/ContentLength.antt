@@ -15,8 +15,8 @@ abbrev pub without_length : List Header → List Header
 without_length headers = filter (λ h. not (is_named (codes "Content-Length") h)) headers
 
 -- no datagram is longer
-abbrev pub greatest_length : ℕ
-greatest_length = 4294967295
+abbrev pub max_content_length : ℕ
+max_content_length = 4294967295
 
 abbrev pub long_enough : Option ℕ → List ℕ → Result (List ℕ) MessageError
 long_enough None rest = Err Short
@@ -25,7 +25,7 @@ long_enough (Some n) rest = if nat_le n (length rest) then Ok (take n rest) else
 abbrev pub body_by : List ℕ → Option (List ℕ) → Result (List ℕ) MessageError
 body_by rest None = Ok rest
 body_by rest (Some text) =
-    if is_run_of is_ascii_digit text then long_enough (number_upto greatest_length text) rest else Err (Unreadable Names.ContentLength)
+    if is_run_of is_ascii_digit text then long_enough (number_upto max_content_length text) rest else Err (Unreadable Names.ContentLength)
 
 -- Content-Length stands once at most. As many bytes are the body as it says, or all where it does not stand; more bytes are left
 -- out, and fewer are a fault (section 18.3).

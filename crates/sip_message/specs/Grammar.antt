@@ -29,10 +29,10 @@ use Rattle.header_fields.specs.Head.{ReadsHead, line_count}
 use Rattle.header_fields.specs.Lines.{before_line_end, is_clean}
 use Rattle.sip_message.specs.Lookup.{values_named}
 use Rattle.sip_message.specs.Party.{is_tagged_for, party_of}
-use Rattle.sip_message.specs.Read.{contents_of, greatest_datagram, greatest_lines}
+use Rattle.sip_message.specs.Read.{contents_of, max_datagram, max_lines}
 use Rattle.sip_message.specs.Start.{begins_sip, has_no_space, is_part, is_version, status_read}
 use Rattle.sip_message.specs.Via.{via_texts, via_of}
-use Rattle.sip_message.specs.ContentLength.{without_length, greatest_length}
+use Rattle.sip_message.specs.ContentLength.{without_length, max_content_length}
 
 -- ---- the start line
 
@@ -123,7 +123,7 @@ SaysType (one ∷ two ∷ more) = ⊥
 -- stand behind them; where there is none, all bytes are the body (section 18.3)
 abbrev pub SaysBody : List (List ℕ) → List ℕ → List ℕ → Type 0
 SaysBody [] raw body = body ≡ raw
-SaysBody (text ∷ []) raw body = IsTrue (is_run_of is_ascii_digit text) × (number_upto greatest_length text ≡ Some (length body)) × ((behind : List ℕ) × (raw ≡ body ++ behind))
+SaysBody (text ∷ []) raw body = IsTrue (is_run_of is_ascii_digit text) × (number_upto max_content_length text ≡ Some (length body)) × ((behind : List ℕ) × (raw ≡ body ++ behind))
 SaysBody (one ∷ two ∷ more) raw body = ⊥
 
 -- values and body are what the header fields, and the bytes behind them, say
@@ -172,10 +172,10 @@ header_lines text (Kinds.Response response) reads = lines_of reads.opens
 -- ---- limits and refusals
 
 abbrev pub IsShort : List ℕ → Type 0
-IsShort text = length text ≤ greatest_datagram
+IsShort text = length text ≤ max_datagram
 
 abbrev pub IsWithin : (text : List ℕ) (message : Message) → ReadsMessage text message → Type 0
-IsWithin text message reads = IsShort text × (header_lines text message reads ≤ greatest_lines)
+IsWithin text message reads = IsShort text × (header_lines text message reads ≤ max_lines)
 
 -- start line and header fields stand, and the first header field, in the order of `HeaderName`, that does not say its value, or then
 -- the body, has this fault
@@ -185,18 +185,18 @@ pub record RefusesContents (text : List ℕ) (fault : MessageError) : Type 0 whe
   pub fields : List Header
   pub raw : List ℕ
   pub opens : Opens text start fields raw
-  pub few : lines_of opens ≤ greatest_lines
+  pub few : lines_of opens ≤ max_lines
   pub first : contents_of start fields raw ≡ Err fault
 
 -- the text has this fault, and none before it
 abbrev pub Refuses : List ℕ → MessageError → Type 0
 Refuses text OutOfMemory = Unit {0}
-Refuses text TooLong = greatest_datagram < length text
+Refuses text TooLong = max_datagram < length text
 Refuses text StartLine = IsShort text × ((start : Start) (version : List ℕ) → HasForm (before_line_end text) start version → ⊥)
 Refuses text Version = IsShort text × ((start : Start) × (version : List ℕ) × HasForm (before_line_end text) start version × ¬ (IsTrue (is_version version)))
 Refuses text HeaderLine =
     IsShort text × ((start : Start) × IsStartLine (before_line_end text) start)
-    × ((start : Start) (fields : List Header) (raw : List ℕ) (opens : Opens text start fields raw) → lines_of opens ≤ greatest_lines → ⊥)
+    × ((start : Start) (fields : List Header) (raw : List ℕ) (opens : Opens text start fields raw) → lines_of opens ≤ max_lines → ⊥)
 Refuses text (Missing name) = RefusesContents text (Missing name)
 Refuses text (Unreadable name) = RefusesContents text (Unreadable name)
 Refuses text Short = RefusesContents text Short

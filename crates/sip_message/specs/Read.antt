@@ -16,11 +16,11 @@ use Rattle.sip_message.specs.Values.{values_of}
 use Rattle.sip_message.specs.ContentLength.{without_length, body_of}
 
 -- bytes in a datagram that is read, and header lines in it, lines that continue others included
-abbrev pub greatest_datagram : ℕ
-greatest_datagram = 16384
+abbrev pub max_datagram : ℕ
+max_datagram = 16384
 
-abbrev pub greatest_lines : ℕ
-greatest_lines = 128
+abbrev pub max_lines : ℕ
+max_lines = 128
 
 -- the values of the header fields go before the body
 unfoldable pub contents_of : Start → List Header → List ℕ → Result Contents MessageError
@@ -53,7 +53,7 @@ with_fields start (Some x) = message_by start x.0 x.1
 
 abbrev pub behind_start : Start → Option (List ℕ) → Result Message MessageError
 behind_start start None = Err HeaderLine
-behind_start start (Some rest) = with_fields start (head_of (greatest_lines + 1) rest)
+behind_start start (Some rest) = with_fields start (head_of (max_lines + 1) rest)
 
 -- a start line with a bare CR or LF, or a NUL, is the fault of a line; its other faults go before
 abbrev pub clean_start : List ℕ → Option (List ℕ) → Start → Result Message MessageError
@@ -62,4 +62,4 @@ clean_start line rest start = if is_clean line then behind_start start rest else
 unfoldable pub message_of : List ℕ → Result Message MessageError
 message_of text =
     let line = before_line_end text in
-    if nat_lt greatest_datagram (length text) then Err TooLong else and_then (start_of line) (clean_start line (after_line_end text))
+    if nat_lt max_datagram (length text) then Err TooLong else and_then (start_of line) (clean_start line (after_line_end text))

@@ -8,7 +8,7 @@ use Rattle.text.specs.Cut.{before, after, word, behind_word, led_by}
 use Rattle.text.specs.Number.{number_upto}
 use Rattle.text.specs.Pieces.{pieces}
 use Rattle.text.specs.Trim.{trimmed, without_blanks}
-use Rattle.text.specs.declared.splitting.Within.TheVariants.{Nothing}
+use Rattle.text.specs.declared.split.Within.TheVariants.{Nothing}
 use Rattle.sip_uri.specs.declared.uri.Host.{Host}
 use Rattle.sip_uri.specs.declared.uri.Param.{Param}
 use Rattle.sip_uri.specs.Reading.{host_read}

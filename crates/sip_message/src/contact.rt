@@ -2,7 +2,7 @@
 
 ghost use Rattle.std.specs.Prelude.{◌≡◌, ◌++◌, map, IfOk, OnOk};
 ghost use Rattle.text.specs.Pieces.{pieces};
-ghost use Rattle.text.specs.declared.splitting.Within.TheVariants.{Nothing};
+ghost use Rattle.text.specs.declared.split.Within.TheVariants.{Nothing};
 ghost use Rattle.sip_message.specs.Contact.{is_star, contact_of, contacts_of, headers_in, is_success, may_need_contact, need_by_method, contact_need};
 
 use crate::message::Message;
@@ -10,7 +10,7 @@ use crate::start::Start;
 use header_fields::{FieldValue, Header, is_named};
 use sip_uri::{NameAddr, UriError, read_name_addr};
 use std::alloc::{AllocError, Global};
-use text::{Text, cut_piece, trimmed};
+use text::{Text, cut_piece, trim};
 
 /// One value of a Contact header field.
 #[derive(Drop)]
@@ -47,7 +47,7 @@ pub enum ContactNeed {
 fn is_star(text: &[u8]) -> bool
     ensures { result ≡ is_star text.now }
 {
-    trimmed(text) == b"*".as_slice()
+    trim(text) == b"*".as_slice()
 }
 
 #[tactic(auto, unfolding(crate::specs::Contact::contact_of))]

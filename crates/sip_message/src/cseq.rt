@@ -8,7 +8,7 @@ use std::alloc::{AllocError, Global};
 use text::{Text, cut_word, is_run_of_digits, is_run_of_token, number_upto, without_blanks};
 
 /// The greatest sequence number: they are below 2^31 (RFC 3261 section 8.1.1.5).
-const GREATEST_NUMBER: u32 = 2_147_483_647;
+const MAX_NUMBER: u32 = 2_147_483_647;
 
 /// A sequence number and a method.
 pub struct CSeq<'a> {
@@ -42,7 +42,7 @@ fn cseq_in(text: &[u8]) -> Option<CSeq<'_>>
     if !is_run_of_digits(digits) || !is_run_of_token(method) {
         return None;
     }
-    let number = number_upto(GREATEST_NUMBER, digits)?;
+    let number = number_upto(MAX_NUMBER, digits)?;
     Some(CSeq {
         number,
         method: Text::lent(method),

@@ -11,7 +11,7 @@ mod content_length;
 mod cseq;
 mod error;
 mod header_names;
-mod keeping;
+mod keep;
 mod laws;
 mod lookup;
 mod max_forwards;

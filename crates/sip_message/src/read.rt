@@ -21,10 +21,10 @@ use std::alloc::Global;
 use text::Text;
 
 /// Bytes in a datagram.
-const GREATEST_DATAGRAM: usize = 16_384;
+const MAX_DATAGRAM_BYTES: usize = 16_384;
 
 /// Header lines, lines that continue others included.
-const GREATEST_LINES: u32 = 128;
+const MAX_LINES: u32 = 128;
 
 /// Values and body of a message.
 #[derive(Drop)]
@@ -88,7 +88,7 @@ fn behind_start<'a>(
     let Some(rest) = rest else {
         return Err(MessageError::HeaderLine);
     };
-    let (headers, rest) = match read_head(alloc, GREATEST_LINES + 1, rest) {
+    let (headers, rest) = match read_head(alloc, MAX_LINES + 1, rest) {
         Ok(head) => head,
         Err(HeadError::OutOfMemory) => return Err(MessageError::OutOfMemory),
         Err(HeadError::Line) => return Err(MessageError::HeaderLine),
@@ -114,7 +114,7 @@ fn start_line(bytes: &[u8]) -> (&[u8], Option<&[u8]>, bool)
 fn read(alloc: Global, bytes: &[u8]) -> Result<Message<'_>, MessageError>
     ensures { Gives result (message_of bytes.now) }
 {
-    if bytes.len() > GREATEST_DATAGRAM {
+    if bytes.len() > MAX_DATAGRAM_BYTES {
         return Err(MessageError::TooLong);
     }
     let (line, rest, clean) = start_line(bytes);

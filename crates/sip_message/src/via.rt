@@ -5,7 +5,7 @@ ghost use Rattle.std.specs.Cmp.Lexicographic.{pointwise};
 ghost use Rattle.std.specs.Option.{option_copied};
 ghost use Rattle.text.specs.Pieces.{pieces};
 ghost use Rattle.text.specs.Trim.{trimmed};
-ghost use Rattle.text.specs.declared.splitting.Within.TheVariants.{Nothing};
+ghost use Rattle.text.specs.declared.split.Within.TheVariants.{Nothing};
 ghost use Rattle.sip_message.specs.Faults.{Gives};
 ghost use Rattle.sip_message.specs.Via.{raw_via_of, is_raw_via, is_port, sent_by_of, port_of, via_of, each_via, via_texts, some_vias, put_before};
 
@@ -16,7 +16,7 @@ use sip_uri::{Host, Params, read_field_params, read_host};
 use std::alloc::{AllocError, Global};
 use std::marker::Model;
 use text::{
-    Text, cut, cut_piece, cut_word, is_run_of_digits, number_upto, same_without_case, trimmed,
+    Text, cut, cut_piece, cut_word, is_run_of_digits, number_upto, same_without_case, trim,
     without_blanks,
 };
 
@@ -111,7 +111,7 @@ fn port_text(text: Option<&[u8]>) -> Option<&[u8]>
     ensures { option_copied result ≡ option_map trimmed (option_copied text.entry) }
 {
     match text {
-        Some(port) => Some(trimmed(port)),
+        Some(port) => Some(trim(port)),
         None => None,
     }
 }
@@ -127,14 +127,14 @@ fn via_text(text: &[u8]) -> (ViaText<'_>, &[u8])
     let (transport, sent_by) = cut_word(without_blanks(behind.unwrap_or(&[])));
     let (host, port) = cut(sent_by, b':');
     let parts = ViaText {
-        name: trimmed(name),
-        version: trimmed(version),
+        name: trim(name),
+        version: trim(version),
         transport,
-        host: trimmed(host),
+        host: trim(host),
         port: port_text(port),
         params,
     };
-    (parts, trimmed(sent_by))
+    (parts, trim(sent_by))
 }
 
 fn is_port(text: &[u8]) -> bool

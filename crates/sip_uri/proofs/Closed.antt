@@ -7,8 +7,8 @@ use Rattle.text.specs.Class.{is_blank, is_token_byte, is_run_of, passes_if_there
 use Rattle.text.specs.Cut.{before, after, led_by}
 use Rattle.text.specs.Pieces.{next_within, pieces}
 use Rattle.text.specs.Trim.{trimmed, without_blanks}
-use Rattle.text.specs.declared.splitting.Within.{Within}
-use Rattle.text.specs.declared.splitting.Within.TheVariants.{Nothing, Quotes, Escape}
+use Rattle.text.specs.declared.split.Within.{Within}
+use Rattle.text.specs.declared.split.Within.TheVariants.{Nothing, Quotes, Escape}
 use Rattle.text.proofs.CutLaws.{Lacks, Lacks-from_class, differs, joined}
 use Rattle.text.proofs.PieceLaws.{with_front, with_front-nil}
 use Rattle.sip_uri.specs.Quoted.{quoted, may_stand, fits_quotes, ends_quoted, is_quoted}

@@ -4,7 +4,7 @@ use Rattle.std.specs.Borrow.{Bor}
 use Rattle.std.specs.List.{list_all}
 use Rattle.std.specs.Option.{option_copied}
 use Rattle.text.specs.Pieces.{pieces, pieces_behind}
-use Rattle.text.specs.declared.splitting.Within.TheVariants.{Nothing}
+use Rattle.text.specs.declared.split.Within.TheVariants.{Nothing}
 use Rattle.sip_uri.specs.declared.uri.Param.{Param}
 use Rattle.sip_uri.specs.FieldParams.{is_field_param, is_field_params, field_param_of, field_param_read, field_params_of, field_params_read}
 

@@ -8,8 +8,8 @@ use Rattle.std.proofs.lemmas.List.Folds.{list_all-append}
 use Rattle.text.specs.Class.{passes_if_there}
 use Rattle.text.specs.Cut.{led_by}
 use Rattle.text.specs.Pieces.{next_within, is_outside, pieces}
-use Rattle.text.specs.declared.splitting.Within.{Within}
-use Rattle.text.specs.declared.splitting.Within.TheVariants.{Nothing}
+use Rattle.text.specs.declared.split.Within.{Within}
+use Rattle.text.specs.declared.split.Within.TheVariants.{Nothing}
 use Rattle.sip_uri.specs.declared.uri.NameAddr.{NameAddr}
 use Rattle.sip_uri.specs.declared.uri.Param.{Param}
 use Rattle.sip_uri.specs.FieldParams.{is_field_param, is_field_params, field_param_of, field_params_of}

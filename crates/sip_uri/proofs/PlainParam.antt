@@ -10,7 +10,7 @@ use Rattle.text.specs.Class.{is_token_byte, is_blank, is_run_of}
 use Rattle.text.specs.Cut.{before, after}
 use Rattle.text.specs.Pieces.{pieces}
 use Rattle.text.specs.Trim.{kept, without_blanks, without_end, trimmed}
-use Rattle.text.specs.declared.splitting.Within.TheVariants.{Nothing}
+use Rattle.text.specs.declared.split.Within.TheVariants.{Nothing}
 use Rattle.text.proofs.CutSteps.{at_place}
 use Rattle.text.proofs.CutLaws.{differs, Lacks-from_class, before_at, after_at}
 use Rattle.sip_uri.specs.declared.uri.Param.{Param}

@@ -6,7 +6,7 @@ use Rattle.text.specs.Class.{is_token_byte, is_one_of, is_run_of, passes_if_ther
 use Rattle.text.specs.Cut.{before, after}
 use Rattle.text.specs.Pieces.{pieces}
 use Rattle.text.specs.Trim.{trimmed}
-use Rattle.text.specs.declared.splitting.Within.TheVariants.{Nothing}
+use Rattle.text.specs.declared.split.Within.TheVariants.{Nothing}
 use Rattle.sip_uri.specs.declared.uri.Param.{Param}
 unfoldable pub use Rattle.sip_uri.specs.Quoted.{is_quoted}
 

@@ -6,10 +6,10 @@ ghost use Rattle.std.specs.Option.{option_copied};
 ghost use Rattle.text.specs.Class.{is_run_of, is_token_byte};
 ghost use Rattle.sip_uri.specs.FieldParams.{is_bracket_byte, is_bracketed, is_field_value, field_param_read, field_params_read};
 
-use crate::quoted::is_quoted;
+use crate::quotes::is_quoted;
 use crate::uri::{Param, Params};
 use std::alloc::{AllocError, Global};
-use text::{Text, cut, cut_piece, is_run_of_token, is_token_byte, trimmed};
+use text::{Text, cut, cut_piece, is_run_of_token, is_token_byte, trim};
 
 fn is_bracket_byte(b: u8) -> bool
     ensures { result ≡ is_bracket_byte b }
@@ -55,13 +55,13 @@ fn field_param(piece: &[u8]) -> Option<Param<'_>>
     ensures { result ≡ field_param_read piece.now }
 {
     let (name, value) = cut(piece, b'=');
-    let name = trimmed(name);
+    let name = trim(name);
     if !is_run_of_token(name) {
         return None;
     }
     let value = match value {
         Some(value) => {
-            let value = trimmed(value);
+            let value = trim(value);
             if !is_field_value(value) {
                 return None;
             }

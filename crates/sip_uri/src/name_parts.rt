@@ -7,9 +7,9 @@ ghost use Rattle.text.specs.Cut.{before, after};
 ghost use Rattle.text.specs.Class.{is_one_of};
 ghost use Rattle.sip_uri.specs.NameParts.{RawName, is_phrase_byte, phrase_of, with_params, bracketed, opened, quoted_name, worded_name, bare, name_from, name_of};
 
-use crate::quoted::{fits_quotes, quoted};
+use crate::quotes::{fits_quotes, quoted_text};
 use std::marker::Model;
-use text::{cut, is_blank, is_token_byte, trimmed, without_blanks};
+use text::{cut, is_blank, is_token_byte, trim, without_blanks};
 
 /// `"display" <uri>;params`, or the like: the display as it counts, the URI without blanks round it, what stands behind
 /// the semicolon.
@@ -51,7 +51,7 @@ fn is_phrase(text: &[u8]) -> bool
 fn phrase_of(text: &[u8]) -> Option<&[u8]>
     ensures { option_copied result ≡ phrase_of text.now }
 {
-    let words = trimmed(text);
+    let words = trim(text);
     if words.is_empty() { None } else { Some(words) }
 }
 
@@ -77,7 +77,7 @@ fn with_params<'a>(
 
 /// What stands behind the opening angle bracket.
 #[tactic(auto, unfolding(crate::specs::NameParts::bracketed))]
-fn bracketed<'a>(display: Option<&'a [u8]>, text: &'a [u8]) -> Option<NameParts<'a>>
+fn in_brackets<'a>(display: Option<&'a [u8]>, text: &'a [u8]) -> Option<NameParts<'a>>
     ensures { result ≡ bracketed (option_copied display.entry) text.now }
 {
     let (uri, rest) = cut(text, b'>');
@@ -85,11 +85,11 @@ fn bracketed<'a>(display: Option<&'a [u8]>, text: &'a [u8]) -> Option<NameParts<
 }
 
 #[tactic(auto, unfolding(crate::specs::NameParts::opened))]
-fn opened<'a>(display: Option<&'a [u8]>, text: &'a [u8]) -> Option<NameParts<'a>>
+fn after_bracket<'a>(display: Option<&'a [u8]>, text: &'a [u8]) -> Option<NameParts<'a>>
     ensures { result ≡ opened (option_copied display.entry) text.now }
 {
     match text {
-        [b'<', rest @ ..] => bracketed(display, rest),
+        [b'<', rest @ ..] => in_brackets(display, rest),
         _ => None,
     }
 }
@@ -99,11 +99,11 @@ fn opened<'a>(display: Option<&'a [u8]>, text: &'a [u8]) -> Option<NameParts<'a>
 fn quoted_name(text: &[u8]) -> Option<NameParts<'_>>
     ensures { result ≡ quoted_name text.now }
 {
-    let (display, rest) = quoted(text)?;
+    let (display, rest) = quoted_text(text)?;
     if !fits_quotes(display) {
         return None;
     }
-    opened(Some(display), without_blanks(rest))
+    after_bracket(Some(display), without_blanks(rest))
 }
 
 /// Tokens, or nothing, before the opening angle bracket.
@@ -116,7 +116,7 @@ fn worded_name(text: &[u8]) -> Option<NameParts<'_>>
     if !is_phrase(front) {
         return None;
     }
-    bracketed(phrase_of(front), rest)
+    in_brackets(phrase_of(front), rest)
 }
 
 /// Whether an angle bracket opens before the first semicolon.
@@ -137,7 +137,7 @@ fn bare(text: &[u8]) -> NameParts<'_>
     let (uri, params) = cut(text, b';');
     NameParts {
         display: None,
-        uri: trimmed(uri),
+        uri: trim(uri),
         in_angles: false,
         params,
     }

@@ -8,7 +8,7 @@ use Rattle.std.proofs.lemmas.List.{append-nil}
 use Rattle.std.proofs.lemmas.List.Folds.{list_all-append}
 use Rattle.text.specs.Class.{is_token_byte, is_run_of}
 use Rattle.text.specs.Pieces.{pieces}
-use Rattle.text.specs.declared.splitting.Within.TheVariants.{Nothing}
+use Rattle.text.specs.declared.split.Within.TheVariants.{Nothing}
 use Rattle.sip_uri.specs.declared.uri.Addr.{Addr}
 use Rattle.sip_message.specs.declared.contact.ContactValue.{ContactValue}
 use Rattle.sip_message.specs.declared.headers.Header.{Header}
@@ -23,7 +23,7 @@ use Rattle.sip_message.specs.Lookup.{named, is_named, values_named}
 use Rattle.sip_writing.specs.Reasons.{Reason, reasons, reason_in, reason_of}
 use Rattle.sip_message.specs.Repeatable.{IsValue, CanBeRepeated}
 use Rattle.sip_writing.specs.Reply.{via_text, marked_top, tagged_to, tagged_text, replied, reply_headers, reply_of}
-use Rattle.sip_message.specs.ContentLength.{greatest_length}
+use Rattle.sip_message.specs.ContentLength.{max_content_length}
 use Rattle.sip_message.specs.Via.{via_of}
 use Rattle.sip_message.specs.Written.{is_written}
 use Rattle.sip_writing.specs.WritingMessage.{tells_no_length, IsWrittenRest, IsWrittenResponse, IsWrittenMessage}
@@ -161,7 +161,7 @@ module _ (parts : Parts) (source : Addr) (status : ℕ) (tag : List ℕ) (token 
   unfolding reply_of replied reply_headers
   fields_are further = joined_headers (map via_header vias) (named (codes "From") parts.from_text) (named (codes "To") to_text) (named (codes "Call-ID") parts.call_id) (named (codes "CSeq") parts.cseq_text) further
 
-  module _ (further : List Header) (body : List ℕ) (m : MayFollow (start_of_response answer) answer.parts.cseq.method further) (small : length body ≤ greatest_length) where
+  module _ (further : List Header) (body : List ℕ) (m : MayFollow (start_of_response answer) answer.parts.cseq.method further) (small : length body ≤ max_content_length) where
     none : (name : List ℕ) → ((x : Header) → IsOther x → not (is_named name x) ≡ true) → values_named name further ≡ []
     none name is = none_named name further (all_imply repeats_nothing (λ x. not (is_named name x)) (λ x e. is x (other_is x e)) further m.repeat_nothing)
 

@@ -7,7 +7,7 @@ use Rattle.std.proofs.lemmas.Bool.{and_parts, and_from}
 use Rattle.std.proofs.lemmas.List.{append-nil}
 use Rattle.text.specs.Class.{is_token_byte}
 use Rattle.text.specs.Pieces.{pieces}
-use Rattle.text.specs.declared.splitting.Within.TheVariants.{Nothing}
+use Rattle.text.specs.declared.split.Within.TheVariants.{Nothing}
 use Rattle.text.proofs.Numbers.{decimal_digits, decimal_run, number_again}
 use Rattle.sip_uri.specs.Grammar.{ReadsUri}
 use Rattle.sip_uri.specs.Writing.{uri_text}

@@ -9,7 +9,7 @@ use Rattle.text.specs.Class.{is_blank, is_run_of, is_token_byte}
 use Rattle.text.specs.Cut.{word, behind_word}
 use Rattle.text.specs.Trim.{without_blanks, without_end}
 use Rattle.text.proofs.Numbers.{decimal_digits, decimal_run, number_again}
-use Rattle.sip_message.specs.CSeq.{cseq_of, greatest_number}
+use Rattle.sip_message.specs.CSeq.{cseq_of, max_cseq}
 use Rattle.sip_message.specs.Fields.{begins_blank}
 use Rattle.sip_message.specs.MaxForwards.{max_forwards_of}
 use Rattle.sip_message.specs.Lines.{is_clean}
@@ -47,12 +47,12 @@ method_end : (t : List ℕ) → is_run_of is_token_byte t ≡ true → without_e
 method_end [] h = absurd cc
 method_end (b ∷ t) h = end_behind (32 ∷ []) b t (token_end (b ∷ t) (run_all (b ∷ t) h))
 
-pub cseq_again : (number : ℕ) (method : List ℕ) → number ≤ greatest_number → is_run_of is_token_byte method ≡ true → cseq_of (cseq_text number method) ≡ Some (record { number = number; method = method })
+pub cseq_again : (number : ℕ) (method : List ℕ) → number ≤ max_cseq → is_run_of is_token_byte method ≡ true → cseq_of (cseq_text number method) ≡ Some (record { number = number; method = method })
 unfolding cseq_of
 cseq_again number method low run =
     let small : number < 2 ^ 64 = omega (arith, low) in
     let token = digits_of number small in
-    rw (word_again (decimal number) method token, behind_again (decimal number) method token, method_front method run, decimal_run number small, run, number_again greatest_number number low small) refl
+    rw (word_again (decimal number) method token, behind_again (decimal number) method token, method_front method run, decimal_run number small, run, number_again max_cseq number low small) refl
 
 begins : (ds rest : List ℕ) → is_run_of is_token_byte ds ≡ true → begins_blank (ds ++ rest) ≡ false
 begins [] rest h = absurd cc
@@ -63,7 +63,7 @@ number_run number small =
     let run = and_parts (not (eqb (length (decimal number)) 0)) (list_all is_ascii_digit (decimal number)) (decimal_run number small) in
     and_from (not (eqb (length (decimal number)) 0)) (list_all is_token_byte (decimal number)) run.0 (digits_of number small)
 
-pub cseq_value : (number : ℕ) (method : List ℕ) → number ≤ greatest_number → is_run_of is_token_byte method ≡ true → IsValue (cseq_text number method)
+pub cseq_value : (number : ℕ) (method : List ℕ) → number ≤ max_cseq → is_run_of is_token_byte method ≡ true → IsValue (cseq_text number method)
 cseq_value number method low run =
     let small : number < 2 ^ 64 = omega (arith, low) in
     record {

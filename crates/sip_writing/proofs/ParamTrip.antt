@@ -8,7 +8,7 @@ use Rattle.text.specs.Class.{is_token_byte, is_run_of, passes_if_there}
 use Rattle.text.specs.Cut.{before, after, led_by}
 use Rattle.text.specs.Pieces.{pieces}
 use Rattle.text.specs.Trim.{trimmed}
-use Rattle.text.specs.declared.splitting.Within.TheVariants.{Nothing}
+use Rattle.text.specs.declared.split.Within.TheVariants.{Nothing}
 use Rattle.sip_uri.specs.declared.uri.Param.{Param}
 use Rattle.sip_uri.specs.FieldParams.{is_field_value, is_field_param, is_field_params, field_param_of, field_params_of, field_params_read}
 use Rattle.sip_uri.specs.Writing.{param_text, params_text}

@@ -5,7 +5,7 @@ use Rattle.std.specs.List.{flat_map, list_all, AllByRecursion}
 use Rattle.std.proofs.lemmas.Bool.{and_parts, and_from}
 use Rattle.text.specs.Class.{is_run_of, is_token_byte}
 use Rattle.text.specs.Pieces.{pieces}
-use Rattle.text.specs.declared.splitting.Within.TheVariants.{Nothing}
+use Rattle.text.specs.declared.split.Within.TheVariants.{Nothing}
 use Rattle.sip_uri.specs.declared.uri.NameAddr.{NameAddr}
 use Rattle.sip_uri.specs.NameAddr.{name_addr_text}
 use Rattle.sip_message.specs.declared.headers.Header.{Header}

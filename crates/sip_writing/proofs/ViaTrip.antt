@@ -10,7 +10,7 @@ use Rattle.text.specs.Cut.{before, after, led_by, behind_word}
 use Rattle.text.specs.Number.{number_upto}
 use Rattle.text.specs.Pieces.{pieces}
 use Rattle.text.specs.Trim.{without_blanks, trimmed}
-use Rattle.text.specs.declared.splitting.Within.TheVariants.{Nothing}
+use Rattle.text.specs.declared.split.Within.TheVariants.{Nothing}
 use Rattle.text.proofs.CutLaws.{Lacks, Lacks-from_class, Lacks-append, before_at, after_at}
 use Rattle.sip_uri.specs.declared.uri.Host.{Host}
 use Rattle.sip_uri.specs.declared.uri.Param.{Param}

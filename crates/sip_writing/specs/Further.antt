@@ -8,7 +8,7 @@ use Rattle.sip_message.specs.declared.start.Start.{Start}
 use Rattle.sip_message.specs.Contact.{contacts_of, contact_need}
 use Rattle.sip_message.specs.Grammar.{SaysContact, SaysHops, SaysType, start_of_response}
 use Rattle.sip_message.specs.Lookup.{is_named, values_named}
-use Rattle.sip_message.specs.ContentLength.{greatest_length}
+use Rattle.sip_message.specs.ContentLength.{max_content_length}
 use Rattle.sip_message.specs.Written.{is_written}
 use Rattle.sip_writing.specs.WritingMessage.{tells_no_length, IsWrittenMessage}
 
@@ -34,5 +34,5 @@ with_further answer further body = record answer { headers = answer.headers ++ f
 -- the answer is of the form that is written and read again, whatever may follow in its header fields and whatever its body is
 abbrev pub IsReadAgain : Response → Type 0
 IsReadAgain answer =
-    (further : List Header) (body : List ℕ) → MayFollow (start_of_response answer) answer.parts.cseq.method further → length body ≤ greatest_length
+    (further : List Header) (body : List ℕ) → MayFollow (start_of_response answer) answer.parts.cseq.method further → length body ≤ max_content_length
     → IsWrittenMessage (Kinds.Response (with_further answer further body))

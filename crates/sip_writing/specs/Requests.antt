@@ -17,14 +17,14 @@ use Rattle.sip_message.specs.declared.message.Request.{Request}
 use Rattle.sip_message.specs.declared.start.Start.TheVariants.{Asking}
 use Rattle.sip_message.specs.declared.via.Via.{Via}
 use Rattle.sip_message.specs.Contact.{contacts_of, contact_need}
-use Rattle.sip_message.specs.CSeq.{greatest_number}
+use Rattle.sip_message.specs.CSeq.{max_cseq}
 use Rattle.sip_message.specs.CallId.{is_call_id}
 use Rattle.sip_message.specs.Grammar.{SaysContact, SaysType}
 use Rattle.sip_message.specs.Lines.{is_clean}
 use Rattle.sip_message.specs.Lookup.{named, is_named, values_named}
 use Rattle.sip_message.specs.Party.{has_tag}
 use Rattle.sip_message.specs.Repeatable.{IsValue}
-use Rattle.sip_message.specs.ContentLength.{greatest_length}
+use Rattle.sip_message.specs.ContentLength.{max_content_length}
 use Rattle.sip_message.specs.Via.{via_of}
 use Rattle.sip_message.specs.Written.{is_written}
 use Rattle.sip_writing.specs.declared.requests.Draft.{Draft}
@@ -142,10 +142,10 @@ pub record IsSound (d : Draft) : Type 0 where
   pub to : IsEnd d.to.now
   pub call_id : IsTrue (is_call_id d.call_id.now)
   pub call_id_value : IsValue d.call_id.now
-  pub number : d.number ≤ greatest_number
+  pub number : d.number ≤ max_cseq
   pub further_written : IsTrue (list_all is_written d.further.now)
   pub further : IsTrue (list_all is_further d.further.now)
   -- an INVITE needs a Contact (section 8.1.1.8)
   pub contact : SaysContact (contact_need (Asking (record { method = d.method.now; uri = d.uri.now })) d.method.now) (contacts_of d.further.now)
   pub content_type : SaysType (values_named (codes "Content-Type") d.further.now)
-  pub body : length d.body.now ≤ greatest_length
+  pub body : length d.body.now ≤ max_content_length

@@ -14,7 +14,7 @@ use Rattle.sip_message.specs.Contact.{contacts_of, contact_need}
 use Rattle.sip_message.specs.Grammar.{SaysParts, SaysContact, SaysHops, SaysType, start_of_request, start_of_response}
 use Rattle.sip_message.specs.Lines.{is_clean}
 use Rattle.sip_message.specs.Lookup.{is_named, values_named}
-use Rattle.sip_message.specs.ContentLength.{greatest_length}
+use Rattle.sip_message.specs.ContentLength.{max_content_length}
 use Rattle.sip_message.specs.Written.{is_written}
 
 -- Content-Length is written by itself, of the body
@@ -29,7 +29,7 @@ pub record IsWrittenRest (start : Start) (headers : List Header) (parts : Parts)
   pub says_contact : SaysContact (contact_need start parts.cseq.method) (contacts_of headers)
   pub says_hops : SaysHops (values_named (codes "Max-Forwards") headers) hops
   pub says_type : SaysType (values_named (codes "Content-Type") headers)
-  pub small : length body ≤ greatest_length
+  pub small : length body ≤ max_content_length
 
 pub record IsWrittenRequest (request : Request) : Type 0 where
   pub token : IsTrue (is_run_of is_token_byte request.method)

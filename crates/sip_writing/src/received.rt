@@ -94,7 +94,7 @@ pub(crate) fn numbers_fit(ip: &[u8], port: u16)
 {}
 
 #[tactic(auto, unfolding(crate::specs::Reply::received))]
-fn received(alloc: Global, source: Addr) -> Result<Param<'static>, AllocError>
+fn received_param(alloc: Global, source: Addr) -> Result<Param<'static>, AllocError>
     ensures { IfOk result (λ p. p ≡ received source) }
 {
     let name = Text::from_slice(alloc, b"received")?;
@@ -131,7 +131,7 @@ fn add_received(
     ensures { OnOk result (params.new.items ≡ with_received needed source params.old.items) }
 {
     if needed {
-        let param = received(alloc, source)?;
+        let param = received_param(alloc, source)?;
         params.push(param)?;
         return Ok(());
     }
@@ -157,7 +157,11 @@ fn marked_params(
 /// The Via with the source of its request: an empty `rport` gets the port, and `received` the address, where the host
 /// of sent-by is another or `rport` was empty.
 #[tactic(auto, unfolding(crate::specs::Reply::marked))]
-pub(crate) fn marked(alloc: Global, via: &Via<'_>, source: Addr) -> Result<Via<'static>, AllocError>
+pub(crate) fn mark_source(
+    alloc: Global,
+    via: &Via<'_>,
+    source: Addr,
+) -> Result<Via<'static>, AllocError>
     ensures { IfOk result (λ v. v ≡ marked source via.now) }
 {
     let asked = asks_port(via.params.as_slice());

@@ -11,7 +11,7 @@ ghost use Rattle.sip_writing.specs.Replies.{Replies};
 ghost use Rattle.sip_writing.specs.Reply.{marked_top, puts_tag, tagged_params, tagged_to, tagged_text, replied, via_text, reply_headers, reply_of, tag_param, via_headers, answer_port, answer_address};
 
 use crate::reasons::reason_of;
-use crate::received::{asks_port, marked, numbers_fit};
+use crate::received::{asks_port, mark_source, numbers_fit};
 use sip_message::{
     Ends, FieldValue, Header, Headers, Parts, Party, Response, Via, Vias, has_tag, parts_with,
 };
@@ -63,7 +63,7 @@ fn mark_top(alloc: Global, vias: &mut Vec<Via<'static>>, source: Addr) -> Result
     if vias.is_empty() {
         return Ok(());
     }
-    let top = marked(alloc, &vias[0], source)?;
+    let top = mark_source(alloc, &vias[0], source)?;
     vias[0] = top;
     Ok(())
 }
@@ -179,7 +179,7 @@ fn replied_ends(
 }
 
 #[tactic(auto, unfolding(crate::specs::Reply::replied))]
-fn replied(
+fn reply_parts(
     alloc: Global,
     parts: &Parts<'_>,
     source: Addr,
@@ -205,7 +205,7 @@ fn reply(
 ) -> Result<Response<'static>, AllocError>
     ensures { IfOk result (λ r. r ≡ reply_of parts.now source status tag.now) }
 {
-    let parts = replied(alloc, parts, source, status, tag)?;
+    let parts = reply_parts(alloc, parts, source, status, tag)?;
     let reason = Text::from_slice(alloc, reason_of(status));
     let (headers, reason) = both(reply_headers(alloc, &parts), reason)?;
     Ok(Response {

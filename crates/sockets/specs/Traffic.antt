@@ -2,7 +2,7 @@
 use Rattle.std.specs.Prelude.{ℕ, ◌-◌, ◌*◌, ◌^◌, List, [], Bool, false, max, min}
 use Rattle.sip_uri.specs.declared.uri.Addr.{Addr}
 use Rattle.configuration.specs.declared.config.Config.{Config}
-use Rattle.relay.specs.Limits.{most_viewers}
+use Rattle.relay.specs.Limits.{max_viewers}
 use Rattle.sockets.specs.Logs.{Datagram}
 
 -- what was taken, what was asked to be sent and what of it went, and whether the last call failed
@@ -27,7 +27,7 @@ pub record RelayPorts : Type 0 where
 
 -- at least one, and no more than a board has viewers
 abbrev pub worker_count : Config → ℕ
-worker_count config = min (max config.workers 1) most_viewers
+worker_count config = min (max config.workers 1) max_viewers
 
 -- two sockets for each pair, and 65,535 at most
 abbrev pub relay_ports : Config → RelayPorts

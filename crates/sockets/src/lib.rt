@@ -3,14 +3,14 @@
 #![tactic(auto)]
 
 mod addresses;
-mod binding;
 mod log;
 mod media;
+mod ports;
 mod ready;
 mod sip_socket;
 mod workers;
 
-pub use binding::{RelaySockets, Sockets, bind, worker_count};
 pub use media::MediaSockets;
+pub use ports::{RelaySockets, Sockets, bind, worker_count};
 pub use sip_socket::SipSocket;
 pub use workers::workers_of;

@@ -10,10 +10,10 @@ use std::io::ErrorKind;
 use std::time::Duration;
 
 /// So many datagrams are taken before the system is asked again what else is ready.
-const MOST_IN_A_ROW: u32 = 64;
+const MAX_READY_IN_A_ROW: u32 = 64;
 
 /// So many milliseconds are waited at most.
-const LONGEST_WAIT: u64 = 100;
+const MAX_WAIT: u64 = 100;
 
 /// What waits for the sockets of one worker, and which of them were ready when it was asked last. Sockets are named by their
 /// places among all relay sockets.
@@ -110,7 +110,7 @@ impl Ready {
     ) -> io::Result<Option<(usize, usize)>>
         ensures { IfOk result (λ r. IfSome r (λ d. d.1 ≤ length buffer.new)) }
     {
-        if self.in_a_row >= MOST_IN_A_ROW {
+        if self.in_a_row >= MAX_READY_IN_A_ROW {
             self.ask(0)?;
         }
         for _ in 0..=sockets.len() {
@@ -126,7 +126,7 @@ impl Ready {
 
     /// Waits until a socket may be ready, for a tenth of a second at most.
     pub(crate) fn wait(&mut self) -> io::Result<()> {
-        self.ask(LONGEST_WAIT)
+        self.ask(MAX_WAIT)
     }
 }
 

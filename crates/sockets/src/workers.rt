@@ -3,9 +3,9 @@
 ghost use Rattle.std.specs.Prelude.{◌≡◌, map, IfOk};
 ghost use Rattle.sockets.specs.Traffic.{no_traffic};
 
-use crate::binding::RelaySockets;
 use crate::log::Log;
 use crate::media::MediaSockets;
+use crate::ports::RelaySockets;
 use crate::ready::Ready;
 use mio::Poll;
 use mio::net::UdpSocket;

@@ -7,7 +7,7 @@ use Rattle.sip_message.specs.declared.message.Message.TheVariants as Kinds
 use Rattle.sip_message.specs.declared.message.Request.{Request}
 use Rattle.sip_message.specs.declared.message.Response.{Response}
 use Rattle.transactions.specs.Contents.{reception_of}
-use Rattle.transactions.specs.Limits.{most_served}
+use Rattle.transactions.specs.Limits.{max_served}
 use Rattle.transactions.specs.Slots.{serving}
 use Rattle.transactions.specs.Changes.{change_of}
 use Rattle.transactions.specs.declared.transaction.Transaction.{Transaction}
@@ -54,7 +54,7 @@ module _ (s : Contents) (event : Event) (source : Addr) (bytes : List ℕ) where
   begun_row r id h =
       let x = reception_of s.table (Kinds.Request r) in
       received_row (Kinds.Request r) h.comes refl
-      ∙ (not_full (Kinds.Request r) (and_right (begins x.verdict) (nat_le most_served (serving s.table.slots)) (lt-leb most_served (serving s.table.slots) h.room))
+      ∙ (not_full (Kinds.Request r) (and_right (begins x.verdict) (nat_le max_served (serving s.table.slots)) (lt-leb max_served (serving s.table.slots) h.room))
       ∙ ap (λ v. request_by (office s) e r (change_of s.table (Kinds.Request r) source ∷ []) v x.send) h.new)
 
   -- a response that goes up, by the rule of the request that it responds to
@@ -65,5 +65,5 @@ module _ (s : Contents) (event : Event) (source : Addr) (bytes : List ℕ) where
       let x = reception_of s.table (Kinds.Response r) in
       let begun = change_of s.table (Kinds.Response r) source ∷ [] in
       received_row (Kinds.Response r) h.comes h.reached
-      ∙ (not_full (Kinds.Response r) (ap (λ v. begins v && nat_le most_served (serving s.table.slots)) h.up)
+      ∙ (not_full (Kinds.Response r) (ap (λ v. begins v && nat_le max_served (serving s.table.slots)) h.up)
       ∙ (ap (λ v. response_by (office s) e r begun v x.send) h.up ∙ ap (response_by_asked (office s) e r begun x.send id) h.stands))

@@ -5,7 +5,7 @@ use Rattle.std.specs.Prelude.{◌||◌, ◌&&◌, ◌<◌, cond}
 use Rattle.std.proofs.lemmas.Bool.{and_parts, cond_both, false≢true, leb-false, leb-true, ltb-true}
 use Rattle.sip_uri.specs.declared.uri.Addr.{Addr}
 use Rattle.sip_message.specs.AnswerableParts.{answerable_of}
-use Rattle.sip_message.specs.Read.{greatest_datagram, message_of}
+use Rattle.sip_message.specs.Read.{max_datagram, message_of}
 use Rattle.sip_message.specs.Words.{is_method}
 use Rattle.sip_message.specs.declared.error.MessageError.{MessageError}
 use Rattle.sip_message.specs.declared.error.MessageError.TheVariants as faults
@@ -26,7 +26,7 @@ use Rattle.transactions.specs.declared.outcome.Verdict.TheVariants as verdicts
 use Rattle.transactions.specs.declared.transaction.TimerId.{TimerId}
 use Rattle.transactions.specs.Changes.{change_of, fire_of}
 use Rattle.transactions.specs.Contents.{fired_of, reception_of}
-use Rattle.transactions.specs.Limits.{most_served}
+use Rattle.transactions.specs.Limits.{max_served}
 use Rattle.transactions.specs.Slots.{at, serving}
 use Rattle.call_core.specs.declared.input.Input.TheVariants as inputs
 use Rattle.calls.specs.Finding.{place_by_ack}
@@ -49,7 +49,7 @@ use Rattle.plans.specs.declared.taken.Taken.TheVariants.{Dropped, Idle, Shed}
 use Rattle.plans.specs.declared.taken.Why.TheVariants.{Ack, Clock, NoBranch, Spent, Stray, Unread}
 use Rattle.event_rows.specs.Rows.{begins, by_reading, datagram_row, due_row, fires_by, fit_row, is_full, no_source, only_counts, parts_of, read_row, received, received_by, request_by, response_by, row, row_by, rule_row, setting, timer_row, unfit_branch, unread_by, unread_row, what_counts, what_row}
 use Rattle.event_rows.specs.Rules.{request_rule}
-use Rattle.event_rows.specs.State.{Contents, moment_at, moments_end, most_tokens, office}
+use Rattle.event_rows.specs.State.{Contents, moment_at, moments_end, max_tokens, office}
 use Rattle.event_rows.specs.declared.rule.Rule.{Rule}
 use Rattle.event_rows.specs.declared.rule.Rule.TheVariants as rules
 use Rattle.step_laws.specs.Dropping.{NoneTakes, IsAnsweredFor, IsBranched, IsRead}
@@ -82,8 +82,8 @@ due_counts s event None (Some timer) is none nor = tt
 
 what_counts_for : (s : Contents) (event : Event) (what : What) → event.what ≡ what → IsCounted s event (what_counts s (moment_at s event.now) what)
 what_counts_for s event (whats.Datagram source bytes) is =
-    cond_both (nat_lt greatest_datagram (length bytes)) (Some (Dropped (Unread faults.TooLong))) None (IsCounted s event)
-    (λ long. record { source = source; bytes = bytes; datagram = is; why = inl (refl, ltb-true greatest_datagram (length bytes) long) }) (λ fits. tt)
+    cond_both (nat_lt max_datagram (length bytes)) (Some (Dropped (Unread faults.TooLong))) None (IsCounted s event)
+    (λ long. record { source = source; bytes = bytes; datagram = is; why = inl (refl, ltb-true max_datagram (length bytes) long) }) (λ fits. tt)
 what_counts_for s event whats.Due is =
     due_counts s event (first_due s.table.timers (moment_at s event.now)) (first_due s.calls.timers (moment_at s event.now)) is refl refl
 
@@ -91,9 +91,9 @@ counts_for : (s : Contents) (event : Event) → IsCounted s event (only_counts s
 unfolding only_counts
 counts_for s event =
     let counts = what_counts s (moment_at s event.now) event.what in
-    let unless_spent = cond (nat_le most_tokens s.tokens) (Some (Dropped Spent)) counts in
+    let unless_spent = cond (nat_le max_tokens s.tokens) (Some (Dropped Spent)) counts in
     cond_both (nat_le moments_end event.now) (Some (Dropped Clock)) unless_spent (IsCounted s event) (λ late. leb-true moments_end event.now late)
-    (λ early. cond_both (nat_le most_tokens s.tokens) (Some (Dropped Spent)) counts (IsCounted s event) (λ spent. leb-true most_tokens s.tokens spent) (λ left. what_counts_for s event event.what refl))
+    (λ early. cond_both (nat_le max_tokens s.tokens) (Some (Dropped Spent)) counts (IsCounted s event) (λ spent. leb-true max_tokens s.tokens spent) (λ left. what_counts_for s event event.what refl))
 
 -- ---- a datagram that is looked at
 
@@ -140,7 +140,7 @@ module _ (s : Contents) (event : Event) (source : Addr) (bytes : List ℕ) (data
     reply_case : (id : ℕ) (reply : Reply) → IsNoRegistration reply → Case (of_plan (office s) (reply_row (office s) e r entries id reply))
     reply_case id reply fits = went (reply_done (office s) e r entries id entries_ready reply fits)
 
-    rule_case : (id : ℕ) (rule : Rule) → (reception_of s.table (Kinds.Request r)).verdict ≡ verdicts.New id → serving s.table.slots < most_served → request_rule (office s) r (moment_at s event.now) ≡ rule
+    rule_case : (id : ℕ) (rule : Rule) → (reception_of s.table (Kinds.Request r)).verdict ≡ verdicts.New id → serving s.table.slots < max_served → request_rule (office s) r (moment_at s event.now) ≡ rule
         → Case (rule_row (office s) e r entries id rule)
     unfolding reply_row
     rule_case id (rules.Alone (replies.CancelOf other)) new room is = reply_case id (replies.CancelOf other) tt
@@ -164,10 +164,10 @@ module _ (s : Contents) (event : Event) (source : Addr) (bytes : List ℕ) (data
     unfolding ack_row
     ack_case is up = ack_by_case (place_by_ack r.parts s.calls.calls) is up refl
 
-    request_case : (verdict : Verdict) (send : Option Outgoing) → (reception_of s.table (Kinds.Request r)).verdict ≡ verdict → IsAckIf r verdict → (begins verdict && nat_le most_served (serving s.table.slots)) ≡ false
+    request_case : (verdict : Verdict) (send : Option Outgoing) → (reception_of s.table (Kinds.Request r)).verdict ≡ verdict → IsAckIf r verdict → (begins verdict && nat_le max_served (serving s.table.slots)) ≡ false
         → Case (request_by (office s) e r entries verdict send)
     unfolding request_by
-    request_case (verdicts.New id) send is ack free = rule_case id (request_rule (office s) r (moment_at s event.now)) is (room_left (verdicts.New id) id most_served (serving s.table.slots) refl free) refl
+    request_case (verdicts.New id) send is ack free = rule_case id (request_rule (office s) r (moment_at s event.now)) is (room_left (verdicts.New id) id max_served (serving s.table.slots) refl free) refl
     request_case verdicts.Repeat send is ack free = went (moves_done entries send entries_ready)
     request_case verdicts.Swallowed send is ack free = went (moves_done entries send entries_ready)
     request_case (verdicts.Up id) send is ack free = ack_case ack (subst NoneTakes (sym is) tt)
@@ -199,12 +199,12 @@ module _ (s : Contents) (event : Event) (source : Addr) (bytes : List ℕ) (data
   shed_case : (m : Message) → message_of bytes ≡ Ok m → has_fit_branch (parts_of m).vias ≡ true → is_full (office s) (reception_of s.table m) ≡ true → Case (nothing_for Shed)
   shed_case (Kinds.Request r) read fit full =
       let verdict = (reception_of s.table (Kinds.Request r)).verdict in
-      let both = and_parts (begins verdict) (nat_le most_served (serving s.table.slots)) full in
+      let both = and_parts (begins verdict) (nat_le max_served (serving s.table.slots)) full in
       let new = new_id verdict both.0 in
-      ignored Shed (record { request = r; comes = branched_as (Kinds.Request r) read fit; id = new.0; new = new.1; full = leb-true most_served (serving s.table.slots) both.1 }) refl
+      ignored Shed (record { request = r; comes = branched_as (Kinds.Request r) read fit; id = new.0; new = new.1; full = leb-true max_served (serving s.table.slots) both.1 }) refl
   shed_case (Kinds.Response r) read fit full =
       let verdict = (reception_of s.table (Kinds.Response r)).verdict in
-      let new = new_id verdict (and_parts (begins verdict) (nat_le most_served (serving s.table.slots)) full).0 in
+      let new = new_id verdict (and_parts (begins verdict) (nat_le max_served (serving s.table.slots)) full).0 in
       absurd (subst IsNotNew new.1 (response_not_new s.table r))
 
   received_case : (m : Message) → message_of bytes ≡ Ok m → has_fit_branch (parts_of m).vias ≡ true → Case (received (office s) e m)

@@ -17,7 +17,7 @@ use Rattle.call_core.specs.CallRows.{first_call_row}
 use Rattle.call_rules.specs.Content.{described}
 use Rattle.call_steps.specs.Rows.{begins_as, first_row}
 use Rattle.calls.specs.declared.standing_call.StandingCall.{StandingCall}
-use Rattle.plans.specs.CallRows.{begins_by, call_row, first_by, has_pairs, most_calls, occasion, of_plan, unless_full, with_step}
+use Rattle.plans.specs.CallRows.{begins_by, call_row, first_by, has_pairs, max_calls, occasion, of_plan, unless_full, with_step}
 use Rattle.plans.specs.Effect.{Effect}
 use Rattle.plans.specs.Replies.{responds_in}
 use Rattle.plans.specs.declared.setting.Setting.{Setting}
@@ -61,7 +61,7 @@ module _ (s : Contents) (e : Setting) (r : Request) (begun : List Entry) (id : �
       let refused : ℕ → Effect = λ status. of_plan (office s) (responds_in (office s) e r begun id status [] None) in
       let full = unless_full (office s) e r begun id (first_row s.calls (occasion (office s) e) r id e.source to offer) in
       ap (λ (o : Option OfferFault). cond (is_some o) (refused 488) (cond (has_pairs (office s) e.now offer) full (refused 503))) h.fit
-      ∙ (ap (λ b. cond b full (refused 503)) h.pairs ∙ ap (λ b. cond b (refused 503) Step) (lt-leb most_calls (length s.calls.calls) h.few))
+      ∙ (ap (λ b. cond b full (refused 503)) h.pairs ∙ ap (λ b. cond b (refused 503) Step) (lt-leb max_calls (length s.calls.calls) h.few))
 
   first_step_row : rule_row (office s) e r begun id (request_rule (office s) r e.now) ≡ Step
   unfolding call_row

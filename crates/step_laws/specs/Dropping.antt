@@ -2,7 +2,7 @@
 use Rattle.std.specs.Prelude.{◌≡◌, ◌≤◌, ◌<◌, ◌⊎◌, ℕ, true, false, codes, length, List, None, Ok, Err}
 use Rattle.sip_uri.specs.declared.uri.Addr.{Addr}
 use Rattle.sip_message.specs.AnswerableParts.{answerable_of}
-use Rattle.sip_message.specs.Read.{greatest_datagram, message_of}
+use Rattle.sip_message.specs.Read.{max_datagram, message_of}
 use Rattle.sip_message.specs.declared.error.MessageError.{MessageError}
 use Rattle.sip_message.specs.declared.error.MessageError.TheVariants as faults
 use Rattle.sip_message.specs.declared.message.Message.{Message}
@@ -11,7 +11,7 @@ use Rattle.sip_message.specs.declared.message.Request.{Request}
 use Rattle.sip_message.specs.declared.message.Response.{Response}
 use Rattle.timers.specs.Queue.{first_due}
 use Rattle.transactions.specs.Contents.{reception_of}
-use Rattle.transactions.specs.Limits.{most_served}
+use Rattle.transactions.specs.Limits.{max_served}
 use Rattle.transactions.specs.Slots.{serving}
 use Rattle.transactions.specs.declared.outcome.Verdict.{Verdict}
 use Rattle.transactions.specs.declared.outcome.Verdict.TheVariants as verdicts
@@ -25,7 +25,7 @@ use Rattle.plans.specs.declared.taken.Taken.TheVariants.{Done, Dropped, Idle, Sh
 use Rattle.plans.specs.declared.taken.Why.{Why}
 use Rattle.plans.specs.declared.taken.Why.TheVariants.{Ack, Clock, NoBranch, Spent, Stray, Unread}
 use Rattle.event_rows.specs.Rows.{parts_of}
-use Rattle.event_rows.specs.State.{Contents, moment_at, moments_end, most_tokens}
+use Rattle.event_rows.specs.State.{Contents, moment_at, moments_end, max_tokens}
 
 -- a datagram of these bytes, which reads as this message
 pub record IsRead (event : Event) (m : Message) : Type 0 where
@@ -45,7 +45,7 @@ pub record IsUnread (event : Event) (fault : MessageError) : Type 0 where
   pub source : Addr
   pub bytes : List ℕ
   pub datagram : event.what ≡ whats.Datagram source bytes
-  pub why : ((fault ≡ faults.TooLong) × (greatest_datagram < length bytes)) ⊎ ((message_of bytes ≡ Err fault) × ((fault ≡ faults.TooLong) ⊎ (answerable_of bytes ≡ None)))
+  pub why : ((fault ≡ faults.TooLong) × (max_datagram < length bytes)) ⊎ ((message_of bytes ≡ Err fault) × ((fault ≡ faults.TooLong) ⊎ (answerable_of bytes ≡ None)))
 
 -- ---- it is read
 
@@ -89,7 +89,7 @@ IsDroppedFor s event Stray = IsStray s event
 IsDroppedFor s event Ack = IsUnawaited s event
 IsDroppedFor s event NoBranch = HasNoBranch event
 IsDroppedFor s event Clock = moments_end ≤ event.now
-IsDroppedFor s event Spent = most_tokens ≤ s.tokens
+IsDroppedFor s event Spent = max_tokens ≤ s.tokens
 
 -- a request that would begin a transaction, where as many stand as may
 pub record IsShed (s : Contents) (event : Event) : Type 0 where
@@ -97,7 +97,7 @@ pub record IsShed (s : Contents) (event : Event) : Type 0 where
   pub comes : IsBranched event (Kinds.Request request)
   pub id : ℕ
   pub new : (reception_of s.table (Kinds.Request request)).verdict ≡ verdicts.New id
-  pub full : most_served ≤ serving s.table.slots
+  pub full : max_served ≤ serving s.table.slots
 
 -- a timer is looked for, and none is due
 pub record IsIdle (s : Contents) (event : Event) : Type 0 where

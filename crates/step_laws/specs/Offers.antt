@@ -17,7 +17,7 @@ use Rattle.call_trace.specs.declared.datagram.Message.{Message}
 use Rattle.call_trace.specs.Listed.{AnyOf}
 use Rattle.call_trace.specs.Messages.{Replies, is_final}
 use Rattle.call_rules.specs.Speaking.{may_offer}
-use Rattle.plans.specs.CallRows.{has_pairs, most_calls, target}
+use Rattle.plans.specs.CallRows.{has_pairs, max_calls, target}
 use Rattle.plans.specs.Effect.{Effect}
 use Rattle.plans.specs.declared.rule.CallRule.TheVariants as calls
 use Rattle.plans.specs.declared.taken.Taken.TheVariants.{Done}
@@ -44,7 +44,7 @@ pub record IsFirstCall (s : Contents) (now : ℕ) (r : SipRequest) (to : Uri) (o
   pub bound : target (office s) r now ≡ Some to
   pub described : described r.headers r.body ≡ Some offer
   pub fit : offer_fault s.range offer None ≡ None
-  pub few : length s.calls.calls < most_calls
+  pub few : length s.calls.calls < max_calls
   pub pairs : has_pairs (office s) now offer ≡ true
 
 -- 100 to the caller, and one INVITE without a To tag, to where the callee is bound (RFC 3261 sections 8.2.6.1 and 16.6)

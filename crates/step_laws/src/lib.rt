@@ -3,11 +3,11 @@
 #![tactic(auto)]
 
 mod answers;
-mod dropping;
+mod drops;
 mod offers;
-mod registering;
+mod registers;
 
 pub use answers::{fit_answers_are_passed_on, refusals_are_passed_on};
-pub use dropping::nothing_is_dropped_unasked;
+pub use drops::nothing_is_dropped_unasked;
 pub use offers::{first_invites_are_passed_on, later_requests_are_served};
-pub use registering::registers_are_counted;
+pub use registers::registers_are_counted;

@@ -3,8 +3,8 @@ use Rattle.std.proofs.Common.{◌≡◌, ℕ, ◌+◌, ◌<◌, List, [], ◌∷
 use Rattle.std.specs.Borrow.{Bor}
 use Rattle.std.specs.Option.{option_copied}
 use Rattle.text.specs.Pieces.{next_within, pieces, pieces_behind}
-use Rattle.text.specs.declared.splitting.Within.{Within}
-use Rattle.text.specs.declared.splitting.Within.TheVariants.{Nothing}
+use Rattle.text.specs.declared.split.Within.{Within}
+use Rattle.text.specs.declared.split.Within.TheVariants.{Nothing}
 
 -- the pieces of what is left: none, where nothing is
 abbrev pub pieces_left : ℕ → Option (List ℕ) → List (List ℕ)

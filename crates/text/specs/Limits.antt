@@ -2,5 +2,5 @@
 use Rattle.std.specs.Prelude.{ℕ}
 
 -- so many bytes at most: with their count they take the room that a list's handle takes
-abbrev pub most_in_place : ℕ
-most_in_place = 23
+abbrev pub max_in_place : ℕ
+max_in_place = 23

@@ -5,24 +5,24 @@ ghost use Rattle.std.specs.Prelude.{◌≡◌, IfSome};
 use std::marker::Model;
 
 /// So many bytes stand in place at most: with their count they take the room that a list's handle takes.
-const MOST: usize = 23;
+const MAX_IN_PLACE: usize = 23;
 
 /// The bytes of a short text.
 #[derive(Clone, Drop)]
 pub(crate) struct Short {
-    bytes: [u8; MOST],
+    bytes: [u8; MAX_IN_PLACE],
     length: u8,
 }
 
 impl Model for Short {
     ghost use Rattle.std.specs.Prelude.{ℕ, List, take, ◌≤◌};
-    ghost use Rattle.text.specs.Limits.{most_in_place};
+    ghost use Rattle.text.specs.Limits.{max_in_place};
 
     ghost Value = { List ℕ };
 
     ghost view = { λ s. take s.length s.bytes };
 
-    ghost invariant = { λ s. s.length ≤ most_in_place };
+    ghost invariant = { λ s. s.length ≤ max_in_place };
 }
 
 impl Short {
@@ -30,10 +30,10 @@ impl Short {
     pub(crate) fn of(bytes: &[u8]) -> Option<Short>
         ensures { IfSome result (λ short. short ≡ bytes.now) }
     {
-        if bytes.len() > MOST {
+        if bytes.len() > MAX_IN_PLACE {
             return None;
         }
-        let mut place = [0; MOST];
+        let mut place = [0; MAX_IN_PLACE];
         place[..bytes.len()].copy_from_slice(bytes);
         Some(Short {
             bytes: place,

@@ -8,7 +8,7 @@ use Rattle.text.specs.Class.{is_run_of, is_token_byte, passes_if_there}
 use Rattle.text.specs.Cut.{before, after}
 use Rattle.text.specs.Pieces.{pieces}
 use Rattle.text.specs.Trim.{trimmed}
-use Rattle.text.specs.declared.splitting.Within.TheVariants.{Nothing}
+use Rattle.text.specs.declared.split.Within.TheVariants.{Nothing}
 use Rattle.sip_uri.specs.declared.error.UriError.{UriError}
 use Rattle.sip_uri.specs.declared.uri.Host.{Host}
 use Rattle.sip_uri.specs.declared.uri.NameAddr.{NameAddr}

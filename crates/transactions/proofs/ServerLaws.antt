@@ -35,7 +35,7 @@ use Rattle.transactions.specs.declared.change.Entry.TheVariants.{Opens, Tells, A
 use Rattle.transactions.specs.declared.outcome.Reception.{Reception}
 use Rattle.transactions.specs.declared.outcome.Verdict.TheVariants as verdicts
 use Rattle.transactions.specs.declared.transaction.Transaction.{Transaction}
-use Rattle.transactions.specs.Limits.{most_served}
+use Rattle.transactions.specs.Limits.{max_served}
 use Rattle.transactions.specs.Matching.{is_copy, same_top, same_sent_by, default_port}
 use Rattle.transactions.specs.Slots.{at, free_number, is_asked, is_answered, is_serving, serving}
 use Rattle.transactions.specs.Transactions.{served, asking, asking_timers, went}
@@ -194,7 +194,7 @@ told_servers : (table : Contents) (id : ℕ) (input : Input) (fresh : Option (Li
     → AreServers (table_at table id (at table.slots id) input fresh now).slots
 told_servers table id input fresh now h = record {
   once = told_once table id input fresh now h.once;
-  few = at_most (serving (table_at table id (at table.slots id) input fresh now).slots) (serving table.slots) most_served
+  few = at_most (serving (table_at table id (at table.slots id) input fresh now).slots) (serving table.slots) max_served
       (told_few table id (at table.slots id) input fresh now refl) h.few;
 }
 
@@ -255,7 +255,7 @@ one_more_by slots place t false lt = omega (arith, sum_by-append one slots (Some
 one_more : (slots : List (Option Transaction)) (t : Transaction) → serving (placed slots (free_number slots) t) ≤ serving slots + one (Some t)
 one_more slots t = one_more_by slots (free_number slots) t (nat_lt (free_number slots) (length slots)) (λ e. ltb-true (free_number slots) (length slots) e)
 
-begun_few_by : (before then more : ℕ) (server : Bool) → then ≤ before + more → more ≡ cond server 1 0 → (server ≡ true → before < most_served) → before ≤ most_served → then ≤ most_served
+begun_few_by : (before then more : ℕ) (server : Bool) → then ≤ before + more → more ≡ cond server 1 0 → (server ≡ true → before < max_served) → before ≤ max_served → then ≤ max_served
 begun_few_by before then more true h e room few = omega (arith, h, e, room refl)
 begun_few_by before then more false h e room few = omega (arith, h, e, few)
 
@@ -281,12 +281,12 @@ begun_new table = record { verdict = verdicts.New (free_number table.slots); bef
 
 -- what a request begins may be entered, where there is room
 request_may_by : (table : Contents) (r : Request) (source : Addr) (b : Bool) → is_method (codes "ACK") r.parts ≡ b → list_any (is_asked r.parts) table.slots ≡ false
-    → (IsNew (cond b stray (begun_new table)).verdict → serving table.slots < most_served) → MayEnter table.slots (cond b Leaves (Opens (served r source) NoTimer))
+    → (IsNew (cond b stray (begun_new table)).verdict → serving table.slots < max_served) → MayEnter table.slots (cond b Leaves (Opens (served r source) NoTimer))
 request_may_by table r source true e none room = tt
 request_may_by table r source false e none room = λ server. record { no_ack = e; new = none; room = room tt }
 
 request_may : (table : Contents) (r : Request) (source : Addr) (number : Option ℕ) → position (is_asked r.parts) table.slots ≡ number
-    → (IsNew (request_reception table r number).verdict → serving table.slots < most_served) → MayEnter table.slots (request_change r source number)
+    → (IsNew (request_reception table r number).verdict → serving table.slots < max_served) → MayEnter table.slots (request_change r source number)
 request_may table r source None e room =
     request_may_by table r source (is_method (codes "ACK") r.parts) refl (sym (is_some-position (is_asked r.parts) table.slots) ∙ rw e refl) room
 request_may table r source (Some id) e room = tt
@@ -295,7 +295,7 @@ response_may : (table : Contents) (r : Response) (number : Option ℕ) → MayEn
 response_may table r None = tt
 response_may table r (Some id) = tt
 
-pub foreseen_may : (table : Contents) (message : Message) (source : Addr) → (IsNew (reception_of table message).verdict → serving table.slots < most_served)
+pub foreseen_may : (table : Contents) (message : Message) (source : Addr) → (IsNew (reception_of table message).verdict → serving table.slots < max_served)
     → MayEnter table.slots (change_of table message source)
 unfolding reception_of change_of
 foreseen_may table (Kinds.Request r) source room = request_may table r source (position (is_asked r.parts) table.slots) refl room

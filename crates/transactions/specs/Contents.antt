@@ -30,7 +30,7 @@ use Rattle.transactions.specs.declared.transaction.TimerId.{TimerId}
 use Rattle.transactions.specs.declared.transaction.Transaction.{Transaction}
 use Rattle.transactions.specs.SameBranch.{ack_of}
 use Rattle.sip_message.specs.Words.{class_of, is_method, tag_value}
-use Rattle.transactions.specs.Limits.{most_served}
+use Rattle.transactions.specs.Limits.{max_served}
 use Rattle.transaction_machines.specs.Lines.{starts_none}
 use Rattle.transaction_machines.specs.Machines.{row_of}
 use Rattle.transactions.specs.Slots.{at, free_number, is_asked, is_answered, is_merged, is_serving, serving}
@@ -181,14 +181,14 @@ message_takes table (Kinds.Response r) = response_takes table r (position (is_an
 -- which message is refused: one that would begin a transaction, where there are as many as there may be
 abbrev pub RefusesMessage : Contents → Message → TableError → Type 0
 RefusesMessage table message OutOfMemory = message_takes table message ≡ true
-RefusesMessage table message Full = IsNew (reception_of table message).verdict × (most_served ≤ serving table.slots)
+RefusesMessage table message Full = IsNew (reception_of table message).verdict × (max_served ≤ serving table.slots)
 RefusesMessage table message Unknown = ⊥
 RefusesMessage table message AfterFinal = ⊥
 
 -- the same, of a request that belongs to no transaction
 abbrev pub RefusesBegun : Contents → Parts → TableError → Type 0
 RefusesBegun table parts OutOfMemory = is_method (codes "ACK") parts ≡ false
-RefusesBegun table parts Full = IsNew (begun table parts).verdict × (most_served ≤ serving table.slots)
+RefusesBegun table parts Full = IsNew (begun table parts).verdict × (max_served ≤ serving table.slots)
 RefusesBegun table parts Unknown = ⊥
 RefusesBegun table parts AfterFinal = ⊥
 

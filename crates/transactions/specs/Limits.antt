@@ -2,5 +2,5 @@
 use Rattle.std.specs.Prelude.{ℕ}
 
 -- server transactions at most. What the server itself asks is not counted
-abbrev pub most_served : ℕ
-most_served = 4096
+abbrev pub max_served : ℕ
+max_served = 4096

@@ -7,7 +7,7 @@ use Rattle.sip_uri.specs.NameAddr.{name_addr_text}
 use Rattle.sip_message.specs.declared.message.Parts.{Parts}
 use Rattle.sip_message.specs.declared.message.Request.{Request}
 use Rattle.sip_message.specs.declared.via.Via.{Via}
-use Rattle.sip_message.specs.CSeq.{greatest_number}
+use Rattle.sip_message.specs.CSeq.{max_cseq}
 use Rattle.sip_message.specs.CallId.{is_call_id}
 use Rattle.sip_message.specs.Party.{has_tag}
 use Rattle.sip_message.specs.Repeatable.{IsValue}
@@ -83,7 +83,7 @@ pub record IsSoundInvite (uri : Uri) (invite : Parts) : Type 0 where
   pub from_tag : IsTrue (has_tag invite.from.params)
   pub call_id : IsTrue (is_call_id invite.call_id)
   pub call_id_value : IsValue invite.call_id
-  pub number : invite.cseq.number ≤ greatest_number
+  pub number : invite.cseq.number ≤ max_cseq
 
 -- its top Via is one that is read
 abbrev pub HasReadVia : List Via → Type 0

@@ -8,7 +8,7 @@ use Rattle.transaction_machines.specs.Machines.{is_server}
 use Rattle.transactions.specs.declared.change.Entry.{Entry}
 use Rattle.transactions.specs.declared.change.Entry.TheVariants.{Opens, Tells, Answers, Leaves}
 use Rattle.transactions.specs.declared.transaction.Transaction.{Transaction}
-use Rattle.transactions.specs.Limits.{most_served}
+use Rattle.transactions.specs.Limits.{max_served}
 use Rattle.transactions.specs.Matching.{same_top}
 use Rattle.transactions.specs.Slots.{at, is_asked, serving}
 use Rattle.transactions.specs.Contents.{Contents, reception_of, IsNew}
@@ -27,7 +27,7 @@ KeysOnce slots =
 -- what is so of the server transactions
 pub record AreServers (slots : List (Option Transaction)) : Type 0 where
   pub once : KeysOnce slots
-  pub few : serving slots ≤ most_served
+  pub few : serving slots ≤ max_served
 
 -- ---- a change
 
@@ -35,7 +35,7 @@ pub record AreServers (slots : List (Option Transaction)) : Type 0 where
 pub record IsFree (slots : List (Option Transaction)) (t : Transaction) : Type 0 where
   pub no_ack : is_method (codes "ACK") t.parts ≡ false
   pub new : list_any (is_asked t.parts) slots ≡ false
-  pub room : serving slots < most_served
+  pub room : serving slots < max_served
 
 abbrev pub MayEnter : List (Option Transaction) → Entry → Type 0
 MayEnter slots (Opens t starts) = is_server t.state ≡ true → IsFree slots t
@@ -46,7 +46,7 @@ MayEnter slots Leaves = Unit {0}
 -- ---- calls that were done: at the limit no message began a transaction, which is the clause `room` of `receive`
 
 abbrev pub WasDone : Contents → Call → Type 0
-WasDone table (Receive message source now) = IsNew (reception_of table message).verdict → serving table.slots < most_served
+WasDone table (Receive message source now) = IsNew (reception_of table message).verdict → serving table.slots < max_served
 WasDone table (Start r to now) = Unit {0}
 WasDone table (Answer id r now) = Unit {0}
 WasDone table (Abandon id now) = Unit {0}

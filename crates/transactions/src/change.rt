@@ -13,7 +13,9 @@ ghost use Rattle.transactions.specs.OwnRequests.{own_of};
 ghost use Rattle.transactions.specs.Transactions.{served};
 
 use crate::own_request::OwnRequest;
-use crate::transaction::{TimerId, Transaction, asking, asking_timers, served};
+use crate::transaction::{
+    TimerId, Transaction, asking_timers, client_transaction, server_transaction,
+};
 use boxed::Boxed;
 use sip_message::{Class, Request, is_method};
 use sip_uri::Addr;
@@ -70,7 +72,7 @@ impl Change {
             return Ok(Change::leaves());
         }
         let timers = asking_timers(&request.parts);
-        let transaction = Boxed::new(alloc, asking(request, to))?;
+        let transaction = Boxed::new(alloc, client_transaction(request, to))?;
         Ok(Change {
             entry: Entry::Opens(transaction, timers),
         })
@@ -122,7 +124,7 @@ impl Change {
     ) -> Result<Change, AllocError>
         ensures { IfOk result (λ c. c ≡ Opens (served request.now source) NoTimer) }
     {
-        let transaction = Boxed::new(alloc, served(alloc, request, source)?)?;
+        let transaction = Boxed::new(alloc, server_transaction(alloc, request, source)?)?;
         Ok(Change {
             entry: Entry::Opens(transaction, Starts::NoTimer),
         })

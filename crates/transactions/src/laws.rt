@@ -11,7 +11,7 @@ ghost use Rattle.sip_writing.specs.Replies.{Replies};
 ghost use Rattle.transactions.specs.declared.change.Entry.{Entry};
 ghost use Rattle.transactions.specs.declared.transaction.Transaction.{Transaction};
 ghost use Rattle.transactions.specs.Calls.{Call, after_all};
-ghost use Rattle.transactions.specs.Limits.{most_served};
+ghost use Rattle.transactions.specs.Limits.{max_served};
 ghost use Rattle.transactions.specs.Repeats.{KeepsFinal, LeavesAnswer, KeepsOver, RepeatsAnswer, ResendsAnswer};
 ghost use Rattle.transactions.specs.Servers.{AreServers, MayEnter, WereDone};
 ghost use Rattle.transactions.specs.Slots.{serving};
@@ -54,7 +54,7 @@ pub fn servers()
     ensures change { (now : ℕ) (table : Contents) (change : Entry) →
         AreServers table.slots → MayEnter table.slots change → AreServers (entered now table change).slots }
     ensures message { (table : Contents) (message : Message) (source : Addr) →
-        (IsNew (reception_of table message).verdict → serving table.slots < most_served)
+        (IsNew (reception_of table message).verdict → serving table.slots < max_served)
         → MayEnter table.slots (change_of table message source) }
     ensures calls { (table : Contents) (calls : List Call) →
         AreServers table.slots → WereDone table calls → AreServers (after_all table calls).slots }

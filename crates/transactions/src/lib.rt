@@ -3,13 +3,13 @@
 //! dialogs, calls or users.
 #![tactic(auto)]
 
-mod applying;
+mod apply;
 mod change;
 mod error;
-mod foreseeing;
+mod foresee;
 mod free_numbers;
 mod laws;
-mod matching;
+mod matches;
 mod outcome;
 mod own_request;
 mod places;
@@ -17,14 +17,14 @@ mod print;
 mod same_branch;
 mod slot;
 mod slots;
-mod stopping;
 mod table;
+mod timer_changes;
 mod transaction;
 mod verdicts;
 
 pub use change::{Change, Entry};
 pub use error::TableError;
-pub use foreseeing::{Foreseen, ForeseenFire};
+pub use foresee::{Foreseen, ForeseenFire};
 pub use laws::{answers_are_repeated, once, others_are_untouched, replies, servers};
 pub use outcome::{Fired, Outgoing, Reception, Started, Verdict};
 pub use own_request::OwnRequest;

@@ -114,7 +114,7 @@ impl Places {
     }
 
     /// How many server transactions there are.
-    pub(crate) fn serving(&self) -> usize
+    pub(crate) fn serving_count(&self) -> usize
         ensures { result ≡ serving self.now.slots }
     {
         self.serving

@@ -5,7 +5,7 @@ ghost use Rattle.std.specs.List.{find, list_any};
 ghost use Rattle.std.specs.Option.{option_copied};
 ghost use Rattle.transactions.specs.Slots.{at, is_asked, is_answered, is_named, is_named_invite, is_merged, is_waiting_invite, awaits_final, named, waiting_invite};
 
-use crate::matching::{is_copy, is_merged_with, is_reply, same_top};
+use crate::matches::{is_copy, is_merged_with, is_reply, same_top};
 use crate::places::Places;
 use crate::print::branch_print;
 use crate::slot::Slot;
@@ -46,7 +46,7 @@ fn first_asked(entries: &[Entry], slots: &[Slot], parts: &Parts) -> Option<usize
 }
 
 /// The server transaction that a request belongs to.
-pub(crate) fn asked(places: &Places, parts: &Parts) -> Option<usize>
+pub(crate) fn server_place(places: &Places, parts: &Parts) -> Option<usize>
     ensures { result ≡ position (is_asked parts.now) places.now.slots }
 {
     let entries = places.of_branch(branch_print(places.key(), &parts.vias));
@@ -73,7 +73,7 @@ fn first_answered(entries: &[Entry], slots: &[Slot], parts: &Parts) -> Option<us
 }
 
 /// The client transaction whose request an answer is one to.
-pub(crate) fn answered(places: &Places, parts: &Parts) -> Option<usize>
+pub(crate) fn client_place(places: &Places, parts: &Parts) -> Option<usize>
     ensures { result ≡ position (is_answered parts.now) places.now.slots }
 {
     let entries = places.of_branch(branch_print(places.key(), &parts.vias));
@@ -126,7 +126,7 @@ fn named_other(entries: &[Entry], slots: &[Slot], parts: &Parts) -> Option<usize
 }
 
 /// The server transaction that a CANCEL names.
-pub(crate) fn named(places: &Places, parts: &Parts) -> Option<usize>
+pub(crate) fn cancelled_place(places: &Places, parts: &Parts) -> Option<usize>
     ensures { result ≡ named places.now.slots parts.now }
 {
     let (entries, slots) = (

@@ -9,23 +9,23 @@ ghost use Rattle.sip_message.specs.Grammar.{ReadsMessage};
 ghost use Rattle.sip_writing.specs.Writing.{message_text};
 ghost use Rattle.sip_writing.specs.WritingMessage.{IsWrittenMessage};
 ghost use Rattle.sip_message.specs.declared.message.Message.TheVariants as Kinds;
-ghost use Rattle.transactions.specs.Limits.{most_served};
+ghost use Rattle.transactions.specs.Limits.{max_served};
 ghost use Rattle.transactions.specs.Slots.{at, named, serving, is_serving, waiting_invite};
 ghost use Rattle.transactions.specs.Transactions.{outgoing};
 ghost use Rattle.sip_message.specs.Words.{class_of};
 ghost use Rattle.transactions.specs.Contents.{line_at, reception_of, IsNew, RefusesMessage, answer_input, after_answer, answer_sent, RefusesAnswer, after_abandon, RefusesAbandon, fired_of, after_fire, is_due, RefusesFire, merged};
 ghost use Rattle.transactions.specs.Changes.{entered, entered_all, after_message, after_start, started_number, needs_room};
 
-use crate::applying::{enter, enter_all, make_room, make_room_for};
+use crate::apply::{enter, enter_all, make_room, make_room_for};
 use crate::change::Change;
 use crate::error::TableError;
-use crate::foreseeing::{Foreseen, ForeseenFire};
-use crate::matching::has_to_tag;
+use crate::foresee::{Foreseen, ForeseenFire};
+use crate::matches::has_to_tag;
 use crate::outcome::{Fired, Outgoing, Reception, Started};
 use crate::own_request::OwnRequest;
 use crate::places::Places;
-use crate::slots::{any_merged, named, transaction_at, waiting_invite};
-use crate::stopping::{has_come, moment};
+use crate::slots::{any_merged, cancelled_place, transaction_at, waiting_invite};
+use crate::timer_changes::{has_come, moment};
 use crate::transaction::{TimerId, Transaction};
 use index::PrintKey;
 use sip_message::{Message, Request, Response, class_of, is_method};
@@ -94,7 +94,7 @@ impl Table {
         ensures reception { IfOk result (λ r. r ≡ reception_of self.old message.now) }
         ensures table { OnOk result (self.new ≡ after_message self.old message.now source now) }
         // At the limit no transaction of another begins.
-        ensures room { IfOk result (λ r. IsNew r.verdict → serving self.old.slots < most_served) }
+        ensures room { IfOk result (λ r. IsNew r.verdict → serving self.old.slots < max_served) }
         ensures refused { IfErr result (RefusesMessage self.old message.now) }
         ensures err { OnErr result (self.new ≡ self.old) }
     {
@@ -252,7 +252,7 @@ impl Table {
     pub fn cancels(&self, request: &Request) -> Option<usize>
         ensures { result ≡ named self.now.slots request.now.parts }
     {
-        named(&self.places, &request.parts)
+        cancelled_place(&self.places, &request.parts)
     }
 
     /// The INVITE of the server's own with this tag in From that has no final response: the one that `cancel_of` and `abandons` are
@@ -265,7 +265,7 @@ impl Table {
 
     /// Whether another server transaction has the tag of From, Call-ID, number and method of a request without tag in
     /// To: it came on two ways (RFC 3261 section 8.2.2.2). Takes no memory.
-    pub fn merged(&self, request: &Request) -> bool
+    pub fn is_merged_request(&self, request: &Request) -> bool
         ensures { result ≡ merged self.now request.now.parts }
     {
         !has_to_tag(&request.parts) && any_merged(&self.places, &request.parts)

@@ -55,7 +55,7 @@ impl Drop for Transaction {
 }
 
 /// The transaction that a request of another begins.
-pub(crate) fn served(
+pub(crate) fn server_transaction(
     alloc: Global,
     request: &Request<'_>,
     source: Addr,
@@ -86,7 +86,7 @@ fn served_state(parts: &Parts) -> State
 }
 
 /// The transaction that a request of the server's own begins.
-pub(crate) fn asking(request: OwnRequest, to: Addr) -> Transaction
+pub(crate) fn client_transaction(request: OwnRequest, to: Addr) -> Transaction
     ensures asking { (r : Request) → request ≡ own_of r → result ≡ asking r to (message_text (Kinds.Request r)) }
     ensures state { result.state ≡ asking_state request.parts }
     ensures sent { IsTrue (has_sent (Some result)) }

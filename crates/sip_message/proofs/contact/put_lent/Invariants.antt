@@ -1,7 +1,7 @@
 use Rattle.std.proofs.Common.{◌≡◌, ◌++◌, map}
 use Rattle.std.specs.Option.{option_copied}
 use Rattle.text.specs.Pieces.{pieces}
-use Rattle.text.specs.declared.splitting.Within.TheVariants.{Nothing}
+use Rattle.text.specs.declared.split.Within.TheVariants.{Nothing}
 use Rattle.text.proofs.PieceSteps.{pieces_left, left_length}
 use Rattle.sip_message.specs.Contact.{contact_of}
 use Rattle.sip_message.proofs.contact.put_lent.Given as goal

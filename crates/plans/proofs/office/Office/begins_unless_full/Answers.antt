@@ -6,6 +6,6 @@ use Rattle.plans.proofs.office.Office.begins_unless_full.Goals as goal
 pub returns-clause-row : goal.returns-clause-row
 returns-clause-row c =
     let s = c.args.self.now in
-    effect_as c.of_step.result s.calls s.acks c.args.e.now _ _ (not_full s c.args.e c.args.request.now c.args.begun.items c.args.id (steps.effect s.calls c.args.e.now c.args.step) (search rules))
-    (stepped_as c.of_step.result s.calls s.acks c.args.e.now _ _ _ _ _ _ _ _ c.alone.ensures.begun c.alone.ensures.send c.alone.ensures.id refl
-    (c.of_step.ensures.row s.calls s.acks c.args.e.now))
+    effect_as c.of_step.result s.calls s.acks c.args.setting.now _ _ (not_full s c.args.setting c.args.request.now c.args.begun.items c.args.id (steps.effect s.calls c.args.setting.now c.args.step) (search rules))
+    (stepped_as c.of_step.result s.calls s.acks c.args.setting.now _ _ _ _ _ _ _ _ c.alone.ensures.begun c.alone.ensures.send c.alone.ensures.id refl
+    (c.of_step.ensures.row s.calls s.acks c.args.setting.now))

@@ -15,16 +15,16 @@ returns-in-Ok-clause-row c =
     let free = clear s.calls.calls r c.args.place c.args.end c.args.call.now c.requires.free c.requires.there in
     let may = rw (c.in-Ok.is, c.requires.there, c.offer_method.ensures) at c.offer_step-step.ensures.may in
     let row = rw c.in-Ok.is at c.offer_step-step.ensures.row s.calls.timers in
-    let step = row ∙ ap (λ (m : OfferMethod). offers_row s.calls s.table (occasion s c.args.e) c.args.place (inputs.Offer c.args.end m (Some c.args.offer)) c.args.end r c.args.id c.args.e.source) c.offer_method.ensures in
-    effect_as c.of_step.result s.calls s.acks c.args.e.now _ _ (passed_as s c.args.e r c.args.begun.items c.args.id c.args.place c.args.end call c.args.offer free.1 may)
-    (stepped_as c.of_step.result s.calls s.acks c.args.e.now _ _ _ _ _ _ _ _ c.alone.ensures.begun c.alone.ensures.send c.alone.ensures.id step
-    (c.of_step.ensures.row s.calls s.acks c.args.e.now))
+    let step = row ∙ ap (λ (m : OfferMethod). offers_row s.calls s.table (occasion s c.args.setting) c.args.place (inputs.Offer c.args.end m (Some c.args.offer)) c.args.end r c.args.id c.args.setting.source) c.offer_method.ensures in
+    effect_as c.of_step.result s.calls s.acks c.args.setting.now _ _ (passed_as s c.args.setting r c.args.begun.items c.args.id c.args.place c.args.end call c.args.offer free.1 may)
+    (stepped_as c.of_step.result s.calls s.acks c.args.setting.now _ _ _ _ _ _ _ _ c.alone.ensures.begun c.alone.ensures.send c.alone.ensures.id step
+    (c.of_step.ensures.row s.calls s.acks c.args.setting.now))
 
 pub returns-in-Ok-clause-fits : goal.returns-in-Ok-clause-fits
 returns-in-Ok-clause-fits c =
     let calls = c.args.self.now.calls in
     let can = rw c.in-Ok.is at c.offer_step-step.ensures.can calls.timers in
-    c.of_step.ensures.fits calls c.args.e.now can
+    c.of_step.ensures.fits calls c.args.setting.now can
 
 pub returns-in-Some-clause-row : goal.returns-in-Some-clause-row
 returns-in-Some-clause-row c =
@@ -34,4 +34,4 @@ returns-in-Some-clause-row c =
     let free = clear s.calls.calls r c.args.place c.args.end c.args.call.now c.requires.free c.requires.there in
     let why = rw (c.in-Err.is, c.requires.there) at c.offer_step-step.ensures.refused in
     let is = sym c.refusal_reply.ensures ∙ c.in-Some.is in
-    effect_as c.refuses_in.result s.calls s.acks c.args.e.now _ _ (refused_as s c.args.e r c.args.begun.items c.args.id c.args.place c.args.end call c.args.offer c.in-Err.refusal c.in-Some.reply free.0 why is) c.refuses_in.ensures.row
+    effect_as c.refuses_in.result s.calls s.acks c.args.setting.now _ _ (refused_as s c.args.setting r c.args.begun.items c.args.id c.args.place c.args.end call c.args.offer c.in-Err.refusal c.in-Some.reply free.0 why is) c.refuses_in.ensures.row

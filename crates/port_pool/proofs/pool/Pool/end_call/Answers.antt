@@ -1,5 +1,5 @@
 use Rattle.std.proofs.Common.{[]}
-use Rattle.port_pool.specs.Limits.{least_port}
+use Rattle.port_pool.specs.Limits.{min_port}
 use Rattle.port_pool.specs.Holdings.{even_of}
 use Rattle.port_pool.proofs.HoldingLaws.{holder_of-dropped, rests-dropped}
 use Rattle.port_pool.proofs.PoolLaws.{IsPool-without_call, LeadFrom-committed, row-committed}
@@ -28,4 +28,4 @@ pub returns-clause-rests : goal.returns-clause-rests
 returns-clause-rests c = λ port own moment before.
     let held = rw (← c.self.view_is) at own in
     rw c.drop_all.ensures
-    (rests-dropped c.args.call c.args.now moment least_port c.self.inside.places (even_of port) c.self.invariant.pairs before held)
+    (rests-dropped c.args.call c.args.now moment min_port c.self.inside.places (even_of port) c.self.invariant.pairs before held)

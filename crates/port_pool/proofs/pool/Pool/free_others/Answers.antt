@@ -1,4 +1,4 @@
-use Rattle.port_pool.specs.Limits.{least_port}
+use Rattle.port_pool.specs.Limits.{min_port}
 use Rattle.port_pool.specs.Holdings.{even_of}
 use Rattle.port_pool.proofs.HoldingLaws.{holder_of-others, rests-others}
 use Rattle.port_pool.proofs.PoolLaws.{IsPool-others}
@@ -18,4 +18,4 @@ pub returns-clause-rests : goal.returns-clause-rests
 returns-clause-rests c = λ port own out moment before.
     let held = rw (← c.self.view_is) at own in
     rw c.free_others.ensures
-    (rests-others c.args.call c.args.kept.now c.args.now moment least_port c.self.inside.places (even_of port) c.self.invariant.pairs before held out)
+    (rests-others c.args.call c.args.kept.now c.args.now moment min_port c.self.inside.places (even_of port) c.self.invariant.pairs before held out)

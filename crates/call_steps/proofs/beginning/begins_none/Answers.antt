@@ -1,5 +1,0 @@
-use Rattle.calls.specs.State.{standing}
-use Rattle.call_steps.proofs.beginning.begins_none.Goals as goal
-
-pub returns-clause-fits : goal.returns-clause-fits
-returns-clause-fits c = c.nothing.ensures.fits (standing c.args.calls.now) c.args.o.now

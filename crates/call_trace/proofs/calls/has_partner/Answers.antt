@@ -1,0 +1,12 @@
+use Rattle.std.proofs.Common.{refl, rules, tests, arith}
+use Rattle.std.proofs.lemmas.Iterator.{YieldsList-from_range}
+use Rattle.std.proofs.lemmas.Iterator.Search.{any_from_yields_List}
+use Rattle.std.specs.Prelude.{length}
+use Rattle.call_trace.specs.Computed.{has_partner, partner_at, places, some_below}
+use Rattle.call_trace.proofs.calls.has_partner.Goals as goal
+
+pub returns : goal.returns
+unfolding has_partner
+returns c =
+    any_from_yields_List (λ j. some_below (λ i. partner_at c.args.methods.now c.args.trace.now c.args.x c.args.dialog.now (places i j)) j) _ _ _ c.any.ensures.ran
+    (YieldsList-from_range 0 (length c.args.trace.now) (length c.args.trace.now) refl (omega arith)) (λ x b q k. search (rules, tests))

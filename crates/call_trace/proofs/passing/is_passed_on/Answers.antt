@@ -1,6 +1,0 @@
-use Rattle.std.proofs.lemmas.Bool.Decides.{Decides-at}
-use Rattle.call_trace.proofs.CallTests.{decides_passed_on_at}
-use Rattle.call_trace.proofs.passing.is_passed_on.Goals as goal
-
-pub returns : goal.returns
-returns c = Decides-at _ _ c.is_passed_on_at.ensures (decides_passed_on_at c.args.trace.now c.args.x c.args.y)

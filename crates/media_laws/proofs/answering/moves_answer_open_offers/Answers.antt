@@ -1,5 +1,0 @@
-use Rattle.media_laws.proofs.OfferReplies.{move_answers}
-use Rattle.media_laws.proofs.answering.moves_answer_open_offers.Goals as goal
-
-pub returns : goal.returns
-returns c = move_answers

@@ -1,8 +1,0 @@
-use Rattle.media_laws.proofs.ListedStages.{has_legs, is_at}
-use Rattle.media_laws.proofs.listed.listed_calls_stand.Goals as goal
-
-pub returns-clause-at : goal.returns-clause-at
-returns-clause-at c = is_at
-
-pub returns-clause-legs : goal.returns-clause-legs
-returns-clause-legs c = has_legs

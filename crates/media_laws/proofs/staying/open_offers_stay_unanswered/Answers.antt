@@ -1,5 +1,0 @@
-use Rattle.media_laws.proofs.Unanswered.{stays_unanswered}
-use Rattle.media_laws.proofs.staying.open_offers_stay_unanswered.Goals as goal
-
-pub returns : goal.returns
-returns c = stays_unanswered

@@ -1,0 +1,5 @@
+use Rattle.media_laws.proofs.Unanswered.{stays_unanswered}
+use Rattle.media_laws.proofs.untouched_calls.open_offers_stay_unanswered.Goals as goal
+
+pub returns : goal.returns
+returns c = stays_unanswered

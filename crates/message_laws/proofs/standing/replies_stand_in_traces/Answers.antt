@@ -1,5 +1,0 @@
-use Rattle.message_laws.proofs.StandingThere.{again_stands, late_is_swallowed, replies_stand}
-use Rattle.message_laws.proofs.standing.replies_stand_in_traces.Goals as goal
-
-pub returns : goal.returns
-returns c = record { again = again_stands; replies = replies_stand; late = late_is_swallowed }

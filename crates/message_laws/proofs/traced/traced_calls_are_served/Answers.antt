@@ -1,5 +1,0 @@
-use Rattle.message_laws.proofs.TracedCalls.{are_served}
-use Rattle.message_laws.proofs.traced.traced_calls_are_served.Goals as goal
-
-pub returns : goal.returns
-returns c = are_served

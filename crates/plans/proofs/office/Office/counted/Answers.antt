@@ -1,4 +1,0 @@
-use Rattle.plans.proofs.office.Office.counted.Goals as goal
-
-pub returns-clause-fits : goal.returns-clause-fits
-returns-clause-fits c = c.puts.ensures.fits c.args.self.now.calls

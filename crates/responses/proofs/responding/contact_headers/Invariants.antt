@@ -1,7 +1,0 @@
-use Rattle.std.proofs.Common.{◌≡◌, ◌++◌, map, drop}
-use Rattle.responses.specs.Responding.{contact_header}
-use Rattle.responses.proofs.responding.contact_headers.Given as goal
-
--- the headers so far and those of what is left are all
-abbrev pub invariant-loop-binding : goal.invariant-loop-binding
-invariant-loop-binding l = l.headers.items ++ map (contact_header l.now) (drop l.binding-index l.bindings) ≡ map (contact_header l.now) l.bindings

@@ -1,0 +1,133 @@
+//! The sockets of a configuration.
+
+ghost use Rattle.std.specs.Prelude.{◌≡◌, ◌-◌, ◌*◌, ◌^◌, ◌<◌, ◌≤◌, length, min, IfOk};
+ghost use Rattle.relay.specs.Limits.{max_viewers};
+ghost use Rattle.sockets.specs.Traffic.{no_traffic, relay_ports, worker_count};
+
+use crate::addresses::to_system;
+use crate::log::Log;
+use crate::sip_socket::SipSocket;
+use configuration::Config;
+use mio::net::UdpSocket;
+use mio::{Events, Interest, Poll, Token};
+use sip_uri::Addr;
+use std::alloc::Global;
+use std::io;
+use std::marker::Model;
+use std::net::Net;
+use std::sync::Arc;
+
+/// All sockets of a configuration.
+#[derive(Drop)]
+pub struct Sockets {
+    pub sip: SipSocket,
+    pub relay: RelaySockets,
+}
+
+/// All relay sockets, by rising port, and for each worker what waits for its own.
+#[derive(Drop)]
+pub struct RelaySockets {
+    /// The first relay port.
+    pub(crate) first: u16,
+    pub(crate) sockets: Arc<Vec<UdpSocket>>,
+    pub(crate) polls: Vec<Poll>,
+}
+
+impl Model for RelaySockets {
+    ghost use Rattle.std.specs.Prelude.{length};
+    ghost use Rattle.sockets.specs.Traffic.{RelayPorts};
+
+    ghost Value = { RelayPorts };
+
+    ghost view = { λ r. record { first = r.first; sockets = length r.sockets.value.items; workers = length r.polls.items } };
+}
+
+/// How many workers the configuration has: 1 to 8.
+pub fn worker_count(config: &Config) -> usize
+    ensures count { result ≡ worker_count config.now }
+    ensures some { 0 < result }
+    ensures few { result ≤ max_viewers }
+{
+    usize::from(config.workers).max(1).min(8)
+}
+
+fn bind_at<R: Net>(rt: &R, ip: [u8; 4], port: u16) -> io::Result<UdpSocket> {
+    UdpSocket::bind(rt, to_system(Addr { ip, port }))
+}
+
+fn bind_sip<R: Net>(rt: &R, alloc: Global, config: &Config) -> io::Result<SipSocket>
+    ensures { IfOk result (λ s. s ≡ no_traffic) }
+{
+    let mut socket = bind_at(rt, config.ip, config.sip_port)?;
+    let poll = Poll::new(rt)?;
+    poll.registry()
+        .register(&mut socket, Token(0), Interest::READABLE)?;
+    Ok(SipSocket {
+        socket,
+        poll,
+        events: Events::with_capacity(alloc, 1)?,
+        taken: Log::new(),
+        asked: Log::new(),
+        sent: Log::new(),
+        failed: false,
+    })
+}
+
+fn polls_of<R: Net>(rt: &R, alloc: Global, count: usize) -> io::Result<Vec<Poll>>
+    ensures { IfOk result (λ polls. length polls.items ≡ count) }
+{
+    let mut polls = Vec::new(alloc);
+    for _ in 0..count {
+        polls.push(Poll::new(rt)?)?;
+    }
+    Ok(polls)
+}
+
+/// The relay socket at this place, which is read by the worker of its pair.
+fn bind_relay<R: Net>(
+    rt: &R,
+    config: &Config,
+    polls: &[Poll],
+    place: u16,
+) -> io::Result<UdpSocket> {
+    let mut socket = bind_at(rt, config.ip, config.relay_first.wrapping_add(place))?;
+    let pair = usize::from(place / 2);
+    if !polls.is_empty() {
+        polls[pair % polls.len()]
+            .registry()
+            .register(&mut socket, Token(usize::from(place)), Interest::READABLE)?;
+    }
+    Ok(socket)
+}
+
+fn bind_all<R: Net>(
+    rt: &R,
+    alloc: Global,
+    config: &Config,
+    polls: &[Poll],
+) -> io::Result<Vec<UdpSocket>>
+    ensures { IfOk result (λ sockets. length sockets.items ≡ min (config.now.relay_pairs * 2) (2 ^ 16 - 1)) }
+{
+    let mut sockets = Vec::new(alloc);
+    for place in 0..config.relay_pairs.saturating_mul(2) {
+        sockets.push(bind_relay(rt, config, polls, place)?)?;
+    }
+    Ok(sockets)
+}
+
+/// Opens the socket for SIP and those of all relay ports. Err where the system refuses one, or memory: those that were opened are closed
+/// then.
+pub fn bind<R: Net>(rt: &R, alloc: Global, config: &Config) -> io::Result<Sockets>
+    ensures sip { IfOk result (λ s. s.sip ≡ no_traffic) }
+    ensures relay { IfOk result (λ s. s.relay ≡ relay_ports config.now) }
+{
+    let sip = bind_sip(rt, alloc, config)?;
+    let polls = polls_of(rt, alloc, worker_count(config))?;
+    let sockets = bind_all(rt, alloc, config, &polls)?;
+    let relay = RelaySockets {
+        first: config.relay_first,
+        sockets: Arc::new(alloc, sockets)?,
+        polls,
+    };
+    Ok(Sockets { sip, relay })
+}

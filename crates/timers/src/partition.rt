@@ -1,0 +1,23 @@
+//! Where a list that is parted by a test changes sides.
+
+ghost use Rattle.std.specs.Prelude.{◌≡◌, ◌≤◌, Bool};
+ghost use Rattle.std.specs.VecDeque.{deque_len};
+ghost use Rattle.std.specs.List.{prefix_len};
+ghost use Rattle.std.specs.List.Sorted.{IsPartitionedBy};
+ghost use Rattle.std.specs.Fn.{ComputesKey};
+
+use std::collections::VecDeque;
+
+// How many items pass a test, where none passes behind one that fails. A ring lies in two slices, and the one with the place is
+// halved: each step of halving the ring itself asks which of them an item is in.
+pub(crate) fn partition_point<T, P: Fn(&T) -> bool + Copy>(list: &VecDeque<T>, test: P) -> usize
+    requires { P.IsAlwaysCallable test }
+    ensures bound { result ≤ deque_len list.now }
+    ensures place { (p : T → Bool) → ComputesKey P.FnMut p test → IsPartitionedBy p list.now.items → result ≡ prefix_len p list.now.items }
+{
+    let (front, back) = list.as_slices();
+    match back.first() {
+        Some(first) if test(first) => front.len() + back.partition_point(test),
+        _ => front.partition_point(test),
+    }
+}
