@@ -2,6 +2,7 @@
 use Rattle.std.specs.Prelude.{ℕ, ◌*◌, min, List, Some, None}
 use Rattle.call_core.specs.declared.action.Action.{Action}
 use Rattle.call_media.specs.declared.end.End.{End}
+use Rattle.transaction_machines.specs.Steps.{t1, t2, timeout}
 use Rattle.call_core.specs.declared.row.Row.{Row}
 use Rattle.call_core.specs.declared.stage.Stage.{Stage}
 
@@ -17,13 +18,13 @@ gone actions = record { actions = actions; next = None }
 
 -- a 2xx goes again after T1 and then at intervals that double up to T2, for 64*T1 (RFC 3261 section 13.3.1.4)
 abbrev pub first_interval : ℕ
-first_interval = 500
+first_interval = t1
 
 abbrev pub twice_to_t2 : ℕ → ℕ
-twice_to_t2 interval = min 4000 (2 * interval)
+twice_to_t2 interval = min t2 (2 * interval)
 
 abbrev pub wait_time : ℕ
-wait_time = 64 * 500
+wait_time = timeout
 
 -- how long a callee may ring after its first provisional response: 180 seconds (the server's own)
 abbrev pub ringing_time : ℕ
@@ -32,4 +33,4 @@ ringing_time = 180000
 -- how long the end across may take after its first provisional response to an INVITE inside a call, or after a CANCEL: 32
 -- seconds (RFC 3261 section 9.1)
 abbrev pub short_time : ℕ
-short_time = 64 * 500
+short_time = timeout

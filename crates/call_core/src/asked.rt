@@ -6,11 +6,12 @@ ghost use Rattle.call_core.specs.Rows.{row};
 
 use crate::action::{Action, CallTimer};
 use crate::refusal_status::status_passed_on;
-use crate::row::{RINGING, Row, SHORT, T1, WAIT, ends, leads};
+use crate::row::{RINGING, Row, SHORT, WAIT, ends, leads};
 use crate::signal::Signal;
 use crate::stage::Stage;
 use call_media::End;
 use std::alloc::{AllocError, Global};
+use transaction_machines::T1;
 
 /// A provisional response: 100 is not passed on, and the first one sets the limit.
 pub(crate) fn rings(

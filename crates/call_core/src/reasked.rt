@@ -6,11 +6,12 @@ ghost use Rattle.call_core.specs.Reasked.{cancelled_inside, has_lost_the_call, l
 use crate::action::{Action, CallTimer};
 use crate::asked::rings;
 use crate::refusal_status::status_passed_on;
-use crate::row::{Row, SHORT, T1, WAIT, ends, leads};
+use crate::row::{Row, SHORT, WAIT, ends, leads};
 use crate::signal::Signal;
 use crate::stage::{Cancelled, Stage};
 use call_media::End;
 use std::alloc::{AllocError, Global};
+use transaction_machines::T1;
 
 /// Whether the end across knows of no such call any more, or doesn't answer (RFC 3261 section 12.2.1.2).
 pub(crate) fn has_lost_the_call(status: u16) -> bool

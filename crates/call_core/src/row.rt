@@ -7,22 +7,17 @@ use crate::action::{Action, Actions};
 use crate::stage::{Stage, Standing};
 use call_media::End;
 use std::alloc::{AllocError, Global};
-
-/// The first interval between two copies of a 2xx, in milliseconds: T1 (RFC 3261 section 13.3.1.4).
-pub(crate) const T1: u64 = 500;
-
-/// The longest one, in milliseconds: T2.
-const T2: u64 = 4000;
+use transaction_machines::{LIMIT, T2};
 
 /// How long the ACK of a 2xx may take, in milliseconds: 64 times T1.
-pub(crate) const WAIT: u64 = 32_000;
+pub(crate) const WAIT: u64 = LIMIT;
 
 /// How long a callee may ring after its first provisional response, in milliseconds.
 pub(crate) const RINGING: u64 = 180_000;
 
 /// How long the end across may take after its first provisional response to an offer inside a call, or after a CANCEL, in
 /// milliseconds.
-pub(crate) const SHORT: u64 = 32_000;
+pub(crate) const SHORT: u64 = LIMIT;
 
 /// What is done for a signal, in order, and where the call stands then: none where it is gone. A call that is gone frees
 /// its pairs, which rest, has no row, and its timers stop.

@@ -9,6 +9,7 @@ use Rattle.sip_message.specs.declared.message.Request.{Request}
 use Rattle.sip_message.specs.declared.message.Response.{Response}
 use Rattle.sip_message.specs.declared.via.Via.{Via}
 use Rattle.sip_message.specs.Lookup.{named}
+use Rattle.sip_message.specs.Hops.{usual_hops}
 use Rattle.sip_message.specs.Words.{is_method}
 use Rattle.sip_writing.specs.Requests.{server_via}
 use Rattle.sdp.specs.declared.description.Description.{Description}
@@ -109,7 +110,7 @@ offer server d method hops description token =
 
 -- the ACK of the 2xx to the last INVITE has its number (section 13.2.2.4)
 abbrev pub ack : Addr → Dialog → List ℕ → Request
-ack server d token = request_in d (server_via server token) ack_text (last_number d) 70 [] []
+ack server d token = request_in d (server_via server token) ack_text (last_number d) usual_hops [] []
 
 abbrev pub bye : Addr → Dialog → List ℕ → Option Request
-bye server d token = next_request d Bye (server_via server token) 70 [] []
+bye server d token = next_request d Bye (server_via server token) usual_hops [] []

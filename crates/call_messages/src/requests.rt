@@ -9,14 +9,12 @@ ghost use Rattle.call_messages.specs.Messages.{ack, bye, next_request, offer, on
 use crate::fields::description_headers;
 use dialogs::{Dialog, DialogError, Extras, Method};
 use sdp::{Description, write_description};
+use sip_message::MAX_FORWARDS;
 use sip_uri::Addr;
 use sip_writing::server_via;
 use std::alloc::{AllocError, Global};
 use text::Text;
 use transactions::OwnRequest;
-
-/// The hops of a request that is not passed on (RFC 3261 section 8.1.1.6).
-const MAX_FORWARDS: u8 = 70;
 
 /// The next request of this method, where a number is left for it.
 #[tactic(auto, unfolding(dialogs::specs::Requests::request_in))]

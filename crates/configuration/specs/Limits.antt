@@ -11,16 +11,9 @@ max_relay_pairs = 2048
 abbrev pub all_ports : ℕ
 all_ports = 65536
 
-abbrev pub max_users : ℕ
-max_users = 1000
-
 -- the bytes of a user
 abbrev pub max_user_bytes : ℕ
 max_user_bytes = 64
-
--- the greatest number of seconds that may be the least lifetime
-abbrev pub max_min_expires : ℕ
-max_min_expires = 3600
 
 abbrev pub max_workers : ℕ
 max_workers = 8

@@ -3,7 +3,8 @@ use Rattle.std.specs.Prelude.{◌≡◌, ◌≢◌, ◌==◌, ◌≤◌, ℕ, �
 use Rattle.std.specs.List.{list_all}
 use Rattle.text.specs.Class.{passes_if_there}
 use Rattle.registrar.specs.Registering.{are_distinct}
-use Rattle.configuration.specs.Limits.{min_relay_port, max_relay_pairs, all_ports, max_users, max_min_expires}
+use Rattle.configuration.specs.Limits.{min_relay_port, max_relay_pairs, all_ports}
+use Rattle.registrar.specs.Limits.{max_users, max_min_expires}
 use Rattle.configuration.specs.Names.{is_user, is_domain}
 use Rattle.configuration.specs.declared.config.Config.{Config}
 use Rattle.configuration.specs.declared.error.ConfigError.{ConfigError}

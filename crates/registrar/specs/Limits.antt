@@ -15,7 +15,3 @@ default_expires = 3600
 -- the greatest number of seconds that may be the least lifetime
 abbrev pub max_min_expires : ℕ
 max_min_expires = 3600
-
--- the port of a URI that has none (RFC 3261 section 19.1.2)
-abbrev pub default_port : ℕ
-default_port = 5060

@@ -7,7 +7,8 @@ use Rattle.sip_uri.specs.Binding.{same_binding}
 use Rattle.sip_uri.specs.declared.uri.Uri.{Uri}
 use Rattle.sip_uri.specs.declared.uri.Host.{Host}
 use Rattle.sip_uri.specs.declared.uri.Host.TheVariants.{Ip4, Name}
-use Rattle.registrar.specs.Limits.{max_bindings, default_expires, default_port}
+use Rattle.sip_uri.specs.Address.{default_port}
+use Rattle.registrar.specs.Limits.{max_bindings, default_expires}
 use Rattle.registrar.specs.declared.binding.Binding.{Binding}
 use Rattle.registrar.specs.declared.register.Contact.{Contact}
 use Rattle.registrar.specs.declared.register.Register.{Register}

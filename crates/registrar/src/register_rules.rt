@@ -7,9 +7,7 @@ ghost use Rattle.registrar.specs.Registering.{present, is_older_than, is_star_mi
 use crate::binding::Binding;
 use crate::contact_rules::is_older_than;
 use crate::register::{Contact, Register};
-use sip_uri::{Host, Uri};
-
-const DEFAULT_PORT: u16 = 5060;
+use sip_uri::{Host, Uri, port_or_default};
 
 fn is_zero(expires: Option<u32>) -> bool
     ensures { result ≡ is_zero expires }
@@ -42,7 +40,7 @@ fn is_bindable_uri(ip: [u8; 4], sip_port: u16, uri: &Uri<'_>) -> bool
     ensures { result ≡ is_bindable_at ip sip_port uri.now.port uri.now.host }
 {
     match &uri.host {
-        Host::Ip4(octets) => !(*octets == ip && uri.port.unwrap_or(DEFAULT_PORT) == sip_port),
+        Host::Ip4(octets) => !(*octets == ip && port_or_default(uri.port) == sip_port),
         Host::Name(_) => false,
     }
 }

@@ -5,6 +5,7 @@ use Rattle.std.specs.Char.{is_ascii_digit}
 use Rattle.text.specs.Class.{is_run_of, is_token_byte}
 use Rattle.text.specs.Number.{number_upto}
 use Rattle.sip_uri.specs.Grammar.{ReadsUri}
+use Rattle.sip_message.specs.Hops.{usual_hops}
 use Rattle.sip_message.specs.declared.contact.ContactValue.{ContactValue}
 use Rattle.sip_message.specs.declared.error.MessageError.{MessageError}
 use Rattle.sip_message.specs.declared.contact.ContactNeed.{ContactNeed}
@@ -107,9 +108,9 @@ SaysContact One values = IsTrue (is_one_address values)
 SaysContact AtMostOne values = IsTrue (is_one_address_at_most values)
 SaysContact Unlooked values = Unit {0}
 
--- the values of Max-Forwards, of which there is one at most: it is 0 to 255 (section 20.22), and 70 where there is none (section 8.1.1.6)
+-- the values of Max-Forwards, of which there is one at most: it is 0 to 255 (section 20.22), and the usual one where there is none (section 8.1.1.6)
 abbrev pub SaysHops : List (List ℕ) → ℕ → Type 0
-SaysHops [] hops = hops ≡ 70
+SaysHops [] hops = hops ≡ usual_hops
 SaysHops (text ∷ []) hops = max_forwards_of text ≡ Some hops
 SaysHops (one ∷ two ∷ more) hops = ⊥
 

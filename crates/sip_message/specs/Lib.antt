@@ -3,6 +3,7 @@ pub mod Faults
 pub mod CallId
 pub mod MediaType
 pub mod MaxForwards
+pub mod Hops
 pub mod HeaderNames
 pub mod Lookup
 pub mod Party

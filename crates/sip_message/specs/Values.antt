@@ -1,6 +1,7 @@
 -- What the header fields of a message say (RFC 3261 sections 8.1.1 and 20), and the first fault of those that say nothing.
 use Rattle.std.specs.Prelude.{ℕ, List, [], ◌∷◌, codes, Option, Some, None, Result, Ok, Err, if◌then◌else◌}
 use Rattle.sip_uri.specs.declared.uri.NameAddr.{NameAddr}
+use Rattle.sip_message.specs.Hops.{usual_hops}
 use Rattle.sip_message.specs.declared.header_names.HeaderName.TheVariants as Names
 use Rattle.sip_message.specs.declared.error.MessageError.{MessageError}
 use Rattle.sip_message.specs.declared.error.MessageError.TheVariants.{Missing, Unreadable}
@@ -79,10 +80,10 @@ abbrev pub contact_for : Start → List ℕ → List Header → Result (Unit {0}
 contact_for start method headers = contacts_for (contact_need start method) (contacts_of headers)
 
 abbrev pub hops_by : Option (List ℕ) → Result ℕ MessageError
-hops_by None = Ok 70
+hops_by None = Ok usual_hops
 hops_by (Some text) = readable Names.MaxForwards (max_forwards_of text)
 
--- Max-Forwards stands once at most; 70 where it does not stand (section 8.1.1.6 gives that number)
+-- Max-Forwards stands once at most; the usual hops where it does not stand (section 8.1.1.6)
 abbrev pub hops_of : List Header → Result ℕ MessageError
 hops_of headers = and_then (at_most_one Names.MaxForwards (values_named (codes "Max-Forwards") headers)) hops_by
 

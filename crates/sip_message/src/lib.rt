@@ -33,6 +33,7 @@ pub use error::MessageError;
 pub use header_fields::{FieldValue, Header, Headers, first_value, headers, values_named};
 pub use header_names::HeaderName;
 pub use laws::one_message;
+pub use max_forwards::MAX_FORWARDS;
 pub use message::{Message, Parts, Request, Response, parts_with};
 pub use party::{Ends, Party, has_tag};
 pub use read::read_message;

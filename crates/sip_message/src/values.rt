@@ -10,7 +10,7 @@ use crate::cseq::{Sequence, is_method_for, read_cseq};
 use crate::error::MessageError;
 use crate::header_names::HeaderName;
 use crate::lookup::{at_most_one, exactly_one};
-use crate::max_forwards::read_max_forwards;
+use crate::max_forwards::{MAX_FORWARDS, read_max_forwards};
 use crate::media_type::is_media_type;
 use crate::message::Parts;
 use crate::party::{Party, is_tagged_for, read_party};
@@ -90,7 +90,7 @@ fn read_hops(alloc: Global, headers: &[Header<'_>]) -> Result<u8, MessageError>
     ensures { Gives result (hops_of headers.now) }
 {
     let Some(value) = at_most_one(headers, b"Max-Forwards", HeaderName::MaxForwards)? else {
-        return Ok(70);
+        return Ok(MAX_FORWARDS);
     };
     let text = value.text(alloc)?;
     match read_max_forwards(text.as_bytes()) {

@@ -12,11 +12,11 @@ use Rattle.transaction_machines.specs.declared.step.Told.TheVariants.{Silent, En
 use Rattle.transaction_machines.specs.declared.step.Starts.TheVariants.{NoTimer, One}
 use Rattle.transaction_machines.specs.declared.step.Stops.TheVariants as stops
 use Rattle.transaction_machines.specs.declared.step.Step.{Step}
-use Rattle.transaction_machines.specs.Steps.{line, ended, timer, t1}
+use Rattle.transaction_machines.specs.Steps.{line, ended, timer, timeout}
 
 -- the final answer, which goes again on each copy of the request for 64*T1
 abbrev pub final_answer : Option Step
-final_answer = line (machine.OtherServer Completed) Fresh Silent stops.Every (One (timer J (64 * t1)))
+final_answer = line (machine.OtherServer Completed) Fresh Silent stops.Every (One (timer J timeout))
 
 unfoldable pub other_server_row : OtherServer → Input → Option Step
 -- before the first answer the request again is swallowed: it has no line

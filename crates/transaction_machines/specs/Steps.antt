@@ -22,9 +22,13 @@ t2 = 4000
 abbrev pub t4 : ℕ
 t4 = 5000
 
+-- when a transaction gives up: timers B, F, H, J, L, M and N
+abbrev pub timeout : ℕ
+timeout = 64 * t1
+
 -- timer D over an unreliable transport: at least 32 s
 abbrev pub d_after : ℕ
-d_after = 32000
+d_after = timeout
 
 -- twice the interval, at most T2: timers E and G
 abbrev pub after_t2 : ℕ → ℕ
@@ -32,7 +36,7 @@ after_t2 interval = min (2 * interval) t2
 
 -- twice the interval: timer A. At 64*T1 timer B has ended the transaction
 abbrev pub after_limit : ℕ → ℕ
-after_limit interval = min (2 * interval) (64 * t1)
+after_limit interval = min (2 * interval) timeout
 
 abbrev pub timer : TimerKind → ℕ → Start
 timer kind after = record { kind = kind; after = after }
@@ -48,5 +52,5 @@ ended told = Some (record { next = None; send = sends.Nothing; told = told; stop
 -- no timer runs for more than 32 seconds
 abbrev pub IsShort : Starts → Type 0
 IsShort NoTimer = Unit {0}
-IsShort (One s) = s.after ≤ 32000
-IsShort (Two s t) = (s.after ≤ 32000) × (t.after ≤ 32000)
+IsShort (One s) = s.after ≤ timeout
+IsShort (Two s t) = (s.after ≤ timeout) × (t.after ≤ timeout)

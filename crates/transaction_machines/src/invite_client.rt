@@ -13,7 +13,7 @@ use crate::step::{
 use sip_message::Class;
 
 /// How long copies of a refusal are acknowledged, in milliseconds.
-const D_AFTER: u64 = 32_000;
+const D_AFTER: u64 = LIMIT;
 
 /// The states. `Calling` has the interval of timer A in milliseconds, and whether the core no longer waits.
 #[derive(Clone, Copy, Debug)]

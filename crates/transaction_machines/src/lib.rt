@@ -17,4 +17,4 @@ pub use invite_server::InviteServer;
 pub use other_client::OtherClient;
 pub use other_server::OtherServer;
 pub use state::{State, advance, is_server};
-pub use step::{LIMIT, Sending, Start, Starts, Step, Stops, T1, Told};
+pub use step::{LIMIT, Sending, Start, Starts, Step, Stops, T1, T2, Told};

@@ -10,7 +10,7 @@ use crate::state::State;
 pub const T1: u64 = 500;
 
 /// The longest interval between two copies, in milliseconds (section 17.1.2.2).
-pub(crate) const T2: u64 = 4000;
+pub const T2: u64 = 4000;
 
 /// How long a message stays in the network, in milliseconds (section 17.1.2.2).
 pub(crate) const T4: u64 = 5000;

@@ -34,7 +34,8 @@ use Rattle.transaction_machines.specs.declared.step.Step.{Step}
 use Rattle.transactions.specs.declared.transaction.Transaction.{Transaction}
 use Rattle.transaction_machines.specs.Machines.{row_of, is_server}
 use Rattle.sip_message.specs.Words.{is_method, top_branch}
-use Rattle.transactions.specs.Matching.{is_copy, served_method, same_top, same_sent_by, default_port}
+use Rattle.transactions.specs.Matching.{is_copy, served_method, same_top, same_sent_by}
+use Rattle.sip_uri.specs.Address.{default_port}
 use Rattle.transactions.specs.Slots.{at, is_asked, free_number}
 use Rattle.transactions.specs.Transactions.{served, served_state}
 use Rattle.transactions.specs.Contents.{Contents, upward, repeat_by, reception_by, reception_at, request_reception, reception_of, placed, stray, input_of, IsNew}

@@ -36,7 +36,8 @@ use Rattle.transactions.specs.declared.outcome.Reception.{Reception}
 use Rattle.transactions.specs.declared.outcome.Verdict.TheVariants as verdicts
 use Rattle.transactions.specs.declared.transaction.Transaction.{Transaction}
 use Rattle.transactions.specs.Limits.{max_served}
-use Rattle.transactions.specs.Matching.{is_copy, same_top, same_sent_by, default_port}
+use Rattle.transactions.specs.Matching.{is_copy, same_top, same_sent_by}
+use Rattle.sip_uri.specs.Address.{default_port}
 use Rattle.transactions.specs.Slots.{at, free_number, is_asked, is_answered, is_serving, serving}
 use Rattle.transactions.specs.Transactions.{served, asking, asking_timers, went}
 use Rattle.transactions.specs.Contents.{Contents, stepped_by, table_at, opened, placed, reception_of, request_reception, stray, answer_input, IsNew}

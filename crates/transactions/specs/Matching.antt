@@ -1,14 +1,11 @@
 -- Which message belongs to which request (RFC 3261 sections 17.1.3, 17.2.3, 9.2 and 8.2.2.2).
 use Rattle.std.specs.Prelude.{◌≡◌, ℕ, Bool, true, false, not, ◌&&◌, ◌==◌, nat_eq, List, [], ◌∷◌, codes, unwrap_or, Option, Some, None, if◌then◌else◌, IsSome}
 use Rattle.std.specs.Cmp.Lexicographic.{pointwise}
+use Rattle.sip_uri.specs.Address.{default_port}
 use Rattle.sip_uri.specs.Binding.{same_text, same_host}
 use Rattle.sip_message.specs.declared.message.Parts.{Parts}
 use Rattle.sip_message.specs.declared.via.Via.{Via}
 use Rattle.sip_message.specs.Words.{top_branch, tag_value, is_method}
-
--- the port of a sent-by that names none
-abbrev pub default_port : ℕ
-default_port = 5060
 
 -- the host without case, and the port
 abbrev pub same_sent_by : Via → Via → Bool

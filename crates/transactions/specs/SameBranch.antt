@@ -11,6 +11,7 @@ use Rattle.sip_message.specs.CSeq.{max_cseq}
 use Rattle.sip_message.specs.CallId.{is_call_id}
 use Rattle.sip_message.specs.Party.{has_tag}
 use Rattle.sip_message.specs.Repeatable.{IsValue}
+use Rattle.sip_message.specs.Hops.{usual_hops}
 use Rattle.sip_message.specs.Words.{tag_text}
 use Rattle.sip_writing.specs.Requests.{cseq_text, headers_with, name_with_tag, IsReadVia, IsEnd}
 use Rattle.transaction_machines.specs.declared.state.State.{State}
@@ -36,8 +37,8 @@ request_like uri via invite to method = record {
   method = method;
   uri = uri;
   parts = parts_like via invite to method;
-  max_forwards = 70;
-  headers = headers_with 70 (parts_like via invite to method) ++ [];
+  max_forwards = usual_hops;
+  headers = headers_with usual_hops (parts_like via invite to method) ++ [];
   body = [];
 }
 

@@ -1,5 +1,5 @@
 -- One transaction: how it begins, goes on, and what it sends.
-use Rattle.std.specs.Prelude.{ℕ, ◌*◌, false, List, codes, Option, Some, None, option_map, if◌then◌else◌}
+use Rattle.std.specs.Prelude.{ℕ, false, List, codes, Option, Some, None, option_map, if◌then◌else◌}
 use Rattle.sip_uri.specs.declared.uri.Addr.{Addr}
 use Rattle.sip_message.specs.declared.message.Parts.{Parts}
 use Rattle.sip_message.specs.declared.message.Request.{Request}
@@ -18,7 +18,7 @@ use Rattle.transaction_machines.specs.declared.step.Starts.{Starts}
 use Rattle.transaction_machines.specs.declared.step.Starts.TheVariants.{Two}
 use Rattle.transactions.specs.declared.transaction.Transaction.{Transaction}
 use Rattle.sip_message.specs.Words.{is_method}
-use Rattle.transaction_machines.specs.Steps.{timer, t1}
+use Rattle.transaction_machines.specs.Steps.{timer, t1, timeout}
 
 -- ---- a request of another
 
@@ -40,7 +40,7 @@ asking r to bytes = record { uri = r.uri; parts = r.parts; state = asking_state 
 -- A before B, and E before F
 abbrev pub asking_timers : Parts → Starts
 asking_timers parts =
-    if is_method (codes "INVITE") parts then Two (timer letter.A t1) (timer letter.B (64 * t1)) else Two (timer letter.E t1) (timer letter.F (64 * t1))
+    if is_method (codes "INVITE") parts then Two (timer letter.A t1) (timer letter.B timeout) else Two (timer letter.E t1) (timer letter.F timeout)
 
 -- ---- a step
 

@@ -5,16 +5,13 @@ ghost use Rattle.sip_message.specs.Words.{tag_value};
 ghost use Rattle.transactions.specs.Matching.{same_sent_by, same_top, served_method, is_copy, is_reply, keeps_to_tag, is_same_call, is_merged_with};
 
 use sip_message::{Parts, Via, is_method, tag_value, top_branch};
-use sip_uri::{same_host, same_text};
+use sip_uri::{port_or_default, same_host, same_text};
 use text::Text;
-
-/// The port of a sent-by that names none (RFC 3261 section 18.1.1).
-const DEFAULT_PORT: u16 = 5060;
 
 fn same_sent_by(a: &Via, b: &Via) -> bool
     ensures { result ≡ same_sent_by a.now b.now }
 {
-    same_host(&a.host, &b.host) && a.port.unwrap_or(DEFAULT_PORT) == b.port.unwrap_or(DEFAULT_PORT)
+    same_host(&a.host, &b.host) && port_or_default(a.port) == port_or_default(b.port)
 }
 
 /// Whether two top Vias have one branch and one sent-by.

@@ -14,15 +14,12 @@ ghost use Rattle.transactions.specs.Contents.{ack_for, sends};
 ghost use Rattle.transactions.specs.SameBranch.{request_like, ack_to, ack_with, ack_of, cancel_of, cancel_with, IsSoundInvite, HasReadVia};
 
 use crate::transaction::Transaction;
-use sip_message::{Parts, Request, Response, Via, tag_text};
+use sip_message::{MAX_FORWARDS, Parts, Request, Response, Via, tag_text};
 use sip_uri::{NameAddr, Uri};
 use sip_writing::{Draft, build_request, name_with_tag, write_request};
 use std::alloc::{AllocError, Global};
 use text::Text;
 use transaction_machines::{Sending, State};
-
-/// The hops of a request that the server makes (RFC 3261 section 8.1.1.6).
-const MAX_FORWARDS: u8 = 70;
 
 // The request with this To and method.
 #[tactic(auto, unfolding(sip_writing::specs::Requests::request_of, sip_writing::specs::Requests::parts_of, crate::specs::SameBranch::request_like, crate::specs::SameBranch::parts_like))]

@@ -2,7 +2,7 @@
 
 ghost use Rattle.std.specs.Prelude.{◌≡◌, ◌+◌, ◌<◌, ◌≤◌, ◌^◌, [], ◌∷◌};
 ghost use Rattle.transactions.specs.Timing.{same_timer, timer_of, without_kinds, stopped, stopped_by, start, started};
-ghost use Rattle.transaction_machines.specs.Steps.{IsShort};
+ghost use Rattle.transaction_machines.specs.Steps.{IsShort, timeout};
 ghost use Rattle.timers.specs.Queue.{without, moment};
 ghost use Rattle.transactions.specs.Contents.{has_come};
 ghost use Rattle.transactions.specs.Kinds.{HaveLines, kinds_of};
@@ -96,7 +96,7 @@ pub(crate) fn stop(timers: &mut Timers<TimerId>, id: usize, state: State, stops:
 fn set(timers: &mut Timers<TimerId>, id: usize, timer: Start, now: u64)
     requires room { 0 < timers.old.room }
     requires moment { now < 2 ^ 60 }
-    requires short { timer.after ≤ 32000 }
+    requires short { timer.after ≤ timeout }
     ensures timers { timers.new.timers ≡ start timers.old.timers id timer now }
     ensures room { timers.old.room ≤ timers.new.room + 1 }
 {
