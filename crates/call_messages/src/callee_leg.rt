@@ -1,22 +1,13 @@
 //! The callee's leg of a call, before its first response.
 
 ghost use Rattle.std.specs.Prelude.{◌≡◌, codes, IfOk};
-ghost use Rattle.dialogs.specs.Making.{party_named};
 ghost use Rattle.call_messages.specs.Messages.{leg_call_id, new_leg};
 
-use dialogs::{Dialog, DialogId, Party};
+use dialogs::{Dialog, DialogId, party_named};
 use sip_message::Parts;
-use sip_uri::{Addr, NameAddr, Uri, keep_text, put_ip4};
+use sip_uri::{Addr, NameAddr, Uri, put_ip4};
 use std::alloc::{AllocError, Global};
 use text::{Text, both};
-
-fn party_named(alloc: Global, name: &NameAddr<'_>) -> Result<Party, AllocError>
-    ensures { IfOk result (λ party. party ≡ party_named name.now) }
-{
-    let display = keep_text(alloc, &name.display)?;
-    let uri = name.uri.keep(alloc)?;
-    Ok(Party { display, uri })
-}
 
 fn leg_call_id(alloc: Global, server: Addr, token: &[u8]) -> Result<Text<'static>, AllocError>
     ensures { IfOk result (λ text. text ≡ leg_call_id server token.now) }

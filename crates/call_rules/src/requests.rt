@@ -2,7 +2,6 @@
 
 ghost use Rattle.std.specs.Prelude.{◌≡◌, IfOk};
 ghost use Rattle.std.specs.Option.{option_copied};
-ghost use Rattle.dialogs.specs.Counting.{is_above};
 ghost use Rattle.call_media.specs.declared.end.End.TheVariants.{Callee};
 ghost use Rattle.calls.specs.Finding.{place_by_end};
 ghost use Rattle.call_rules.specs.Requests.{NamesCall, counted_rule, dialog_rule, has_left, in_call, in_dialog, left_in, of_callee, with_remote_number};
@@ -10,7 +9,7 @@ ghost use Rattle.call_rules.specs.Requests.{NamesCall, counted_rule, dialog_rule
 use crate::methods::{is_bye, is_offer};
 use call_core::{End, Stage, Standing};
 use calls::{Calls, StandingCall};
-use dialogs::Dialog;
+use dialogs::{Dialog, is_above};
 use sip_message::Request;
 use std::alloc::{AllocError, Global};
 
@@ -28,15 +27,6 @@ pub enum DialogRule {
     Offers { place: usize, end: End },
     /// Any other request.
     Plain { place: usize, end: End },
-}
-
-fn is_above(last: Option<u32>, number: u32) -> bool
-    ensures { result ≡ is_above last number }
-{
-    match last {
-        None => true,
-        Some(last) => last < number,
-    }
 }
 
 fn left_in(stage: Stage, offerer: End, end: End) -> bool

@@ -11,7 +11,8 @@ use sip_uri::{NameAddr, Uri, keep_text};
 use std::alloc::{AllocError, Global};
 use text::{Text, both};
 
-fn party_named(alloc: Global, name: &NameAddr<'_>) -> Result<Party, AllocError>
+/// The party of a name and address: its display name and its URI, without parameters of the field (RFC 3261 section 12.1).
+pub fn party_named(alloc: Global, name: &NameAddr<'_>) -> Result<Party, AllocError>
     ensures { IfOk result (λ party. party ≡ party_named name.now) }
 {
     let display = keep_text(alloc, &name.display)?;

@@ -14,6 +14,7 @@ mod sequence;
 mod state;
 
 pub use contact::contact_uri;
+pub use creation::party_named;
 pub use error::DialogError;
 pub use identifiers::DialogId;
 pub use laws::{
@@ -21,4 +22,5 @@ pub use laws::{
 };
 pub use method::Method;
 pub use requests::{Extras, NextRequest};
+pub use sequence::is_above;
 pub use state::{Dialog, Party};

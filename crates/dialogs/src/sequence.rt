@@ -8,7 +8,8 @@ use crate::method::Method;
 use crate::state::Dialog;
 use sip_message::Request;
 
-fn is_above(last: Option<u32>, number: u32) -> bool
+/// Whether the number of a request is above that of the last one, or it is the first (RFC 3261 section 12.2.2). Takes no memory.
+pub fn is_above(last: Option<u32>, number: u32) -> bool
     ensures { result ≡ is_above last number }
 {
     match last {

@@ -112,7 +112,8 @@ fn put_contacts<'a>(
     put_kept(alloc, contacts, &found)
 }
 
-fn headers_in<'m, 'a>(message: &'m Message<'a>) -> &'m [Header<'a>]
+/// The header fields of a message, in order. Takes no memory.
+pub fn headers_in<'m, 'a>(message: &'m Message<'a>) -> &'m [Header<'a>]
     ensures { result.now ≡ headers_in message.now }
 {
     match message {

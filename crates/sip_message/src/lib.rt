@@ -25,7 +25,7 @@ mod via;
 mod words;
 
 pub use answerable_parts::answerable;
-pub use contact::{ContactNeed, ContactValue, contact_values, contacts};
+pub use contact::{ContactNeed, ContactValue, contact_values, contacts, headers_in};
 pub use content::{has_description_type, is_uncoded};
 pub use cseq::{CSeq, Sequence};
 pub use error::MessageError;

@@ -1,7 +1,6 @@
 //! What a trace sees of a message.
 
 ghost use Rattle.std.specs.Prelude.{◌≡◌, IfOk};
-ghost use Rattle.sip_message.specs.Contact.{headers_in};
 ghost use Rattle.sip_message.specs.Repeatable.{parts_in};
 ghost use Rattle.sip_message.specs.Words.{tag_text};
 ghost use Rattle.trace_reading.specs.Message.{kind_of, body_in, branch_text, trace_message};
@@ -9,7 +8,7 @@ ghost use Rattle.trace_reading.specs.Message.{kind_of, body_in, branch_text, tra
 use crate::body::description_in;
 use call_trace::{Kind, Message as TraceMessage};
 use sdp::Description;
-use sip_message::{Header, Message, Parts, Vias, tag_text, top_branch};
+use sip_message::{Message, Parts, Vias, headers_in, tag_text, top_branch};
 use std::alloc::{AllocError, Global};
 use text::Text;
 
@@ -39,15 +38,6 @@ fn parts_in<'m, 'a>(message: &'m Message<'a>) -> &'m Parts<'a>
     match message {
         Message::Request(request) => &request.parts,
         Message::Response(response) => &response.parts,
-    }
-}
-
-fn headers_in<'m, 'a>(message: &'m Message<'a>) -> &'m [Header<'a>]
-    ensures { result.now ≡ headers_in message.now }
-{
-    match message {
-        Message::Request(request) => request.headers.as_slice(),
-        Message::Response(response) => response.headers.as_slice(),
     }
 }
 
