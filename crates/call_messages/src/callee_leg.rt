@@ -5,7 +5,7 @@ ghost use Rattle.call_messages.specs.Messages.{leg_call_id, new_leg};
 
 use dialogs::{Dialog, DialogId, party_named};
 use sip_message::Parts;
-use sip_uri::{Addr, NameAddr, Uri, put_ip4};
+use sip_uri::{Addr, Uri, put_ip4};
 use std::alloc::{AllocError, Global};
 use text::{Text, both};
 

@@ -9,7 +9,7 @@ use Rattle.dialogs.specs.declared.identifiers.DialogId.{DialogId}
 abbrev pub id_of_request : Parts → DialogId
 id_of_request parts = record { call_id = parts.call_id; ours = tag_text parts.to.params; theirs = tag_text parts.from.params }
 
--- in an answer that was taken our tag stands in From
+-- in a response that was taken our tag stands in From
 abbrev pub id_of_answer : Parts → DialogId
 id_of_answer parts = record { call_id = parts.call_id; ours = tag_text parts.from.params; theirs = tag_text parts.to.params }
 

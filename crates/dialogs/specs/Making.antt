@@ -12,7 +12,7 @@ use Rattle.dialogs.specs.declared.state.Dialog.{Dialog}
 use Rattle.dialogs.specs.declared.state.Party.{Party}
 use Rattle.sip_message.specs.Words.{tag_text}
 
--- an INVITE, or an answer to one
+-- an INVITE, or a response to one
 abbrev pub is_invite : Parts → Bool
 is_invite parts = pointwise nat_eq parts.cseq.method (codes "INVITE")
 
@@ -28,7 +28,7 @@ reached_at (Address name ∷ other ∷ more) = None
 abbrev pub party_named : NameAddr → Party
 party_named name = record { display = name.display; uri = name.uri }
 
--- the tag of the server's answers to an INVITE: that of its To where it has one, and else the given one (section 8.2.6.2)
+-- the tag of the server's responses to an INVITE: that of its To where it has one, and else the given one (section 8.2.6.2)
 abbrev pub own_tag : Request → List ℕ → List ℕ
 own_tag invite tag = if length (tag_text invite.parts.to.params) == 0 then tag else tag_text invite.parts.to.params
 

@@ -38,7 +38,7 @@ fn identifiers(
     })
 }
 
-/// The tag of the server's answers to an INVITE.
+/// The tag of the server's responses to an INVITE.
 fn own_tag<'m>(invite: &'m Request<'_>, tag: &'m [u8]) -> &'m [u8]
     ensures { result.now ≡ own_tag invite.now tag.now }
 {

@@ -35,7 +35,7 @@ impl DialogId {
         self.names(&request.parts.call_id, ours, theirs)
     }
 
-    /// Whether an answer that was taken belongs to this dialog: our tag stands in From. Takes no memory.
+    /// Whether a response that was taken belongs to this dialog: our tag stands in From. Takes no memory.
     pub fn is_of_answer(&self, answer: &Response<'_>) -> bool
         ensures test { result ≡ same_id self.now (id_of_answer answer.now.parts) }
         ensures belongs { IsTrue result ↔ (id_of_answer answer.now.parts ≡ self.now) }

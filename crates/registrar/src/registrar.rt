@@ -59,7 +59,7 @@ impl Registrar {
     ghost use Rattle.registrar.specs.Registrar.{StandsAfter, Contents, rules_of, answer_of, refusal_of, after_plan, bindings_of, bindings_at, event, registered, rules_given};
 
     /// A registrar without bindings for these users of a server at this address, port and domain, which binds for
-    /// this number of seconds at least.
+    /// this number of seconds at least. It looks users up by prints under this key, on which no result depends.
     pub fn new(
         alloc: Global,
         key: PrintKey,

@@ -82,7 +82,7 @@ lines_of opens = line_count opens.head
 
 -- ---- header fields
 
--- what an answer repeats is what the header fields say (section 8.1.1)
+-- what a response repeats is what the header fields say (section 8.1.1)
 pub record SaysParts (start : Start) (fields : List Header) (parts : Parts) : Type 0 where
   -- one Via at least, and each is read, in order (section 20.42)
   pub some_via : parts.vias ≡ [] → ⊥

@@ -1,4 +1,4 @@
--- The start line of a message: of a request method, Request-URI and version, of an answer version, number and reason, with a single
+-- The start line of a message: of a request method, Request-URI and version, of a response version, number and reason, with a single
 -- space between each two (RFC 3261 sections 7.1 and 7.2).
 use Rattle.std.specs.Prelude.{ℕ, Bool, not, ◌&&◌, ◌==◌, nat_le, List, length, codes, Option, Some, None, is_some, Result, Ok, Err, if◌then◌else◌}
 use Rattle.std.specs.List.{list_all}
@@ -25,17 +25,17 @@ is_part text = not (length text == 0) && has_no_space text
 abbrev pub is_version : List ℕ → Bool
 is_version text = str_eq_ignore_ascii_case text (codes "SIP/2.0")
 
--- the text begins with `SIP/`, without case, and so its line is that of an answer
+-- the text begins with `SIP/`, without case, and so its line is that of a response
 abbrev pub begins_sip : List ℕ → Bool
 begins_sip text = str_eq_ignore_ascii_case (before 47 text) (codes "SIP") && is_some (after 47 text)
 
--- ---- of an answer
+-- ---- of a response
 
 abbrev pub from_100 : Option ℕ → Option ℕ
 from_100 None = None
 from_100 (Some n) = if nat_le 100 n then Some n else None
 
--- the number of an answer: three digits, 100 to 699
+-- the number of a response: three digits, 100 to 699
 unfoldable pub status_read : List ℕ → Option ℕ
 status_read text = if length text == 3 && is_run_of is_ascii_digit text then from_100 (number_upto 699 text) else None
 

@@ -155,8 +155,8 @@ fn parts_behind(alloc: Global, rest: &[u8]) -> Result<Option<Parts<'_>>, AllocEr
     parts_among(alloc, &headers)
 }
 
-/// What an answer to a datagram that can't be read repeats of it. There is something where the first line has three
-/// parts, is no answer's and its method not ACK, and Via, From, To, Call-ID and CSeq are there and can each be read
+/// What a response to a datagram that can't be read repeats of it. There is something where the first line has three
+/// parts, is no response's and its method not ACK, and Via, From, To, Call-ID and CSeq are there and can each be read
 /// alone: of header lines that end and are of their form, the first of each name; From needs no tag, and CSeq not the
 /// request's method. There is nothing where the first line begins with `SIP/`, without case.
 #[tactic(auto, unfolding(crate::specs::AnswerableParts::answerable_of))]

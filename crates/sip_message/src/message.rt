@@ -10,7 +10,7 @@ use header_fields::Headers;
 use sip_uri::{NameAddr, Uri};
 use text::Text;
 
-/// What an answer repeats of its request: the values of these header fields, and beside them the texts of From, To
+/// What a response repeats of its request: the values of these header fields, and beside them the texts of From, To
 /// and CSeq as received, unfolded and trimmed (RFC 3261 section 8.2.6.2).
 pub struct Parts<'a> {
     pub vias: Vias<'a>,
@@ -84,7 +84,7 @@ impl Drop for Request<'_> {
     }
 }
 
-/// An answer (RFC 3261 section 7.2). `headers` are all header fields in order but Content-Length, which the body says.
+/// A response (RFC 3261 section 7.2). `headers` are all header fields in order but Content-Length, which the body says.
 pub struct Response<'a> {
     /// 100 to 699.
     pub status: u16,

@@ -17,7 +17,7 @@ pub struct RequestLine<'a> {
     pub uri: Uri<'a>,
 }
 
-/// The start line of an answer.
+/// The start line of a response.
 #[derive(Drop)]
 pub struct StatusLine<'a> {
     /// 100 to 699.
@@ -59,7 +59,7 @@ pub(crate) fn begins_sip(text: &[u8]) -> bool
     same_without_case(name, b"SIP") && version.is_some()
 }
 
-/// The number of an answer: three digits, 100 to 699.
+/// The number of a response: three digits, 100 to 699.
 #[tactic(auto, unfolding(crate::specs::Start::status_read))]
 fn read_status(digits: &[u8]) -> Option<u16>
     ensures { result ≡ status_read digits.now }
@@ -110,7 +110,7 @@ fn request_at<'a>(
     Ok(Start::Asking(RequestLine { method, uri }))
 }
 
-/// What a start line says: three parts with a single space between each two, of which an answer's reason may have
+/// What a start line says: three parts with a single space between each two, of which a response's reason may have
 /// spaces.
 #[tactic(auto, unfolding(crate::specs::Start::start_of))]
 pub(crate) fn read_start(alloc: Global, line: &[u8]) -> Result<Start<'_>, MessageError>

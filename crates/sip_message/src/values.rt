@@ -148,7 +148,7 @@ fn check_contact(
     }
 }
 
-/// What an answer repeats of the request.
+/// What a response repeats of the request.
 #[tactic(auto, unfolding(crate::specs::Values::parts_of), using(crate::proofs::FaultLaws::failed_then))]
 pub(crate) fn read_parts<'a>(
     alloc: Global,

@@ -20,7 +20,7 @@ use text::{
     without_blanks,
 };
 
-/// Where an answer goes (RFC 3261 section 18.2.2). `sent_by` is host and port as received, without blanks.
+/// Where a response goes (RFC 3261 section 18.2.2). `sent_by` is host and port as received, without blanks.
 pub struct Via<'a> {
     pub sent_by: Text<'a>,
     pub host: Host<'a>,

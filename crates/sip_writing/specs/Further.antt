@@ -12,13 +12,13 @@ use Rattle.sip_message.specs.ContentLength.{max_content_length}
 use Rattle.sip_message.specs.Written.{is_written}
 use Rattle.sip_writing.specs.WritingMessage.{tells_no_length, IsWrittenMessage}
 
--- no header field that an answer repeats
+-- no header field that a response repeats
 abbrev pub repeats_nothing : Header → Bool
 repeats_nothing h =
     not (is_named (codes "Via") h) && not (is_named (codes "From") h) && not (is_named (codes "To") h) && not (is_named (codes "Call-ID") h)
     && not (is_named (codes "CSeq") h)
 
--- further header fields of an answer to a request of this method
+-- further header fields of a response to a request of this method
 pub record MayFollow (start : Start) (method : List ℕ) (further : List Header) : Type 0 where
   pub written : IsTrue (list_all is_written further)
   pub repeat_nothing : IsTrue (list_all repeats_nothing further)

@@ -27,7 +27,7 @@ abbrev pub is_empty_param : Option Param → Bool
 is_empty_param None = false
 is_empty_param (Some p) = is_none p.value
 
--- the sender asks for an answer to the port that it sent from: the first `rport` has no value
+-- the sender asks for a response to the port that it sent from: the first `rport` has no value
 abbrev pub asks_port : List Param → Bool
 asks_port params = is_empty_param (param_named (codes "rport") params)
 

@@ -25,7 +25,7 @@ fn is_empty_param(param: Option<&Param>) -> bool
     }
 }
 
-/// Whether the sender asks for an answer to the port that it sent from.
+/// Whether the sender asks for a response to the port that it sent from.
 pub(crate) fn asks_port(params: &[Param]) -> bool
     ensures { result ≡ asks_port params.now }
 {

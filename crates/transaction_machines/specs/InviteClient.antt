@@ -15,11 +15,11 @@ use Rattle.transaction_machines.specs.declared.step.Step.{Step}
 use Rattle.transaction_machines.specs.Steps.{line, ended, timer, d_after, after_limit, timeout}
 
 unfoldable pub invite_client_row : InviteClient → Input → Option Step
--- A: the INVITE again, after T1 and then at doubling intervals. B: no answer in 64*T1
+-- A: the INVITE again, after T1 and then at doubling intervals. B: no response in 64*T1
 invite_client_row (Calling interval abandoned) (Fires A) =
     line (machine.InviteClient (Calling (after_limit interval) abandoned)) Again Silent stops.NoTimer (One (timer A (after_limit interval)))
 invite_client_row (Calling interval false) (Fires B) = ended TimedOut
--- a provisional answer ends the retransmission
+-- a provisional response ends the retransmission
 invite_client_row (Calling interval abandoned) (Response Provisional) = line (machine.InviteClient Proceeding) Nothing Up stops.Retransmission NoTimer
 invite_client_row Proceeding (Response Provisional) = line (machine.InviteClient Proceeding) Nothing Up stops.Retransmission NoTimer
 -- a 2xx: Accepted for 64*T1, in which each further 2xx goes up

@@ -15,7 +15,7 @@ use Rattle.transaction_machines.specs.declared.step.Step.{Step}
 use Rattle.transaction_machines.specs.Steps.{line, ended, timer, t1, t4, after_t2, timeout}
 
 unfoldable pub invite_server_row : InviteServer → Input → Option Step
--- before a final answer the INVITE again gets the last provisional answer again
+-- before a final response the INVITE again gets the last provisional response again
 invite_server_row Proceeding Repeat = line (machine.InviteServer Proceeding) Again Silent stops.NoTimer NoTimer
 invite_server_row Proceeding (Answer Provisional) = line (machine.InviteServer Proceeding) Fresh Silent stops.NoTimer NoTimer
 -- a 2xx: Accepted for 64*T1, in which the core repeats it, the INVITE again is swallowed, and an ACK goes up

@@ -72,7 +72,7 @@ follows_to state given step (Some next) =
 unfoldable pub follows : State → Bool → Step → Bool
 follows state given step = follows_to state given step step.next
 
--- an answer of the core gives something fresh
+-- a response of the core gives something fresh
 abbrev pub is_answer : Input → Bool
 is_answer inputs.Repeat = false
 is_answer inputs.Ack = false

@@ -18,15 +18,15 @@ use Rattle.transaction_machines.specs.Steps.{line, ended, timer, t2, t4, after_t
 abbrev pub again_after : OtherClient → ℕ → Option Step
 again_after state interval = line (machine.OtherClient state) Again Silent stops.NoTimer (One (timer E interval))
 
--- a final answer: copies of it are absorbed for T4
+-- a final response: copies of it are absorbed for T4
 abbrev pub final_answer : Option Step
 final_answer = line (machine.OtherClient Completed) Nothing Up stops.Every (One (timer K t4))
 
 unfoldable pub other_client_row : OtherClient → Input → Option Step
--- E: the request again, after T1 and then at intervals that double up to T2. F: no final answer in 64*T1
+-- E: the request again, after T1 and then at intervals that double up to T2. F: no final response in 64*T1
 other_client_row (Trying interval) (Fires E) = again_after (Trying (after_t2 interval)) (after_t2 interval)
 other_client_row (Trying interval) (Fires F) = ended TimedOut
--- after a provisional answer E and F run on, and E is set to T2
+-- after a provisional response E and F run on, and E is set to T2
 other_client_row (Trying interval) (Response Provisional) = line (machine.OtherClient Proceeding) Nothing Up stops.NoTimer NoTimer
 other_client_row Proceeding (Response Provisional) = line (machine.OtherClient Proceeding) Nothing Up stops.NoTimer NoTimer
 other_client_row Proceeding (Fires E) = again_after Proceeding t2

@@ -14,12 +14,12 @@ use Rattle.transaction_machines.specs.declared.step.Stops.TheVariants as stops
 use Rattle.transaction_machines.specs.declared.step.Step.{Step}
 use Rattle.transaction_machines.specs.Steps.{line, ended, timer, timeout}
 
--- the final answer, which goes again on each copy of the request for 64*T1
+-- the final response, which goes again on each copy of the request for 64*T1
 abbrev pub final_answer : Option Step
 final_answer = line (machine.OtherServer Completed) Fresh Silent stops.Every (One (timer J timeout))
 
 unfoldable pub other_server_row : OtherServer → Input → Option Step
--- before the first answer the request again is swallowed: it has no line
+-- before the first response the request again is swallowed: it has no line
 other_server_row Trying (Answer Provisional) = line (machine.OtherServer Proceeding) Fresh Silent stops.NoTimer NoTimer
 other_server_row Trying (Answer Success) = final_answer
 other_server_row Trying (Answer Failure) = final_answer

@@ -29,9 +29,9 @@ pub enum Input {
     Ack,
     /// The core answers.
     Answer(Class),
-    /// An answer comes.
+    /// A response comes.
     Response(Class),
-    /// The core no longer waits for an answer.
+    /// The core no longer waits for a response.
     Abandon,
     /// A timer fires.
     Fires(TimerKind),

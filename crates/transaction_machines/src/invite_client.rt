@@ -42,7 +42,7 @@ fn sends_again(interval: u64, abandoned: bool) -> Option<Step>
     )
 }
 
-// A provisional answer: A and B stop.
+// A provisional response: A and B stop.
 fn proceeds() -> Option<Step>
     ensures { result ≡ line (State.InviteClient InviteClient.Proceeding) Sending.Nothing Told.Up Stops.Retransmission Starts.NoTimer }
 {
@@ -85,7 +85,7 @@ fn completes() -> Option<Step>
     )
 }
 
-// The first answer, or one after provisional ones.
+// The first response, or one after provisional ones.
 #[tactic(auto, unfolding(crate::specs::InviteClient::invite_client_row))]
 fn response_step(class: Class) -> Option<Step>
     ensures row { result ≡ invite_client_row InviteClient.Proceeding (Input.Response class) }

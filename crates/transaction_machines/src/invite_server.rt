@@ -65,7 +65,7 @@ fn refuses() -> Option<Step>
     })
 }
 
-// The answers of the core before a final one.
+// The responses of the core before a final one.
 #[tactic(auto, unfolding(crate::specs::InviteServer::invite_server_row))]
 fn response_step(class: Class) -> Option<Step>
     ensures row { result ≡ invite_server_row InviteServer.Proceeding (Input.Answer class) }

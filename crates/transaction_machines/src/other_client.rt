@@ -43,7 +43,7 @@ fn sends_again(interval: u64) -> Option<Step>
     sends_after(OtherClient::Trying(interval), interval)
 }
 
-// A final answer.
+// A final response.
 #[tactic(auto, unfolding(crate::specs::OtherClient::other_client_row))]
 fn completes() -> Option<Step>
     ensures row { result ≡ other_client_row OtherClient.Proceeding (Input.Response Class.Success) }
@@ -61,7 +61,7 @@ fn completes() -> Option<Step>
     )
 }
 
-// The first answer, or one after provisional ones.
+// The first response, or one after provisional ones.
 #[tactic(auto, unfolding(crate::specs::OtherClient::other_client_row))]
 fn response_step(class: Class) -> Option<Step>
     ensures row { result ≡ other_client_row OtherClient.Proceeding (Input.Response class) }

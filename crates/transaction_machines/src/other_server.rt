@@ -18,7 +18,7 @@ pub enum OtherServer {
     Completed,
 }
 
-// A final answer.
+// A final response.
 #[tactic(auto, unfolding(crate::specs::OtherServer::other_server_row))]
 fn completes() -> Option<Step>
     ensures row { result ≡ other_server_row OtherServer.Proceeding (Input.Answer Class.Success) }
@@ -36,7 +36,7 @@ fn completes() -> Option<Step>
     )
 }
 
-// The answers of the core before a final one.
+// The responses of the core before a final one.
 #[tactic(auto, unfolding(crate::specs::OtherServer::other_server_row))]
 fn response_step(class: Class) -> Option<Step>
     ensures row { result ≡ other_server_row OtherServer.Proceeding (Input.Answer class) }

@@ -24,7 +24,7 @@ pub enum Sending {
     Nothing,
     /// What was sent last, if anything was.
     Again,
-    /// What comes with the input: the core's answer, or the ACK to an answer. It is what is sent again from then on.
+    /// What comes with the input: the core's response, or the ACK to a response. It is what is sent again from then on.
     Fresh,
 }
 
@@ -34,7 +34,7 @@ pub enum Told {
     Silent,
     /// The message goes up to the core.
     Up,
-    /// No answer came, or no ACK: the transaction ends.
+    /// No response came, or no ACK: the transaction ends.
     TimedOut,
     /// The transaction ends.
     Ended,

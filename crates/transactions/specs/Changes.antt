@@ -38,7 +38,7 @@ entered_all now table (change ∷ changes) = entered_all now (entered now table 
 
 -- ---- what makes a change
 
--- a message: one of no transaction begins one, unless it is an ACK or an answer
+-- a message: one of no transaction begins one, unless it is an ACK or a response
 abbrev pub request_change : Request → Addr → Option ℕ → Entry
 request_change r source None = if is_method (codes "ACK") r.parts then Leaves else Opens (served r source) NoTimer
 request_change r source (Some id) = Tells id (input_of r.parts) None

@@ -132,7 +132,7 @@ abbrev pub request_reception : Contents → Request → Option ℕ → Reception
 request_reception table r None = begun table r.parts
 request_reception table r (Some id) = reception_at id (at table.slots id) (input_of r.parts) None
 
--- the ACK to an answer, where the line of the table sends one
+-- the ACK to a response, where the line of the table sends one
 abbrev pub ack_for : Transaction → Response → Sending → Option (List ℕ)
 ack_for t r Nothing = None
 ack_for t r Again = None
@@ -200,11 +200,11 @@ answer_input r = inputs.Answer (class_of r.status)
 abbrev pub after_answer : Contents → ℕ → Response → ℕ → Contents
 after_answer table id r now = table_at table id (at table.slots id) (answer_input r) (Some (message_text (Kinds.Response r))) now
 
--- what is sent for an answer
+-- what is sent for a response
 abbrev pub answer_sent : Contents → ℕ → Response → Option Outgoing
 answer_sent table id r = option_map (λ t. outgoing t.place (message_text (Kinds.Response r))) (at table.slots id)
 
--- which answer is refused, and why
+-- which response is refused, and why
 abbrev pub RefusesAnswer : Contents → ℕ → Response → TableError → Type 0
 RefusesAnswer table id r OutOfMemory = Unit {0}
 RefusesAnswer table id r Unknown = is_serving (at table.slots id) ≡ false
@@ -214,7 +214,7 @@ RefusesAnswer table id r Full = ⊥
 abbrev pub after_abandon : Contents → ℕ → ℕ → Contents
 after_abandon table id now = table_at table id (at table.slots id) inputs.Abandon None now
 
--- only the client transaction of an INVITE before its final answer is abandoned
+-- only the client transaction of an INVITE before its final response is abandoned
 abbrev pub RefusesAbandon : Contents → ℕ → TableError → Type 0
 RefusesAbandon table id OutOfMemory = Unit {0}
 RefusesAbandon table id Unknown = line_at table id inputs.Abandon ≡ None

@@ -1,4 +1,4 @@
--- What a copy of a request gets, once its final answer was given: the same bytes (RFC 3261 sections 17.2.1 and 17.2.2).
+-- What a copy of a request gets, once its final response was given: the same bytes (RFC 3261 sections 17.2.1 and 17.2.2).
 use Rattle.std.specs.Prelude.{◌≡◌, ℕ, Bool, true, false, List, codes, Option, Some, None, IfSome, position}
 use Rattle.sip_message.specs.declared.message.Message.TheVariants as Kinds
 use Rattle.sip_message.specs.declared.message.Request.{Request}
@@ -19,7 +19,7 @@ use Rattle.transactions.specs.Contents.{Contents, line_at, answer_input, after_a
 use Rattle.transactions.specs.Calls.{Call, after, after_all}
 use Rattle.transactions.specs.Once.{Lasts}
 
--- the final answer goes again on each copy
+-- the final response goes again on each copy
 abbrev pub is_completed : State → Bool
 is_completed (InviteClient state) = false
 is_completed (OtherClient state) = false
@@ -43,7 +43,7 @@ has_final (OtherServer other.Trying) = false
 has_final (OtherServer other.Proceeding) = false
 has_final (OtherServer other.Completed) = true
 
--- the transaction has given its final answer, which has these bytes
+-- the transaction has given its final response, which has these bytes
 pub record KeepsAnswer (bytes : List ℕ) (t : Transaction) : Type 0 where
   pub final : has_final t.state ≡ true
   pub last : t.last ≡ Some bytes
@@ -52,11 +52,11 @@ abbrev pub KeepsIfThere : List ℕ → Option Transaction → Type 0
 KeepsIfThere bytes None = Unit {0}
 KeepsIfThere bytes (Some t) = KeepsAnswer bytes t
 
--- transaction id stands, and has given this final answer
+-- transaction id stands, and has given this final response
 abbrev pub KeepsAt : List ℕ → Contents → ℕ → Type 0
 KeepsAt bytes table id = (t : Transaction) × (at table.slots id ≡ Some t) × KeepsAnswer bytes t
 
--- a final answer that is taken, but a 2xx to an INVITE, is kept
+-- a final response that is taken, but a 2xx to an INVITE, is kept
 abbrev pub KeepsFinal : Contents → ℕ → Response → ℕ → Type 0
 KeepsFinal table id r now =
     IfSome (line_at table id (answer_input r)) (λ step. IfSome step.next (λ next. is_completed next ≡ true

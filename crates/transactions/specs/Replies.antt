@@ -1,4 +1,4 @@
--- Which request an answer that is taken replies to.
+-- Which request a response that is taken replies to.
 use Rattle.std.specs.Prelude.{◌≡◌, ℕ, false, Some}
 use Rattle.sip_message.specs.declared.message.Parts.{Parts}
 use Rattle.transactions.specs.declared.outcome.Reception.{Reception}
@@ -26,6 +26,6 @@ pub record IsReplyTo (table : Contents) (answer : Parts) (reception : Reception)
   pub before : reception.before ≡ Some t.state
   pub number : (up : ℕ) → reception.verdict ≡ verdicts.Up up → up ≡ id
 
--- an answer goes up or is swallowed only where a client transaction stands whose request it replies to
+-- a response goes up or is swallowed only where a client transaction stands whose request it replies to
 abbrev pub RepliesWhereTaken : Contents → Parts → Reception → Type 0
 RepliesWhereTaken table answer reception = IsTaken reception.verdict → (id : ℕ) × (t : Transaction) × IsReplyTo table answer reception id t

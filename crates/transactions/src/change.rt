@@ -29,9 +29,9 @@ use transaction_machines::{Input, Starts};
 pub enum Entry {
     /// A new transaction, under the least number that is free, and its timers.
     Opens(Boxed<Transaction>, Starts),
-    /// A transaction is told something that is no answer of the core, perhaps with what it is to send.
+    /// A transaction is told something that is no response of the core, perhaps with what it is to send.
     Tells(usize, Input, Option<Text<'static>>),
-    /// An answer of the core, with its bytes.
+    /// A response of the core, with its bytes.
     Answers(usize, Class, Text<'static>),
     /// Nothing.
     Leaves,
@@ -88,7 +88,7 @@ impl Change {
         }
     }
 
-    /// The core no longer waits for an answer to its INVITE. Takes no memory.
+    /// The core no longer waits for a response to its INVITE. Takes no memory.
     pub fn abandons(id: usize) -> Change
         ensures { result ≡ Tells id inputs.Abandon None }
     {
@@ -106,7 +106,7 @@ impl Change {
         }
     }
 
-    /// A transaction is told something that is no answer of the core.
+    /// A transaction is told something that is no response of the core.
     pub(crate) fn tells(id: usize, input: Input, fresh: Option<Text<'static>>) -> Change
         requires { is_answer input ≡ false }
         ensures { result ≡ Tells id input fresh.entry }

@@ -112,7 +112,7 @@ impl Table {
         }
     }
 
-    // An answer.
+    // A response.
     #[tactic(auto, unfolding(crate::specs::Contents::reception_of, crate::specs::Contents::message_takes, crate::specs::Changes::change_of))]
     fn foresee_response(&self, response: &Response) -> Result<Foreseen, AllocError>
         ensures reception { IfOk result (λ f. f.reception ≡ reception_of self.now (Kinds.Response response.now)) }
@@ -153,7 +153,7 @@ impl Table {
     }
 }
 
-// The ACK that an answer to transaction id is to get.
+// The ACK that a response to transaction id is to get.
 fn ack_at(
     alloc: Global,
     slots: &[Slot],

@@ -36,9 +36,9 @@ pub fn once()
         NewOnce table request source now calls }
 {}
 
-/// An answer goes up or is swallowed only where a client transaction stands whose request it replies to: branch, Call-ID,
+/// A response goes up or is swallowed only where a client transaction stands whose request it replies to: branch, Call-ID,
 /// tag of From, number and method agree, and the tag of To where the request has one. Its state before is told. What is
-/// written in answer to a request replies to it.
+/// written in response to a request replies to it.
 pub fn replies()
     ensures written { (answer request : Parts) (status : ℕ) (tag : List ℕ) → Replies answer request status tag → RepliesTo answer request }
     ensures reply { (answer : Parts) (request : Parts) → (is_reply answer request ≡ true) ↔ RepliesTo answer request }
@@ -65,7 +65,7 @@ pub fn others_are_untouched()
     ensures { (table : Contents) (call : Call) → LeavesOthers table call }
 {}
 
-/// The final answer of the core, but a 2xx to an INVITE, is kept over any calls while its transaction lasts; until the ACK
+/// The final response of the core, but a 2xx to an INVITE, is kept over any calls while its transaction lasts; until the ACK
 /// comes, a copy of the request gets its bytes again, and timer G sends them again (RFC 3261 sections 17.2.1 and 17.2.2).
 pub fn answers_are_repeated()
     ensures kept { (table : Contents) (id : ℕ) (response : Response) (now : ℕ) → KeepsFinal table id response now }

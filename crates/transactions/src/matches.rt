@@ -69,7 +69,7 @@ fn is_same_call(a: &Parts, b: &Parts) -> bool
         && a.cseq.method.as_bytes() == b.cseq.method.as_bytes()
 }
 
-/// Whether an answer is one to this request.
+/// Whether a response is one to this request.
 #[tactic(auto, unfolding(crate::specs::Matching::is_reply))]
 pub(crate) fn is_reply(answer: &Parts, request: &Parts) -> bool
     ensures { result ≡ is_reply answer.now request.now }

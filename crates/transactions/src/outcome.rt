@@ -23,9 +23,9 @@ pub enum Verdict {
     Repeat,
     /// A message that changes nothing for the core.
     Swallowed,
-    /// An answer to a request of the core, or an ACK to a 2xx: it goes up.
+    /// A response to a request of the core, or an ACK to a 2xx: it goes up.
     Up(usize),
-    /// An answer or an ACK that belongs to no transaction.
+    /// A response or an ACK that belongs to no transaction.
     Stray,
 }
 
@@ -64,7 +64,7 @@ pub struct Started {
 pub enum Fired {
     /// The same bytes go again.
     Send(Outgoing),
-    /// No answer came, or no ACK, and the transaction ended.
+    /// No response came, or no ACK, and the transaction ended.
     TimedOut,
     /// The transaction ended.
     Ended,

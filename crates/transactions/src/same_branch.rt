@@ -68,7 +68,7 @@ fn ack_by(
 }
 
 /// The ACK to a refusal of the INVITE of a client transaction: the INVITE's Request-URI, top Via, From, Call-ID and number,
-/// and the answer's To (RFC 3261 section 17.1.1.3). None where the INVITE has no Via.
+/// and the response's To (RFC 3261 section 17.1.1.3). None where the INVITE has no Via.
 pub fn ack_of(
     alloc: Global,
     invite: &Transaction,
@@ -144,7 +144,7 @@ fn ack_text(
     text_of(alloc, &ack)
 }
 
-/// The bytes of the ACK to an answer, where one is sent.
+/// The bytes of the ACK to a response, where one is sent.
 pub(crate) fn ack_for(
     alloc: Global,
     transaction: &Transaction,

@@ -68,7 +68,7 @@ impl Model for Table {
 }
 
 impl Table {
-    /// A table without transactions, which are looked up by prints under this key. No answer depends on the key. Takes no memory.
+    /// A table without transactions, which are looked up by prints under this key. No response depends on the key. Takes no memory.
     pub fn new(alloc: Global, key: PrintKey) -> Self
         ensures slots { result.slots ≡ [] }
         ensures timers { result.timers ≡ [] }
@@ -81,7 +81,7 @@ impl Table {
     }
 
     /// Takes a message that came from `source`. A request that belongs to no transaction begins one, under the least
-    /// number that none has; an answer or an ACK that belongs to none is stray. A refusal (X3, or no memory, where the
+    /// number that none has; a response or an ACK that belongs to none is stray. A refusal (X3, or no memory, where the
     /// message begins a transaction, sends something or starts a timer) leaves the table as it was.
     #[tactic(auto, using(crate::proofs::MemoryLaws::message_room), unfolding(crate::specs::Changes::after_message))]
     pub fn receive(
@@ -124,7 +124,7 @@ impl Table {
         })
     }
 
-    /// Takes an answer of the core to the request of a server transaction, and sends it.
+    /// Takes a response of the core to the request of a server transaction, and sends it.
     #[tactic(auto, unfolding(crate::specs::Slots::is_serving))]
     pub fn answer(
         &mut self,
@@ -156,7 +156,7 @@ impl Table {
         Ok(Outgoing { to, bytes })
     }
 
-    /// The core no longer waits for an answer to its INVITE: the transaction ends 32 seconds later at the latest.
+    /// The core no longer waits for a response to its INVITE: the transaction ends 32 seconds later at the latest.
     pub fn abandon(&mut self, id: usize, now: u64) -> Result<(), TableError>
         requires { now < 2 ^ 60 }
         ensures line { OnOk result (IsSome (line_at self.old id Input.Abandon)) }
@@ -190,7 +190,7 @@ impl Table {
     }
 
     /// Enters all changes, in order, or none: the only refusal is for want of memory. Each is looked up when it is
-    /// entered, so that an answer may follow the request in one list.
+    /// entered, so that a response may follow the request in one list.
     pub fn apply(&mut self, changes: Vec<Change>, now: u64) -> Result<(), AllocError>
         requires { now < 2 ^ 60 }
         ensures ok { OnOk result (self.new ≡ entered_all now self.old changes.items) }
@@ -208,7 +208,7 @@ impl Table {
         transaction_at(self.places.slots(), id)
     }
 
-    /// Whether a server transaction takes an answer of the core with this status. Takes no memory.
+    /// Whether a server transaction takes a response of the core with this status. Takes no memory.
     pub fn may_answer(&self, id: usize, status: u16) -> bool
         ensures { result ≡ is_some (line_at self.now id (Input.Answer (class_of status))) }
     {

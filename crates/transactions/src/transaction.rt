@@ -38,7 +38,7 @@ pub struct Transaction {
     pub state: State,
     /// Where all that it sends goes.
     pub place: Addr,
-    /// What it sent last: its request, an answer, or the ACK to a refusal. None where nothing was sent.
+    /// What it sent last: its request, a response, or the ACK to a refusal. None where nothing was sent.
     pub last: Option<Text<'static>>,
 }
 
