@@ -68,7 +68,7 @@ impl Model for Table {
 }
 
 impl Table {
-    /// A table without transactions, which are looked up by prints under this key. No response depends on the key. Takes no memory.
+    /// A table without transactions, which are looked up by prints under this key. No result depends on the key. Takes no memory.
     pub fn new(alloc: Global, key: PrintKey) -> Self
         ensures slots { result.slots ≡ [] }
         ensures timers { result.timers ≡ [] }

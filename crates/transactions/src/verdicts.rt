@@ -1,4 +1,4 @@
-//! How a line of the machines reads as a response of the table.
+//! How a line of the machines reads as a verdict of the table.
 
 ghost use Rattle.std.specs.Prelude.{◌≡◌, false};
 ghost use Rattle.transactions.specs.Contents.{input_of, verdict_by, fired_by, IsNew};
