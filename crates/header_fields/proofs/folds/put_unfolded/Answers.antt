@@ -1,7 +1,7 @@
 use Rattle.std.proofs.Common.{ap}
 use Rattle.std.specs.Option.{option_copied}
 use Rattle.header_fields.proofs.RawLoop.{loop_fewer, put_loop}
-use Rattle.header_fields.proofs.from_lines.put_unfolded.Goals as goal
+use Rattle.header_fields.proofs.folds.put_unfolded.Goals as goal
 
 pub loop-rest-smaller : goal.loop-rest-smaller
 loop-rest-smaller c = loop_fewer c.in-Some.text.now (option_copied c.loop-rest.rest) _ (ap option_copied c.in-Some.is) c.first_line.ensures.rest

@@ -1,6 +1,6 @@
 use Rattle.std.proofs.Common.{◌≡◌, length}
 use Rattle.header_fields.specs.Folded.{behind_piece}
-use Rattle.header_fields.proofs.from_lines.behind.Given as goal
+use Rattle.header_fields.proofs.folds.behind.Given as goal
 
 abbrev pub invariant-loop-wanted : goal.invariant-loop-wanted
 invariant-loop-wanted l = behind_piece l.wanted l.left ≡ behind_piece l.piece l.text

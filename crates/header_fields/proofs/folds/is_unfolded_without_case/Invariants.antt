@@ -5,7 +5,7 @@ use Rattle.text.specs.Trim.{trimmed}
 use Rattle.header_fields.specs.Glue.{unfolded}
 use Rattle.header_fields.specs.Folded.{lines_in, unfolded_text}
 use Rattle.header_fields.proofs.RawLoop.{bytes_left, tail}
-use Rattle.header_fields.proofs.from_lines.is_unfolded_without_case.Given as goal
+use Rattle.header_fields.proofs.folds.is_unfolded_without_case.Given as goal
 
 -- what the lines that are left say is what is left to compare, exactly where the wholes are one
 abbrev pub invariant-loop-rest : goal.invariant-loop-rest

@@ -4,7 +4,7 @@ use Rattle.text.specs.Trim.{trimmed}
 use Rattle.header_fields.specs.Glue.{glue, unfolded}
 use Rattle.header_fields.specs.Folded.{lines_in, begun_by, unfolded_text}
 use Rattle.header_fields.proofs.RawLoop.{bytes_left}
-use Rattle.header_fields.proofs.from_lines.put_unfolded.Given as goal
+use Rattle.header_fields.proofs.folds.put_unfolded.Given as goal
 
 -- what is written so far, and what the lines that are left say, is the whole
 abbrev pub invariant-loop-rest : goal.invariant-loop-rest
