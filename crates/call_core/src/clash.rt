@@ -19,7 +19,7 @@ pub enum Clash {
     SecondOffer,
 }
 
-fn clash_of(offerer: End, end: End) -> Option<Clash>
+fn clash_between(offerer: End, end: End) -> Option<Clash>
     ensures { result ≡ crossing offerer end }
 {
     if end == offerer {
@@ -44,7 +44,7 @@ pub fn clash_at(standing: Standing, end: End) -> Option<Clash>
     match standing.stage {
         Stage::Asked(_) => of_offerer(offerer, end, Clash::SecondOffer),
         Stage::Answered(_) | Stage::Reanswered(_) => Some(Clash::Glare),
-        Stage::Reasked(..) | Stage::Updating => clash_of(offerer, end),
+        Stage::Reasked(..) | Stage::Updating => clash_between(offerer, end),
         Stage::Ending(_) => of_offerer(offerer, end, Clash::Glare),
         Stage::Cancelling(_) | Stage::Settled => None,
     }

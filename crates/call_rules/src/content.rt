@@ -68,7 +68,7 @@ fn described_by(
 /// What the body of a message with these header fields describes; none where there is no body, where it is not taken, and where it
 /// can't be read.
 #[tactic(auto, unfolding(crate::specs::Content::described))]
-pub fn description_in<'d>(
+pub fn body_description<'d>(
     alloc: Global,
     headers: &[Header<'_>],
     body: &'d [u8],

@@ -47,7 +47,7 @@ fn said_by(alloc: Global, bytes: &[u8]) -> Result<Config, ConfigError>
 }
 
 /// The same configuration, if it keeps the rules.
-fn accept(config: Config) -> Result<Config, ConfigError>
+fn keep_valid(config: Config) -> Result<Config, ConfigError>
     ensures { MatchResult result (λ c. (c ≡ config) × (first_broken c ≡ None)) (λ e. first_broken config ≡ Some e) }
 {
     match check(&config) {
@@ -60,7 +60,7 @@ fn read(alloc: Global, bytes: &[u8]) -> Result<Config, ConfigError>
     ensures found { IfOk result (λ c. ReadsConfig bytes.now c) }
     ensures refused { IfErr result (Refuses bytes.now) }
 {
-    accept(said_by(alloc, bytes)?)
+    keep_valid(said_by(alloc, bytes)?)
 }
 
 /// The configuration that the text of a file says (TOML). A file that says none is refused before any rule is looked at.

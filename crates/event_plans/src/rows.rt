@@ -175,7 +175,7 @@ fn foreseen_row(
 
 #[tactic(auto, unfolding(event_rows::specs::Rows::received), using(crate::proofs::RoomLaws::has_room, crate::proofs::RoomLaws::has_none))]
 #[inline(never)]
-fn received_row(
+fn message_row(
     office: &Office<'_>,
     setting: Setting,
     message: &Message<'_>,
@@ -206,7 +206,7 @@ fn fit_row(
     if is_unreachable_message(office.alloc, message)? {
         return Ok(office.drops_row(Taken::Dropped(Why::Stray)));
     }
-    received_row(office, setting, message)
+    message_row(office, setting, message)
 }
 
 #[tactic(auto, unfolding(event_rows::specs::Rows::read_row))]

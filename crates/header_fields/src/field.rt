@@ -10,7 +10,7 @@ ghost use Rattle.header_fields.specs.Fields.{begins_blank, name_and_value};
 use crate::field_value::FieldValue;
 use crate::header_names::long_name;
 use crate::headers::Header;
-use text::{Text, cut, is_blank, is_run_of_token, is_token_byte, trim};
+use text::{Text, cut, is_blank, is_run_of_token, is_token_byte, trim_blanks};
 
 /// Whether the line begins with a space or a tab, and so continues the field before it.
 pub(crate) fn begins_blank(line: &[u8]) -> bool
@@ -49,7 +49,7 @@ pub(crate) fn name_and_value(line: &[u8]) -> Option<(&[u8], &[u8])>
     }
     let (before, after) = cut(line, b':');
     let begun = after?;
-    let name = trim(before);
+    let name = trim_blanks(before);
     if !is_run_of_token(name) {
         return None;
     }
@@ -62,6 +62,6 @@ pub(crate) fn header<'a>(name: &'a [u8], begun: &'a [u8]) -> Header<'a>
 {
     Header {
         name: Text::lent(long_name(name)),
-        value: FieldValue::whole(Text::lent(trim(begun))),
+        value: FieldValue::whole(Text::lent(trim_blanks(begun))),
     }
 }

@@ -47,7 +47,7 @@ impl<'a> FieldValue<'a> {
     }
 
     /// The value that these lines are.
-    pub(crate) fn from_lines(raw: &'a [u8]) -> FieldValue<'a>
+    pub(crate) fn of_raw(raw: &'a [u8]) -> FieldValue<'a>
         ensures { result ≡ unfolded_text raw.now }
     {
         FieldValue {

@@ -7,7 +7,7 @@ ghost use Rattle.header_fields.specs.Folded.{unfolded_text, behind_piece, behind
 
 use crate::lines::first_line;
 use std::alloc::AllocError;
-use text::trim;
+use text::trim_blanks;
 
 /// Whether a value has begun behind this piece.
 fn begun_by(is_begun: bool, piece: &[u8]) -> bool
@@ -40,7 +40,7 @@ pub(crate) fn put_unfolded(out: &mut Vec<u8>, raw: &[u8]) -> Result<(), AllocErr
     let mut is_begun = false;
     while let Some(text) = rest {
         let (line, after) = first_line(text);
-        let piece = trim(line);
+        let piece = trim_blanks(line);
         put_piece(out, is_begun, piece)?;
         is_begun = begun_by(is_begun, piece);
         rest = after;
@@ -89,7 +89,7 @@ pub(crate) fn is_unfolded_without_case(raw: &[u8], other: &[u8]) -> bool
     let mut is_begun = false;
     while let Some(text) = rest {
         let (line, after) = first_line(text);
-        let piece = trim(line);
+        let piece = trim_blanks(line);
         let Some(behind) = behind_next(is_begun, piece, left) else {
             return false;
         };

@@ -59,7 +59,7 @@ fn set_last<'a>(headers: &mut Vec<Header<'a>>, raw: &'a [u8]) -> Result<(), Head
     };
     headers.push(Header {
         name: last.name,
-        value: FieldValue::from_lines(raw),
+        value: FieldValue::of_raw(raw),
     })?;
     Ok(())
 }

@@ -14,7 +14,7 @@ use crate::header_names::long_name;
 use crate::headers::Header;
 use crate::lines::is_clean;
 use std::alloc::{AllocError, Global};
-use text::{Text, trim};
+use text::{Text, trim_blanks};
 
 /// The lines at the front that continue a field.
 fn continuation_lines<'a, 'b>(lines: &'a [&'b [u8]]) -> &'a [&'b [u8]]
@@ -63,9 +63,9 @@ fn glue(value: &mut Vec<u8>, piece: &[u8]) -> Result<(), AllocError>
 fn unfold(alloc: Global, begun: &[u8], more: &[&[u8]]) -> Result<Text<'static>, AllocError>
     ensures { IfOk result (λ value. value ≡ unfolded (map trimmed (begun.now ∷ texts more.now))) }
 {
-    let mut value = Vec::from_slice(alloc, trim(begun))?;
+    let mut value = Vec::from_slice(alloc, trim_blanks(begun))?;
     for line in more {
-        glue(&mut value, trim(line))?;
+        glue(&mut value, trim_blanks(line))?;
     }
     Ok(Text::from_vec(value))
 }

@@ -22,7 +22,7 @@ use crate::rule::CallRule;
 use crate::setting::Setting;
 use call_core::{CallRefusal, End, Input};
 use call_messages::Asker;
-use call_rules::description_in;
+use call_rules::body_description;
 use call_steps::{CallStep, counts, first_call, offerer_tag};
 use calls::{LegDialog, StandingCall};
 use responses::STATELESS;
@@ -253,7 +253,7 @@ impl<'o> Office<'o> {
         ensures row { IfOk result (λ d. effect self.now.calls self.now.acks setting.now d ≡ begins_by self.now setting request.now begun.items id (Some target.now) (described request.now.headers request.now.body)) }
         ensures fits { IfOk result (Fits self.now.calls setting.now) }
     {
-        let offer = description_in(
+        let offer = body_description(
             self.alloc,
             request.headers.as_slice(),
             request.body.as_bytes(),
@@ -288,7 +288,7 @@ impl<'o> Office<'o> {
 
     /// The dialog of this request counts its number, whatever it is answered.
     #[inline(never)]
-    pub(crate) fn count_number(
+    pub(crate) fn counts_its_number(
         &self,
         request: &Request<'_>,
         place: usize,

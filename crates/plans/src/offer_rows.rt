@@ -20,7 +20,7 @@ use crate::rule::Reply;
 use crate::setting::Setting;
 use call_core::{CallRefusal, Clash, End, Input, OfferMethod};
 use call_messages::contact_header;
-use call_rules::{ContentRule, OfferRule, description_in, offer_rule, plain_rule};
+use call_rules::{ContentRule, OfferRule, body_description, offer_rule, plain_rule};
 use call_steps::{CallStep, refreshes};
 use calls::StandingCall;
 use responses::is_method;
@@ -112,7 +112,7 @@ impl<'o> Office<'o> {
         ensures fits { IfOk result (Fits self.now.calls setting.now) }
     {
         let plan = self.reply_row(setting, request, begun, id, reply)?;
-        self.count_number(request, place, end, plan)
+        self.counts_its_number(request, place, end, plan)
     }
 
     // ---- an offer
@@ -206,7 +206,7 @@ impl<'o> Office<'o> {
         ensures fits { IfOk result (Fits self.now.calls setting.now) }
     {
         let headers = request.headers.as_slice();
-        match description_in(self.alloc, headers, request.body.as_bytes())? {
+        match body_description(self.alloc, headers, request.body.as_bytes())? {
             None => self.refuses_in(setting, request, begun, id, place, end, Reply::Refusal(488)),
             Some(offer) => self.passes_if(setting, request, begun, id, place, end, call, offer),
         }

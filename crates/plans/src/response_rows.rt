@@ -16,7 +16,7 @@ use crate::plan::Plan;
 use crate::setting::Setting;
 use crate::taken::{Taken, Why};
 use call_core::{CallTimer, Input};
-use call_rules::{ResponseRule, description_in, response_rule, timeout_rule};
+use call_rules::{ResponseRule, body_description, response_rule, timeout_rule};
 use call_steps::{answers_leg, fork, late_ack};
 use calls::CallTimerId;
 use events::Sent;
@@ -111,7 +111,11 @@ impl<'o> Office<'o> {
     {
         let leg = answers_leg(self.alloc, self.calls, place, asked, response)?;
         let headers = response.headers.as_slice();
-        let answer = Input::Answer(description_in(self.alloc, headers, response.body.as_bytes())?);
+        let answer = Input::Answer(body_description(
+            self.alloc,
+            headers,
+            response.body.as_bytes(),
+        )?);
         let doing = self.takes(setting, before, place, &answer, leg);
         drop(answer);
         doing

@@ -29,7 +29,7 @@ impl Changes {
         }
     }
 
-    pub fn copy_of(alloc: Global, changes: &[Change]) -> Result<Changes, AllocError>
+    pub fn list_copy(alloc: Global, changes: &[Change]) -> Result<Changes, AllocError>
         ensures { IfOk result (λ c. c ≡ changes.now) }
     {
         Ok(Changes {

@@ -7,14 +7,14 @@ ghost use Rattle.responses.specs.Tags.{is_some_text, tags_in, required_tags, beh
 
 use sip_message::{Header, values_named};
 use std::alloc::{AllocError, Global};
-use text::{Text, pieces, trim};
+use text::{Text, pieces, trim_blanks};
 
 fn push_tags<'a>(alloc: Global, tags: &mut Vec<&'a [u8]>, value: &'a [u8]) -> Result<(), AllocError>
     ensures { OnOk result (map (λ t. t.now) tags.new.items ≡ map (λ t. t.now) tags.old.items ++ tags_in value.now) }
 {
     let found = pieces(alloc, value, b',')?;
     for piece in &found {
-        let tag = trim(piece);
+        let tag = trim_blanks(piece);
         if tag.is_empty() {
             continue;
         }

@@ -10,7 +10,7 @@ use crate::start::Start;
 use header_fields::{FieldValue, Header, is_named};
 use sip_uri::{NameAddr, UriError, read_name_addr};
 use std::alloc::{AllocError, Global};
-use text::{Text, cut_piece, trim};
+use text::{Text, cut_piece, trim_blanks};
 
 /// One value of a Contact header field.
 #[derive(Drop)]
@@ -47,7 +47,7 @@ pub enum ContactNeed {
 fn is_star(text: &[u8]) -> bool
     ensures { result ≡ is_star text.now }
 {
-    trim(text) == b"*".as_slice()
+    trim_blanks(text) == b"*".as_slice()
 }
 
 #[tactic(auto, unfolding(crate::specs::Contact::contact_of))]

@@ -7,12 +7,12 @@ ghost use Rattle.sip_message.specs.Content.{has_description_type, is_identity, i
 use crate::words::content_type;
 use header_fields::{FieldValue, Header, values_named};
 use std::alloc::{AllocError, Global};
-use text::{pieces, trim};
+use text::{pieces, trim_blanks};
 
 fn is_identity(coding: &[u8]) -> bool
     ensures { result ≡ is_identity coding.now }
 {
-    trim(coding).eq_ignore_ascii_case(b"identity")
+    trim_blanks(coding).eq_ignore_ascii_case(b"identity")
 }
 
 fn are_identities(codings: &[&[u8]]) -> bool

@@ -6,12 +6,12 @@ ghost use Rattle.sip_message.specs.MediaType.{is_token, is_media_value, is_media
 
 use sip_uri::{Param, is_quoted, read_field_params};
 use std::alloc::{AllocError, Global};
-use text::{cut, is_run_of_token, trim};
+use text::{cut, is_run_of_token, trim_blanks};
 
 fn is_token(text: &[u8]) -> bool
     ensures { result ≡ is_token text.now }
 {
-    is_run_of_token(trim(text))
+    is_run_of_token(trim_blanks(text))
 }
 
 fn is_media_range(text: &[u8]) -> bool

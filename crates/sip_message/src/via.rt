@@ -16,7 +16,7 @@ use sip_uri::{Host, Params, read_field_params, read_host};
 use std::alloc::{AllocError, Global};
 use std::marker::Model;
 use text::{
-    Text, cut, cut_piece, cut_word, is_run_of_digits, number_upto, same_without_case, trim,
+    Text, cut, cut_piece, cut_word, is_run_of_digits, number_upto, same_without_case, trim_blanks,
     without_blanks,
 };
 
@@ -111,7 +111,7 @@ fn port_text(text: Option<&[u8]>) -> Option<&[u8]>
     ensures { option_copied result ≡ option_map trimmed (option_copied text.entry) }
 {
     match text {
-        Some(port) => Some(trim(port)),
+        Some(port) => Some(trim_blanks(port)),
         None => None,
     }
 }
@@ -127,14 +127,14 @@ fn via_text(text: &[u8]) -> (ViaText<'_>, &[u8])
     let (transport, sent_by) = cut_word(without_blanks(behind.unwrap_or(&[])));
     let (host, port) = cut(sent_by, b':');
     let parts = ViaText {
-        name: trim(name),
-        version: trim(version),
+        name: trim_blanks(name),
+        version: trim_blanks(version),
         transport,
-        host: trim(host),
+        host: trim_blanks(host),
         port: port_text(port),
         params,
     };
-    (parts, trim(sent_by))
+    (parts, trim_blanks(sent_by))
 }
 
 fn is_port(text: &[u8]) -> bool

@@ -10,7 +10,7 @@ use crate::via::Vias;
 use header_fields::{Header, first_value};
 use sip_uri::{Param, param_named};
 use std::alloc::{AllocError, Global};
-use text::{Text, cut, trim};
+use text::{Text, cut, trim_blanks};
 
 /// The class of a response's status (RFC 3261 section 7.2).
 #[derive(Clone, Copy)]
@@ -113,7 +113,11 @@ fn media_range(alloc: Global, text: &[u8]) -> Result<Text<'static>, AllocError>
     if subtype.is_some() && is_lower_range(text) {
         return Text::from_slice(alloc, text);
     }
-    lower_range(alloc, trim(kind), trim(subtype.unwrap_or(b"")))
+    lower_range(
+        alloc,
+        trim_blanks(kind),
+        trim_blanks(subtype.unwrap_or(b"")),
+    )
 }
 
 /// What the body is, as Content-Type says it: `type/subtype` in lower case, without its parameters, where that header

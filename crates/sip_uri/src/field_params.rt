@@ -9,7 +9,7 @@ ghost use Rattle.sip_uri.specs.FieldParams.{is_bracket_byte, is_bracketed, is_fi
 use crate::quotes::is_quoted;
 use crate::uri::{Param, Params};
 use std::alloc::{AllocError, Global};
-use text::{Text, cut, cut_piece, is_run_of_token, is_token_byte, trim};
+use text::{Text, cut, cut_piece, is_run_of_token, is_token_byte, trim_blanks};
 
 fn is_bracket_byte(b: u8) -> bool
     ensures { result ≡ is_bracket_byte b }
@@ -55,13 +55,13 @@ fn field_param(piece: &[u8]) -> Option<Param<'_>>
     ensures { result ≡ field_param_read piece.now }
 {
     let (name, value) = cut(piece, b'=');
-    let name = trim(name);
+    let name = trim_blanks(name);
     if !is_run_of_token(name) {
         return None;
     }
     let value = match value {
         Some(value) => {
-            let value = trim(value);
+            let value = trim_blanks(value);
             if !is_field_value(value) {
                 return None;
             }

@@ -9,7 +9,7 @@ ghost use Rattle.sip_uri.specs.NameParts.{RawName, is_phrase_byte, phrase_of, wi
 
 use crate::quotes::{fits_quotes, quoted_text};
 use std::marker::Model;
-use text::{cut, is_blank, is_token_byte, trim, without_blanks};
+use text::{cut, is_blank, is_token_byte, trim_blanks, without_blanks};
 
 /// `"display" <uri>;params`, or the like: the display as it counts, the URI without blanks round it, what stands behind
 /// the semicolon.
@@ -51,7 +51,7 @@ fn is_phrase(text: &[u8]) -> bool
 fn phrase_of(text: &[u8]) -> Option<&[u8]>
     ensures { option_copied result ≡ phrase_of text.now }
 {
-    let words = trim(text);
+    let words = trim_blanks(text);
     if words.is_empty() { None } else { Some(words) }
 }
 
@@ -137,7 +137,7 @@ fn bare(text: &[u8]) -> NameParts<'_>
     let (uri, params) = cut(text, b';');
     NameParts {
         display: None,
-        uri: trim(uri),
+        uri: trim_blanks(uri),
         in_angles: false,
         params,
     }

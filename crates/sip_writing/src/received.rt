@@ -94,7 +94,7 @@ pub(crate) fn numbers_fit(ip: &[u8], port: u16)
 {}
 
 #[tactic(auto, unfolding(crate::specs::Reply::received))]
-fn received_param(alloc: Global, source: Addr) -> Result<Param<'static>, AllocError>
+fn source_param(alloc: Global, source: Addr) -> Result<Param<'static>, AllocError>
     ensures { IfOk result (λ p. p ≡ received source) }
 {
     let name = Text::from_slice(alloc, b"received")?;
@@ -131,7 +131,7 @@ fn add_received(
     ensures { OnOk result (params.new.items ≡ with_received needed source params.old.items) }
 {
     if needed {
-        let param = received_param(alloc, source)?;
+        let param = source_param(alloc, source)?;
         params.push(param)?;
         return Ok(());
     }

@@ -30,7 +30,7 @@ fn without_end(text: &[u8]) -> &[u8]
 }
 
 /// The text without the blanks at its front and at its end.
-pub fn trim(text: &[u8]) -> &[u8]
+pub fn trim_blanks(text: &[u8]) -> &[u8]
     ensures { result.now ≡ trimmed text.now }
 {
     without_end(without_blanks(text))

@@ -6,7 +6,7 @@ ghost use Rattle.timers.specs.Queue.{stands, moment, without};
 ghost use Rattle.timers.specs.ByKey.{KeysRise, place_by_key, moment_of, put_key};
 
 use crate::Timer;
-use crate::partition::partition_point;
+use crate::partition::ring_partition_point;
 use std::collections::VecDeque;
 
 // How many keys are below a key.
@@ -15,7 +15,7 @@ pub(crate) fn place_of<K: Ord + Copy>(keys: &VecDeque<Timer<K>>, key: K) -> usiz
     ensures bound { result ≤ deque_len keys.now }
     ensures place { result ≡ place_by_key K.cmp keys.now.items key }
 {
-    partition_point(keys, |timer| timer.key < key)
+    ring_partition_point(keys, |timer| timer.key < key)
 }
 
 // The moment of the timer at a place, where it is the key's.

@@ -6,7 +6,7 @@ ghost use Rattle.std.specs.VecDeque.{deque_len, deque_capacity};
 ghost use Rattle.timers.specs.Queue.{MomentsRise, IsQueue, put, moment, without, first, first_due};
 
 use crate::Timer;
-use crate::partition::partition_point;
+use crate::partition::ring_partition_point;
 use std::collections::VecDeque;
 
 // The moment of the first timer.
@@ -32,7 +32,7 @@ fn first_after<K: Copy>(timers: &VecDeque<Timer<K>>, at: u64) -> usize
     ensures bound { result ≤ deque_len timers.now }
     ensures place { result ≡ prefix_len (λ t. nat_le t.at at) timers.now.items }
 {
-    partition_point(timers, |timer| timer.at <= at)
+    ring_partition_point(timers, |timer| timer.at <= at)
 }
 
 // How many timers are due before a moment.
@@ -41,7 +41,7 @@ fn first_at<K: Copy>(timers: &VecDeque<Timer<K>>, at: u64) -> usize
     ensures bound { result ≤ deque_len timers.now }
     ensures place { result ≡ prefix_len (λ t. nat_lt t.at at) timers.now.items }
 {
-    partition_point(timers, |timer| timer.at < at)
+    ring_partition_point(timers, |timer| timer.at < at)
 }
 
 // Puts a timer behind all that are due no later.

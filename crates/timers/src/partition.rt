@@ -10,7 +10,10 @@ use std::collections::VecDeque;
 
 // How many items pass a test, where none passes behind one that fails. A ring lies in two slices, and the one with the place is
 // halved: each step of halving the ring itself asks which of them an item is in.
-pub(crate) fn partition_point<T, P: Fn(&T) -> bool + Copy>(list: &VecDeque<T>, test: P) -> usize
+pub(crate) fn ring_partition_point<T, P: Fn(&T) -> bool + Copy>(
+    list: &VecDeque<T>,
+    test: P,
+) -> usize
     requires { P.IsAlwaysCallable test }
     ensures bound { result ≤ deque_len list.now }
     ensures place { (p : T → Bool) → ComputesKey P.FnMut p test → IsPartitionedBy p list.now.items → result ≡ prefix_len p list.now.items }

@@ -8,7 +8,7 @@ ghost use Rattle.transaction_machines.specs.Steps.{line, timer, t1, d_after, IsS
 use crate::input::{Input, TimerKind};
 use crate::state::State;
 use crate::step::{
-    LIMIT, Sending, Start, Starts, Step, Stops, Told, double, ends, enters, sets, stays,
+    LIMIT, Sending, Start, Starts, Step, Stops, Told, ends, enters, sets, stays, twice_to_limit,
 };
 use sip_message::Class;
 
@@ -31,7 +31,7 @@ fn sends_again(interval: u64, abandoned: bool) -> Option<Step>
     ensures short { IfSome result (λ step. IsShort step.starts) }
     ensures side { IfSome result (λ step. KeepsSide (State.InviteClient InviteClient.Proceeding) step.next) }
 {
-    let interval = double(interval);
+    let interval = twice_to_limit(interval);
     sets(
         State::InviteClient(InviteClient::Calling(interval, abandoned)),
         Sending::Again,
@@ -87,7 +87,7 @@ fn completes() -> Option<Step>
 
 // The first response, or one after provisional ones.
 #[tactic(auto, unfolding(crate::specs::InviteClient::invite_client_row))]
-fn response_step(class: Class) -> Option<Step>
+fn on_response(class: Class) -> Option<Step>
     ensures row { result ≡ invite_client_row InviteClient.Proceeding (Input.Response class) }
     ensures short { IfSome result (λ step. IsShort step.starts) }
     ensures side { IfSome result (λ step. KeepsSide (State.InviteClient InviteClient.Proceeding) step.next) }
@@ -130,10 +130,10 @@ pub(crate) fn advance_invite_client(state: InviteClient, input: Input) -> Option
         (InviteClient::Calling(interval, _), Input::Abandon) => {
             waits(InviteClient::Calling(interval, true))
         }
-        (InviteClient::Calling(_, _), Input::Response(class)) => response_step(class),
+        (InviteClient::Calling(_, _), Input::Response(class)) => on_response(class),
         (InviteClient::Proceeding, Input::Fires(TimerKind::N)) => ends(Told::Ended),
         (InviteClient::Proceeding, Input::Abandon) => waits(state),
-        (InviteClient::Proceeding, Input::Response(class)) => response_step(class),
+        (InviteClient::Proceeding, Input::Response(class)) => on_response(class),
         (InviteClient::Completed, Input::Response(Class::Failure)) => {
             stays(State::InviteClient(state), Sending::Again, Told::Silent)
         }

@@ -67,7 +67,7 @@ fn refuses() -> Option<Step>
 
 // The responses of the core before a final one.
 #[tactic(auto, unfolding(crate::specs::InviteServer::invite_server_row))]
-fn response_step(class: Class) -> Option<Step>
+fn on_response(class: Class) -> Option<Step>
     ensures row { result ≡ invite_server_row InviteServer.Proceeding (Input.Answer class) }
     ensures short { IfSome result (λ step. IsShort step.starts) }
     ensures side { IfSome result (λ step. KeepsSide (State.InviteServer InviteServer.Proceeding) step.next) }
@@ -129,7 +129,7 @@ pub(crate) fn advance_invite_server(state: InviteServer, input: Input) -> Option
     let same = State::InviteServer(state);
     match (state, input) {
         (InviteServer::Proceeding, Input::Repeat) => stays(same, Sending::Again, Told::Silent),
-        (InviteServer::Proceeding, Input::Answer(class)) => response_step(class),
+        (InviteServer::Proceeding, Input::Answer(class)) => on_response(class),
         (InviteServer::Completed(_), Input::Repeat) => stays(same, Sending::Again, Told::Silent),
         (InviteServer::Completed(interval), Input::Fires(TimerKind::G)) => sends_again(interval),
         (InviteServer::Completed(interval), Input::Ack) => confirms(interval),

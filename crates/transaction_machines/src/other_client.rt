@@ -63,7 +63,7 @@ fn completes() -> Option<Step>
 
 // The first response, or one after provisional ones.
 #[tactic(auto, unfolding(crate::specs::OtherClient::other_client_row))]
-fn response_step(class: Class) -> Option<Step>
+fn on_response(class: Class) -> Option<Step>
     ensures row { result ≡ other_client_row OtherClient.Proceeding (Input.Response class) }
     ensures short { IfSome result (λ step. IsShort step.starts) }
     ensures side { IfSome result (λ step. KeepsSide (State.OtherClient OtherClient.Proceeding) step.next) }
@@ -88,10 +88,10 @@ pub(crate) fn advance_other_client(state: OtherClient, input: Input) -> Option<S
     match (state, input) {
         (OtherClient::Trying(interval), Input::Fires(TimerKind::E)) => sends_again(interval),
         (OtherClient::Trying(_), Input::Fires(TimerKind::F)) => ends(Told::TimedOut),
-        (OtherClient::Trying(_), Input::Response(class)) => response_step(class),
+        (OtherClient::Trying(_), Input::Response(class)) => on_response(class),
         (OtherClient::Proceeding, Input::Fires(TimerKind::E)) => sends_after(state, T2),
         (OtherClient::Proceeding, Input::Fires(TimerKind::F)) => ends(Told::TimedOut),
-        (OtherClient::Proceeding, Input::Response(class)) => response_step(class),
+        (OtherClient::Proceeding, Input::Response(class)) => on_response(class),
         (OtherClient::Completed, Input::Fires(TimerKind::K)) => ends(Told::Ended),
         _ => None,
     }

@@ -38,7 +38,7 @@ fn completes() -> Option<Step>
 
 // The responses of the core before a final one.
 #[tactic(auto, unfolding(crate::specs::OtherServer::other_server_row))]
-fn response_step(class: Class) -> Option<Step>
+fn on_response(class: Class) -> Option<Step>
     ensures row { result ≡ other_server_row OtherServer.Proceeding (Input.Answer class) }
     ensures short { IfSome result (λ step. IsShort step.starts) }
     ensures side { IfSome result (λ step. KeepsSide (State.OtherServer OtherServer.Proceeding) step.next) }
@@ -62,8 +62,8 @@ pub(crate) fn advance_other_server(state: OtherServer, input: Input) -> Option<S
 {
     let same = State::OtherServer(state);
     match (state, input) {
-        (OtherServer::Trying, Input::Answer(class)) => response_step(class),
-        (OtherServer::Proceeding, Input::Answer(class)) => response_step(class),
+        (OtherServer::Trying, Input::Answer(class)) => on_response(class),
+        (OtherServer::Proceeding, Input::Answer(class)) => on_response(class),
         (OtherServer::Proceeding, Input::Repeat) => stays(same, Sending::Again, Told::Silent),
         (OtherServer::Completed, Input::Repeat) => stays(same, Sending::Again, Told::Silent),
         (OtherServer::Completed, Input::Fires(TimerKind::J)) => ends(Told::Ended),

@@ -136,7 +136,7 @@ pub(crate) fn doubled_to_t2(interval: u64) -> u64
 }
 
 /// Twice the interval, at most 64 times T1.
-pub(crate) fn double(interval: u64) -> u64
+pub(crate) fn twice_to_limit(interval: u64) -> u64
     ensures { result ≡ after_limit interval }
 {
     if interval > LIMIT / 2 {

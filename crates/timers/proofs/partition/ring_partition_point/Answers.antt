@@ -2,8 +2,8 @@ use Rattle.std.proofs.Common.{◌≡◌, ◌+◌, length, sym, ◌∙◌, subst}
 use Rattle.std.specs.List.{prefix_len}
 use Rattle.std.specs.List.Sorted.{IsPartitionedBy}
 use Rattle.timers.proofs.Halving.{test_is, place_in_back, place_in_front, none_in_empty, none_behind}
-use Rattle.timers.proofs.partition.partition_point.Goals as goal
-use Rattle.timers.proofs.partition.partition_point.Goals.{in_default-via-in-Some+else-test, in_default-via-in_default}
+use Rattle.timers.proofs.partition.ring_partition_point.Goals as goal
+use Rattle.timers.proofs.partition.ring_partition_point.Goals.{in_default-via-in-Some+else-test, in_default-via-in_default}
 
 pub returns-in-Some-clause-place : goal.returns-in-Some-clause-place
 returns-in-Some-clause-place g c p computes h =
