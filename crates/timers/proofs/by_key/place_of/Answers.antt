@@ -9,5 +9,5 @@ returns-clause-place g c =
     let eq = g.K.PartialEq.eq in
     let cmp = g.K.Ord.cmp in
     let laws = g.met.K.Ord in
-    counted (λ t. is_lt (cmp t.key c.args.key)) c.args.keys.now.items c.parted.result c.parted.ensures.place (parted_by_key eq cmp laws.total laws.matches_eq c.args.key _ c.requires)
+    counted (λ t. is_lt (cmp t.key c.args.key)) c.args.keys.now.items c.ring_partition_point.result c.ring_partition_point.ensures.place (parted_by_key eq cmp laws.total laws.matches_eq c.args.key _ c.requires)
     (λ a r f k. by_partial eq cmp laws.total laws.matches_eq g.K.PartialOrd.partial_cmp laws.matches_partial_cmp a.0.now.key c.args.key r (search rules))

@@ -5,8 +5,8 @@ use Rattle.call_media.specs.Sessions.{seats_kept}
 use Rattle.call_media.proofs.FreshLaws.{suit}
 use Rattle.call_media.proofs.state.CallMedia.plan_offer.Goals as goal
 
-pub opened-requires-clause-pairs : goal.opened-requires-clause-pairs
-opened-requires-clause-pairs c =
+pub offer_over-requires-clause-pairs : goal.offer_over-requires-clause-pairs
+offer_over-requires-clause-pairs c =
     let kept = c.in_ok-kept.ensures ∙ ap (seats_kept c.args.end) c.as_ref-session.ensures.value in
     let count = rw (c.pairs_needed-needed.ensures.count, c.as_slice.ensures, c.deref.ensures.value, kept) at c.in_ok-fresh.ensures.count in
     let is = suit c.args.self.now c.args.pool.now c.args.end (is_same c.args.end Caller) c.args.offer.now.media c.in_ok-fresh.fresh.items c.requires c.pairs_never_meet.ensures.ports count
