@@ -29,17 +29,17 @@ use Rattle.call_trace.specs.Messages.{is_final}
 use Rattle.trace_reading.specs.Message.{trace_message}
 use Rattle.message_laws.specs.Addresses.{IsReached, IsSource}
 use Rattle.message_laws.specs.Seeing.{SeesResponse}
-use Rattle.message_laws.proofs.Further.{FollowsIn, IsPlain, accept_encoding_plain, accept_plain, allow_plain, contact_follows, none_follows, plain_follows, refusal_needs_none, retry_after_plain}
-use Rattle.message_laws.proofs.Grounds.{read_repeats}
-use Rattle.message_laws.proofs.ReadParts.{IsStatus, same_method}
-use Rattle.message_laws.proofs.Repeats.{CanAnswer, FitsReply, fresh_token, responds_written}
-use Rattle.message_laws.proofs.SeenMessages.{response_sees}
-use Rattle.message_laws.proofs.UnsupportedField.{unsupported_written}
+use Rattle.message_laws.proofs.TokenUse.Further.{FollowsIn, IsPlain, accept_encoding_plain, accept_plain, allow_plain, contact_follows, none_follows, plain_follows, refusal_needs_none, retry_after_plain}
+use Rattle.message_laws.proofs.TokenUse.Grounds.{read_repeats}
+use Rattle.message_laws.proofs.Messages.ReadParts.{IsStatus, same_method}
+use Rattle.message_laws.proofs.Messages.Repeats.{CanAnswer, FitsReply, fresh_token, responds_written}
+use Rattle.message_laws.proofs.QuietEvents.SeenMessages.{response_sees}
+use Rattle.message_laws.proofs.Askers.UnsupportedField.{unsupported_written}
 use Rattle.message_laws.specs.Said.{IsSaid}
 use Rattle.message_laws.specs.Messages.{AreMessages}
-use Rattle.media_laws.proofs.Leaving.{request_of}
-use Rattle.media_laws.proofs.Reading.{Reading, message_is}
-use Rattle.media_laws.proofs.SeenWords.{response_replies}
+use Rattle.media_laws.proofs.Scenes.Leaving.{request_of}
+use Rattle.media_laws.proofs.Scenes.Reading.{Reading, message_is}
+use Rattle.media_laws.proofs.OfferPairs.SeenWords.{response_replies}
 use Rattle.step_laws.specs.Offers.{IsFinalTo}
 use Rattle.step_laws.proofs.Refusals.{any_reply_tag}
 

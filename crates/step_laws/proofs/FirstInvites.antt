@@ -29,20 +29,20 @@ use Rattle.transactions.specs.declared.transaction.Transaction.{Transaction}
 use Rattle.call_trace.specs.declared.call.Call.{Call}
 use Rattle.call_trace.specs.declared.datagram.Datagram.{Datagram}
 use Rattle.message_laws.specs.Addresses.{IsSource}
-use Rattle.message_laws.proofs.Describing.{BodiesDescribe}
-use Rattle.message_laws.proofs.Events.{few_tokens}
-use Rattle.message_laws.proofs.ReadBack.{SentIsRead}
-use Rattle.message_laws.proofs.Reading.{Reading as ReadsNames}
-use Rattle.message_laws.proofs.SoundRows.{callee_target}
+use Rattle.message_laws.proofs.QuietEvents.Describing.{BodiesDescribe}
+use Rattle.message_laws.proofs.TokenUse.Events.{few_tokens}
+use Rattle.message_laws.proofs.Messages.ReadBack.{SentIsRead}
+use Rattle.message_laws.proofs.StandingCalls.Reading.{Reading as ReadsNames}
+use Rattle.message_laws.proofs.StandingCalls.SoundRows.{callee_target}
 use Rattle.message_laws.specs.Serving.{KnowsServing}
 use Rattle.message_laws.specs.Messages.{AreMessages}
 use Rattle.media_laws.specs.Beginning.{entries_of}
 use Rattle.media_laws.specs.Offering.{IsFirstOffer}
 use Rattle.media_laws.specs.Standing.{AgentStands}
 use Rattle.media_laws.specs.Ties.{AreTied}
-use Rattle.media_laws.proofs.FirstSteps.{NamesOne, first_before, first_call, first_is, first_listed, first_reached}
-use Rattle.media_laws.proofs.Reading.{Reading}
-use Rattle.media_laws.proofs.RequestRules.{Fits, request_fits}
+use Rattle.media_laws.proofs.OfferPairs.FirstSteps.{NamesOne, first_before, first_call, first_is, first_listed, first_reached}
+use Rattle.media_laws.proofs.Scenes.Reading.{Reading}
+use Rattle.media_laws.proofs.RisingNumbers.RequestRules.{Fits, request_fits}
 use Rattle.step_laws.specs.Coming.{BeginsTransaction}
 use Rattle.step_laws.specs.Offers.{BeginsCall, IsFirstCall}
 use Rattle.step_laws.proofs.AlikeOffers.{Serves, offer_alike}

@@ -44,23 +44,23 @@ use Rattle.call_trace.specs.declared.datagram.Message.{Message}
 use Rattle.trace_reading.specs.Message.{dialog_named, trace_message}
 use Rattle.message_laws.specs.Addresses.{IsSource}
 use Rattle.message_laws.specs.Seeing.{SeesRequest, SeesResponse}
-use Rattle.message_laws.proofs.Describing.{BodiesDescribe}
-use Rattle.message_laws.proofs.ReadBack.{SentIsRead}
-use Rattle.message_laws.proofs.ReadParts.{method_is}
-use Rattle.message_laws.proofs.Reading.{Reading as ReadsNames}
-use Rattle.message_laws.proofs.SoundRows.{callee_target}
+use Rattle.message_laws.proofs.QuietEvents.Describing.{BodiesDescribe}
+use Rattle.message_laws.proofs.Messages.ReadBack.{SentIsRead}
+use Rattle.message_laws.proofs.Messages.ReadParts.{method_is}
+use Rattle.message_laws.proofs.StandingCalls.Reading.{Reading as ReadsNames}
+use Rattle.message_laws.proofs.StandingCalls.SoundRows.{callee_target}
 use Rattle.message_laws.specs.Messages.{AreMessages}
 use Rattle.media_laws.specs.Heard.{HearsAction}
 use Rattle.media_laws.specs.Offering.{IsFirstOffer}
 use Rattle.media_laws.specs.Scenes.{AskedLeg}
 use Rattle.media_laws.specs.Ties.{AreTied}
-use Rattle.media_laws.proofs.FirstSteps.{first_before, first_heard, first_said, first_step, first_value}
-use Rattle.media_laws.proofs.Leaving.{request_of}
-use Rattle.media_laws.proofs.Legs.{first_asked}
-use Rattle.media_laws.proofs.OfferRequests.{first_untagged}
-use Rattle.media_laws.proofs.Reading.{Reading}
-use Rattle.media_laws.proofs.SeenWords.{response_replies}
-use Rattle.media_laws.proofs.Taking.{offer_one, take_one, trying_one}
+use Rattle.media_laws.proofs.OfferPairs.FirstSteps.{first_before, first_heard, first_said, first_step, first_value}
+use Rattle.media_laws.proofs.Scenes.Leaving.{request_of}
+use Rattle.media_laws.proofs.Scenes.Legs.{first_asked}
+use Rattle.media_laws.proofs.Scenes.OfferRequests.{first_untagged}
+use Rattle.media_laws.proofs.Scenes.Reading.{Reading}
+use Rattle.media_laws.proofs.OfferPairs.SeenWords.{response_replies}
+use Rattle.media_laws.proofs.OfferPairs.Taking.{offer_one, take_one, trying_one}
 use Rattle.step_laws.specs.Offers.{AsksAlike, CallsOut}
 
 two_whole : (ms rest more : List Message) (one other : Message) → ms ≡ one ∷ rest → rest ≡ other ∷ more → more ≡ [] → ms ≡ one ∷ other ∷ []

@@ -42,10 +42,10 @@ use Rattle.call_trace.specs.declared.datagram.Message.{Message}
 use Rattle.call_trace.specs.Lives.{Stands}
 use Rattle.call_trace.specs.Messages.{offering}
 use Rattle.message_laws.specs.OpenRequests.{HasAsked}
-use Rattle.message_laws.proofs.Asking.{all_asked}
-use Rattle.message_laws.proofs.Describing.{BodiesDescribe}
-use Rattle.message_laws.proofs.Events.{few_tokens}
-use Rattle.message_laws.proofs.ReadBack.{SentIsRead}
+use Rattle.message_laws.proofs.StandingCalls.Asking.{all_asked}
+use Rattle.message_laws.proofs.QuietEvents.Describing.{BodiesDescribe}
+use Rattle.message_laws.proofs.TokenUse.Events.{few_tokens}
+use Rattle.message_laws.proofs.Messages.ReadBack.{SentIsRead}
 use Rattle.message_laws.specs.Serving.{KnowsServing}
 use Rattle.message_laws.specs.Messages.{AreMessages}
 use Rattle.media_laws.specs.FitSteps.{IsFitStep}
@@ -54,13 +54,13 @@ use Rattle.media_laws.specs.Responding.{RespondsToOffer}
 use Rattle.media_laws.specs.Standing.{AgentStands}
 use Rattle.media_laws.specs.Taking.{KnowsLegs}
 use Rattle.media_laws.specs.Ties.{AreTied}
-use Rattle.media_laws.proofs.FirstAnswers.{ReadingLaws}
-use Rattle.media_laws.proofs.FitSteps.{fit_row, fit_talks}
-use Rattle.media_laws.proofs.GoingOn.{stands_by}
-use Rattle.media_laws.proofs.LineSteps.{got_set}
-use Rattle.media_laws.proofs.Reading.{Reading}
-use Rattle.media_laws.proofs.RuleReasons.{Reason, rule_reason}
-use Rattle.media_laws.proofs.Silence.{success_silent}
+use Rattle.media_laws.proofs.OfferPairs.FirstAnswers.{ReadingLaws}
+use Rattle.media_laws.proofs.Scenes.FitSteps.{fit_row, fit_talks}
+use Rattle.media_laws.proofs.Scenes.GoingOn.{stands_by}
+use Rattle.media_laws.proofs.CallLines.LineSteps.{got_set}
+use Rattle.media_laws.proofs.Scenes.Reading.{Reading}
+use Rattle.media_laws.proofs.LateResponses.RuleReasons.{Reason, rule_reason}
+use Rattle.media_laws.proofs.Scenes.Silence.{success_silent}
 use Rattle.step_laws.specs.Answers.{IsAnsweredTo, IsAwaited, IsFitAnswer, PassesAnswer}
 use Rattle.step_laws.specs.Coming.{GoesUp}
 use Rattle.step_laws.proofs.AlikeOffers.{Serves, answer_alike}

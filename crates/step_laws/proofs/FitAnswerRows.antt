@@ -52,10 +52,10 @@ use Rattle.call_trace.specs.Stands.{CallStands}
 use Rattle.call_trace.proofs.Members.{all_at}
 use Rattle.trace_reading.specs.Message.{trace_message}
 use Rattle.message_laws.specs.OpenRequests.{HasAsked}
-use Rattle.message_laws.proofs.Describing.{BodiesDescribe}
-use Rattle.message_laws.proofs.ReadBack.{SentIsRead}
-use Rattle.message_laws.proofs.Rows.{answered_client}
-use Rattle.message_laws.proofs.Comings.{answer_comes}
+use Rattle.message_laws.proofs.QuietEvents.Describing.{BodiesDescribe}
+use Rattle.message_laws.proofs.Messages.ReadBack.{SentIsRead}
+use Rattle.message_laws.proofs.TokenUse.Rows.{answered_client}
+use Rattle.message_laws.proofs.Traces.Comings.{answer_comes}
 use Rattle.message_laws.specs.Messages.{AreMessages, IsTakenOf}
 use Rattle.media_laws.specs.Afterwards.{HasSpot}
 use Rattle.media_laws.specs.Coming.{scene_at}
@@ -68,14 +68,14 @@ use Rattle.media_laws.specs.Scenes.{LegIn}
 use Rattle.media_laws.specs.Shows.{ShowsOffer, ShowsOpen, ShowsStage}
 use Rattle.media_laws.specs.Taking.{IsShownAt, KnowsLegs, TakesSignal}
 use Rattle.media_laws.specs.Ties.{AreTied}
-use Rattle.media_laws.proofs.FirstAnswers.{ReadingLaws, success_signals}
-use Rattle.media_laws.proofs.FitSteps.{fit_row}
-use Rattle.media_laws.proofs.HeardSteps.{step_heard}
-use Rattle.media_laws.proofs.ListedStages.{stage_shown}
-use Rattle.media_laws.proofs.Reading.{Reading}
-use Rattle.media_laws.proofs.Responses.{went_is}
-use Rattle.media_laws.proofs.Spots.{has_spot}
-use Rattle.media_laws.proofs.Taking.{sets_none, stops_none}
+use Rattle.media_laws.proofs.OfferPairs.FirstAnswers.{ReadingLaws, success_signals}
+use Rattle.media_laws.proofs.Scenes.FitSteps.{fit_row}
+use Rattle.media_laws.proofs.EndTags.HeardSteps.{step_heard}
+use Rattle.media_laws.proofs.Scenes.ListedStages.{stage_shown}
+use Rattle.media_laws.proofs.Scenes.Reading.{Reading}
+use Rattle.media_laws.proofs.OfferPairs.Responses.{went_is}
+use Rattle.media_laws.proofs.OtherCalls.Spots.{has_spot}
+use Rattle.media_laws.proofs.OfferPairs.Taking.{sets_none, stops_none}
 use Rattle.step_laws.specs.Answers.{PassesAnswer}
 use Rattle.step_laws.proofs.FitAnswers.{asker_there, invite_passes, update_passes}
 

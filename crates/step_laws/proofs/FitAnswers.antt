@@ -28,10 +28,10 @@ use Rattle.message_laws.specs.Seeing.{SeesRequest, SeesResponse}
 use Rattle.media_laws.specs.Coming.{scene_at}
 use Rattle.media_laws.specs.Heard.{HearsAction, HearsActions}
 use Rattle.media_laws.specs.Scenes.{LegIn}
-use Rattle.media_laws.proofs.SeenWords.{request_of, response_replies}
-use Rattle.media_laws.proofs.Settling.{AreSilent, none_said}
-use Rattle.media_laws.proofs.Tags.{reply_tag}
-use Rattle.media_laws.proofs.Taking.{ack_one, answer_one, puts_none, skip, take_one}
+use Rattle.media_laws.proofs.OfferPairs.SeenWords.{request_of, response_replies}
+use Rattle.media_laws.proofs.OfferPairs.Settling.{AreSilent, none_said}
+use Rattle.media_laws.proofs.Scenes.Tags.{reply_tag}
+use Rattle.media_laws.proofs.OfferPairs.Taking.{ack_one, answer_one, puts_none, skip, take_one}
 use Rattle.step_laws.specs.Answers.{PassesAnswer}
 
 -- ---- what its actions say

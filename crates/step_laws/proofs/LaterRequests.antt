@@ -29,25 +29,25 @@ use Rattle.call_trace.specs.Listed.{AnyOf}
 use Rattle.trace_reading.specs.Message.{trace_message}
 use Rattle.message_laws.specs.Addresses.{IsSource}
 use Rattle.message_laws.specs.OpenRequests.{HasAsked}
-use Rattle.message_laws.proofs.Asking.{all_asked}
-use Rattle.message_laws.proofs.Describing.{BodiesDescribe}
-use Rattle.message_laws.proofs.Events.{few_tokens}
-use Rattle.message_laws.proofs.FitReplies.{FitsAlone, FitsReplyIf, offer_reply_fits, request_fits}
-use Rattle.message_laws.proofs.ReadBack.{SentIsRead}
-use Rattle.message_laws.proofs.Reading.{Reading as ReadsNames}
-use Rattle.message_laws.proofs.Repeats.{CanAnswer}
-use Rattle.message_laws.proofs.RequestViews.{IsPassedOffer}
+use Rattle.message_laws.proofs.StandingCalls.Asking.{all_asked}
+use Rattle.message_laws.proofs.QuietEvents.Describing.{BodiesDescribe}
+use Rattle.message_laws.proofs.TokenUse.Events.{few_tokens}
+use Rattle.message_laws.proofs.Askers.FitReplies.{FitsAlone, FitsReplyIf, offer_reply_fits, request_fits}
+use Rattle.message_laws.proofs.Messages.ReadBack.{SentIsRead}
+use Rattle.message_laws.proofs.StandingCalls.Reading.{Reading as ReadsNames}
+use Rattle.message_laws.proofs.Messages.Repeats.{CanAnswer}
+use Rattle.message_laws.proofs.Messages.RequestViews.{IsPassedOffer}
 use Rattle.message_laws.specs.Serving.{KnowsServing}
 use Rattle.message_laws.specs.Messages.{AreMessages}
 use Rattle.media_laws.specs.Beginning.{entries_of}
 use Rattle.media_laws.specs.Standing.{AgentStands}
 use Rattle.media_laws.specs.Taking.{KnowsLegs}
 use Rattle.media_laws.specs.Ties.{AreTied}
-use Rattle.media_laws.proofs.Cases.{later_case}
-use Rattle.media_laws.proofs.Leaving.{rule_fits}
-use Rattle.media_laws.proofs.Reading.{Reading}
-use Rattle.media_laws.proofs.RequestCases.{RequestCase, request_view}
-use Rattle.media_laws.proofs.RequestCases as cases
+use Rattle.media_laws.proofs.EventKinds.Cases.{later_case}
+use Rattle.media_laws.proofs.Scenes.Leaving.{rule_fits}
+use Rattle.media_laws.proofs.Scenes.Reading.{Reading}
+use Rattle.media_laws.proofs.EventKinds.RequestCases.{RequestCase, request_view}
+use Rattle.media_laws.proofs.EventKinds.RequestCases as cases
 use Rattle.step_laws.specs.Coming.{BeginsTransaction}
 use Rattle.step_laws.specs.Offers.{IsFinalTo, IsLaterRequest, IsServed, PassedOrAnswered}
 use Rattle.step_laws.proofs.ComingRows.{begun_row, setting_of}

@@ -42,12 +42,12 @@ use Rattle.trace_reading.specs.Message.{trace_message}
 use Rattle.message_laws.specs.Addresses.{IsSource}
 use Rattle.message_laws.specs.OpenRequests.{HasAsked}
 use Rattle.message_laws.specs.Sound.{HasSoundLegs}
-use Rattle.message_laws.proofs.Awaiting.{all_at}
-use Rattle.message_laws.proofs.Carrying.{lent_text}
-use Rattle.message_laws.proofs.Describing.{BodiesDescribe}
-use Rattle.message_laws.proofs.ReadBack.{SentIsRead}
-use Rattle.message_laws.proofs.Reading.{Reading as ReadsNames}
-use Rattle.message_laws.proofs.Comings.{offer_comes}
+use Rattle.message_laws.proofs.AwaitedOffers.Awaiting.{all_at}
+use Rattle.message_laws.proofs.AwaitedOffers.Carrying.{lent_text}
+use Rattle.message_laws.proofs.QuietEvents.Describing.{BodiesDescribe}
+use Rattle.message_laws.proofs.Messages.ReadBack.{SentIsRead}
+use Rattle.message_laws.proofs.StandingCalls.Reading.{Reading as ReadsNames}
+use Rattle.message_laws.proofs.Traces.Comings.{offer_comes}
 use Rattle.message_laws.specs.Serving.{KnowsServing}
 use Rattle.message_laws.specs.Messages.{AreMessages}
 use Rattle.media_laws.specs.Afterwards.{HasSpot}
@@ -62,16 +62,16 @@ use Rattle.media_laws.specs.Scenes.{AreOwn, AskedLeg}
 use Rattle.media_laws.specs.Shows.{is_caller}
 use Rattle.media_laws.specs.Taking.{KnowsLegs}
 use Rattle.media_laws.specs.Ties.{AreTied}
-use Rattle.media_laws.proofs.GoingOn.{stands_by}
-use Rattle.media_laws.proofs.HeardSteps.{step_heard}
-use Rattle.media_laws.proofs.LaterSteps.{coming, later_call, later_dialog, later_fits, later_line, later_row, later_said, later_settled, later_step, named_by, offer_name, offered, stands_settled}
-use Rattle.media_laws.proofs.Leaving.{request_of}
-use Rattle.media_laws.proofs.Legs.{asked_in}
-use Rattle.media_laws.proofs.LineSteps.{got_set}
-use Rattle.media_laws.proofs.OfferSteps.{IsOfferStep}
-use Rattle.media_laws.proofs.Reading.{Reading}
-use Rattle.media_laws.proofs.Settling.{invite_offered, update_offered}
-use Rattle.media_laws.proofs.Spots.{has_spot}
+use Rattle.media_laws.proofs.Scenes.GoingOn.{stands_by}
+use Rattle.media_laws.proofs.EndTags.HeardSteps.{step_heard}
+use Rattle.media_laws.proofs.OfferPairs.LaterSteps.{coming, later_call, later_dialog, later_fits, later_line, later_row, later_said, later_settled, later_step, named_by, offer_name, offered, stands_settled}
+use Rattle.media_laws.proofs.Scenes.Leaving.{request_of}
+use Rattle.media_laws.proofs.Scenes.Legs.{asked_in}
+use Rattle.media_laws.proofs.CallLines.LineSteps.{got_set}
+use Rattle.media_laws.proofs.OfferPairs.OfferSteps.{IsOfferStep}
+use Rattle.media_laws.proofs.Scenes.Reading.{Reading}
+use Rattle.media_laws.proofs.OfferPairs.Settling.{invite_offered, update_offered}
+use Rattle.media_laws.proofs.OtherCalls.Spots.{has_spot}
 use Rattle.step_laws.specs.Offers.{PassesOn}
 use Rattle.step_laws.proofs.AlikeOffers.{offer_alike}
 

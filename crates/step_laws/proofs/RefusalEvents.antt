@@ -29,22 +29,22 @@ use Rattle.event_rows.specs.Rows.{row}
 use Rattle.event_rows.specs.State.{Contents, office}
 use Rattle.call_trace.specs.declared.datagram.Datagram.{Datagram}
 use Rattle.call_trace.specs.declared.datagram.Message.{Message}
-use Rattle.message_laws.proofs.AskerRows.{failure_by}
-use Rattle.message_laws.proofs.Describing.{BodiesDescribe}
-use Rattle.message_laws.proofs.Events.{few_tokens}
-use Rattle.message_laws.proofs.ReadBack.{SentIsRead}
-use Rattle.message_laws.proofs.ReadParts.{response_status}
+use Rattle.message_laws.proofs.Askers.AskerRows.{failure_by}
+use Rattle.message_laws.proofs.QuietEvents.Describing.{BodiesDescribe}
+use Rattle.message_laws.proofs.TokenUse.Events.{few_tokens}
+use Rattle.message_laws.proofs.Messages.ReadBack.{SentIsRead}
+use Rattle.message_laws.proofs.Messages.ReadParts.{response_status}
 use Rattle.message_laws.specs.Comings.{CanCome, KnowsScenes}
-use Rattle.message_laws.proofs.Comings.{alone_comes}
+use Rattle.message_laws.proofs.Traces.Comings.{alone_comes}
 use Rattle.message_laws.specs.Messages.{AreMessages}
 use Rattle.media_laws.specs.Coming.{scene_at}
 use Rattle.media_laws.specs.Heard.{HearsActions}
 use Rattle.media_laws.specs.Standing.{AgentStands}
-use Rattle.media_laws.proofs.HeardActions.{split}
-use Rattle.media_laws.proofs.HeardSteps.{step_heard}
-use Rattle.media_laws.proofs.Reading.{Reading}
-use Rattle.media_laws.proofs.RuleReasons.{Reason, rule_reason}
-use Rattle.media_laws.proofs.SignalSteps.{signal_row}
+use Rattle.media_laws.proofs.Scenes.HeardActions.{split}
+use Rattle.media_laws.proofs.EndTags.HeardSteps.{step_heard}
+use Rattle.media_laws.proofs.Scenes.Reading.{Reading}
+use Rattle.media_laws.proofs.LateResponses.RuleReasons.{Reason, rule_reason}
+use Rattle.media_laws.proofs.CallLines.SignalSteps.{signal_row}
 use Rattle.step_laws.specs.Answers.{IsAwaited, IsRefusedTo, PassesRefusal}
 use Rattle.step_laws.specs.Coming.{GoesUp}
 use Rattle.step_laws.proofs.ComingRows.{setting_of, up_row}

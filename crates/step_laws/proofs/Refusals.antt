@@ -32,12 +32,12 @@ use Rattle.call_trace.specs.declared.datagram.Kind.TheVariants as kinds
 use Rattle.call_trace.specs.declared.datagram.Message.{Message}
 use Rattle.message_laws.specs.Saying.{SeesTo}
 use Rattle.message_laws.specs.Seeing.{SeesResponse, response_tag}
-use Rattle.message_laws.proofs.RequestViews.{by_if}
+use Rattle.message_laws.proofs.Messages.RequestViews.{by_if}
 use Rattle.media_laws.specs.Heard.{HearsActions}
 use Rattle.media_laws.specs.Lines.{actions_in}
 use Rattle.media_laws.specs.Said.{IsReplyTag}
-use Rattle.media_laws.proofs.SeenWords.{response_replies}
-use Rattle.media_laws.proofs.Taking.{refusal_one, take_one}
+use Rattle.media_laws.proofs.OfferPairs.SeenWords.{response_replies}
+use Rattle.media_laws.proofs.OfferPairs.Taking.{refusal_one, take_one}
 use Rattle.step_laws.specs.Answers.{PassesRefusal}
 use Rattle.step_laws.proofs.FitAnswers.{asker_for}
 

@@ -1,4 +1,4 @@
-use Rattle.media_laws.proofs.HeardActions.{hears_actions}
+use Rattle.media_laws.proofs.Scenes.HeardActions.{hears_actions}
 use Rattle.media_laws.proofs.action_words.actions_are_heard.Goals as goal
 
 pub returns : goal.returns

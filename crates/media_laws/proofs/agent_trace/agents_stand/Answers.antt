@@ -1,9 +1,9 @@
 use Rattle.call_trace.specs.Messages.{offering}
 use Rattle.sip_message.specs.declared.message.Message.TheVariants as Kinds
-use Rattle.message_laws.proofs.ReadMessages.{message_reads, name_reads}
+use Rattle.message_laws.proofs.Messages.ReadMessages.{message_reads, name_reads}
 use Rattle.media_laws.specs.Keeping.{dialog_with_caller}
-use Rattle.media_laws.proofs.Keeping.{PromiseLaws, answers_on, runs_through, standing_exact, standing_holds, standing_live, standing_promised, standing_relays, stands_new, stands_on, stands_through}
-use Rattle.media_laws.proofs.SaidMessages.{says_messages}
+use Rattle.media_laws.proofs.WholePromise.Keeping.{PromiseLaws, answers_on, runs_through, standing_exact, standing_holds, standing_live, standing_promised, standing_relays, stands_new, stands_on, stands_through}
+use Rattle.media_laws.proofs.WholePromise.SaidMessages.{says_messages}
 use Rattle.media_laws.proofs.agent_trace.agents_stand.Goals as goal
 
 pub returns-clause-begins : goal.returns-clause-begins

@@ -1,4 +1,4 @@
-use Rattle.media_laws.proofs.OfferReplies.{move_answers}
+use Rattle.media_laws.proofs.Scenes.OfferReplies.{move_answers}
 use Rattle.media_laws.proofs.answer_moves.moves_answer_open_offers.Goals as goal
 
 pub returns : goal.returns

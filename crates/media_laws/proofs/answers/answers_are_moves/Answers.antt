@@ -1,4 +1,4 @@
-use Rattle.media_laws.proofs.FitLines.{asked_fit, reasked_fit, update_fit}
+use Rattle.media_laws.proofs.OfferPairs.FitLines.{asked_fit, reasked_fit, update_fit}
 use Rattle.media_laws.proofs.answers.answers_are_moves.Goals as goal
 
 pub returns-clause-first : goal.returns-clause-first

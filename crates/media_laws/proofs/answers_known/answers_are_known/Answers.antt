@@ -1,4 +1,4 @@
-use Rattle.media_laws.proofs.AnswersKnown.{answers_after, in_dialog, new_answers}
+use Rattle.media_laws.proofs.OtherCalls.AnswersKnown.{answers_after, in_dialog, new_answers}
 use Rattle.media_laws.proofs.answers_known.answers_are_known.Goals as goal
 
 pub returns-clause-begins : goal.returns-clause-begins

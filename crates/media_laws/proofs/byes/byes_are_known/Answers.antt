@@ -1,5 +1,5 @@
-use Rattle.message_laws.proofs.ReadMessages.{message_reads, name_reads}
-use Rattle.media_laws.proofs.ByesKnown.{byes_after, new_byes, next_tag}
+use Rattle.message_laws.proofs.Messages.ReadMessages.{message_reads, name_reads}
+use Rattle.media_laws.proofs.EndTags.ByesKnown.{byes_after, new_byes, next_tag}
 use Rattle.media_laws.proofs.byes.byes_are_known.Goals as goal
 
 pub returns-clause-begins : goal.returns-clause-begins

@@ -1,4 +1,4 @@
-use Rattle.media_laws.proofs.GoingOn.{asked_new, asked_on, dialogs_go_on, first_legs, legs_go_on, stands_by}
+use Rattle.media_laws.proofs.Scenes.GoingOn.{asked_new, asked_on, dialogs_go_on, first_legs, legs_go_on, stands_by}
 use Rattle.media_laws.proofs.call_moves.calls_go_on.Goals as goal
 
 pub returns-clause-dialogs : goal.returns-clause-dialogs

@@ -1,4 +1,4 @@
-use Rattle.media_laws.proofs.ListedStages.{has_legs, is_at}
+use Rattle.media_laws.proofs.Scenes.ListedStages.{has_legs, is_at}
 use Rattle.media_laws.proofs.call_stages.listed_calls_stand.Goals as goal
 
 pub returns-clause-at : goal.returns-clause-at

@@ -1,7 +1,7 @@
 use Rattle.call_trace.specs.Messages.{offering}
 use Rattle.sip_message.specs.declared.message.Message.TheVariants as Kinds
-use Rattle.message_laws.proofs.ReadMessages.{message_reads, name_reads}
-use Rattle.media_laws.proofs.Events.{event_goes}
+use Rattle.message_laws.proofs.Messages.ReadMessages.{message_reads, name_reads}
+use Rattle.media_laws.proofs.EventKinds.Events.{event_goes}
 use Rattle.media_laws.proofs.event_moves.events_are_moves.Goals as goal
 
 pub returns : goal.returns

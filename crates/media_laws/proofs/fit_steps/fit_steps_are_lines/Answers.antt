@@ -1,4 +1,4 @@
-use Rattle.media_laws.proofs.FitSteps.{fit_row, fit_talks}
+use Rattle.media_laws.proofs.Scenes.FitSteps.{fit_row, fit_talks}
 use Rattle.media_laws.proofs.fit_steps.fit_steps_are_lines.Goals as goal
 
 pub returns-clause-step : goal.returns-clause-step

@@ -1,5 +1,5 @@
-use Rattle.media_laws.proofs.Lateness.{passed_late}
-use Rattle.media_laws.proofs.Taken.{passed_over}
+use Rattle.media_laws.proofs.Copies.Lateness.{passed_late}
+use Rattle.media_laws.proofs.Copies.Taken.{passed_over}
 use Rattle.media_laws.proofs.late.late_responses_move_none.Goals as goal
 
 pub returns-clause-late : goal.returns-clause-late

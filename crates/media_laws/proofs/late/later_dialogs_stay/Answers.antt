@@ -1,5 +1,5 @@
-use Rattle.media_laws.proofs.LaterKnown.{later_known}
-use Rattle.media_laws.proofs.LegsKept.{dialog_moved}
+use Rattle.media_laws.proofs.LateResponses.LaterKnown.{later_known}
+use Rattle.media_laws.proofs.LateResponses.LegsKept.{dialog_moved}
 use Rattle.media_laws.proofs.late.later_dialogs_stay.Goals as goal
 
 pub returns-clause-kept : goal.returns-clause-kept

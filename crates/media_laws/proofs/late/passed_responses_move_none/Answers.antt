@@ -1,7 +1,7 @@
-use Rattle.message_laws.proofs.ReadMessages.{message_reads, name_reads}
-use Rattle.media_laws.proofs.AckMoves.{ack_move}
-use Rattle.media_laws.proofs.EventMoves.{again_is_quiet, silent_is_quiet}
-use Rattle.media_laws.proofs.ForkMoves.{fork_move}
+use Rattle.message_laws.proofs.Messages.ReadMessages.{message_reads, name_reads}
+use Rattle.media_laws.proofs.LateResponses.AckMoves.{ack_move}
+use Rattle.media_laws.proofs.Copies.EventMoves.{again_is_quiet, silent_is_quiet}
+use Rattle.media_laws.proofs.LateResponses.ForkMoves.{fork_move}
 use Rattle.media_laws.proofs.late.passed_responses_move_none.Goals as goal
 
 pub returns-clause-silent : goal.returns-clause-silent

@@ -1,4 +1,4 @@
-use Rattle.media_laws.proofs.HiddenLines.{hidden_accepted, hidden_gone, hidden_rings}
+use Rattle.media_laws.proofs.CallLines.HiddenLines.{hidden_accepted, hidden_gone, hidden_rings}
 use Rattle.media_laws.proofs.lines.hidden_lines_move_none.Goals as goal
 
 pub returns-clause-rings : goal.returns-clause-rings

@@ -1,4 +1,4 @@
-use Rattle.media_laws.proofs.Stages.{stage_moves}
+use Rattle.media_laws.proofs.CallLines.Stages.{stage_moves}
 use Rattle.media_laws.proofs.lines.lines_are_moves.Goals as goal
 
 pub returns : goal.returns

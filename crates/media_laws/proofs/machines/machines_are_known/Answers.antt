@@ -1,4 +1,4 @@
-use Rattle.media_laws.proofs.MachineEvents.{after_machines, known_machines, new_machines}
+use Rattle.media_laws.proofs.Scenes.MachineEvents.{after_machines, known_machines, new_machines}
 use Rattle.media_laws.proofs.machines.machines_are_known.Goals as goal
 
 pub returns-clause-begins : goal.returns-clause-begins

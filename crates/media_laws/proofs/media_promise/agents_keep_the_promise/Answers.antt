@@ -1,6 +1,6 @@
 use Rattle.std.proofs.Common.{[], length}
 use Rattle.event_rows.specs.Trace.{after_entries}
-use Rattle.media_laws.proofs.Keeping.{counted_from}
+use Rattle.media_laws.proofs.WholePromise.Keeping.{counted_from}
 use Rattle.media_laws.proofs.media_promise.agents_keep_the_promise.Goals as goal
 
 pub returns-clause-promised : goal.returns-clause-promised

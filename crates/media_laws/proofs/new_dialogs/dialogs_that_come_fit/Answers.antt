@@ -1,4 +1,4 @@
-use Rattle.media_laws.proofs.Fitting.{answers_fits, counts_fits, first_answer, refreshes_fits}
+use Rattle.media_laws.proofs.Scenes.Fitting.{answers_fits, counts_fits, first_answer, refreshes_fits}
 use Rattle.media_laws.proofs.new_dialogs.dialogs_that_come_fit.Goals as goal
 
 pub returns-clause-counted : goal.returns-clause-counted

@@ -1,4 +1,4 @@
-use Rattle.media_laws.proofs.CountingRows.{after_leaves, known_leaves, new_leaves}
+use Rattle.media_laws.proofs.Scenes.CountingRows.{after_leaves, known_leaves, new_leaves}
 use Rattle.media_laws.proofs.numbers.numbers_are_left.Goals as goal
 
 pub returns-clause-begins : goal.returns-clause-begins

@@ -1,4 +1,4 @@
-use Rattle.media_laws.proofs.RaisedRows.{after_raised, after_taken, known_taken, new_taken}
+use Rattle.media_laws.proofs.RisingNumbers.RaisedRows.{after_raised, after_taken, known_taken, new_taken}
 use Rattle.media_laws.proofs.numbers_rise.taken_numbers_rise.Goals as goal
 
 pub returns-clause-begins : goal.returns-clause-begins

@@ -1,4 +1,4 @@
-use Rattle.media_laws.proofs.OfferRequests.{first_offers, first_untagged, offers_in, offers_to}
+use Rattle.media_laws.proofs.Scenes.OfferRequests.{first_offers, first_untagged, offers_in, offers_to}
 use Rattle.media_laws.proofs.offer_requests.requests_are_offers.Goals as goal
 
 pub returns-clause-later : goal.returns-clause-later

@@ -1,5 +1,5 @@
-use Rattle.media_laws.proofs.FitLines.{invite_passed, update_passed}
-use Rattle.media_laws.proofs.OfferMoves.{asks_callee}
+use Rattle.media_laws.proofs.OfferPairs.FitLines.{invite_passed, update_passed}
+use Rattle.media_laws.proofs.OfferPairs.OfferMoves.{asks_callee}
 use Rattle.media_laws.proofs.offers.offers_are_moves.Goals as goal
 
 pub returns-clause-first : goal.returns-clause-first

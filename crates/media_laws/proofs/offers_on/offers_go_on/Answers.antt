@@ -1,9 +1,9 @@
 use Rattle.call_trace.specs.Messages.{offering}
-use Rattle.media_laws.proofs.First.{first_goes_on}
-use Rattle.media_laws.proofs.FirstSteps.{first_reached}
-use Rattle.media_laws.proofs.Later.{later_goes_on}
-use Rattle.message_laws.proofs.Reading.{Reading}
-use Rattle.message_laws.proofs.ReadMessages.{message_reads, name_reads}
+use Rattle.media_laws.proofs.OfferPairs.First.{first_goes_on}
+use Rattle.media_laws.proofs.OfferPairs.FirstSteps.{first_reached}
+use Rattle.media_laws.proofs.OfferPairs.Later.{later_goes_on}
+use Rattle.message_laws.proofs.StandingCalls.Reading.{Reading}
+use Rattle.message_laws.proofs.Messages.ReadMessages.{message_reads, name_reads}
 use Rattle.media_laws.proofs.offers_on.offers_go_on.Goals as goal
 
 pub returns-clause-first : goal.returns-clause-first

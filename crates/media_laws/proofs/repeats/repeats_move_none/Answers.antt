@@ -1,6 +1,6 @@
-use Rattle.message_laws.proofs.ReadMessages.{message_reads, name_reads}
-use Rattle.media_laws.proofs.EventMoves.{repeat_is_quiet, sends_are_idle, swallowed_is_quiet, timer_is_quiet}
-use Rattle.media_laws.proofs.TransactionMoves.{nothing_move}
+use Rattle.message_laws.proofs.Messages.ReadMessages.{message_reads, name_reads}
+use Rattle.media_laws.proofs.Copies.EventMoves.{repeat_is_quiet, sends_are_idle, swallowed_is_quiet, timer_is_quiet}
+use Rattle.media_laws.proofs.Copies.TransactionMoves.{nothing_move}
 use Rattle.media_laws.proofs.repeats.repeats_move_none.Goals as goal
 
 pub returns-clause-nothing : goal.returns-clause-nothing

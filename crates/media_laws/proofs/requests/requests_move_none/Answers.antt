@@ -1,5 +1,5 @@
-use Rattle.message_laws.proofs.ReadMessages.{message_reads, name_reads}
-use Rattle.media_laws.proofs.RequestMoves.{counted_move, refreshed_move, refused_move, replied_move, unfit_branched_move, unfit_move, unreadable_move}
+use Rattle.message_laws.proofs.Messages.ReadMessages.{message_reads, name_reads}
+use Rattle.media_laws.proofs.Scenes.RequestMoves.{counted_move, refreshed_move, refused_move, replied_move, unfit_branched_move, unfit_move, unreadable_move}
 use Rattle.media_laws.proofs.requests.requests_move_none.Goals as goal
 
 pub returns-clause-unreadable : goal.returns-clause-unreadable

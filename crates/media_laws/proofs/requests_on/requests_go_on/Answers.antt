@@ -1,5 +1,5 @@
 use Rattle.call_trace.specs.Messages.{offering}
-use Rattle.media_laws.proofs.RequestSteps.{ack_goes_on, bye_goes_on, cancel_goes_on}
+use Rattle.media_laws.proofs.EndTags.RequestSteps.{ack_goes_on, bye_goes_on, cancel_goes_on}
 use Rattle.media_laws.proofs.requests_on.requests_go_on.Goals as goal
 
 pub returns-clause-bye : goal.returns-clause-bye

@@ -1,7 +1,7 @@
 use Rattle.sip_message.specs.declared.message.Message.TheVariants as Kinds
-use Rattle.message_laws.proofs.ReadMessages.{message_reads, name_reads}
-use Rattle.media_laws.proofs.FirstAnswers.{success_signals}
-use Rattle.media_laws.proofs.Responses.{refusal_signals, ringing_signals}
+use Rattle.message_laws.proofs.Messages.ReadMessages.{message_reads, name_reads}
+use Rattle.media_laws.proofs.OfferPairs.FirstAnswers.{success_signals}
+use Rattle.media_laws.proofs.OfferPairs.Responses.{refusal_signals, ringing_signals}
 use Rattle.media_laws.proofs.response_signals.signals_come_of_responses.Goals as goal
 
 pub returns-clause-ringing : goal.returns-clause-ringing

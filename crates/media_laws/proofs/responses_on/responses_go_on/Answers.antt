@@ -1,7 +1,7 @@
 use Rattle.sip_message.specs.declared.message.Message.TheVariants as Kinds
 use Rattle.call_trace.specs.Messages.{offering}
-use Rattle.message_laws.proofs.ReadMessages.{message_reads, name_reads}
-use Rattle.media_laws.proofs.ResponseSteps.{refusal_goes_on, ringing_goes_on, unfit_goes_on}
+use Rattle.message_laws.proofs.Messages.ReadMessages.{message_reads, name_reads}
+use Rattle.media_laws.proofs.EndTags.ResponseSteps.{refusal_goes_on, ringing_goes_on, unfit_goes_on}
 use Rattle.media_laws.proofs.responses_on.responses_go_on.Goals as goal
 
 pub returns-clause-ringing : goal.returns-clause-ringing

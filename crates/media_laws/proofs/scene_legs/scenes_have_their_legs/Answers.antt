@@ -1,4 +1,4 @@
-use Rattle.media_laws.proofs.Legs.{asked_in, caller_in, first_asked, first_in, leg_in}
+use Rattle.media_laws.proofs.Scenes.Legs.{asked_in, caller_in, first_asked, first_in, leg_in}
 use Rattle.media_laws.proofs.scene_legs.scenes_have_their_legs.Goals as goal
 
 pub returns-clause-leg : goal.returns-clause-leg

@@ -1,5 +1,5 @@
-use Rattle.media_laws.proofs.Askers.{asker_in_scene, offer_names}
-use Rattle.media_laws.proofs.Leaving.{bye_in, cancel_in}
+use Rattle.media_laws.proofs.Scenes.Askers.{asker_in_scene, offer_names}
+use Rattle.media_laws.proofs.Scenes.Leaving.{bye_in, cancel_in}
 use Rattle.media_laws.proofs.scene_requests.scenes_have_their_requests.Goals as goal
 
 pub returns-clause-offer : goal.returns-clause-offer

@@ -1,7 +1,7 @@
 use Rattle.call_trace.specs.Messages.{offering}
 use Rattle.sip_message.specs.declared.message.Message.TheVariants as Kinds
-use Rattle.message_laws.proofs.ReadMessages.{message_reads, name_reads}
-use Rattle.media_laws.proofs.AnswerSteps.{answer_goes_on}
+use Rattle.message_laws.proofs.Messages.ReadMessages.{message_reads, name_reads}
+use Rattle.media_laws.proofs.EndTags.AnswerSteps.{answer_goes_on}
 use Rattle.media_laws.proofs.settles_on.answers_go_on.Goals as goal
 
 pub returns : goal.returns

@@ -1,4 +1,4 @@
-use Rattle.media_laws.proofs.Comings.{ack_signals, bye_signals, cancel_signals, due_signals}
+use Rattle.media_laws.proofs.Scenes.Comings.{ack_signals, bye_signals, cancel_signals, due_signals}
 use Rattle.media_laws.proofs.signals.signals_come.Goals as goal
 
 pub returns-clause-due : goal.returns-clause-due

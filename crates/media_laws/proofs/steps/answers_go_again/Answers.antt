@@ -1,4 +1,4 @@
-use Rattle.media_laws.proofs.Again.{again_none}
+use Rattle.media_laws.proofs.CallLines.Again.{again_none}
 use Rattle.media_laws.proofs.steps.answers_go_again.Goals as goal
 
 pub returns : goal.returns

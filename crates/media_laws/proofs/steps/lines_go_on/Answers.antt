@@ -1,5 +1,5 @@
 use Rattle.call_trace.specs.Messages.{offering}
-use Rattle.media_laws.proofs.LineSteps.{line_goes_on}
+use Rattle.media_laws.proofs.CallLines.LineSteps.{line_goes_on}
 use Rattle.media_laws.proofs.steps.lines_go_on.Goals as goal
 
 pub returns : goal.returns

@@ -4,7 +4,7 @@ use Rattle.std.specs.Prelude.{◌++◌}
 use Rattle.call_trace.proofs.Members.{all_at}
 use Rattle.call_core.specs.Table.{row_of}
 use Rattle.media_laws.specs.Lines.{next_in}
-use Rattle.media_laws.proofs.LineSteps.{line_goes_on}
+use Rattle.media_laws.proofs.CallLines.LineSteps.{line_goes_on}
 use Rattle.media_laws.proofs.steps.signals_go_on.Goals as goal
 
 pub returns : goal.returns

@@ -1,4 +1,4 @@
-use Rattle.media_laws.proofs.HeardSteps.{step_heard}
+use Rattle.media_laws.proofs.EndTags.HeardSteps.{step_heard}
 use Rattle.media_laws.proofs.takes_on.steps_are_heard.Goals as goal
 
 pub returns : goal.returns

@@ -1,5 +1,5 @@
 use Rattle.call_trace.specs.Messages.{offering}
-use Rattle.media_laws.proofs.Takes.{takes_go_on}
+use Rattle.media_laws.proofs.EndTags.Takes.{takes_go_on}
 use Rattle.media_laws.proofs.takes_on.takes_go_on.Goals as goal
 
 pub returns : goal.returns

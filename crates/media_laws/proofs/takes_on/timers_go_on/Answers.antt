@@ -1,5 +1,5 @@
 use Rattle.call_trace.specs.Messages.{offering}
-use Rattle.media_laws.proofs.Timers.{timer_goes_on}
+use Rattle.media_laws.proofs.EndTags.Timers.{timer_goes_on}
 use Rattle.media_laws.proofs.takes_on.timers_go_on.Goals as goal
 
 pub returns : goal.returns

@@ -1,5 +1,5 @@
-use Rattle.media_laws.proofs.Afterwards.{left_listed, one_listed}
-use Rattle.media_laws.proofs.Untouched.{stays_shown}
+use Rattle.media_laws.proofs.OtherCalls.Afterwards.{left_listed, one_listed}
+use Rattle.media_laws.proofs.OtherCalls.Untouched.{stays_shown}
 use Rattle.media_laws.proofs.untouched_calls.calls_left_stay_shown.Goals as goal
 
 pub returns-clause-call : goal.returns-clause-call

@@ -1,4 +1,4 @@
-use Rattle.media_laws.proofs.Spots.{all_left, has_spot, hidden_goes, one_begins, stays_hidden}
+use Rattle.media_laws.proofs.OtherCalls.Spots.{all_left, has_spot, hidden_goes, one_begins, stays_hidden}
 use Rattle.media_laws.proofs.untouched_calls.listed_calls_have_spots.Goals as goal
 
 pub returns-clause-spot : goal.returns-clause-spot

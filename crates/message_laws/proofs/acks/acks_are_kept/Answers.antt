@@ -1,4 +1,4 @@
-use Rattle.message_laws.proofs.AckEvents.{acks_last, after_acks, new_acks}
+use Rattle.message_laws.proofs.AwaitedOffers.AckEvents.{acks_last, after_acks, new_acks}
 use Rattle.message_laws.proofs.acks.acks_are_kept.Goals as goal
 
 pub returns-clause-begins : goal.returns-clause-begins

@@ -1,4 +1,4 @@
-use Rattle.message_laws.proofs.SaidActions.{action_said, actions_said}
+use Rattle.message_laws.proofs.Messages.SaidActions.{action_said, actions_said}
 use Rattle.message_laws.proofs.actions.actions_are_said.Goals as goal
 
 pub returns-clause-one : goal.returns-clause-one

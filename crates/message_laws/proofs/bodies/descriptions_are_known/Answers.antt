@@ -1,4 +1,4 @@
-use Rattle.message_laws.proofs.BodyRows.{after_bodies, known_bodies, new_bodies}
+use Rattle.message_laws.proofs.Messages.BodyRows.{after_bodies, known_bodies, new_bodies}
 use Rattle.message_laws.proofs.bodies.descriptions_are_known.Goals as goal
 
 pub returns-clause-begins : goal.returns-clause-begins

@@ -1,4 +1,4 @@
-use Rattle.message_laws.proofs.ReadBodies.{body_read, description_seen}
+use Rattle.message_laws.proofs.Messages.ReadBodies.{body_read, description_seen}
 use Rattle.message_laws.proofs.bodies.descriptions_are_read.Goals as goal
 
 pub returns-clause-read : goal.returns-clause-read

@@ -1,6 +1,6 @@
-use Rattle.message_laws.proofs.BodyCalls.{call_known, first_known}
-use Rattle.message_laws.proofs.ReadBack.{offer_back, reads_back, session_back}
-use Rattle.message_laws.proofs.WrittenLengths.{written_short}
+use Rattle.message_laws.proofs.Messages.BodyCalls.{call_known, first_known}
+use Rattle.message_laws.proofs.Messages.ReadBack.{offer_back, reads_back, session_back}
+use Rattle.message_laws.proofs.Messages.WrittenLengths.{written_short}
 use Rattle.message_laws.proofs.bodies.descriptions_read_back.Goals as goal
 
 pub returns-clause-call : goal.returns-clause-call

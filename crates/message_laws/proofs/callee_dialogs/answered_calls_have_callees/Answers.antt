@@ -1,6 +1,6 @@
 use Rattle.sip_message.specs.declared.message.Message.TheVariants as Kinds
-use Rattle.message_laws.proofs.CalleeRows.{after_callees, known_callees, new_callees}
-use Rattle.message_laws.proofs.ReadMessages.{message_reads}
+use Rattle.message_laws.proofs.StandingCalls.CalleeRows.{after_callees, known_callees, new_callees}
+use Rattle.message_laws.proofs.Messages.ReadMessages.{message_reads}
 use Rattle.message_laws.proofs.callee_dialogs.answered_calls_have_callees.Goals as goal
 
 pub returns-clause-begins : goal.returns-clause-begins

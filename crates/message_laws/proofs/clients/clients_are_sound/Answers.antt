@@ -1,6 +1,6 @@
-use Rattle.message_laws.proofs.ReadMessages.{message_reads, name_reads}
-use Rattle.message_laws.proofs.ClientRows.{after_clients, known_clients, new_clients}
-use Rattle.message_laws.proofs.ClientSlots.{client_at}
+use Rattle.message_laws.proofs.Messages.ReadMessages.{message_reads, name_reads}
+use Rattle.message_laws.proofs.StandingCalls.ClientRows.{after_clients, known_clients, new_clients}
+use Rattle.message_laws.proofs.StandingCalls.ClientSlots.{client_at}
 use Rattle.message_laws.proofs.clients.clients_are_sound.Goals as goal
 
 pub returns-clause-begins : goal.returns-clause-begins

@@ -1,4 +1,4 @@
-use Rattle.message_laws.proofs.AskerKnown.{after_kept}
+use Rattle.message_laws.proofs.Askers.AskerKnown.{after_kept}
 use Rattle.message_laws.proofs.datagrams.open_offers_keep_their_requests.Goals as goal
 
 pub returns : goal.returns

@@ -1,7 +1,7 @@
 use Rattle.std.proofs.Common.{List, ℕ, subst, sym}
 use Rattle.sip_message.specs.declared.message.Message.TheVariants as Kinds
 use Rattle.sip_message.specs.Grammar.{ReadsMessage}
-use Rattle.message_laws.proofs.AskerKnown.{after_askers, after_own, new_askers, new_list_askers, new_list_sends}
+use Rattle.message_laws.proofs.Askers.AskerKnown.{after_askers, after_own, new_askers, new_list_askers, new_list_sends}
 use Rattle.message_laws.proofs.datagrams.responses_are_read.Goals as goal
 
 pub returns-clause-begins : goal.returns-clause-begins

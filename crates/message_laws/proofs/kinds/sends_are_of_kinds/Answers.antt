@@ -1,5 +1,5 @@
-use Rattle.message_laws.proofs.ReadMessages.{message_reads, name_reads}
-use Rattle.message_laws.proofs.SentKinds.{sent_begun, sent_kinds}
+use Rattle.message_laws.proofs.Messages.ReadMessages.{message_reads, name_reads}
+use Rattle.message_laws.proofs.Traces.SentKinds.{sent_begun, sent_kinds}
 use Rattle.message_laws.proofs.kinds.sends_are_of_kinds.Goals as goal
 
 pub returns-clause-kinds : goal.returns-clause-kinds

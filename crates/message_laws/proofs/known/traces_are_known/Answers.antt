@@ -1,6 +1,6 @@
-use Rattle.message_laws.proofs.ReadMessages.{message_reads, name_reads}
-use Rattle.message_laws.proofs.KnownTraces.{after_trace, entry_trace, new_trace}
-use Rattle.message_laws.proofs.ManyEntries.{known_trace}
+use Rattle.message_laws.proofs.Messages.ReadMessages.{message_reads, name_reads}
+use Rattle.message_laws.proofs.AwaitedOffers.KnownTraces.{after_trace, entry_trace, new_trace}
+use Rattle.message_laws.proofs.AwaitedOffers.ManyEntries.{known_trace}
 use Rattle.message_laws.proofs.known.traces_are_known.Goals as goal
 
 pub returns-clause-begins : goal.returns-clause-begins

@@ -1,4 +1,4 @@
-use Rattle.message_laws.proofs.SeenActions.{action_said, actions_said}
+use Rattle.message_laws.proofs.Messages.SeenActions.{action_said, actions_said}
 use Rattle.message_laws.proofs.message_views.actions_are_seen.Goals as goal
 
 pub returns-clause-one : goal.returns-clause-one

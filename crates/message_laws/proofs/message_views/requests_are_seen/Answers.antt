@@ -1,4 +1,4 @@
-use Rattle.message_laws.proofs.SeenMessages.{ack_sees, bye_sees, cancel_sees, offer_sees, refused_sees, request_says}
+use Rattle.message_laws.proofs.QuietEvents.SeenMessages.{ack_sees, bye_sees, cancel_sees, offer_sees, refused_sees, request_says}
 use Rattle.message_laws.proofs.message_views.requests_are_seen.Goals as goal
 
 pub returns-clause-describes : goal.returns-clause-describes

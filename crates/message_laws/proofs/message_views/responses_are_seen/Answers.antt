@@ -1,4 +1,4 @@
-use Rattle.message_laws.proofs.SeenMessages.{answer_says, answer_sees, response_sees}
+use Rattle.message_laws.proofs.QuietEvents.SeenMessages.{answer_says, answer_sees, response_sees}
 use Rattle.message_laws.proofs.message_views.responses_are_seen.Goals as goal
 
 pub returns-clause-describes : goal.returns-clause-describes

@@ -1,4 +1,4 @@
-use Rattle.message_laws.proofs.SeenActions.{alone_said, first_said, step_said}
+use Rattle.message_laws.proofs.Messages.SeenActions.{alone_said, first_said, step_said}
 use Rattle.message_laws.proofs.message_views.steps_are_seen.Goals as goal
 
 pub returns-clause-step : goal.returns-clause-step

@@ -1,4 +1,4 @@
-use Rattle.message_laws.proofs.Rising.{after_byes, after_numbers, after_sends, new_ends, new_numbers, new_rise}
+use Rattle.message_laws.proofs.AwaitedOffers.Rising.{after_byes, after_numbers, after_sends, new_ends, new_numbers, new_rise}
 use Rattle.message_laws.proofs.numbers.numbers_rise.Goals as goal
 
 pub returns-clause-begins : goal.returns-clause-begins

@@ -1,4 +1,4 @@
-use Rattle.message_laws.proofs.Rising.{after_carried, list_carried, new_carried}
+use Rattle.message_laws.proofs.AwaitedOffers.Rising.{after_carried, list_carried, new_carried}
 use Rattle.message_laws.proofs.offer_carriage.open_offers_are_carried.Goals as goal
 
 pub returns-clause-begins : goal.returns-clause-begins

@@ -1,6 +1,6 @@
-use Rattle.message_laws.proofs.ReadMessages.{message_reads, name_reads}
-use Rattle.message_laws.proofs.AskedRows.{after_asked, new_asked}
-use Rattle.message_laws.proofs.ManyEntries.{known_asked}
+use Rattle.message_laws.proofs.Messages.ReadMessages.{message_reads, name_reads}
+use Rattle.message_laws.proofs.AwaitedOffers.AskedRows.{after_asked, new_asked}
+use Rattle.message_laws.proofs.AwaitedOffers.ManyEntries.{known_asked}
 use Rattle.message_laws.proofs.open_offers.open_offers_were_asked.Goals as goal
 
 pub returns-clause-begins : goal.returns-clause-begins

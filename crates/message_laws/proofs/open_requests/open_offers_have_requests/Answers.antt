@@ -1,7 +1,7 @@
 use Rattle.sip_message.specs.declared.message.Message.TheVariants as Kinds
-use Rattle.message_laws.proofs.Asking.{all_asked, all_offered, known_asked}
-use Rattle.message_laws.proofs.OpenRows.{after_requests, known_requests, new_requests}
-use Rattle.message_laws.proofs.ReadMessages.{message_reads, name_reads}
+use Rattle.message_laws.proofs.StandingCalls.Asking.{all_asked, all_offered, known_asked}
+use Rattle.message_laws.proofs.StandingCalls.OpenRows.{after_requests, known_requests, new_requests}
+use Rattle.message_laws.proofs.Messages.ReadMessages.{message_reads, name_reads}
 use Rattle.message_laws.proofs.open_requests.open_offers_have_requests.Goals as goal
 
 pub returns-clause-begins : goal.returns-clause-begins

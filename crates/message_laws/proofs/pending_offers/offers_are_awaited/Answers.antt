@@ -1,4 +1,4 @@
-use Rattle.message_laws.proofs.WaitEvents.{after_waits, new_waits}
+use Rattle.message_laws.proofs.AwaitedOffers.WaitEvents.{after_waits, new_waits}
 use Rattle.message_laws.proofs.pending_offers.offers_are_awaited.Goals as goal
 
 pub returns-clause-begins : goal.returns-clause-begins

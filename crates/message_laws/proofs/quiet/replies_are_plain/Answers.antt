@@ -1,5 +1,5 @@
 use Rattle.std.proofs.Common.{None}
-use Rattle.message_laws.proofs.QuietReplies.{in_plain, okay_plain, reply_plain, request_calm, responds_plain}
+use Rattle.message_laws.proofs.QuietEvents.QuietReplies.{in_plain, okay_plain, reply_plain, request_calm, responds_plain}
 use Rattle.message_laws.proofs.quiet.replies_are_plain.Goals as goal
 
 pub returns-clause-any : goal.returns-clause-any

@@ -1,4 +1,4 @@
-use Rattle.message_laws.proofs.QuietRules.{alone_quiet, offer_quiet, plain_other}
+use Rattle.message_laws.proofs.QuietEvents.QuietRules.{alone_quiet, offer_quiet, plain_other}
 use Rattle.message_laws.proofs.quiet.rules_reply_quietly.Goals as goal
 
 pub returns-clause-alone : goal.returns-clause-alone

@@ -1,4 +1,4 @@
-use Rattle.message_laws.proofs.QuietMoves.{again_move, nothing_move, okay_move, refusal_move, reply_move, silent_move, stateless_move}
+use Rattle.message_laws.proofs.QuietEvents.QuietMoves.{again_move, nothing_move, okay_move, refusal_move, reply_move, silent_move, stateless_move}
 use Rattle.message_laws.proofs.quiet.what_no_call_takes_is_quiet.Goals as goal
 
 pub returns-clause-ignored : goal.returns-clause-ignored

@@ -1,4 +1,4 @@
-use Rattle.message_laws.proofs.SendRows.{after_sent, new_sent}
+use Rattle.message_laws.proofs.Messages.SendRows.{after_sent, new_sent}
 use Rattle.message_laws.proofs.repeats.what_goes_again_was_sent.Goals as goal
 
 pub returns-clause-begins : goal.returns-clause-begins

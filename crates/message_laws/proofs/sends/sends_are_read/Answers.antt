@@ -1,10 +1,10 @@
 use Rattle.std.proofs.Common.{List, sym, subst, ℕ}
 use Rattle.sip_message.specs.Grammar.{ReadsMessage}
-use Rattle.message_laws.proofs.ReadMessages.{message_reads, name_reads}
+use Rattle.message_laws.proofs.Messages.ReadMessages.{message_reads, name_reads}
 use Rattle.std.proofs.lemmas.List.Elements.{All-nil}
 use Rattle.message_laws.specs.ReadDatagrams.{IsReadDatagram}
-use Rattle.message_laws.proofs.ReadEvents.{after_reads}
-use Rattle.message_laws.proofs.ReadKnown.{known_reads}
+use Rattle.message_laws.proofs.SentTexts.ReadEvents.{after_reads}
+use Rattle.message_laws.proofs.SentTexts.ReadKnown.{known_reads}
 use Rattle.message_laws.proofs.sends.sends_are_read.Goals as goal
 
 pub returns-clause-begins : goal.returns-clause-begins

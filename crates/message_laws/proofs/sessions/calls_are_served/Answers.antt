@@ -1,4 +1,4 @@
-use Rattle.message_laws.proofs.ServingRows.{after_serves, list_serves, new_serves}
+use Rattle.message_laws.proofs.StandingCalls.ServingRows.{after_serves, list_serves, new_serves}
 use Rattle.message_laws.proofs.sessions.calls_are_served.Goals as goal
 
 pub returns-clause-begins : goal.returns-clause-begins

@@ -1,5 +1,5 @@
-use Rattle.message_laws.proofs.ToldSessions.{are_held_by_calls, are_led, are_staged, are_told, has_no_other_row, hold_no_others, hold_their_pairs}
-use Rattle.message_laws.proofs.Holders.{held_by_their_calls, holders_stand}
+use Rattle.message_laws.proofs.StandingCalls.ToldSessions.{are_held_by_calls, are_led, are_staged, are_told, has_no_other_row, hold_no_others, hold_their_pairs}
+use Rattle.message_laws.proofs.StandingCalls.Holders.{held_by_their_calls, holders_stand}
 use Rattle.message_laws.proofs.sessions.served_as_told.Goals as goal
 
 pub returns-clause-staged : goal.returns-clause-staged

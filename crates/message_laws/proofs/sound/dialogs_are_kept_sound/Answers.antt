@@ -1,5 +1,5 @@
-use Rattle.message_laws.proofs.ReadMessages.{message_reads, name_reads}
-use Rattle.message_laws.proofs.SoundRows.{after_dialogs, known_dialogs, known_leg, known_target, new_dialogs}
+use Rattle.message_laws.proofs.Messages.ReadMessages.{message_reads, name_reads}
+use Rattle.message_laws.proofs.StandingCalls.SoundRows.{after_dialogs, known_dialogs, known_leg, known_target, new_dialogs}
 use Rattle.message_laws.proofs.sound.dialogs_are_kept_sound.Goals as goal
 
 pub returns-clause-begins : goal.returns-clause-begins

@@ -1,5 +1,5 @@
-use Rattle.message_laws.proofs.ReadMessages.{message_reads, name_reads}
-use Rattle.message_laws.proofs.Comings.{alone_comes, answer_comes, bye_comes, cancel_comes, forked_can, later_can, offer_comes}
+use Rattle.message_laws.proofs.Messages.ReadMessages.{message_reads, name_reads}
+use Rattle.message_laws.proofs.Traces.Comings.{alone_comes, answer_comes, bye_comes, cancel_comes, forked_can, later_can, offer_comes}
 use Rattle.message_laws.proofs.steps.comings_are_sound.Goals as goal
 
 pub returns-clause-alone : goal.returns-clause-alone

@@ -1,5 +1,5 @@
-use Rattle.message_laws.proofs.ReadMessages.{message_reads, name_reads}
-use Rattle.message_laws.proofs.Scenes.{alone_says, first_says, step_says, stopped_scenes}
+use Rattle.message_laws.proofs.Messages.ReadMessages.{message_reads, name_reads}
+use Rattle.message_laws.proofs.Traces.Scenes.{alone_says, first_says, step_says, stopped_scenes}
 use Rattle.message_laws.proofs.steps.steps_are_said.Goals as goal
 
 pub returns-clause-step : goal.returns-clause-step

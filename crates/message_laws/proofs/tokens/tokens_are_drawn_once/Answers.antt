@@ -1,4 +1,4 @@
-use Rattle.message_laws.proofs.Events.{after_knows, new_knows}
+use Rattle.message_laws.proofs.TokenUse.Events.{after_knows, new_knows}
 use Rattle.message_laws.proofs.tokens.tokens_are_drawn_once.Goals as goal
 
 pub returns-clause-begins : goal.returns-clause-begins

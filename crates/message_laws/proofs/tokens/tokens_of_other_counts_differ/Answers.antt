@@ -1,4 +1,4 @@
-use Rattle.message_laws.proofs.Apartness.{counts_differ}
+use Rattle.message_laws.proofs.TokenUse.Apartness.{counts_differ}
 use Rattle.message_laws.proofs.tokens.tokens_of_other_counts_differ.Goals as goal
 
 pub returns : goal.returns

@@ -1,4 +1,4 @@
-use Rattle.message_laws.proofs.WrittenRequests.{cancel_stands, refusal_ack_stands}
+use Rattle.message_laws.proofs.TokenUse.WrittenRequests.{cancel_stands, refusal_ack_stands}
 use Rattle.message_laws.proofs.written.cancels_are_written.Goals as goal
 
 pub returns : goal.returns

@@ -1,4 +1,4 @@
-use Rattle.message_laws.proofs.WrittenRequests.{ack_stands, bye_stands, offer_stands}
+use Rattle.message_laws.proofs.TokenUse.WrittenRequests.{ack_stands, bye_stands, offer_stands}
 use Rattle.message_laws.proofs.written.requests_are_written.Goals as goal
 
 pub returns : goal.returns

@@ -1,5 +1,5 @@
 use Rattle.sip_message.specs.declared.message.Message.TheVariants as Kinds
-use Rattle.message_laws.proofs.ReadMessages.{message_reads, name_reads}
+use Rattle.message_laws.proofs.Messages.ReadMessages.{message_reads, name_reads}
 use Rattle.step_laws.proofs.FitAnswerEvents.{fit_answers}
 use Rattle.step_laws.proofs.answers.fit_answers_are_passed_on.Goals as goal
 

@@ -1,4 +1,4 @@
-use Rattle.message_laws.proofs.ReadMessages.{message_reads, name_reads}
+use Rattle.message_laws.proofs.Messages.ReadMessages.{message_reads, name_reads}
 use Rattle.step_laws.proofs.FirstInvites.{first_invites}
 use Rattle.step_laws.proofs.offers.first_invites_are_passed_on.Goals as goal
 

@@ -1,4 +1,4 @@
-use Rattle.message_laws.proofs.ReadMessages.{message_reads, name_reads}
+use Rattle.message_laws.proofs.Messages.ReadMessages.{message_reads, name_reads}
 use Rattle.step_laws.proofs.LaterRequests.{later_requests}
 use Rattle.step_laws.proofs.offers.later_requests_are_served.Goals as goal
 

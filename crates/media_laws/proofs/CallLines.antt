@@ -1,0 +1,14 @@
+pub mod Again
+pub mod ByeLines
+pub mod Ends
+pub mod HiddenLines
+pub mod LaterLines
+pub mod LineMoves
+pub mod LineSteps
+pub mod OwnCall
+pub mod OwnNumbers
+pub mod SignalSteps
+pub mod StageLines
+pub mod Stages
+pub mod StepsOn
+pub mod TableMoves

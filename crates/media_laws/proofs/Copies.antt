@@ -1,0 +1,9 @@
+pub mod CallTags
+pub mod EventMoves
+pub mod Lateness
+pub mod Receptions
+pub mod RefusalAcks
+pub mod SeenResponses
+pub mod Swallowed
+pub mod Taken
+pub mod TransactionMoves

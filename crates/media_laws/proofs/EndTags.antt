@@ -1,0 +1,13 @@
+pub mod AnswerSteps
+pub mod ByeTags
+pub mod ByesKnown
+pub mod FirstLegs
+pub mod HeardSteps
+pub mod RequestSteps
+pub mod ResponseSteps
+pub mod SaidTags
+pub mod SettledOffers
+pub mod TagRows
+pub mod TagSteps
+pub mod Takes
+pub mod Timers

@@ -1,0 +1,15 @@
+pub mod CallInputs
+pub mod CaseMoves
+pub mod Cases
+pub mod Datagrams
+pub mod Dues
+pub mod EventCases
+pub mod Events
+pub mod HiddenInputs
+pub mod HiddenSignals
+pub mod Laws
+pub mod Puts
+pub mod RequestCases
+pub mod RequestEvents
+pub mod ResponseEvents
+pub mod UnlistedCalls

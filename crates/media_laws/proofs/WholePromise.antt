@@ -1,0 +1,11 @@
+pub mod AllEntries
+pub mod BegunRequests
+pub mod Counted
+pub mod Invariant
+pub mod Keeping
+pub mod Knowing
+pub mod LateInvites
+pub mod LiveCalls
+pub mod Openings
+pub mod SaidMessages
+pub mod Sessions

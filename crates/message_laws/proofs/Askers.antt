@@ -1,0 +1,13 @@
+pub mod AskedCalls
+pub mod AskerEffects
+pub mod AskerEvents
+pub mod AskerKnown
+pub mod AskerRows
+pub mod FitReplies
+pub mod ServedRequests
+pub mod Sparing
+pub mod Speaking
+pub mod SpokenLines
+pub mod SpokenOffers
+pub mod SpokenSteps
+pub mod UnsupportedField

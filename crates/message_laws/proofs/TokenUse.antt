@@ -1,0 +1,14 @@
+pub mod Apartness
+pub mod Calls
+pub mod ContactField
+pub mod Drafts
+pub mod Events
+pub mod Further
+pub mod Grounds
+pub mod Rows
+pub mod Sides
+pub mod Slots
+pub mod TaggedSteps
+pub mod TokenRuns
+pub mod UnusedTokens
+pub mod WrittenRequests

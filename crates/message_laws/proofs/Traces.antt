@@ -1,0 +1,16 @@
+pub mod Comings
+pub mod Effects
+pub mod Legs
+pub mod Places
+pub mod ReadActions
+pub mod ReadTexts
+pub mod Receptions
+pub mod Saying
+pub mod Scenes
+pub mod SentKinds
+pub mod StandingThere
+pub mod StepSays
+pub mod Taking
+pub mod TraceRequests
+pub mod TraceRows
+pub mod WaitingOn
