@@ -1,8 +1,9 @@
 -- Datagrams that are sent one behind the other.
-use Rattle.std.proofs.Common.{◌≡◌, ◌∙◌, ℕ, ◌+◌, Bool, true, false, cond, List, [], ◌∷◌, ◌++◌, inl, inr, refl, sym, ap, subst, append_assoc, arith}
+use Rattle.std.proofs.Common.{◌≡◌, ◌∙◌, ℕ, ◌+◌, true, false, List, [], ◌∷◌, ◌++◌, inl, inr, refl, sym, ap, subst, append_assoc, arith}
 use Rattle.std.proofs.lemmas.List.{append-nil}
 use Rattle.events.specs.declared.sent.Sent.{Sent}
 use Rattle.live.specs.Sending.{Sends, Tried, Went, tried_one}
+use Rattle.live.specs.States.{OnlySends, WireState}
 
 -- some, and then others
 pub went_more : (a b g h : List Sent) (m n : ℕ) → Went a g m → Went b h n → Went (a ++ b) (g ++ h) (m + n)
@@ -41,3 +42,8 @@ fails_one s after d is = record {
   sent = ap (λ (t : Tried). t.sent) is ∙ sym (append-nil s.sent);
   went = inr (0, refl, (refl, refl));
 }
+
+-- ---- nothing else
+
+pub only_sends_more : (a b c : WireState) → OnlySends a b → OnlySends b c → OnlySends a c
+only_sends_more a b c h k = record { taken = k.taken ∙ h.taken; rooms = k.rooms ∙ h.rooms; waited = k.waited ∙ h.waited }

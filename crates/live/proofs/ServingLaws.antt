@@ -1,29 +1,39 @@
 -- Rounds that were made so far.
-use Rattle.std.proofs.Common.{◌≡◌, ◌∙◌, ℕ, zero, suc, Bool, true, false, cond, nat_le, List, [], ◌∷◌, length, Option, Some, None, ◌⊎◌, inl, inr, refl, ap, sym, subst, arith}
-use Rattle.live.specs.Rounds.{end_after, is_behind, max_in_a_row, streaks_after}
-use Rattle.live.specs.Serving.{AreLeft, EndsAt, GoOn, Leads, Made, Office, Served, none_failed, one_less, streaks_of, told_in, with_trouble}
+use Rattle.std.proofs.Common.{◌≡◌, ◌∙◌, ℕ, zero, suc, Bool, true, false, cond, nat_le, List, [], ◌∷◌, length, Option, Some, None, ◌⊎◌, ◌++◌, inl, inr, refl, ap, sym, subst, append_assoc, arith}
+use Rattle.std.proofs.lemmas.List.{append-nil}
+use Rattle.rand_chacha.specs.ChaCha.{ChaCha}
+use Rattle.live.specs.Rounds.{Rounds, TableAt, end_after, is_behind, max_in_a_row, salts_after, streaks_after}
+use Rattle.live.specs.Salts.{behind_salts, salt_at}
+use Rattle.live.specs.Serving.{AreLeft, Course, EndsAt, GoOn, Leads, Made, RoundAt, events_after, events_in, Served, moments_of, none_failed, one_less, salts_behind, streaks_of, told_in, with_trouble}
 use Rattle.live.specs.Troubles.{trouble_between}
+use Rattle.live.specs.Traces.{LivesUntil}
+use Rattle.live.specs.Turns.{HasTable}
+use Rattle.live.proofs.TraceLaws.{Went, StandLaws, lives_on, none_went, round_more}
 use Rattle.live.specs.declared.round.Round.{Round}
+use Rattle.live.specs.declared.round.Round.TheVariants.{Fired, Took, Waited, Failed}
 use Rattle.live.specs.declared.streaks.Streaks.{Streaks}
 use Rattle.live.specs.declared.streaks.End.{End}
 use Rattle.live.specs.declared.streaks.End.TheVariants.{Turns, Stopped, Socket, Memory}
 use Rattle.live.specs.declared.trouble.Trouble.{Trouble}
 
 -- these rounds were made, none of them was the last, and so many are left
-pub record Going (a b : Office) (told told_now : Option Trouble) (turns left : Option ℕ) (streaks : Streaks) : Type 0 where
-  pub rounds : List Round
-  pub made : Made a rounds b
+pub record Going (a b : Course) (turns left : Option ℕ) (streaks : Streaks) : Type 0 where
+  pub rounds : List RoundAt
+  pub made : Made a.salts a.state rounds b.state
+  pub moments : b.moments ≡ a.moments ++ moments_of rounds
+  pub salts : b.salts ≡ salts_behind a.salts rounds
+  pub told_there : b.trouble ≡ told_in a.trouble rounds
   pub go_on : GoOn rounds
-  pub told_there : told_now ≡ told_in told rounds
   pub are_left : AreLeft turns (length rounds) left
   pub counts : streaks ≡ streaks_of rounds
+  pub went : Went a.state b.state
 
 all_left : (turns : Option ℕ) → AreLeft turns 0 turns
 all_left None = refl
 all_left (Some turns) = omega (arith)
 
-pub none_made : (a : Office) (told : Option Trouble) (turns : Option ℕ) → Going a a told told turns turns none_failed
-none_made a told turns = record { rounds = []; made = refl; go_on = tt; told_there = refl; are_left = all_left turns; counts = refl }
+pub none_made : (a : Course) (turns : Option ℕ) → Going a a turns turns none_failed
+none_made a turns = record { rounds = []; made = refl; moments = sym (append-nil a.moments); salts = refl; told_there = refl; go_on = tt; are_left = all_left turns; counts = refl; went = none_went a.state }
 
 -- ---- how many are left
 
@@ -48,12 +58,12 @@ none_left (Some turns) (Some (suc left)) made h e = absurd (cc)
 
 -- ---- the end
 
-pub was_stopped : (a b : Office) (told told_now : Option Trouble) (turns left : Option ℕ) (streaks : Streaks) → Going a b told told_now turns left streaks → Served a b told told_now turns Stopped
-was_stopped a b told told_now turns left streaks h = record { rounds = h.rounds; made = h.made; told_there = h.told_there; ends = h.go_on }
+pub was_stopped : (a b : Course) (turns left : Option ℕ) (streaks : Streaks) → Going a b turns left streaks → Served a b turns Stopped
+was_stopped a b turns left streaks h = record { rounds = h.rounds; made = h.made; moments = h.moments; salts = h.salts; told_there = h.told_there; ends = h.go_on }
 
-pub made_all : (a b : Office) (told told_now : Option Trouble) (turns left : Option ℕ) (streaks : Streaks) → Going a b told told_now turns left streaks → one_less left ≡ None → Served a b told told_now turns Turns
-made_all a b told told_now turns left streaks h e =
-    record { rounds = h.rounds; made = h.made; told_there = h.told_there; ends = (none_left turns left (length h.rounds) h.are_left e, h.go_on) }
+pub made_all : (a b : Course) (turns left : Option ℕ) (streaks : Streaks) → Going a b turns left streaks → one_less left ≡ None → Served a b turns Turns
+made_all a b turns left streaks h e =
+    record { rounds = h.rounds; made = h.made; moments = h.moments; salts = h.salts; told_there = h.told_there; ends = (none_left turns left (length h.rounds) h.are_left e, h.go_on) }
 
 -- what ends the signalling behind a round is a socket or memory
 end_cases : (b c d : Bool) (end : End) → cond b (Some Memory) (cond c (Some Socket) (cond d (Some Memory) None)) ≡ Some end → (end ≡ Socket) ⊎ (end ≡ Memory)
@@ -62,50 +72,112 @@ end_cases false true d end e = inl (cc)
 end_cases false false true end e = inr (cc)
 end_cases false false false end e = absurd (cc)
 
-ends_by : (turns : Option ℕ) (round : Round) (before : List Round) (end : End) → (end ≡ Socket) ⊎ (end ≡ Memory) → end_after (streaks_of (round ∷ before)) round ≡ Some end → GoOn before
-    → EndsAt turns (round ∷ before) end
-ends_by turns round before Socket which e go_on = (e, go_on)
-ends_by turns round before Memory which e go_on = (e, go_on)
-ends_by turns round before Turns (inl which) e go_on = absurd (cc)
-ends_by turns round before Turns (inr which) e go_on = absurd (cc)
-ends_by turns round before Stopped (inl which) e go_on = absurd (cc)
-ends_by turns round before Stopped (inr which) e go_on = absurd (cc)
+ends_by : (turns : Option ℕ) (x : RoundAt) (before : List RoundAt) (end : End) → (end ≡ Socket) ⊎ (end ≡ Memory) → end_after (streaks_of (x ∷ before)) x.round ≡ Some end → GoOn before
+    → EndsAt turns (x ∷ before) end
+ends_by turns x before Socket which e go_on = (e, go_on)
+ends_by turns x before Memory which e go_on = (e, go_on)
+ends_by turns x before Turns (inl which) e go_on = absurd (cc)
+ends_by turns x before Turns (inr which) e go_on = absurd (cc)
+ends_by turns x before Stopped (inl which) e go_on = absurd (cc)
+ends_by turns x before Stopped (inr which) e go_on = absurd (cc)
 
 -- ---- one round more
 
-told_more : (told told_now told_after : Option Trouble) (rounds : List Round) (round : Round) (streaks after : Streaks) → told_now ≡ told_in told rounds → streaks ≡ streaks_of rounds → after ≡ streaks_after streaks round
-    → told_after ≡ with_trouble told_now (trouble_between streaks after) → told_after ≡ told_in told (round ∷ rounds)
-told_more told told_now told_after rounds round streaks after there counts next said =
-    let P : Streaks → Type 0 = λ x. told_after ≡ with_trouble told_now (trouble_between x (streaks_after x round)) in
+told_more : (told told_now told_after : Option Trouble) (rounds : List RoundAt) (x : RoundAt) (streaks after : Streaks) → told_now ≡ told_in told rounds → streaks ≡ streaks_of rounds → after ≡ streaks_after streaks x.round
+    → told_after ≡ with_trouble told_now (trouble_between streaks after) → told_after ≡ told_in told (x ∷ rounds)
+told_more told told_now told_after rounds x streaks after there counts next said =
+    let P : Streaks → Type 0 = λ y. told_after ≡ with_trouble told_now (trouble_between y (streaks_after y x.round)) in
     let at_after : P streaks = subst (λ (y : Streaks). told_after ≡ with_trouble told_now (trouble_between streaks y)) next said in
-    subst P counts at_after ∙ ap (λ (ts : Option Trouble). with_trouble ts (trouble_between (streaks_of rounds) (streaks_of (round ∷ rounds)))) there
+    subst P counts at_after ∙ ap (λ (ts : Option Trouble). with_trouble ts (trouble_between (streaks_of rounds) (streaks_of (x ∷ rounds)))) there
 
-count_more : (rounds : List Round) (round : Round) (streaks after : Streaks) → streaks ≡ streaks_of rounds → after ≡ streaks_after streaks round → after ≡ streaks_of (round ∷ rounds)
-count_more rounds round streaks after counts next = next ∙ ap (λ (x : Streaks). streaks_after x round) counts
+count_more : (rounds : List RoundAt) (x : RoundAt) (streaks after : Streaks) → streaks ≡ streaks_of rounds → after ≡ streaks_after streaks x.round → after ≡ streaks_of (x ∷ rounds)
+count_more rounds x streaks after counts next = next ∙ ap (λ (y : Streaks). streaks_after y x.round) counts
 
-pub one_more_made : (a b c : Office) (told told_now told_after : Option Trouble) (turns left next : Option ℕ) (streaks after : Streaks) (round : Round) → Going a b told told_now turns left streaks
-    → one_less left ≡ Some next → Leads b c round → after ≡ streaks_after streaks round → told_after ≡ with_trouble told_now (trouble_between streaks after)
-    → end_after after round ≡ None → Going a c told told_after turns next after
-one_more_made a b c told told_now told_after turns left next streaks after round h less leads counted said goes_on =
-    let counts = count_more h.rounds round streaks after h.counts counted in
+-- what a course has once these rounds were made, whether or not the last of them ends it
+record Lead (a c : Course) (rounds : List RoundAt) : Type 0 where
+  pub made : Made a.salts a.state rounds c.state
+  pub moments : c.moments ≡ a.moments ++ moments_of rounds
+  pub salts : c.salts ≡ salts_behind a.salts rounds
+  pub told_there : c.trouble ≡ told_in a.trouble rounds
+
+-- the board has what the agent has
+front_cases : (b : Bool) (rest : Option End) → cond b (Some Memory) rest ≡ None → b ≡ false
+front_cases true rest e = absurd (cc)
+front_cases false rest e = refl
+
+is_in_front : (x : Streaks) (round : Round) → end_after x round ≡ None → is_behind round ≡ false
+is_in_front x round e = front_cases (is_behind round) _ e
+
+salts_more : (g : ChaCha) (n : ℕ) (round : Round) → salts_after (behind_salts g n) round ≡ behind_salts g (events_after n round)
+salts_more g n (Fired turned) = refl
+salts_more g n (Took turned) = refl
+salts_more g n Waited = refl
+salts_more g n Failed = refl
+
+lead_more : (a b c : Course) (turns left : Option ℕ) (streaks after : Streaks) (round : Round) (h : Going a b turns left streaks) (leads : Leads b c round) → after ≡ streaks_after streaks round
+    → c.trouble ≡ with_trouble b.trouble (trouble_between streaks after) → Lead a c (record { now = leads.now; round = round } ∷ h.rounds)
+lead_more a b c turns left streaks after round h leads counted said = record {
+  made = (b.state, h.made, subst (λ (g : ChaCha). Rounds leads.now (salt_at g) b.state c.state round) h.salts leads.made);
+  moments = leads.told ∙ ap (λ (l : List ℕ). l ++ leads.now ∷ []) h.moments ∙ append_assoc a.moments (moments_of h.rounds) (leads.now ∷ []);
+  salts = leads.salts ∙ ap (λ (g : ChaCha). salts_after g round) h.salts ∙ salts_more a.salts (events_in h.rounds) round;
+  told_there = told_more a.trouble b.trouble c.trouble h.rounds (record { now = leads.now; round = round }) streaks after h.told_there h.counts counted said;
+}
+
+pub one_more_made : (a b c : Course) (turns left next : Option ℕ) (streaks after : Streaks) (round : Round) → Going a b turns left streaks
+    → one_less left ≡ Some next → Leads b c round → after ≡ streaks_after streaks round → c.trouble ≡ with_trouble b.trouble (trouble_between streaks after)
+    → end_after after round ≡ None → Going a c turns next after
+one_more_made a b c turns left next streaks after round h less leads counted said goes_on =
+    let x : RoundAt = record { now = leads.now; round = round } in
+    let counts = count_more h.rounds x streaks after h.counts counted in
+    let lead = lead_more a b c turns left streaks after round h leads counted said in
     record {
-      rounds = round ∷ h.rounds;
-      made = (b, h.made, leads);
-      go_on = (subst (λ (x : Streaks). end_after x round ≡ None) counts goes_on, h.go_on);
-      told_there = told_more told told_now told_after h.rounds round streaks after h.told_there h.counts counted said;
+      rounds = x ∷ h.rounds;
+      made = lead.made;
+      moments = lead.moments;
+      salts = lead.salts;
+      told_there = lead.told_there;
+      go_on = (subst (λ (y : Streaks). end_after y round ≡ None) counts goes_on, h.go_on);
       are_left = one_left turns left next (length h.rounds) h.are_left less;
       counts = counts;
+      went = round_more leads.now (salt_at b.salts) a.state b.state c.state round h.went leads.made (is_in_front after round goes_on);
     }
 
-pub ended : (a b c : Office) (told told_now told_after : Option Trouble) (turns left : Option ℕ) (streaks after : Streaks) (round : Round) (end : End) → Going a b told told_now turns left streaks
-    → Leads b c round → after ≡ streaks_after streaks round → told_after ≡ with_trouble told_now (trouble_between streaks after) → end_after after round ≡ Some end
-    → Served a c told told_after turns end
-ended a b c told told_now told_after turns left streaks after round end h leads counted said ends =
-    let counts = count_more h.rounds round streaks after h.counts counted in
-    let ends_there = subst (λ (x : Streaks). end_after x round ≡ Some end) counts ends in
+pub ended : (a b c : Course) (turns left : Option ℕ) (streaks after : Streaks) (round : Round) (end : End) → Going a b turns left streaks
+    → Leads b c round → after ≡ streaks_after streaks round → c.trouble ≡ with_trouble b.trouble (trouble_between streaks after) → end_after after round ≡ Some end
+    → Served a c turns end
+ended a b c turns left streaks after round end h leads counted said ends =
+    let x : RoundAt = record { now = leads.now; round = round } in
+    let counts = count_more h.rounds x streaks after h.counts counted in
+    let lead = lead_more a b c turns left streaks after round h leads counted said in
+    let ends_there = subst (λ (y : Streaks). end_after y round ≡ Some end) counts ends in
     record {
-      rounds = round ∷ h.rounds;
-      made = (b, h.made, leads);
-      told_there = told_more told told_now told_after h.rounds round streaks after h.told_there h.counts counted said;
-      ends = ends_by turns round h.rounds end (end_cases (is_behind round) (nat_le max_in_a_row after.failed) (nat_le max_in_a_row after.lost) end ends) ends_there h.go_on;
+      rounds = x ∷ h.rounds;
+      made = lead.made;
+      moments = lead.moments;
+      salts = lead.salts;
+      told_there = lead.told_there;
+      ends = ends_by turns x h.rounds end (end_cases (is_behind round) (nat_le max_in_a_row after.failed) (nat_le max_in_a_row after.lost) end ends) ends_there h.go_on;
     }
+
+-- ---- the trace of what happened
+
+socket_cases : (b : Bool) (rest : Option End) → cond b (Some Memory) rest ≡ Some Socket → b ≡ false
+socket_cases true rest e = absurd (cc)
+socket_cases false rest e = refl
+
+one_of : {end : End} → (end ≡ Socket) ⊎ (end ≡ Memory) → (end ≡ Socket → ⊥) → (end ≡ Memory → ⊥) → ⊥
+one_of (inl h) not_socket not_memory = not_socket h
+one_of (inr h) not_socket not_memory = not_memory h
+
+neither : (b c d : Bool) (end : End) → cond b (Some Memory) (cond c (Some Socket) (cond d (Some Memory) None)) ≡ Some end → (end ≡ Socket → ⊥) → (end ≡ Memory → ⊥) → ⊥
+neither b c d end e not_socket not_memory = one_of (end_cases b c d end e) not_socket not_memory
+
+-- it lives on behind a round that left the board with what the agent has; memory ended it, and it lived until its last round
+pub lives_at : (laws : StandLaws) (a b c : Course) (turns left : Option ℕ) (streaks after : Streaks) (round : Round) (end : End) → Going a b turns left streaks → Leads b c round → end_after after round ≡ Some end
+    → HasTable b.state.lists b.state.agent → TableAt c.state.lists c.state.agent end → LivesUntil a.state c.state end
+lives_at laws a b c turns left streaks after round Socket h leads e before table =
+    lives_on laws a.state c.state (round_more leads.now (salt_at b.salts) a.state b.state c.state round h.went leads.made (socket_cases (is_behind round) _ e)) table
+lives_at laws a b c turns left streaks after round Memory h leads e before table =
+    record { mid = b.state; lives = lives_on laws a.state b.state h.went before; now = leads.now; salt = salt_at b.salts; round = round; last = leads.made }
+lives_at laws a b c turns left streaks after round Turns h leads e before table = absurd (neither (is_behind round) (nat_le max_in_a_row after.failed) (nat_le max_in_a_row after.lost) Turns e (λ q. cc) (λ q. cc))
+lives_at laws a b c turns left streaks after round Stopped h leads e before table = absurd (neither (is_behind round) (nat_le max_in_a_row after.failed) (nat_le max_in_a_row after.lost) Stopped e (λ q. cc) (λ q. cc))

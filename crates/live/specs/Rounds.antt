@@ -1,13 +1,15 @@
 -- What a round of the signalling does: it fires what is due, or takes a datagram, or waits.
-use Rattle.std.specs.Prelude.{◌≡◌, ℕ, ◌+◌, ◌-◌, ◌^◌, Bool, true, false, nat_le, min, List, [], ◌∷◌, ◌++◌, Option, Some, None, if◌then◌else◌}
+use Rattle.std.specs.Prelude.{◌≡◌, ℕ, ◌+◌, ◌-◌, ◌^◌, Bool, true, false, nat_le, min, [], ◌∷◌, ◌++◌, Option, Some, None, ◌⊎◌, if◌then◌else◌}
 use Rattle.relay.specs.Lists.{Lists}
 use Rattle.events.specs.declared.event.Event.{Event}
 use Rattle.events.specs.declared.event.What.{What}
-use Rattle.events.specs.declared.event.What.TheVariants.{Datagram, Due}
+use Rattle.events.specs.declared.event.What.TheVariants.{Due}
+use Rattle.rand_chacha.specs.ChaCha.{ChaCha}
 use Rattle.event_rows.specs.Rows.{next_due}
 use Rattle.event_rows.specs.State.{Contents}
-use Rattle.live.specs.Arrivals.{Arrival}
-use Rattle.live.specs.Sending.{Tried}
+use Rattle.live.specs.Arrivals.{Arrival, buffer_length, comes}
+use Rattle.live.specs.Salts.{after_salt}
+use Rattle.live.specs.States.{OnlySends, State}
 use Rattle.live.specs.Turns.{HasTable, Turns}
 use Rattle.live.specs.declared.turn.Turned.{Turned}
 use Rattle.live.specs.declared.turn.Turned.TheVariants.{Done, Lost, Behind}
@@ -38,16 +40,67 @@ wait_until now (Some at) = min max_wait (at - now)
 abbrev pub event : ℕ → ℕ → What → Event
 event now salt what = record { now = now; salt = salt; what = what }
 
-abbrev pub Rounds : ℕ → ℕ → Contents → Contents → Lists → Lists → List Arrival → List Arrival → Tried → Tried → Round → Type 0
-Rounds now salt s s_after lists lists_after taken taken_after tried tried_after (Fired turned) =
-    (is_due now (next_due s) ≡ true) × (taken_after ≡ taken) × Turns (event now salt Due) s s_after lists lists_after tried tried_after turned
-Rounds now salt s s_after lists lists_after taken taken_after tried tried_after (Took turned) =
-    (is_due now (next_due s) ≡ false)
-    × ((d : Arrival) × (taken_after ≡ taken ++ d ∷ []) × Turns (event now salt (Datagram d.source d.bytes)) s s_after lists lists_after tried tried_after turned)
-Rounds now salt s s_after lists lists_after taken taken_after tried tried_after Waited =
-    (is_due now (next_due s) ≡ false) × (s_after ≡ s) × (lists_after ≡ lists) × (taken_after ≡ taken) × (tried_after ≡ tried)
-Rounds now salt s s_after lists lists_after taken taken_after tried tried_after Failed =
-    (is_due now (next_due s) ≡ false) × (s_after ≡ s) × (lists_after ≡ lists) × (taken_after ≡ taken) × (tried_after ≡ tried)
+-- the agent and the board are as they were, and nothing came or was to be sent
+pub record Rests (a b : State) : Type 0 where
+  pub agent : b.agent ≡ a.agent
+  pub board : b.lists ≡ a.lists
+  pub taken : b.wire.taken ≡ a.wire.taken
+  pub tried : b.wire.tried ≡ a.wire.tried
+
+-- the wire was asked once for a datagram, with room for the longest and one byte more
+abbrev pub AsksForOne : State → State → Type 0
+AsksForOne a b = b.wire.rooms ≡ a.wire.rooms ++ buffer_length ∷ []
+
+-- it was asked once to wait, until the next moment that is due
+abbrev pub WaitsUntilDue : ℕ → State → State → Type 0
+WaitsUntilDue now a b = b.wire.waited ≡ a.wire.waited ++ wait_until now (next_due a.agent) ∷ []
+
+abbrev pub NeverWaits : State → State → Type 0
+NeverWaits a b = b.wire.waited ≡ a.wire.waited
+
+-- a timer is due, and no datagram is asked for
+pub record Fires (now salt : ℕ) (a b : State) (turned : Turned) : Type 0 where
+  pub due : is_due now (next_due a.agent) ≡ true
+  pub wire : OnlySends a.wire b.wire
+  pub turns : Turns (event now salt Due) a b turned
+
+-- no timer is due, and a datagram is taken
+pub record Takes (now salt : ℕ) (a b : State) (turned : Turned) : Type 0 where
+  pub due : is_due now (next_due a.agent) ≡ false
+  pub asks : AsksForOne a b
+  pub arrival : Arrival
+  pub taken : b.wire.taken ≡ a.wire.taken ++ arrival ∷ []
+  pub waited : NeverWaits a b
+  pub turns : Turns (event now salt (comes arrival)) a b turned
+
+-- neither, and it waits
+pub record Waits (now : ℕ) (a b : State) : Type 0 where
+  pub due : is_due now (next_due a.agent) ≡ false
+  pub asks : AsksForOne a b
+  pub rests : Rests a b
+  pub waited : WaitsUntilDue now a b
+  pub failed : b.wire.failed ≡ false
+
+-- neither, and the wire says that the receive or the wait failed
+pub record Fails (now : ℕ) (a b : State) : Type 0 where
+  pub due : is_due now (next_due a.agent) ≡ false
+  pub asks : AsksForOne a b
+  pub rests : Rests a b
+  pub waited : NeverWaits a b ⊎ WaitsUntilDue now a b
+  pub failed : b.wire.failed ≡ true
+
+abbrev pub Rounds : ℕ → ℕ → State → State → Round → Type 0
+Rounds now salt a b (Fired turned) = Fires now salt a b turned
+Rounds now salt a b (Took turned) = Takes now salt a b turned
+Rounds now salt a b Waited = Waits now a b
+Rounds now salt a b Failed = Fails now a b
+
+-- the stream behind a round: each event has a salt of its own, also one that is lost
+abbrev pub salts_after : ChaCha → Round → ChaCha
+salts_after g (Fired turned) = after_salt g
+salts_after g (Took turned) = after_salt g
+salts_after g Waited = g
+salts_after g Failed = g
 
 -- ---- what ends the signalling
 

@@ -1,5 +1,5 @@
 -- The words of a ChaCha20 stream that a salt is made of (RFC 8439 section 2.4: 10 double rounds a block).
-use Rattle.std.specs.Prelude.{ℕ, ◌+◌, ◌*◌, ◌%◌, ◌^◌}
+use Rattle.std.specs.Prelude.{ℕ, zero, suc, ◌+◌, ◌*◌, ◌%◌, ◌^◌}
 use Rattle.rand_chacha.specs.ChaCha.{ChaCha, word_at}
 
 -- the place of the word behind this one
@@ -13,3 +13,8 @@ after_salt g = record g { word_pos = next_place (next_place g.word_pos) }
 -- the next two words, the first as the low half
 abbrev pub salt_at : ChaCha → ℕ
 salt_at g = word_at 10 g.key g.stream g.word_pos + word_at 10 g.key g.stream (next_place g.word_pos) * 2 ^ 32
+
+-- the stream behind so many salts
+abbrev pub behind_salts : ChaCha → ℕ → ChaCha
+behind_salts g zero = g
+behind_salts g (suc n) = after_salt (behind_salts g n)

@@ -1,41 +1,70 @@
 -- What the signalling did from its start to its end: rounds, one after the other.
-use Rattle.std.specs.Prelude.{◌≡◌, ◌+◌, ℕ, zero, suc, List, [], ◌∷◌, length, Option, Some, None}
-use Rattle.relay.specs.Lists.{Lists}
-use Rattle.event_rows.specs.State.{Contents}
-use Rattle.live.specs.Arrivals.{Arrival}
-use Rattle.live.specs.Rounds.{Rounds, end_after, streaks_after}
-use Rattle.live.specs.Sending.{Tried}
+use Rattle.std.specs.Prelude.{◌≡◌, ◌+◌, ℕ, zero, suc, List, [], ◌∷◌, ◌++◌, length, Option, Some, None}
+use Rattle.rand_chacha.specs.ChaCha.{ChaCha}
+use Rattle.live.specs.Rounds.{Rounds, end_after, salts_after, streaks_after}
+use Rattle.live.specs.Salts.{behind_salts, salt_at}
+use Rattle.live.specs.States.{State}
 use Rattle.live.specs.Troubles.{trouble_between}
 use Rattle.live.specs.declared.round.Round.{Round}
+use Rattle.live.specs.declared.round.Round.TheVariants.{Fired, Took, Waited, Failed}
 use Rattle.live.specs.declared.streaks.Streaks.{Streaks}
 use Rattle.live.specs.declared.streaks.End.{End}
 use Rattle.live.specs.declared.streaks.End.TheVariants.{Turns, Stopped, Socket, Memory}
 use Rattle.live.specs.declared.trouble.Trouble.{Trouble}
 
--- the agent, the board's lists, and what the wire took and was asked to send
-pub record Office : Type 0 where
-  pub agent : Contents
-  pub lists : Lists
-  pub taken : List Arrival
-  pub tried : Tried
+-- what an event can change, with the stream of salts, the moments that the clock told, in order, and what the operator was told last
+pub record Course : Type 0 where
+  pub state : State
+  pub salts : ChaCha
+  pub moments : List ℕ
+  pub trouble : Option Trouble
 
--- a round, at some moment and with some salt
-abbrev pub Leads : Office → Office → Round → Type 0
-Leads a b round = (now : ℕ) × (salt : ℕ) × Rounds now salt a.agent b.agent a.lists b.lists a.taken b.taken a.tried b.tried round
+-- one round, at the moment that the clock told for it, with the next salt of the stream
+pub record Leads (a b : Course) (round : Round) : Type 0 where
+  pub now : ℕ
+  pub told : b.moments ≡ a.moments ++ now ∷ []
+  pub made : Rounds now (salt_at a.salts) a.state b.state round
+  pub salts : b.salts ≡ salts_after a.salts round
 
 -- ---- rounds, the last of them first
 
-abbrev pub Made : Office → List Round → Office → Type 0
-Made a [] b = b ≡ a
-Made a (round ∷ before) b = (mid : Office) × Made a before mid × Leads mid b round
+-- a round, and the moment at which it was made
+pub record RoundAt : Type 0 where
+  pub now : ℕ
+  pub round : Round
+
+-- how many events they had, also those that were lost
+abbrev pub events_after : ℕ → Round → ℕ
+events_after n (Fired turned) = suc n
+events_after n (Took turned) = suc n
+events_after n Waited = n
+events_after n Failed = n
+
+abbrev pub events_in : List RoundAt → ℕ
+events_in [] = 0
+events_in (x ∷ before) = events_after (events_in before) x.round
+
+-- the stream behind them: each event has a salt of its own
+abbrev pub salts_behind : ChaCha → List RoundAt → ChaCha
+salts_behind g rounds = behind_salts g (events_in rounds)
+
+-- each was made at its moment, with the salt that stands behind those of the rounds before it
+abbrev pub Made : ChaCha → State → List RoundAt → State → Type 0
+Made g a [] b = b ≡ a
+Made g a (x ∷ before) b = (mid : State) × Made g a before mid × Rounds x.now (salt_at (salts_behind g before)) mid b x.round
+
+-- their moments, the earliest first
+abbrev pub moments_of : List RoundAt → List ℕ
+moments_of [] = []
+moments_of (x ∷ before) = moments_of before ++ x.now ∷ []
 
 abbrev pub none_failed : Streaks
 none_failed = record { failed = 0; lost = 0 }
 
 -- the counts after them
-abbrev pub streaks_of : List Round → Streaks
+abbrev pub streaks_of : List RoundAt → Streaks
 streaks_of [] = none_failed
-streaks_of (round ∷ before) = streaks_after (streaks_of before) round
+streaks_of (x ∷ before) = streaks_after (streaks_of before) x.round
 
 -- what was told last, once this was told, if it was
 abbrev pub with_trouble : Option Trouble → Option Trouble → Option Trouble
@@ -43,19 +72,19 @@ with_trouble told None = told
 with_trouble told (Some trouble) = Some trouble
 
 -- what was told last, where the trouble that began in them was told, each in its round
-abbrev pub told_in : Option Trouble → List Round → Option Trouble
+abbrev pub told_in : Option Trouble → List RoundAt → Option Trouble
 told_in told [] = told
-told_in told (round ∷ before) = with_trouble (told_in told before) (trouble_between (streaks_of before) (streaks_of (round ∷ before)))
+told_in told (x ∷ before) = with_trouble (told_in told before) (trouble_between (streaks_of before) (streaks_of (x ∷ before)))
 
 -- none of them was the last
-abbrev pub GoOn : List Round → Type 0
+abbrev pub GoOn : List RoundAt → Type 0
 GoOn [] = Unit {0}
-GoOn (round ∷ before) = (end_after (streaks_of (round ∷ before)) round ≡ None) × GoOn before
+GoOn (x ∷ before) = (end_after (streaks_of (x ∷ before)) x.round ≡ None) × GoOn before
 
 -- the last of them, and none before, ended it so
-abbrev pub EndBy : List Round → End → Type 0
+abbrev pub EndBy : List RoundAt → End → Type 0
 EndBy [] end = ⊥
-EndBy (round ∷ before) end = (end_after (streaks_of (round ∷ before)) round ≡ Some end) × GoOn before
+EndBy (x ∷ before) end = (end_after (streaks_of (x ∷ before)) x.round ≡ Some end) × GoOn before
 
 -- ---- the end
 
@@ -65,17 +94,20 @@ AreLeft None made left = left ≡ None
 AreLeft (Some turns) made None = ⊥
 AreLeft (Some turns) made (Some left) = made + left ≡ turns
 
-abbrev pub EndsAt : Option ℕ → List Round → End → Type 0
+abbrev pub EndsAt : Option ℕ → List RoundAt → End → Type 0
 EndsAt turns rounds Turns = (turns ≡ Some (length rounds)) × GoOn rounds
 EndsAt turns rounds Stopped = GoOn rounds
 EndsAt turns rounds Socket = EndBy rounds Socket
 EndsAt turns rounds Memory = EndBy rounds Memory
 
--- these rounds were made, the trouble that began in them was told as it began, and they ended so
-pub record Served (a b : Office) (told told_after : Option Trouble) (turns : Option ℕ) (end : End) : Type 0 where
-  pub rounds : List Round
-  pub made : Made a rounds b
-  pub told_there : told_after ≡ told_in told rounds
+-- These rounds were made, one for each moment that the clock told, with the salts of the stream in their order. The trouble that began in
+-- them was told as it began, and they ended so.
+pub record Served (a b : Course) (turns : Option ℕ) (end : End) : Type 0 where
+  pub rounds : List RoundAt
+  pub made : Made a.salts a.state rounds b.state
+  pub moments : b.moments ≡ a.moments ++ moments_of rounds
+  pub salts : b.salts ≡ salts_behind a.salts rounds
+  pub told_there : b.trouble ≡ told_in a.trouble rounds
   pub ends : EndsAt turns rounds end
 
 -- one round less, or none where none is left

@@ -6,7 +6,9 @@ use Rattle.events.specs.declared.event.Event.{Event}
 use Rattle.plans.specs.declared.taken.Taken.{Taken}
 use Rattle.event_rows.specs.Rows.{after, row}
 use Rattle.event_rows.specs.State.{Contents}
-use Rattle.live.specs.Sending.{Sends, Tried}
+use Rattle.message_laws.specs.Datagrams.{ComesFromSource}
+use Rattle.live.specs.Sending.{Sends}
+use Rattle.live.specs.States.{State}
 use Rattle.live.specs.declared.turn.Turned.{Turned}
 use Rattle.live.specs.declared.turn.Turned.TheVariants.{Done, Lost, Behind}
 
@@ -19,17 +21,24 @@ published lists (c ∷ cs) = lists ++ (c ∷ cs) ∷ []
 abbrev pub HasTable : Lists → Contents → Type 0
 HasTable lists s = table_after lists ≡ s.calls.pool.rows
 
--- The agent takes the event as its step does, the board has its changes as one list more, and of what it sends so many fail.
-pub record Carries (e : Event) (s s_after : Contents) (lists lists_after : Lists) (tried tried_after : Tried) (taken : Taken) (failed : ℕ) : Type 0 where
-  pub agent : s_after ≡ after s e
-  pub answer : taken ≡ (row s e).plan.taken
-  pub board : lists_after ≡ published lists (after s e).changes
-  pub table : HasTable lists_after s_after
-  pub wire : Sends tried tried_after (row s e).plan.sends failed
+-- The agent takes the event as its step does, the board has its changes as one list more, and of what it sends so many fail. A
+-- datagram came from an address.
+pub record Carries (e : Event) (a b : State) (taken : Taken) (failed : ℕ) : Type 0 where
+  pub agent : b.agent ≡ after a.agent e
+  pub answer : taken ≡ (row a.agent e).plan.taken
+  pub board : b.lists ≡ published a.lists (after a.agent e).changes
+  pub table : HasTable b.lists b.agent
+  pub wire : Sends a.wire.tried b.wire.tried (row a.agent e).plan.sends failed
+  pub source : ComesFromSource e.what
+
+-- nothing is published or sent
+pub record IsSilent (a b : State) : Type 0 where
+  pub board : b.lists ≡ a.lists
+  pub wire : b.wire.tried ≡ a.wire.tried
 
 -- What an event leaves of agent, board and wire. An event that is lost counts as not come. Where nothing could be published, the
 -- agent took the event, and nothing was published or sent.
-abbrev pub Turns : Event → Contents → Contents → Lists → Lists → Tried → Tried → Turned → Type 0
-Turns e s s_after lists lists_after tried tried_after (Done taken failed) = Carries e s s_after lists lists_after tried tried_after taken failed
-Turns e s s_after lists lists_after tried tried_after Lost = (s_after ≡ s) × (lists_after ≡ lists) × (tried_after ≡ tried)
-Turns e s s_after lists lists_after tried tried_after Behind = (s_after ≡ after s e) × (lists_after ≡ lists) × (tried_after ≡ tried)
+abbrev pub Turns : Event → State → State → Turned → Type 0
+Turns e a b (Done taken failed) = Carries e a b taken failed
+Turns e a b Lost = (b.agent ≡ a.agent) × IsSilent a b
+Turns e a b Behind = (b.agent ≡ after a.agent e) × IsSilent a b

@@ -2,17 +2,23 @@
 //! published, and then what it sends goes out. Sockets, clock and stop flag are handed in.
 #![tactic(auto)]
 
+mod buffer;
+mod number_log;
 mod round;
 mod salt;
 mod service;
+mod signalling;
 mod streaks;
 mod trouble;
 mod turn;
 mod wire;
 
-pub use round::{Round, Signalling, datagram_buffer};
-pub use salt::{next_print_key, next_salt, salts_of};
+pub use buffer::{DatagramBuffer, datagram_buffer};
+pub use number_log::NumberLog;
+pub use round::Round;
+pub use salt::{next_print_key, next_salt, salts_have_their_own_places, salts_of};
 pub use service::{Clock, serve};
+pub use signalling::Signalling;
 pub use streaks::{End, Streaks};
 pub use trouble::{Operator, Trouble};
 pub use turn::{Turned, live_turn};

@@ -1,26 +1,25 @@
 //! One round of the signalling: it fires what is due, or takes a datagram, or waits.
 
-ghost use Rattle.std.specs.Prelude.{◌≡◌, false, IfOk};
+ghost use Rattle.std.specs.Prelude.{◌≡◌, ◌∷◌, ◌++◌, [], false, IfOk, MatchOption, MatchResult};
+ghost use Rattle.std.specs.Result.{is_err};
 ghost use Rattle.events.specs.declared.event.What.TheVariants as whats;
 ghost use Rattle.event_rows.specs.Rows.{next_due};
-ghost use Rattle.live.specs.Rounds.{event, is_due, wait_until, Rounds};
+ghost use Rattle.live.specs.Arrivals.{TakesOne, buffer_length};
+ghost use Rattle.live.specs.Rounds.{is_due, salts_after, wait_until, Rounds};
 ghost use Rattle.live.specs.Salts.{salt_at};
+ghost use Rattle.live.specs.States.{OnlySends};
 ghost use Rattle.live.specs.Turns.{HasTable, Turns};
 
+use crate::buffer::DatagramBuffer;
 use crate::salt::next_salt;
+use crate::signalling::Signalling;
 use crate::turn::{Turned, live_turn};
-use crate::wire::Wire;
-use agent::Agent;
+use crate::wire::{Wire, WireFault};
 use events::{Event, What};
-use rand_chacha::ChaCha20Rng;
-use relay::Board;
 use sip_uri::Addr;
 use std::alloc::{AllocError, Global};
 use std::sync::Wait;
 use text::Text;
-
-/// One byte more than a datagram may have: a longer one is seen to be too long.
-const BUFFER: usize = 16_385;
 
 /// So many milliseconds are waited at most.
 const MAX_WAIT: u64 = 100;
@@ -36,22 +35,6 @@ pub enum Round {
     Waited,
     /// A receive or a wait failed.
     Failed,
-}
-
-/// The agent with its board, its socket, its salts and a buffer for one datagram. It is not `Drop`, since the board is not:
-/// end it by `close`.
-pub struct Signalling<W> {
-    pub alloc: Global,
-    pub agent: Agent,
-    pub board: Board,
-    pub wire: W,
-    pub salts: ChaCha20Rng,
-    pub buffer: Vec<u8>,
-}
-
-/// Room for one datagram, and one byte more.
-pub fn datagram_buffer(alloc: Global) -> Result<Vec<u8>, AllocError> {
-    vec![in alloc; 0; BUFFER]
 }
 
 /// How many milliseconds to wait until the next moment that is due: at most 100.
@@ -84,15 +67,38 @@ fn datagram(alloc: Global, source: Addr, bytes: &[u8]) -> Result<What, AllocErro
     })
 }
 
+/// Takes a datagram where one is there: what comes with it, unless memory is refused for that.
+fn receive<W: Wire>(
+    alloc: Global,
+    wire: &mut W,
+    buffer: &mut DatagramBuffer,
+) -> Result<Option<Result<What, AllocError>>, WireFault>
+    ensures taken { MatchResult result
+        (λ r. MatchOption r ((W.seen wire.new).taken ≡ (W.seen wire.old).taken)
+        (λ what. TakesOne (W.seen wire.old).taken (W.seen wire.new).taken what))
+        (λ _. (W.seen wire.new).taken ≡ (W.seen wire.old).taken) }
+    ensures rooms { (W.seen wire.new).rooms ≡ (W.seen wire.old).rooms ++ buffer_length ∷ [] }
+    ensures tried { (W.seen wire.new).tried ≡ (W.seen wire.old).tried }
+    ensures waited { (W.seen wire.new).waited ≡ (W.seen wire.old).waited }
+    ensures failed { (W.seen wire.new).failed ≡ is_err result }
+{
+    let Some((source, length)) = wire.receive(buffer.bytes.as_mut_slice())? else {
+        return Ok(None);
+    };
+    let bytes = &buffer.bytes.as_slice()[..length];
+    Ok(Some(datagram(alloc, source, bytes)))
+}
+
 impl<W: Wire> Signalling<W> {
-    // The agent takes what happens at this moment.
-    fn happen<R: Wait>(&mut self, rt: &R, now: u64, what: What) -> Turned
+    // The agent takes the event.
+    fn happen<R: Wait>(&mut self, rt: &R, event: Event) -> Turned
         requires { HasTable self.old.board self.old.agent }
-        ensures turns { Turns (event now (salt_at self.old.salts) what) self.old.agent self.new.agent self.old.board self.new.board (W.tried self.old.wire) (W.tried self.new.wire) result }
-        ensures taken { W.taken self.new.wire ≡ W.taken self.old.wire }
+        ensures turns { Turns event
+            (record { agent = self.old.agent; lists = self.old.board; wire = W.seen self.old.wire })
+            (record { agent = self.new.agent; lists = self.new.board; wire = W.seen self.new.wire }) result }
+        ensures only_sends { OnlySends (W.seen self.old.wire) (W.seen self.new.wire) }
+        ensures salts { self.new.salts ≡ self.old.salts }
     {
-        let salt = next_salt(&mut self.salts);
-        let event = Event { now, salt, what };
         let turned = live_turn(
             rt,
             self.alloc,
@@ -105,64 +111,49 @@ impl<W: Wire> Signalling<W> {
         turned
     }
 
-    // Waits until a datagram may be there.
-    fn pause(&mut self, now: u64) -> Round
-        requires { is_due now (next_due self.old.agent) ≡ false }
-        ensures { Rounds now (salt_at self.old.salts) self.old.agent self.new.agent self.old.board self.new.board (W.taken self.old.wire) (W.taken self.new.wire) (W.tried self.old.wire) (W.tried self.new.wire) result }
-    {
-        match self.wire.wait(wait_until(now, self.agent.next_due())) {
-            Ok(()) => Round::Waited,
-            Err(_) => Round::Failed,
-        }
-    }
-
-    // Takes a datagram, where one is there.
+    // Takes a datagram, or waits until one may be there.
     fn take<R: Wait>(&mut self, rt: &R, now: u64) -> Round
         requires table { HasTable self.old.board self.old.agent }
         requires idle { is_due now (next_due self.old.agent) ≡ false }
-        ensures { Rounds now (salt_at self.old.salts) self.old.agent self.new.agent self.old.board self.new.board (W.taken self.old.wire) (W.taken self.new.wire) (W.tried self.old.wire) (W.tried self.new.wire) result }
+        ensures round { Rounds now (salt_at self.old.salts)
+            (record { agent = self.old.agent; lists = self.old.board; wire = W.seen self.old.wire })
+            (record { agent = self.new.agent; lists = self.new.board; wire = W.seen self.new.wire }) result }
+        ensures salts { self.new.salts ≡ salts_after self.old.salts result }
     {
-        match self.wire.receive(self.buffer.as_mut_slice()) {
+        match receive(self.alloc, &mut self.wire, &mut self.buffer) {
             Err(_) => Round::Failed,
-            Ok(None) => self.pause(now),
-            Ok(Some((source, length))) => {
-                match datagram(self.alloc, source, &self.buffer.as_slice()[..length]) {
+            Ok(None) => match self.wire.wait(wait_until(now, self.agent.next_due())) {
+                Ok(()) => Round::Waited,
+                Err(_) => Round::Failed,
+            },
+            Ok(Some(what)) => {
+                let salt = next_salt(&mut self.salts);
+                match what {
                     Err(_) => Round::Took(Turned::Lost),
-                    Ok(what) => Round::Took(self.happen(rt, now, what)),
+                    Ok(what) => Round::Took(self.happen(rt, Event { now, salt, what })),
                 }
             }
         }
     }
 
     /// Fires one timer that is due at this moment, in milliseconds, or else takes one datagram, or else waits until the next
-    /// moment that is due, at most 100 milliseconds.
+    /// moment that is due, at most 100 milliseconds. An event has the next salt of the stream.
     pub fn round<R: Wait>(&mut self, rt: &R, now: u64) -> Round
         requires { HasTable self.old.board self.old.agent }
-        ensures { Rounds now (salt_at self.old.salts) self.old.agent self.new.agent self.old.board self.new.board (W.taken self.old.wire) (W.taken self.new.wire) (W.tried self.old.wire) (W.tried self.new.wire) result }
+        ensures round { Rounds now (salt_at self.old.salts)
+            (record { agent = self.old.agent; lists = self.old.board; wire = W.seen self.old.wire })
+            (record { agent = self.new.agent; lists = self.new.board; wire = W.seen self.new.wire }) result }
+        ensures salts { self.new.salts ≡ salts_after self.old.salts result }
     {
         if is_due(now, self.agent.next_due()) {
-            Round::Fired(self.happen(rt, now, What::Due))
+            let due = Event {
+                now,
+                salt: next_salt(&mut self.salts),
+                what: What::Due,
+            };
+            Round::Fired(self.happen(rt, due))
         } else {
             self.take(rt, now)
         }
-    }
-
-    /// Ends the board: no look-up is let in from then on.
-    pub fn close<R: Wait>(self, rt: &R)
-    where
-        W: Drop,
-    {
-        let Signalling {
-            alloc: _,
-            agent,
-            board,
-            wire,
-            salts: _,
-            buffer,
-        } = self;
-        board.close(rt);
-        drop(agent);
-        drop(wire);
-        drop(buffer);
     }
 }

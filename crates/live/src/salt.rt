@@ -1,8 +1,8 @@
 //! The salts of events, drawn from the configured key.
 
-ghost use Rattle.std.specs.Prelude.{◌≡◌};
-ghost use Rattle.rand_chacha.specs.ChaCha.{key_of};
-ghost use Rattle.live.specs.Salts.{after_salt, next_place, salt_at};
+ghost use Rattle.std.specs.Prelude.{◌≡◌, ◌≢◌, ◌<◌, ◌^◌, ℕ};
+ghost use Rattle.rand_chacha.specs.ChaCha.{ChaCha, key_of};
+ghost use Rattle.live.specs.Salts.{after_salt, behind_salts, next_place, salt_at};
 
 use index::PrintKey;
 use rand_chacha::ChaCha20Rng;
@@ -36,3 +36,8 @@ pub fn next_print_key(salts: &mut ChaCha20Rng) -> PrintKey
     let second = next_salt(salts);
     PrintKey { first, second }
 }
+
+/// Of fewer than 2^67 salts each has its own place in the stream.
+pub fn salts_have_their_own_places()
+    ensures { (g : ChaCha) (m n : ℕ) → m < n → n < 2 ^ 67 → (behind_salts g m).word_pos ≢ (behind_salts g n).word_pos }
+{}

@@ -1,22 +1,29 @@
 //! The signalling from its start to its end.
 
-ghost use Rattle.std.specs.Prelude.{◌≡◌, MatchOption};
+ghost use Rattle.std.specs.Prelude.{◌≡◌, ℕ, List, [], ◌∷◌, ◌++◌, MatchOption};
 ghost use Rattle.live.specs.Rounds.{TableAt, end_after, streaks_after};
 ghost use Rattle.live.specs.Serving.{Leads, Served, one_less, with_trouble};
+ghost use Rattle.live.specs.Traces.{LivesUntil};
 ghost use Rattle.live.specs.Troubles.{trouble_between};
 ghost use Rattle.live.specs.Turns.{HasTable};
 
-use crate::round::{Round, Signalling};
+use crate::round::Round;
+use crate::signalling::Signalling;
 use crate::streaks::{End, Streaks};
 use crate::trouble::{Operator, tell_of};
 use crate::wire::Wire;
+use media_laws::agents_stand;
 use std::sync::Wait;
 use std::sync::atomic::{AtomicBool, Ordering};
 
 /// Tells the moments.
 pub trait Clock {
+    /// The moments that it told, in order.
+    ghost told: { Self → List ℕ };
+
     /// The milliseconds since the start.
-    fn now(&mut self) -> u64;
+    fn now(&mut self) -> u64
+        ensures told { told self.new ≡ told self.old ++ result ∷ [] };
 }
 
 // One round less, or None where none is left.
@@ -39,11 +46,23 @@ fn go_on<W: Wire, C: Clock, O: Operator, R: Wait>(
     streaks: &mut Streaks,
 ) -> Round
     requires { HasTable signalling.old.board signalling.old.agent }
-    ensures round { Leads (record { agent = signalling.old.agent; lists = signalling.old.board; taken = W.taken signalling.old.wire; tried = W.tried signalling.old.wire })
-        (record { agent = signalling.new.agent; lists = signalling.new.board; taken = W.taken signalling.new.wire; tried = W.tried signalling.new.wire }) result }
+    ensures round { Leads
+        (record {
+          state = record { agent = signalling.old.agent; lists = signalling.old.board; wire = W.seen signalling.old.wire };
+          salts = signalling.old.salts;
+          moments = C.told clock.old;
+          trouble = O.told operator.old;
+        })
+        (record {
+          state = record { agent = signalling.new.agent; lists = signalling.new.board; wire = W.seen signalling.new.wire };
+          salts = signalling.new.salts;
+          moments = C.told clock.new;
+          trouble = O.told operator.new;
+        }) result }
     ensures streaks { streaks.new ≡ streaks_after streaks.old result }
     ensures told { O.told operator.new ≡ with_trouble (O.told operator.old) (trouble_between streaks.old streaks.new) }
-    ensures table { MatchOption (end_after streaks.new result) (HasTable signalling.new.board signalling.new.agent) (λ end. TableAt signalling.new.board signalling.new.agent end) }
+    ensures table { MatchOption (end_after streaks.new result) (HasTable signalling.new.board signalling.new.agent)
+        (λ end. TableAt signalling.new.board signalling.new.agent end) }
 {
     let round = signalling.round(rt, clock.now());
     let before = *streaks;
@@ -64,10 +83,25 @@ pub fn serve<W: Wire, C: Clock, O: Operator, R: Wait>(
 ) -> End
     requires { HasTable signalling.old.board signalling.old.agent }
     ensures table { TableAt signalling.new.board signalling.new.agent result }
-    ensures served { Served (record { agent = signalling.old.agent; lists = signalling.old.board; taken = W.taken signalling.old.wire; tried = W.tried signalling.old.wire })
-        (record { agent = signalling.new.agent; lists = signalling.new.board; taken = W.taken signalling.new.wire; tried = W.tried signalling.new.wire })
-        (O.told operator.old) (O.told operator.new) turns result }
+    ensures served { Served
+        (record {
+          state = record { agent = signalling.old.agent; lists = signalling.old.board; wire = W.seen signalling.old.wire };
+          salts = signalling.old.salts;
+          moments = C.told clock.old;
+          trouble = O.told operator.old;
+        })
+        (record {
+          state = record { agent = signalling.new.agent; lists = signalling.new.board; wire = W.seen signalling.new.wire };
+          salts = signalling.new.salts;
+          moments = C.told clock.new;
+          trouble = O.told operator.new;
+        }) turns result }
+    // The trace of the live server.
+    ensures lives { LivesUntil
+        (record { agent = signalling.old.agent; lists = signalling.old.board; wire = W.seen signalling.old.wire })
+        (record { agent = signalling.new.agent; lists = signalling.new.board; wire = W.seen signalling.new.wire }) result }
 {
+    agents_stand();
     let mut turns = turns;
     let mut streaks = Streaks { failed: 0, lost: 0 };
     for _ in rt.forever() {

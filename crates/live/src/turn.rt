@@ -3,11 +3,13 @@
 ghost use Rattle.std.specs.Prelude.{◌≡◌, ◌≤◌, ◌∷◌, ◌++◌, [], IfOk, OnOk, OnErr, length};
 ghost use Rattle.event_rows.specs.Rows.{after, row};
 ghost use Rattle.live.specs.Sending.{Sends};
+ghost use Rattle.live.specs.States.{OnlySends};
 ghost use Rattle.live.specs.Turns.{HasTable, published, Turns};
 
 use crate::wire::Wire;
 use agent::{Agent, Taken};
 use events::{Event, Sent};
+use message_laws::event_comes_from_source;
 use port_pool::Change;
 use relay::{Board, Refused};
 use std::alloc::Global;
@@ -27,9 +29,9 @@ pub enum Turned {
 // Sends a datagram, and gives how many failed.
 #[tactic(auto, using(crate::proofs::SendLaws::sends_one, crate::proofs::SendLaws::fails_one))]
 fn send_one<W: Wire>(wire: &mut W, datagram: &Sent) -> usize
-    ensures sends { Sends (W.tried wire.old) (W.tried wire.new) (datagram.now ∷ []) result }
+    ensures sends { Sends (W.seen wire.old).tried (W.seen wire.new).tried (datagram.now ∷ []) result }
     ensures bound { result ≤ 1 }
-    ensures taken { W.taken wire.new ≡ W.taken wire.old }
+    ensures only_sends { OnlySends (W.seen wire.old) (W.seen wire.new) }
 {
     match wire.send(datagram.to, datagram.bytes.as_bytes()) {
         Ok(()) => 0,
@@ -39,8 +41,8 @@ fn send_one<W: Wire>(wire: &mut W, datagram: &Sent) -> usize
 
 // Sends all of them in order, and gives how many failed.
 fn send_all<W: Wire>(wire: &mut W, datagrams: &[Sent]) -> usize
-    ensures sends { Sends (W.tried wire.old) (W.tried wire.new) datagrams.now result }
-    ensures taken { W.taken wire.new ≡ W.taken wire.old }
+    ensures sends { Sends (W.seen wire.old).tried (W.seen wire.new).tried datagrams.now result }
+    ensures only_sends { OnlySends (W.seen wire.old) (W.seen wire.new) }
 {
     let mut failed: usize = 0;
     for datagram in datagrams {
@@ -76,9 +78,12 @@ pub fn live_turn<W: Wire, R: Wait>(
     event: &Event,
 ) -> Turned
     requires { HasTable board.old agent.old }
-    ensures turns { Turns event.entry.now agent.old agent.new board.old board.new (W.tried wire.old) (W.tried wire.new) result }
-    ensures taken { W.taken wire.new ≡ W.taken wire.old }
+    ensures turns { Turns event.entry.now
+        (record { agent = agent.old; lists = board.old; wire = W.seen wire.old })
+        (record { agent = agent.new; lists = board.new; wire = W.seen wire.new }) result }
+    ensures only_sends { OnlySends (W.seen wire.old) (W.seen wire.new) }
 {
+    event_comes_from_source(event);
     let mut sends = Vec::new(alloc);
     let Ok(taken) = agent.step(event, &mut sends) else {
         drop(sends);

@@ -1,6 +1,6 @@
 //! An office on sockets: the signalling here, and the workers of the media beside it.
 
-ghost use Rattle.std.specs.Prelude.{◌≡◌, [], IfOk};
+ghost use Rattle.std.specs.Prelude.{IfOk};
 ghost use Rattle.live.specs.Turns.{HasTable};
 
 use crate::announcement::{Announcement, Announcer};
@@ -8,14 +8,12 @@ use crate::shared::Shared;
 use crate::troubles::Troubles;
 use crate::watch::Watch;
 use crate::wire::SipWire;
-use agent::{Agent, Tally};
+use agent::Tally;
 use configuration::Config;
-use live::{
-    Clock as Moments, End, Operator, Signalling, Wire, datagram_buffer, next_print_key, salts_of,
-};
+use live::{Clock as Moments, End, Operator, Signalling, Wire};
 use relay::{Board, Unopened, Worker, serve_media};
 use server::{Host, HostFault};
-use sockets::{MediaSockets, SipSocket, Sockets, bind, worker_count, workers_of};
+use sockets::{MediaSockets, Sockets, bind, worker_count, workers_of};
 use std::alloc::Global;
 use std::net::Net;
 use std::rt::Clock;
@@ -44,37 +42,6 @@ fn host_fault(error: io::Error) -> HostFault {
     } else {
         HostFault::Socket
     }
-}
-
-/// What the signalling begins with: an agent and a board to which nothing has happened.
-fn signalling_of(
-    alloc: Global,
-    config: &Config,
-    board: Board,
-    sip: SipSocket,
-    start: u64,
-) -> Result<Signalling<SipWire>, (Board, HostFault)>
-    requires { board ≡ [] }
-    ensures { IfOk result (λ s. HasTable s.board s.agent) }
-{
-    let mut salts = salts_of(config.random_key, start);
-    let Ok(agent) = Agent::new(alloc, next_print_key(&mut salts), config) else {
-        drop(sip);
-        return Err((board, HostFault::OutOfMemory));
-    };
-    let Ok(buffer) = datagram_buffer(alloc) else {
-        drop(agent);
-        drop(sip);
-        return Err((board, HostFault::OutOfMemory));
-    };
-    Ok(Signalling {
-        alloc,
-        agent,
-        board,
-        wire: SipWire { socket: sip },
-        salts,
-        buffer,
-    })
 }
 
 /// The signalling until its end, which ends the workers too.
@@ -210,11 +177,11 @@ fn parts_of<R: Wait>(
         board.close(rt);
         return Err(HostFault::OutOfMemory);
     };
-    match signalling_of(alloc, config, board, sip, start) {
+    match Signalling::new(alloc, config, board, SipWire::new(sip), start) {
         Ok(signalling) => Ok((signalling, workers)),
-        Err((board, fault)) => {
+        Err((board, _)) => {
             board.close(rt);
-            Err(fault)
+            Err(HostFault::OutOfMemory)
         }
     }
 }

@@ -1,6 +1,6 @@
 //! The clock of the signalling.
 
-use live::Clock as Moments;
+use live::{Clock as Moments, NumberLog};
 use std::io;
 use std::rt::Clock;
 use std::time::Duration;
@@ -12,16 +12,25 @@ pub(crate) struct Watch<'a, R> {
     start: Duration,
     /// What it told last: a clock that fails stands still.
     last: u64,
+    /// The moments that it told. Only clauses read it.
+    told: NumberLog,
 }
 
 impl<'a, R: Clock> Watch<'a, R> {
     pub(crate) fn new(rt: &'a R) -> io::Result<Watch<'a, R>> {
         let start = rt.monotonic()?;
-        Ok(Watch { rt, start, last: 0 })
+        Ok(Watch {
+            rt,
+            start,
+            last: 0,
+            told: NumberLog::new(),
+        })
     }
 }
 
 impl<R: Clock> Moments for Watch<'_, R> {
+    ghost told = { λ w. w.told.entries };
+
     fn now(&mut self) -> u64 {
         if let Ok(moment) = self.rt.monotonic() {
             let since = moment.saturating_sub(self.start);
@@ -29,6 +38,7 @@ impl<R: Clock> Moments for Watch<'_, R> {
                 self.last = self.last.max(millis);
             }
         }
+        self.told.note(self.last);
         self.last
     }
 }

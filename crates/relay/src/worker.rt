@@ -1,5 +1,6 @@
 //! A worker: it takes a datagram, looks its port up, and sends it on.
 ghost use Rattle.std.specs.Prelude.{◌≡◌, ◌≤◌, ◌⊎◌, length, IfOk, IfErr, MatchResult, OnErr, true};
+ghost use Rattle.relay.specs.Limits.{datagram_room};
 ghost use Rattle.relay.specs.Lists.{table_after};
 ghost use Rattle.relay.specs.Lists.{StartsWith, BeginAlike};
 
@@ -8,7 +9,7 @@ use crate::viewer::{Stamp, Viewer};
 use std::alloc::Global;
 use thiserror::Error;
 
-/// The largest datagram.
+/// Room for any datagram.
 const DATAGRAM: usize = 65_536;
 
 /// What a turn did.
@@ -40,6 +41,7 @@ pub struct Worker<S, V = Viewer> {
     pub viewer: V,
     pub socket: S,
     buffer: Vec<u8>,
+    ghost room: { length buffer.items ≡ datagram_room },
 }
 
 impl<S: MediaSocket> Worker<S> {
@@ -67,6 +69,7 @@ impl<S: MediaSocket> Worker<S> {
         ensures nothing { OnErr result (S.sent self.new.socket ≡ S.sent self.old.socket) }
         ensures closed { IfOk result (λ t. t ≡ Turn.Closed → self.new.viewer ≡ self.old.viewer) }
         ensures later { StartsWith self.new.viewer self.old.viewer }
+        ensures room { S.room self.new.socket ≡ datagram_room }
     {
         let (port, length) = match self.socket.receive(self.buffer.as_mut_slice()) {
             Ok(Some(found)) => found,

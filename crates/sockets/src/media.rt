@@ -24,6 +24,8 @@ pub struct MediaSockets {
     pub(crate) taken: Log,
     pub(crate) asked: Log,
     pub(crate) sent: Log,
+    /// The room that the last receive was given. Only clauses read it.
+    pub(crate) room: usize,
     pub(crate) failed: bool,
 }
 
@@ -32,7 +34,7 @@ impl Model for MediaSockets {
 
     ghost Value = { Traffic };
 
-    ghost view = { λ s. record { taken = s.taken.entries; asked = s.asked.entries; sent = s.sent.entries; failed = s.failed } };
+    ghost view = { λ s. record { taken = s.taken.entries; asked = s.asked.entries; sent = s.sent.entries; room = s.room; failed = s.failed } };
 }
 
 impl MediaSockets {
@@ -42,6 +44,7 @@ impl MediaSockets {
         ensures taken { self.new.taken ≡ self.old.taken }
         ensures asked { self.new.asked ≡ self.old.asked }
         ensures sent { self.new.sent ≡ self.old.sent }
+        ensures room { self.new.room ≡ self.old.room }
     {
         match self.ready.take(self.sockets.as_slice(), buffer)? {
             None => Ok(None),
@@ -70,7 +73,10 @@ impl MediaSocket for MediaSockets {
 
     ghost failed = { λ s. s.failed };
 
+    ghost room = { λ s. s.room };
+
     fn receive(&mut self, buffer: &mut [u8]) -> Result<Option<(u16, usize)>, SocketFault> {
+        self.room = buffer.len();
         match self.take(buffer) {
             Ok(Some((port, length))) => {
                 self.failed = false;

@@ -69,6 +69,7 @@ fn bind_sip<R: Net>(rt: &R, alloc: Global, config: &Config) -> io::Result<SipSoc
         taken: Log::new(),
         asked: Log::new(),
         sent: Log::new(),
+        room: 0,
         failed: false,
     })
 }

@@ -23,6 +23,8 @@ pub struct SipSocket {
     pub(crate) taken: Log,
     pub(crate) asked: Log,
     pub(crate) sent: Log,
+    /// The room that the last receive was given. Only clauses read it.
+    pub(crate) room: usize,
     pub(crate) failed: bool,
 }
 
@@ -55,7 +57,7 @@ impl Model for SipSocket {
 
     ghost Value = { Traffic };
 
-    ghost view = { λ s. record { taken = s.taken.entries; asked = s.asked.entries; sent = s.sent.entries; failed = s.failed } };
+    ghost view = { λ s. record { taken = s.taken.entries; asked = s.asked.entries; sent = s.sent.entries; room = s.room; failed = s.failed } };
 }
 
 impl SipSocket {
@@ -66,8 +68,10 @@ impl SipSocket {
         ensures taken { MatchResult result (λ r. MatchOption r (self.new.taken ≡ self.old.taken) (λ d. self.new.taken ≡ self.old.taken ++ at_sip d.0 (take d.1 buffer.new) ∷ [])) (λ _. self.new.taken ≡ self.old.taken) }
         ensures asked { self.new.asked ≡ self.old.asked }
         ensures sent { self.new.sent ≡ self.old.sent }
+        ensures room { self.new.room ≡ length buffer.old }
         ensures failed { self.new.failed ≡ is_err result }
     {
+        self.room = buffer.len();
         match receive_from(&self.socket, buffer) {
             Ok(Some((source, length))) => {
                 self.failed = false;
@@ -91,6 +95,7 @@ impl SipSocket {
         ensures asked { self.new.asked ≡ self.old.asked ++ at_sip to bytes.now ∷ [] }
         ensures sent { MatchResult result (λ _. self.new.sent ≡ self.old.sent ++ at_sip to bytes.now ∷ []) (λ _. self.new.sent ≡ self.old.sent) }
         ensures taken { self.new.taken ≡ self.old.taken }
+        ensures room { self.new.room ≡ self.old.room }
         ensures failed { self.new.failed ≡ is_err result }
     {
         self.asked.note(0, &to.ip, to.port, bytes);
@@ -112,6 +117,7 @@ impl SipSocket {
         ensures taken { self.new.taken ≡ self.old.taken }
         ensures asked { self.new.asked ≡ self.old.asked }
         ensures sent { self.new.sent ≡ self.old.sent }
+        ensures room { self.new.room ≡ self.old.room }
         ensures failed { self.new.failed ≡ is_err result }
     {
         let limit = Duration::from_millis(millis);

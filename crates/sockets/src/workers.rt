@@ -31,6 +31,7 @@ fn worker_of(
         taken: Log::new(),
         asked: Log::new(),
         sent: Log::new(),
+        room: 0,
         failed: false,
     };
     match Worker::new(alloc, viewer, socket) {

@@ -26,7 +26,7 @@ served_at pool (x ∷ cs) zero c h there = subst (λ (y : StandingCall). IsServe
 served_at pool (x ∷ cs) (suc place) c h there = served_at pool cs place c h.1 there
 
 module _ (s : Office) (serves : KnowsServing s) (place : ℕ) (c : StandingCall) (there : slice_get s.calls.calls place ≡ Some c) where
-  served : IsServed c.call s.calls.pool
+  pub served : IsServed c.call s.calls.pool
   served = served_at s.calls.pool s.calls.calls place c serves.calls.kept.served there
 
   pub offer_alike : (o : OpenOffer) → c.call.media.offer ≡ Some o → Alike o.offer_taken o.offer_sent

@@ -3,6 +3,8 @@ use Rattle.std.proofs.Common.{◌≡◌, ◌∙◌, ℕ, ◌≤◌, ◌<◌, ◌
 use Rattle.std.specs.Prelude.{IsTrue}
 use Rattle.std.proofs.lemmas.Bool.{false≢true, le-leb}
 use Rattle.events.specs.declared.sent.Sent.{Sent}
+use Rattle.sip_uri.specs.declared.uri.Addr.{Addr}
+use Rattle.sip_writing.specs.Reply.{answer_address}
 use Rattle.sip_message.specs.Read.{message_of}
 use Rattle.sip_message.specs.declared.headers.Header.{Header}
 use Rattle.sip_message.specs.declared.message.Message.TheVariants as Kinds
@@ -36,11 +38,13 @@ use Rattle.message_laws.proofs.Messages.Repeats.{CanAnswer, FitsReply, fresh_tok
 use Rattle.message_laws.proofs.QuietEvents.SeenMessages.{response_sees}
 use Rattle.message_laws.proofs.Askers.UnsupportedField.{unsupported_written}
 use Rattle.message_laws.specs.Said.{IsSaid}
-use Rattle.message_laws.specs.Messages.{AreMessages}
+use Rattle.message_laws.specs.Messages.{AreMessages, IsMessage}
 use Rattle.media_laws.proofs.Scenes.Leaving.{request_of}
 use Rattle.media_laws.proofs.Scenes.Reading.{Reading, message_is}
 use Rattle.media_laws.proofs.OfferPairs.SeenWords.{response_replies}
-use Rattle.step_laws.specs.Offers.{IsFinalTo}
+use Rattle.step_laws.specs.Offers.{GoesBack, IsFinalTo}
+use Rattle.step_laws.specs.Sending.{AllGo, RespondsTo, responds as responded}
+use Rattle.plans.specs.Effect.{Effect}
 use Rattle.step_laws.proofs.Refusals.{any_reply_tag}
 
 -- ---- one final response to the request of these parts
@@ -51,18 +55,19 @@ pub record SeesFinal (parts : Parts) (m : Message) : Type 0 where
   pub final : 200 ≤ status
   pub seen : SeesResponse parts status tag None m
 
-pub record IsFinalReply (parts : Parts) (p : Plan) : Type 0 where
+pub record IsFinalReply (parts : Parts) (source : Addr) (p : Plan) : Type 0 where
   pub taken : p.taken ≡ Done
   pub datagram : Sent
   pub whole : p.sends ≡ datagram ∷ []
+  pub address : datagram.to ≡ answer_address parts.vias source
   pub said : IsSaid (SeesFinal parts) datagram
 
 final_kind : (status : ℕ) → 200 ≤ status → nat_le 200 status ≡ true
 final_kind status high = le-leb 200 status high
 
 -- the request gets it
-pub final_goes : Reading → (bytes : List ℕ) (r : Request) (p : Plan) → IsFinalReply r.parts p → (ms : List Message) → AreMessages p.sends ms → AnyOf (IsFinalTo (trace_message bytes (Kinds.Request r))) ms
-final_goes reads bytes r p h ms are = by_one ms (subst (λ l. AreMessages l ms) h.whole are)
+pub final_goes : Reading → (bytes : List ℕ) (r : Request) (source : Addr) (p : Plan) → IsFinalReply r.parts source p → (ms : List Message) → AreMessages p.sends ms → AnyOf (IsFinalTo (trace_message bytes (Kinds.Request r))) ms
+final_goes reads bytes r source p h ms are = by_one ms (subst (λ l. AreMessages l ms) h.whole are)
   where
     by_one : (ms : List Message) → AreMessages (h.datagram ∷ []) ms → AnyOf (IsFinalTo (trace_message bytes (Kinds.Request r))) ms
     by_one [] are = absurd are
@@ -73,11 +78,34 @@ final_goes reads bytes r p h ms are = by_one ms (subst (λ l. AreMessages l ms) 
           response_replies r.parts seen.status seen.tag None m (trace_message bytes (Kinds.Request r)) (request_of bytes r) seen.seen (any_reply_tag r.parts seen.status seen.tag),
         )
 
+-- which goes back to where that came from
+pub final_back : Reading → (r : Request) (source : Addr) (x : Effect) → IsFinalReply r.parts source x.plan → GoesBack r source x
+final_back reads r source x h = record {
+  status = h.said.3.status;
+  final = h.said.3.final;
+  sends = record { taken = h.taken; all = λ ms are. subst (λ l. AllGo (responded r.parts source h.said.3.status ∷ []) l ms) (sym h.whole) (by_one ms (subst (λ l. AreMessages l ms) h.whole are)) };
+}
+  where
+    goes : (m : Message) → IsMessage h.datagram.bytes m → RespondsTo r.parts source h.said.3.status h.datagram.to m
+    goes m is =
+        let seen : SeesResponse r.parts h.said.3.status h.said.3.tag None m =
+        subst (SeesResponse r.parts h.said.3.status h.said.3.tag None) (sym (message_is reads h.datagram.bytes m h.said.0 is h.said.1 h.said.2)) h.said.3.seen in
+        record {
+          address = h.address;
+          kind = seen.kind;
+          replies = λ came of. response_replies r.parts h.said.3.status h.said.3.tag None m came of seen (any_reply_tag r.parts h.said.3.status h.said.3.tag);
+        }
+
+    by_one : (ms : List Message) → AreMessages (h.datagram ∷ []) ms → AllGo (responded r.parts source h.said.3.status ∷ []) (h.datagram ∷ []) ms
+    by_one [] are = absurd are
+    by_one (m ∷ []) are = (goes m are.0, (refl, refl))
+    by_one (m ∷ other ∷ rest) are = absurd are.1
+
 -- ---- the replies
 
 module _ (s : Office) (e : Setting) (r : Request) (begun : List Entry) (id : ℕ) (can : CanAnswer s e r) where
   pub responds_once : (status : ℕ) (further : List Header) → IsStatus status → 200 ≤ status → FollowsIn status r.parts.cseq.method further
-      → IsFinalReply r.parts (responds_in s e r begun id status further None)
+      → IsFinalReply r.parts e.source (responds_in s e r begun id status further None)
   unfolding responds reply_of replied
   responds_once status further is final follows =
       let response = Kinds.Response (responds r.parts e.source status (fresh_tag s e) further) in
@@ -85,6 +113,7 @@ module _ (s : Office) (e : Setting) (r : Request) (begun : List Entry) (id : ℕ
         taken = refl;
         datagram = _;
         whole = refl;
+        address = refl;
         said = (
           response,
           refl,
@@ -93,16 +122,16 @@ module _ (s : Office) (e : Setting) (r : Request) (begun : List Entry) (id : ℕ
         );
       }
 
-  pub refuses_once : (status : ℕ) → 300 ≤ status → status ≤ 699 → IsFinalReply r.parts (responds_in s e r begun id status [] None)
+  pub refuses_once : (status : ℕ) → 300 ≤ status → status ≤ 699 → IsFinalReply r.parts e.source (responds_in s e r begun id status [] None)
   refuses_once status low most = responds_once status [] (record { low = omega (arith, low); high = most }) (omega (arith, low)) (none_follows status r.parts.cseq.method (refusal_needs_none status r.parts.cseq.method low))
 
   -- with one header field more
-  plain_once : (status : ℕ) (h : Header) → 300 ≤ status → status ≤ 699 → IsPlain h → IsFinalReply r.parts (responds_in s e r begun id status (h ∷ []) None)
+  plain_once : (status : ℕ) (h : Header) → 300 ≤ status → status ≤ 699 → IsPlain h → IsFinalReply r.parts e.source (responds_in s e r begun id status (h ∷ []) None)
   plain_once status h low most plain =
       responds_once status (h ∷ []) (record { low = omega (arith, low); high = most }) (omega (arith, low)) (plain_follows status r.parts.cseq.method h (refusal_needs_none status r.parts.cseq.method low) plain)
 
   -- the 200 to an UPDATE without an offer
-  pub okay_once : IsReached s.server → IsFinalReply r.parts (okay_plan s e r begun id)
+  pub okay_once : IsReached s.server → IsFinalReply r.parts e.source (okay_plan s e r begun id)
   okay_once reached = responds_once 200 (contact s.server ∷ []) (record { low = omega arith; high = omega arith }) (omega arith) (contact_follows s.server 200 r.parts.cseq.method reached)
 
   module _ (may : may_offer r.parts ≡ true) where
@@ -110,7 +139,7 @@ module _ (s : Office) (e : Setting) (r : Request) (begun : List Entry) (id : ℕ
     pub no_other : (name : List ℕ) → r.method ≡ name → (may_offer (record r.parts { cseq = record r.parts.cseq { method = name } }) ≡ false) → ⊥
     no_other name is none = false≢true (sym none ∙ subst (λ (n : List ℕ). may_offer (record r.parts { cseq = record r.parts.cseq { method = n } }) ≡ true) (can.method ∙ is) may)
 
-    pub reply_once : (reply : Reply) → FitsReply r reply → IsFinalReply r.parts (reply_row s e r begun id reply)
+    pub reply_once : (reply : Reply) → FitsReply r reply → IsFinalReply r.parts e.source (reply_row s e r begun id reply)
     unfolding reply_row
     reply_once (replies.CancelOf other) fits = absurd (no_other (codes "CANCEL") fits refl)
     reply_once (replies.Refusal status) fits = refuses_once status fits.0 fits.1

@@ -6,6 +6,7 @@ use Rattle.event_rows.specs.State.{Contents, office}
 use Rattle.events.specs.declared.sent.Sent.{Sent}
 use Rattle.plans.specs.Office.{Office}
 use Rattle.media_laws.specs.Standing.{IsUpheld, Knows}
+use Rattle.media_laws.specs.Taking.{KnowsLegs}
 use Rattle.media_laws.specs.Ties.{AreTied}
 use Rattle.message_laws.specs.Comings.{KnowsScenes}
 use Rattle.transactions.specs.declared.transaction.Transaction.{Transaction}
@@ -24,3 +25,6 @@ tied_of s begun sent t calls k h few = record {
   machines = h.known.machines;
   scenes = scenes_known (office s) begun sent t h.known few;
 }
+
+pub legs_known : (s : Office) (begun : List Transaction) (sent : List Sent) (t : List Datagram) → Knows s begun sent t → KnowsLegs s
+legs_known s begun sent t k = record { dialogs = k.dialogs; callees = k.callees; left = k.left }

@@ -1,5 +1,5 @@
 -- An INVITE or UPDATE inside a dialog that is no repeat: it is passed on, or gets its final response.
-use Rattle.std.proofs.Common.{◌≡◌, ◌∙◌, ℕ, codes, List, Option, Some, None, inl, inr, refl, ap, sym, subst}
+use Rattle.std.proofs.Common.{◌≡◌, ◌∙◌, ℕ, codes, List, Option, Some, None, inl, inr, ◌⊎◌, refl, ap, sym, subst}
 use Rattle.std.specs.List.{All}
 use Rattle.std.proofs.lemmas.Option.{none-some}
 use Rattle.std.proofs.lemmas.Slice.Eq.{bytes_eq-Decides}
@@ -49,12 +49,12 @@ use Rattle.media_laws.proofs.Scenes.Reading.{Reading}
 use Rattle.media_laws.proofs.EventKinds.RequestCases.{RequestCase, request_view}
 use Rattle.media_laws.proofs.EventKinds.RequestCases as cases
 use Rattle.step_laws.specs.Coming.{BeginsTransaction}
-use Rattle.step_laws.specs.Offers.{IsFinalTo, IsLaterRequest, IsServed, PassedOrAnswered}
+use Rattle.step_laws.specs.Offers.{GoesAcross, GoesBack, IsFinalTo, IsLaterRequest, IsServed, PassedOrAnswered}
 use Rattle.step_laws.proofs.ComingRows.{begun_row, setting_of}
-use Rattle.step_laws.proofs.FinalReplies.{IsFinalReply, can_answer, final_goes, no_other, okay_once, refuses_once, reply_once}
+use Rattle.step_laws.proofs.FinalReplies.{IsFinalReply, can_answer, final_back, final_goes, no_other, okay_once, refuses_once, reply_once}
 use Rattle.step_laws.proofs.AlikeOffers.{Serves}
 use Rattle.step_laws.proofs.Known.{tied_of}
-use Rattle.step_laws.proofs.LaterSends.{passed_alike, passes_on, passes_row}
+use Rattle.step_laws.proofs.LaterSends.{goes_across, passed_alike, passes_on, passes_row}
 
 final_served : (came : Message) (o : Option Description) (ms : List Message) → AnyOf (IsFinalTo came) ms → PassedOrAnswered came o ms
 final_served came None ms h = h
@@ -75,10 +75,10 @@ module _ (reads : Reading) (names : ReadsNames) (describes : BodiesDescribe) (la
 
   -- ---- the server's own final response
 
-  answered : (x : Effect) → row s event ≡ x → IsFinalReply r.parts x.plan → Served
+  answered : (x : Effect) → row s event ≡ x → IsFinalReply r.parts source x.plan → Served
   answered x is h = record {
     taken = ap (λ (y : Effect). y.plan.taken) is ∙ h.taken;
-    sends = λ ms are. final_served (trace_message bytes (Kinds.Request r)) (described r.headers r.body) ms (final_goes reads bytes r x.plan h ms (subst (λ (y : Effect). AreMessages y.plan.sends ms) is are));
+    sends = λ ms are. final_served (trace_message bytes (Kinds.Request r)) (described r.headers r.body) ms (final_goes reads bytes r source x.plan h ms (subst (λ (y : Effect). AreMessages y.plan.sends ms) is are));
   }
 
   -- ---- it is passed on
@@ -100,21 +100,42 @@ module _ (reads : Reading) (names : ReadsNames) (describes : BodiesDescribe) (la
 
   -- ---- by its case
 
-  by_case : (x : Effect) → row s event ≡ x → RequestCase (office s) e r entries id x → Served
-  by_case x is (cases.replied reply rule eq) = answered _ (is ∙ eq) (reply_once (office s) e r entries id can later.method reply (subst (FitsAlone r) rule (request_fits (office s) r e.now)))
-  by_case x is (cases.unfit status low most eq) = answered _ (is ∙ eq) (refuses_once (office s) e r entries id can status low most)
-  by_case x is (cases.asks_callee to offer why eq) = absurd (none-some later.tag (sym why.no_tag ∙ later.has_tag))
-  by_case x is (cases.cancelled other place why found eq) = absurd (no_other (office s) e r entries id can later.method (codes "CANCEL") ((bytes_eq-Decides r.method (codes "CANCEL")).0 why.method) refl)
-  by_case x is (cases.left place end rule eq) =
-      let bye = (rule_fits s.calls.calls r (dialogrules.Leaves place end) rule).1 in
-      absurd (no_other (office s) e r entries id can later.method (codes "BYE") (sym can.method ∙ (bytes_eq-Decides r.parts.cseq.method (codes "BYE")).0 bye) refl)
-  by_case x is (cases.counted place end reply rule why eq) = answered _ (is ∙ eq) (reply_once (office s) e r entries id can later.method reply (subst (FitsReplyIf r) why (offer_reply_fits r rule)))
-  by_case x is (cases.counted_refused place end status low most eq) = answered _ (is ∙ eq) (reply_once (office s) e r entries id can later.method (replies.Refusal status) (low, most))
-  by_case x is (cases.passed_on place end c offer rule why eq) = passed place end c offer rule why (is ∙ eq)
-  by_case x is (cases.refreshed place end why eq) = answered _ (is ∙ eq) (okay_once (office s) e r entries id can tied.scenes.askers.server)
+  module _ (P : Effect → Type 0) (back : (x : Effect) → IsFinalReply r.parts source x.plan → P x)
+      (passed_as : (place : ℕ) (end : End) (c : StandingCall) (offer : Description) → dialog_rule s.calls.calls r ≡ dialogrules.Offers place end → IsPassedOffer (office s) e.now r place end c offer → P (passes (office s) e r entries id place end offer)) where
+    by_case : (x : Effect) → RequestCase (office s) e r entries id x → P x
+    by_case x (cases.replied reply rule eq) = subst P (sym eq) (back _ (reply_once (office s) e r entries id can later.method reply (subst (FitsAlone r) rule (request_fits (office s) r e.now))))
+    by_case x (cases.unfit status low most eq) = subst P (sym eq) (back _ (refuses_once (office s) e r entries id can status low most))
+    by_case x (cases.asks_callee to offer why eq) = absurd (none-some later.tag (sym why.no_tag ∙ later.has_tag))
+    by_case x (cases.cancelled other place why found eq) = absurd (no_other (office s) e r entries id can later.method (codes "CANCEL") ((bytes_eq-Decides r.method (codes "CANCEL")).0 why.method) refl)
+    by_case x (cases.left place end rule eq) =
+        let bye = (rule_fits s.calls.calls r (dialogrules.Leaves place end) rule).1 in
+        absurd (no_other (office s) e r entries id can later.method (codes "BYE") (sym can.method ∙ (bytes_eq-Decides r.parts.cseq.method (codes "BYE")).0 bye) refl)
+    by_case x (cases.counted place end reply rule why eq) = subst P (sym eq) (back _ (reply_once (office s) e r entries id can later.method reply (subst (FitsReplyIf r) why (offer_reply_fits r rule))))
+    by_case x (cases.counted_refused place end status low most eq) = subst P (sym eq) (back _ (reply_once (office s) e r entries id can later.method (replies.Refusal status) (low, most)))
+    by_case x (cases.passed_on place end c offer rule why eq) = subst P (sym eq) (passed_as place end c offer rule why)
+    by_case x (cases.refreshed place end why eq) = subst P (sym eq) (back _ (okay_once (office s) e r entries id can tied.scenes.askers.server))
+
+    by_rule : P (row s event)
+    by_rule = subst P (sym (begun_row s event source bytes r id came)) (by_case _ (request_view (office s) e r entries id))
 
   pub served : Served
-  served = by_case _ (begun_row s event source bytes r id came) (request_view (office s) e r entries id)
+  served =
+      by_rule (λ x. row s event ≡ x → Served) (λ x h is. answered x is h) (λ place end c offer rule why is. passed place end c offer rule why is) refl
+
+  -- ---- to whom
+
+  back_to_sender : (x : Effect) → IsFinalReply r.parts source x.plan → GoesBack r source x
+  back_to_sender x h = final_back reads r source x h
+
+  pub directed : GoesAcross s.calls.calls r source (row s event) ⊎ GoesBack r source (row s event)
+  directed =
+      by_rule (λ x. GoesAcross s.calls.calls r source x ⊎ GoesBack r source x) (λ x h. inr (back_to_sender x h))
+      (λ place end c offer rule why.
+      let p = later_case (office s) e.now r place end c offer rule why in
+      let found = (rule_fits s.calls.calls r (dialogrules.Offers place end) rule).0 c p.there in
+      inl (subst (GoesAcross s.calls.calls r source) (sym (passes_row reads names describes law (office s) begun sent t old tied requests knows e from bytes r id came.comes.read later.method place end c offer p))
+      (goes_across reads names describes law (office s) begun sent t old tied requests knows e from bytes r id came.comes.read later.method place end c offer p
+      (record { dialog = found.dialog; with_it = found.has; call_id = found.call_id; ours = found.ours; theirs = found.theirs }))))
 
 pub later_requests : Reading → ReadsNames → BodiesDescribe → SentIsRead → Serves → (s : Contents) (event : Event) (t : List Datagram) (k : ℕ) → AgentStands s t k → (source : Addr) (bytes : List ℕ) (r : Request) (id : ℕ) → IsSource source
     → BeginsTransaction s event source bytes r id → IsLaterRequest r → IsServed bytes r (row s event)
@@ -123,4 +144,13 @@ later_requests reads names describes law serves s event t k stands source bytes 
     let known = up.known in
     let tied = tied_of s stands.0 stands.1 t stands.2.0 k up (few_tokens s event came.comes.counts) in
     served reads names describes law serves s event stands.0 stands.1 t stands.2.0 known.serving tied (all_asked s stands.0 known.callees known.requests) (record { dialogs = known.dialogs; callees = known.callees; left = known.left })
+    source bytes r id from came later
+
+pub directed_requests : Reading → ReadsNames → BodiesDescribe → SentIsRead → Serves → (s : Contents) (event : Event) (t : List Datagram) (k : ℕ) → AgentStands s t k → (source : Addr) (bytes : List ℕ) (r : Request) (id : ℕ) → IsSource source
+    → BeginsTransaction s event source bytes r id → IsLaterRequest r → GoesAcross s.calls.calls r source (row s event) ⊎ GoesBack r source (row s event)
+directed_requests reads names describes law serves s event t k stands source bytes r id from came later =
+    let up = stands.2.1 in
+    let known = up.known in
+    let tied = tied_of s stands.0 stands.1 t stands.2.0 k up (few_tokens s event came.comes.counts) in
+    directed reads names describes law serves s event stands.0 stands.1 t stands.2.0 known.serving tied (all_asked s stands.0 known.callees known.requests) (record { dialogs = known.dialogs; callees = known.callees; left = known.left })
     source bytes r id from came later

@@ -1,8 +1,11 @@
 -- An offer inside a call that is passed on: what the call sends, and that this is alike.
-use Rattle.std.proofs.Common.{◌≡◌, ◌∙◌, ℕ, ◌+◌, ◌<◌, ◌^◌, ◌≤◌, true, cond, is_some, List, codes, Option, Some, None, Ok, refl, ap, sym, subst, arith}
+use Rattle.std.proofs.Common.{◌≡◌, ◌∙◌, ◌++◌, ℕ, ◌+◌, ◌<◌, ◌^◌, ◌≤◌, Bool, true, false, cond, is_some, List, [], ◌∷◌, codes, Option, Some, None, Ok, refl, ap, sym, subst, arith}
 use Rattle.std.specs.List.{All}
 use Rattle.std.specs.Option.{option_copied}
 use Rattle.std.specs.Prelude.{remove, slice_get, slice_set}
+use Rattle.sip_uri.specs.Address.{address_of}
+use Rattle.dialogs.specs.Counting.{method_text}
+use Rattle.dialogs.specs.declared.state.Dialog.{Dialog as LegDialog}
 use Rattle.sip_message.specs.Read.{message_of}
 use Rattle.sip_message.specs.declared.message.Message.TheVariants as Kinds
 use Rattle.sip_message.specs.declared.message.Request.{Request}
@@ -12,7 +15,7 @@ use Rattle.call_media.specs.Ends.{other}
 use Rattle.call_media.specs.Offers.{opened}
 use Rattle.call_media.specs.declared.end.End.{End}
 use Rattle.call_media.specs.declared.session.OpenOffer.{OpenOffer}
-use Rattle.call_core.specs.Calls.{holds_in}
+use Rattle.call_core.specs.Calls.{dialog_of, has_number_left, holds_in}
 use Rattle.call_core.specs.Plans.{Step}
 use Rattle.call_core.specs.Settled.{settled_row}
 use Rattle.call_core.specs.declared.signal.OfferMethod.{OfferMethod}
@@ -22,10 +25,13 @@ use Rattle.call_core.specs.declared.stage.Stage.TheVariants as stages
 use Rattle.call_core.specs.declared.stage.Standing.{Standing}
 use Rattle.call_rules.specs.Speaking.{may_offer}
 use Rattle.call_steps.specs.Rows.{does}
-use Rattle.call_steps.specs.Values.{ComingValue}
+use Rattle.call_steps.specs.Messages.{messages}
+use Rattle.call_steps.specs.Scenes.{tag_with}
+use Rattle.call_steps.specs.Values.{ComingValue, lent_asker}
 use Rattle.call_steps.specs.declared.messages.StepMessages.{StepMessages}
 use Rattle.calls.specs.declared.standing_call.StandingCall.{StandingCall}
 use Rattle.events.specs.declared.sent.Sent.{Sent}
+use Rattle.call_messages.specs.Dressing.{dialog_with, dressed, method_of}
 use Rattle.call_messages.specs.declared.scene.Scene.{Scene}
 use Rattle.plans.specs.CallRows.{occasion, offer_method, passes, with_step}
 use Rattle.plans.specs.Effect.{Effect}
@@ -41,7 +47,9 @@ use Rattle.call_trace.specs.Stands.{leg}
 use Rattle.trace_reading.specs.Message.{trace_message}
 use Rattle.message_laws.specs.Addresses.{IsSource}
 use Rattle.message_laws.specs.OpenRequests.{HasAsked}
-use Rattle.message_laws.specs.Sound.{HasSoundLegs}
+use Rattle.message_laws.specs.Sound.{HasSoundLegs, IsSoundLegIf}
+use Rattle.message_laws.proofs.StandingCalls.SoundCalls.{dialog_sound}
+use Rattle.message_laws.proofs.AwaitedOffers.Tagged.{scene_dialog}
 use Rattle.message_laws.proofs.AwaitedOffers.Awaiting.{all_at}
 use Rattle.message_laws.proofs.AwaitedOffers.Carrying.{lent_text}
 use Rattle.message_laws.proofs.QuietEvents.Describing.{BodiesDescribe}
@@ -72,7 +80,11 @@ use Rattle.media_laws.proofs.OfferPairs.OfferSteps.{IsOfferStep}
 use Rattle.media_laws.proofs.Scenes.Reading.{Reading}
 use Rattle.media_laws.proofs.OfferPairs.Settling.{invite_offered, update_offered}
 use Rattle.media_laws.proofs.OtherCalls.Spots.{has_spot}
-use Rattle.step_laws.specs.Offers.{PassesOn}
+use Rattle.step_laws.specs.Leaving.{IsOfDialog}
+use Rattle.step_laws.specs.Offers.{GoesAcross, PassesOn, trying_first}
+use Rattle.step_laws.specs.Sending.{AllGo, Going, asks, responds}
+use Rattle.step_laws.proofs.StepSends.{counts_other}
+use Rattle.step_laws.proofs.Telling.{Tells, tells_nothing, then_offer, then_trying}
 use Rattle.step_laws.proofs.AlikeOffers.{offer_alike}
 
 -- what is heard of the line by which an offer is passed on
@@ -140,6 +152,60 @@ module _ (reads : Reading) (names : ReadsNames) (describes : BodiesDescribe) (la
         whole = h.whole;
         asks = record { request = h.asks.seen.kind; method = h.asks.seen.method ∙ sym name; given = o.offer_sent; said = h.asks.seen.description; alike = alike };
       }
+
+  -- ---- and to whom
+
+  across : (d : LegDialog) × (dialog_of (other end) c.call ≡ Some d)
+  across = later_dialog names describes s begun sent t old tied knows e bytes r id read place end c offer p (other end)
+
+  across_there : dialog_with (other end) scene ≡ Some across.0
+  across_there = scene_dialog s.table (occasion s e) w c step.description (other end) ∙ (counts_other c s.calls.calls place end r.parts.cseq.number ∙ across.1)
+
+  across_leads : is_some (address_of across.0.target) ≡ true
+  across_leads = (subst IsSoundLegIf across.1 (dialog_sound c (other end) (all_at HasSoundLegs s.calls.calls place c knows.dialogs.calls p.there))).leads
+
+  abbrev Asked : Bool → List Going
+  Asked invite = cond invite (responds r.parts e.source 100 ∷ []) [] ++ asks across.0 (method_text (method_of (cond invite Invite Update))) ∷ []
+
+  tells : (invite : Bool) → Tells scene (actions_in (settled_row (signals.Offer end (cond invite Invite Update)))) (Asked invite)
+  unfolding settled_row
+  tells true =
+      then_trying scene (lent_asker (record { id = id; parts = r.parts; source = e.source; tag = tag_with end c.call })) end refl
+      (then_offer scene (other end) across.0 across_there across_leads Invite o.offer_sent (lent_text step.description ∙ line.says) (subst (λ o. has_number_left o ≡ true) across.1 p.numbered) (tells_nothing scene))
+  tells false =
+      then_offer scene (other end) across.0 across_there across_leads Update o.offer_sent (lent_text step.description ∙ line.says) (subst (λ o. has_number_left o ≡ true) across.1 p.numbered) (tells_nothing scene)
+
+  text_is : (invite : Bool) → method_text (method_of (cond invite Invite Update)) ≡ offer_name (cond invite Invite Update)
+  text_is true = refl
+  text_is false = refl
+
+  abbrev what : List Going
+  what = trying_first r e.source ++ asks across.0 r.parts.cseq.method ∷ []
+
+  what_is : Asked (is_method (codes "INVITE") r) ≡ what
+  what_is =
+      ap (λ (name : List ℕ). trying_first r e.source ++ asks across.0 name ∷ [])
+      (text_is (is_method (codes "INVITE") r) ∙ sym (named_by bytes r read may (is_method (codes "INVITE") r) refl))
+
+  all_go : (ms : List Message) → AreMessages said.dressed.sends ms → AllGo what said.dressed.sends ms
+  unfolding messages
+  all_go ms are =
+      let can = offer_comes describes names s e bytes r id place end c (offer_method r) offer tied.scenes from read p.there p.described in
+      let hears = subst (λ actions. HearsActions scene s.tokens actions ms) line.actions (step_heard reads describes law s e place c (offered names describes s begun sent t old tied knows e bytes r id read place end c offer p) w tied.scenes p.there can ms are) in
+      subst (λ (l : List Going). AllGo l said.dressed.sends ms) what_is
+      (subst (λ actions. AllGo (Asked (is_method (codes "INVITE") r)) (dressed scene s.tokens actions).sends ms) (sym line.actions) ((tells (is_method (codes "INVITE") r)).each s.tokens ms hears))
+
+  pub goes_across : IsOfDialog r.parts c end → GoesAcross s.calls.calls r e.source (with_step s.acks (entries_of s e r) None None (does s.calls s.table (occasion s e) place w c step))
+  goes_across came = record {
+    place = place;
+    call = c;
+    there = p.there;
+    end = end;
+    came = came;
+    across = across.0;
+    with_other = across.1;
+    sends = record { taken = refl; all = all_go };
+  }
 
   -- ---- the row, and the call afterwards
 

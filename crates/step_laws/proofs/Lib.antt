@@ -24,3 +24,17 @@ pub mod Refusals
 pub mod FinalReplies
 pub mod LaterSends
 pub mod LaterRequests
+pub mod Telling
+pub mod StepSends
+pub mod Byes
+pub mod ByeEvents
+pub mod Cancels
+pub mod CancelEvents
+pub mod Expiry
+pub mod Ringing
+pub mod AnswerSends
+pub mod ForkEvents
+pub mod FirstTargets
+pub mod GivenUp
+pub mod Speaking
+pub mod SpeakingEvents

@@ -1,10 +1,16 @@
 -- What a step does for the final response to an open offer: the offerer gets the answer, or the refusal.
-use Rattle.std.specs.Prelude.{◌≡◌, ℕ, true, List, ◌∷◌, [], ◌++◌, Some, slice_get, IsTrue}
+use Rattle.std.specs.Prelude.{◌≡◌, ℕ, true, false, List, ◌∷◌, [], ◌++◌, Option, Some, None, slice_get, IsTrue}
+use Rattle.sip_uri.specs.declared.uri.Uri.{Uri}
+use Rattle.sip_message.specs.Contact.{contacts_of}
+use Rattle.dialogs.specs.Making.{reached_at}
+use Rattle.dialogs.specs.declared.state.Dialog.{Dialog}
 use Rattle.sip_message.specs.declared.message.Response.{Response as SipResponse}
 use Rattle.sdp.specs.declared.description.Description.{Description}
 use Rattle.offer_answer.specs.Alike.{Alike}
 use Rattle.call_core.specs.CallRows.{is_fit}
-use Rattle.call_core.specs.Calls.{awaits_answer}
+use Rattle.call_media.specs.Ends.{other}
+use Rattle.call_media.specs.declared.end.End.{End}
+use Rattle.call_core.specs.Calls.{awaits_answer, dialog_of, to_target}
 use Rattle.call_core.specs.Passing.{status_passed_on}
 use Rattle.call_core.specs.declared.stage.Standing.{Standing}
 use Rattle.call_rules.specs.Content.{described}
@@ -20,6 +26,7 @@ use Rattle.event_rows.specs.State.{Contents}
 use Rattle.plans.specs.Effect.{Effect}
 use Rattle.plans.specs.declared.taken.Taken.TheVariants.{Done}
 use Rattle.message_laws.specs.Messages.{AreMessages, IsRequestOf}
+use Rattle.step_laws.specs.Sending.{Going, Sends, asks}
 use Rattle.transactions.specs.Slots.{at}
 use Rattle.transactions.specs.declared.transaction.Transaction.{Transaction}
 
@@ -75,3 +82,25 @@ pub record PassesRefusal (status : ℕ) (offered : Transaction) (ms : List Messa
 pub record IsRefusedTo (status : ℕ) (offered : Transaction) (x : Effect) : Type 0 where
   pub taken : x.plan.taken ≡ Done
   pub sends : (ms : List Message) → AreMessages x.plan.sends ms → PassesRefusal status offered ms
+
+-- ---- a 2xx that does not fit: no answer that the open offer allows
+
+abbrev pub IsUnfit : StandingCall → SipResponse → Type 0
+IsUnfit c r = is_fit c.call c.call.media.offer (described r.headers r.body) ≡ false
+
+-- the dialog, whose other side is reached where the 2xx says, if it says so (RFC 3261 section 12.2.1.2, RFC 3311 section 5.1)
+abbrev pub renewed : Option Uri → Dialog → Dialog
+renewed None d = d
+renewed (Some target) d = to_target target d
+
+-- what goes in the dialog with the end that answered, which is that of before, renewed, and in the dialog with the offerer (section 12.2.1.1)
+pub record SendsInside (goings : Dialog → Dialog → List Going) (c : StandingCall) (r : SipResponse) (offerer : End) (x : Effect) : Type 0 where
+  pub across : Dialog
+  pub own : Dialog
+  pub with_other : dialog_of (other offerer) c.call ≡ Some across
+  pub with_own : dialog_of offerer c.call ≡ Some own
+  pub sends : Sends (goings (renewed (reached_at (contacts_of r.headers)) across) own) x
+
+-- ACK in a dialog (section 13.2.2.4)
+abbrev pub acknowledges : Dialog → Going
+acknowledges d = asks d ack

@@ -1,4 +1,10 @@
 pub mod Coming
+pub mod Sending
+pub mod Leaving
+pub mod Expiring
+pub mod Ringing
+pub mod Forks
+pub mod Ends
 pub mod Dropping
 pub mod Registering
 pub mod Offers

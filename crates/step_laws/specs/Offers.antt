@@ -1,5 +1,5 @@
 -- What a step does for an offer: it asks the other end what was offered, or answers the request for good.
-use Rattle.std.specs.Prelude.{◌≡◌, ◌<◌, ◌⊎◌, ℕ, true, length, map, List, [], ◌∷◌, ◌++◌, Option, Some, None, IsTrue}
+use Rattle.std.specs.Prelude.{◌≡◌, ◌≤◌, ◌<◌, ◌⊎◌, ℕ, true, codes, length, map, List, [], ◌∷◌, ◌++◌, Option, Some, None, IsTrue, slice_get, if◌then◌else◌}
 use Rattle.sip_uri.specs.declared.uri.Addr.{Addr}
 use Rattle.sip_uri.specs.declared.uri.Uri.{Uri}
 use Rattle.sip_uri.specs.Address.{address_of}
@@ -10,7 +10,17 @@ use Rattle.sip_writing.specs.Reply.{answer_address}
 use Rattle.sdp.specs.declared.description.Description.{Description}
 use Rattle.offer_answer.specs.Alike.{Alike}
 use Rattle.offer_answer.specs.Checks.{offer_fault}
+use Rattle.dialogs.specs.declared.state.Dialog.{Dialog}
 use Rattle.events.specs.declared.sent.Sent.{Sent}
+use Rattle.call_core.specs.Calls.{dialog_of}
+use Rattle.call_media.specs.Ends.{other}
+use Rattle.call_media.specs.declared.end.End.{End}
+use Rattle.calls.specs.declared.standing_call.StandingCall.{StandingCall}
+use Rattle.registrar.specs.Bound.{Event as Registration, bound, target_of}
+use Rattle.registrar.specs.Registering.{Rules, user_of}
+use Rattle.responses.specs.Words.{is_method}
+use Rattle.step_laws.specs.Leaving.{IsOfDialog}
+use Rattle.step_laws.specs.Sending.{Going, Sends, asks, responds}
 use Rattle.call_rules.specs.Content.{described}
 use Rattle.call_trace.specs.declared.datagram.Kind.TheVariants.{Request, Response}
 use Rattle.call_trace.specs.declared.datagram.Message.{Message}
@@ -89,3 +99,32 @@ PassedOrAnswered came (Some offer) ms = PassesOn came offer ms ⊎ AnyOf (IsFina
 pub record IsServed (bytes : List ℕ) (r : SipRequest) (x : Effect) : Type 0 where
   pub taken : x.plan.taken ≡ Done
   pub sends : (ms : List Message) → AreMessages x.plan.sends ms → PassedOrAnswered (trace_message bytes (Kinds.Request r)) (described r.headers r.body) ms
+
+-- ---- to whom (RFC 3261 sections 12.2 and 18.2.2)
+
+-- to an INVITE goes 100 at once (section 8.2.6.1)
+abbrev pub trying_first : SipRequest → Addr → List Going
+trying_first r source = if is_method (codes "INVITE") r then responds r.parts source 100 ∷ [] else []
+
+-- it came in the dialog with an end of a call that stands, and goes, by its method, in the dialog with the other end of that call
+pub record GoesAcross (calls : List StandingCall) (r : SipRequest) (source : Addr) (x : Effect) : Type 0 where
+  pub place : ℕ
+  pub call : StandingCall
+  pub there : slice_get calls place ≡ Some call
+  pub end : End
+  pub came : IsOfDialog r.parts call end
+  pub across : Dialog
+  pub with_other : dialog_of (other end) call.call ≡ Some across
+  pub sends : Sends (trying_first r source ++ asks across r.parts.cseq.method ∷ []) x
+
+-- its final response goes back to where it came from, and nothing else is sent
+pub record GoesBack (r : SipRequest) (source : Addr) (x : Effect) : Type 0 where
+  pub status : ℕ
+  pub final : 200 ≤ status
+  pub sends : Sends (responds r.parts source status ∷ []) x
+
+-- the last contact that the user whom the Request-URI names is bound to, by these REGISTERs (sections 10.3 and 16.5)
+pub record IsBoundTo (rules : Rules) (history : List Registration) (r : SipRequest) (now : ℕ) (to : Uri) : Type 0 where
+  pub user : List ℕ
+  pub named : user_of rules r.uri ≡ Some user
+  pub last : target_of (bound rules user history now) ≡ Some to

@@ -1,6 +1,6 @@
 //! What a step does for the final response to an open offer.
 
-ghost use Rattle.std.specs.Prelude.{ℕ, List};
+ghost use Rattle.std.specs.Prelude.{◌≡◌, Bool, ℕ, List, [], ◌∷◌, Some};
 ghost use Rattle.sip_message.specs.declared.message.Response.{Response};
 ghost use Rattle.sip_uri.specs.declared.uri.Addr.{Addr};
 ghost use Rattle.sdp.specs.declared.description.Description.{Description};
@@ -12,7 +12,16 @@ ghost use Rattle.event_rows.specs.State.{Contents};
 ghost use Rattle.events.specs.declared.event.Event.{Event};
 ghost use Rattle.media_laws.specs.Standing.{AgentStands};
 ghost use Rattle.transactions.specs.declared.transaction.Transaction.{Transaction};
-ghost use Rattle.step_laws.specs.Answers.{IsAnsweredTo, IsAwaited, IsFitAnswer, IsRefusedTo};
+ghost use Rattle.call_core.specs.declared.stage.Cancelled.{Cancelled};
+ghost use Rattle.call_core.specs.declared.stage.Stage.TheVariants as stages;
+ghost use Rattle.call_core.specs.declared.stage.Standing.{Standing};
+ghost use Rattle.call_rules.specs.Responses.{response_rule};
+ghost use Rattle.dialogs.specs.Making.{callers_dialog, reached_at};
+ghost use Rattle.sip_message.specs.Contact.{contacts_of};
+ghost use Rattle.sip_uri.specs.declared.uri.Uri.{Uri};
+ghost use Rattle.step_laws.specs.Leaving.{StandsAt, WithOffer, bye, to_offerer};
+ghost use Rattle.step_laws.specs.Sending.{Sends};
+ghost use Rattle.step_laws.specs.Answers.{IsUnfit, SendsInside, acknowledges, IsAnsweredTo, IsAwaited, IsFitAnswer, IsRefusedTo};
 ghost use Rattle.step_laws.specs.Coming.{GoesUp};
 
 use dialogs::{contacts_are_read, dialogs_are_sound, invites_name_a_contact};
@@ -54,4 +63,57 @@ pub fn refusals_are_passed_on()
     written_is_read();
     bodies_describe();
     sent_is_read();
+}
+
+/// To whom a fit answer goes: the 200 of `fit_answers_are_passed_on` goes back to where the offer came from; and the ACK, before it, in the dialog that
+/// a first 2xx makes (`first`), or in the one with its sender (`inside`), to the address of the 2xx's Contact. For an UPDATE there is none (`update`).
+/// Nothing else is sent.
+pub fn fit_answers_go_back()
+    ensures first { (s : Contents) (event : Event) (t : List Datagram) (k : ℕ) → AgentStands s t k → (source : Addr) (bytes : List ℕ) (r : Response) (id : ℕ) (asked : Transaction) →
+        GoesUp s event source bytes r id asked → (place : ℕ) (c : StandingCall) (n : Standing) → StandsAt s place c n → response_rule s.calls.calls asked.parts r ≡ rule.Answer place →
+        (rung : Bool) → n.stage ≡ stages.Asked rung → (target : Uri) → reached_at (contacts_of r.headers) ≡ Some target → (answer : Description) → IsFitAnswer c r answer →
+        WithOffer s c (λ offered. Sends (acknowledges (callers_dialog asked.parts r target) ∷ to_offerer c offered 200 ∷ []) (row s event)) }
+    ensures inside { (s : Contents) (event : Event) (t : List Datagram) (k : ℕ) → AgentStands s t k → (source : Addr) (bytes : List ℕ) (r : Response) (id : ℕ) (asked : Transaction) →
+        GoesUp s event source bytes r id asked → (place : ℕ) (c : StandingCall) (n : Standing) → StandsAt s place c n → response_rule s.calls.calls asked.parts r ≡ rule.Answer place →
+        (rung : Bool) (cancelled : Cancelled) → n.stage ≡ stages.Reasked rung cancelled → (answer : Description) → IsFitAnswer c r answer →
+        WithOffer s c (λ offered. SendsInside (λ d own. acknowledges d ∷ to_offerer c offered 200 ∷ []) c r n.offerer (row s event)) }
+    ensures update { (s : Contents) (event : Event) (t : List Datagram) (k : ℕ) → AgentStands s t k → (source : Addr) (bytes : List ℕ) (r : Response) (id : ℕ) (asked : Transaction) →
+        GoesUp s event source bytes r id asked → (place : ℕ) (c : StandingCall) (n : Standing) → StandsAt s place c n → response_rule s.calls.calls asked.parts r ≡ rule.Answer place →
+        n.stage ≡ stages.Updating → (answer : Description) → IsFitAnswer c r answer → WithOffer s c (λ offered. Sends (to_offerer c offered 200 ∷ []) (row s event)) }
+{
+    contacts_are_read();
+    dialogs_are_sound();
+    invites_name_a_contact();
+    bytes_say_all();
+    written_is_read();
+    bodies_describe();
+    sent_is_read();
+    replies();
+}
+
+/// A 2xx for which a call waits, without an answer that its open offer lets the end give. Of a first INVITE: in that step ACK and BYE go in the dialog
+/// that it makes, to the address of its Contact, and the caller gets 500 (`first`). Of an INVITE inside a call: ACK and BYE to its sender, 500 to the
+/// offerer's request, and a BYE to the offerer (`inside`). Of an UPDATE: 500, and a BYE to each end (`update`). Nothing else is sent. The agent stands
+/// after any events, and the transaction of the server's own request hands the 2xx up.
+pub fn unfit_answers_end_calls()
+    ensures first { (s : Contents) (event : Event) (t : List Datagram) (k : ℕ) → AgentStands s t k → (source : Addr) (bytes : List ℕ) (r : Response) (id : ℕ) (asked : Transaction) →
+        GoesUp s event source bytes r id asked → (place : ℕ) (c : StandingCall) (n : Standing) → StandsAt s place c n → response_rule s.calls.calls asked.parts r ≡ rule.Answer place →
+        (rung : Bool) → n.stage ≡ stages.Asked rung → (target : Uri) → reached_at (contacts_of r.headers) ≡ Some target → IsUnfit c r →
+        WithOffer s c (λ offered. Sends (acknowledges (callers_dialog asked.parts r target) ∷ bye (callers_dialog asked.parts r target) ∷ to_offerer c offered 500 ∷ []) (row s event)) }
+    ensures inside { (s : Contents) (event : Event) (t : List Datagram) (k : ℕ) → AgentStands s t k → (source : Addr) (bytes : List ℕ) (r : Response) (id : ℕ) (asked : Transaction) →
+        GoesUp s event source bytes r id asked → (place : ℕ) (c : StandingCall) (n : Standing) → StandsAt s place c n → response_rule s.calls.calls asked.parts r ≡ rule.Answer place →
+        (rung : Bool) (cancelled : Cancelled) → n.stage ≡ stages.Reasked rung cancelled → IsUnfit c r →
+        WithOffer s c (λ offered. SendsInside (λ d own. acknowledges d ∷ bye d ∷ to_offerer c offered 500 ∷ bye own ∷ []) c r n.offerer (row s event)) }
+    ensures update { (s : Contents) (event : Event) (t : List Datagram) (k : ℕ) → AgentStands s t k → (source : Addr) (bytes : List ℕ) (r : Response) (id : ℕ) (asked : Transaction) →
+        GoesUp s event source bytes r id asked → (place : ℕ) (c : StandingCall) (n : Standing) → StandsAt s place c n → response_rule s.calls.calls asked.parts r ≡ rule.Answer place →
+        n.stage ≡ stages.Updating → IsUnfit c r → WithOffer s c (λ offered. SendsInside (λ d own. to_offerer c offered 500 ∷ bye d ∷ bye own ∷ []) c r n.offerer (row s event)) }
+{
+    contacts_are_read();
+    dialogs_are_sound();
+    invites_name_a_contact();
+    bytes_say_all();
+    written_is_read();
+    bodies_describe();
+    sent_is_read();
+    replies();
 }

@@ -1,13 +1,28 @@
-//! What a step of the agent does, over its rows: why an event counts as not come, what the REGISTERs of its events are answered, and what is done
-//! for each offer, and for its answer, in the step that takes it. Nothing here runs.
+//! What a step of the agent does, over its rows: why an event counts as not come, what the REGISTERs of its events are answered, and what is sent, and
+//! to whom, for each event that a call takes: offers, their answers, BYE, CANCEL, provisional responses and timers. Nothing here runs.
 #![tactic(auto)]
 
 mod answers;
 mod drops;
+mod ends;
+mod forks;
+mod hangups;
 mod offers;
-mod registers;
+mod provisionals;
+mod registrations;
+mod timeouts;
 
-pub use answers::{fit_answers_are_passed_on, refusals_are_passed_on};
+pub use answers::{
+    fit_answers_are_passed_on, fit_answers_go_back, refusals_are_passed_on, unfit_answers_end_calls,
+};
 pub use drops::nothing_is_dropped_unasked;
-pub use offers::{first_invites_are_passed_on, later_requests_are_served};
-pub use registers::registers_are_counted;
+pub use ends::calls_speak_to_their_ends;
+pub use forks::forks_are_ended;
+pub use hangups::{byes_are_passed_on, cancels_are_passed_on};
+pub use offers::{
+    first_invites_are_passed_on, first_invites_go_where_bound, later_requests_are_served,
+    later_requests_go_across,
+};
+pub use provisionals::provisionals_are_passed_on;
+pub use registrations::registers_are_counted;
+pub use timeouts::unanswered_offers_end;

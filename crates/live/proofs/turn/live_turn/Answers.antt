@@ -16,5 +16,6 @@ returns-clause-turns g c =
       answer = c.in-Ok.ensures.answer;
       board = search (rules, board, agent);
       table = has_table_again c.args.agent.now c.step.new.self c.args.board.now c.publish.new.board c.requires c.in-Ok.ensures.leads board;
-      wire = subst (λ (ds : List Sent). Sends (g.W.Wire.tried c.args.wire.now) (g.W.Wire.tried c.send_all-failed.new.wire) ds c.send_all-failed.result) sends c.send_all-failed.ensures.sends;
+      wire = subst (λ (ds : List Sent). Sends (g.W.Wire.seen c.args.wire.now).tried (g.W.Wire.seen c.send_all-failed.new.wire).tried ds c.send_all-failed.result) sends c.send_all-failed.ensures.sends;
+      source = c.event_comes_from_source.ensures;
     }

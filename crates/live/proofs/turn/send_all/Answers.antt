@@ -1,8 +1,8 @@
-use Rattle.std.proofs.Common.{rules, ◌≡◌, ◌∙◌, ◌≤◌, ◌++◌, ◌∷◌, ◌+◌, [], List, arith, subst, sym, take}
+use Rattle.std.proofs.Common.{rules, ◌≡◌, ◌≤◌, ◌++◌, ◌∷◌, ◌+◌, [], List, arith, subst, sym, take}
 use Rattle.std.proofs.lemmas.List.{take_more}
 use Rattle.events.specs.declared.sent.Sent.{Sent}
 use Rattle.live.specs.Sending.{Sends}
-use Rattle.live.proofs.SendLaws.{sends_more}
+use Rattle.live.proofs.SendLaws.{only_sends_more, sends_more}
 use Rattle.live.proofs.turn.send_all.Goals as goal
 
 pub loop-datagram-preserved : goal.loop-datagram-preserved
@@ -13,9 +13,9 @@ loop-datagram-preserved g c =
     let so_far : c.loop-datagram.failed ≤ c.loop-datagram.datagram-index = c.loop-datagram.invariant.bound in
     let one : c.send_one-failed.result ≤ 1 = c.send_one-failed.ensures.bound in
     record {
-      sends = subst (λ (ds : List Sent). Sends (g.W.Wire.tried c.args.wire.now) (g.W.Wire.tried c.send_one-failed.new.wire) ds (c.loop-datagram.failed + c.send_one-failed.result)) (sym more)
-          (sends_more (g.W.Wire.tried c.args.wire.now) (g.W.Wire.tried c.loop-datagram.wire) (g.W.Wire.tried c.send_one-failed.new.wire) done (d ∷ []) c.loop-datagram.failed c.send_one-failed.result
+      sends = subst (λ (ds : List Sent). Sends (g.W.Wire.seen c.args.wire.now).tried (g.W.Wire.seen c.send_one-failed.new.wire).tried ds (c.loop-datagram.failed + c.send_one-failed.result)) (sym more)
+          (sends_more (g.W.Wire.seen c.args.wire.now).tried (g.W.Wire.seen c.loop-datagram.wire).tried (g.W.Wire.seen c.send_one-failed.new.wire).tried done (d ∷ []) c.loop-datagram.failed c.send_one-failed.result
           c.loop-datagram.invariant.sends c.send_one-failed.ensures.sends);
       bound = omega (arith, so_far, one);
-      taken = c.send_one-failed.ensures.taken ∙ c.loop-datagram.invariant.taken;
+      only_sends = only_sends_more _ _ _ c.loop-datagram.invariant.only_sends c.send_one-failed.ensures.only_sends;
     }

@@ -1,11 +1,12 @@
-use Rattle.std.proofs.Common.{◌≡◌, ◌≤◌, take}
+use Rattle.std.proofs.Common.{◌≤◌, take}
 use Rattle.live.specs.Sending.{Sends}
+use Rattle.live.specs.States.{OnlySends}
 use Rattle.live.proofs.turn.send_all.Given as goal
 
 -- of the datagrams so far so many failed
 abbrev pub invariant-loop-datagram : goal.invariant-loop-datagram
 invariant-loop-datagram g l = record {
-  sends : Sends (g.W.Wire.tried l.fn.wire) (g.W.Wire.tried l.wire) (take l.datagram-index l.datagrams) l.failed;
+  sends : Sends (g.W.Wire.seen l.fn.wire).tried (g.W.Wire.seen l.wire).tried (take l.datagram-index l.datagrams) l.failed;
   bound : l.failed ≤ l.datagram-index;
-  taken : g.W.Wire.taken l.wire ≡ g.W.Wire.taken l.fn.wire;
+  only_sends : OnlySends (g.W.Wire.seen l.fn.wire) (g.W.Wire.seen l.wire);
 }

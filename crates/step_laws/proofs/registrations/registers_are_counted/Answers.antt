@@ -1,7 +1,7 @@
 use Rattle.step_laws.proofs.Counting.{registers_stand}
 use Rattle.step_laws.proofs.Deciding.{registrations}
 use Rattle.step_laws.proofs.Registers.{lists_bound, refuses}
-use Rattle.step_laws.proofs.registers.registers_are_counted.Goals as goal
+use Rattle.step_laws.proofs.registrations.registers_are_counted.Goals as goal
 
 pub returns-clause-stands : goal.returns-clause-stands
 returns-clause-stands c = registers_stand

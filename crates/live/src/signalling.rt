@@ -1,0 +1,92 @@
+//! The signalling as one value: what it begins with, and its end.
+
+ghost use Rattle.std.specs.Prelude.{◌≡◌, [], IfErr, IfOk};
+ghost use Rattle.event_rows.specs.State.{IsNew};
+ghost use Rattle.media_laws.specs.Standing.{AgentStands};
+ghost use Rattle.rand_chacha.specs.ChaCha.{key_of};
+ghost use Rattle.live.specs.Salts.{after_salt};
+ghost use Rattle.live.specs.Turns.{HasTable};
+
+use crate::buffer::{DatagramBuffer, datagram_buffer};
+use crate::salt::{next_print_key, salts_of};
+use agent::Agent;
+use configuration::{Config, ConfigError};
+use rand_chacha::ChaCha20Rng;
+use relay::Board;
+use std::alloc::Global;
+use std::sync::Wait;
+
+/// The agent with its board, its socket, its salts and a buffer for one datagram. It is not `Drop`, since the board is not:
+/// end it by `close`.
+pub struct Signalling<W> {
+    pub alloc: Global,
+    pub agent: Agent,
+    pub board: Board,
+    pub wire: W,
+    pub salts: ChaCha20Rng,
+    pub buffer: DatagramBuffer,
+}
+
+impl<W> Signalling<W> {
+    /// The signalling of a configuration, to which nothing has happened, on a board and a wire: its salts are those of the configured key
+    /// in the stream of the second of the start, behind the key of prints. The board comes back where it can't be made.
+    pub fn new(
+        alloc: Global,
+        config: &Config,
+        board: Board,
+        wire: W,
+        start: u64,
+    ) -> Result<Signalling<W>, (Board, ConfigError)>
+    where
+        W: Drop,
+        ensures agent { IfOk result (λ signalling. IsNew config.now signalling.agent) }
+        ensures stands { IfOk result (λ signalling. AgentStands signalling.agent [] 0) }
+        ensures board { IfOk result (λ signalling. signalling.board ≡ board) }
+        ensures wire { IfOk result (λ signalling. signalling.wire ≡ wire) }
+        ensures salts { IfOk result (λ signalling. signalling.salts
+            ≡ after_salt (after_salt (record { key = key_of config.now.random_key; stream = start; word_pos = 0 }))) }
+        ensures table { board ≡ [] → IfOk result (λ signalling. HasTable signalling.board signalling.agent) }
+        ensures err { IfErr result (λ refused. refused.0 ≡ board) }
+    {
+        let mut salts = salts_of(config.random_key, start);
+        let agent = match Agent::new(alloc, next_print_key(&mut salts), config) {
+            Ok(agent) => agent,
+            Err(error) => {
+                drop(wire);
+                return Err((board, error));
+            }
+        };
+        let Ok(buffer) = datagram_buffer(alloc) else {
+            drop(agent);
+            drop(wire);
+            return Err((board, ConfigError::OutOfMemory));
+        };
+        Ok(Signalling {
+            alloc,
+            agent,
+            board,
+            wire,
+            salts,
+            buffer,
+        })
+    }
+
+    /// Ends the board: no look-up is let in from then on.
+    pub fn close<R: Wait>(self, rt: &R)
+    where
+        W: Drop,
+    {
+        let Signalling {
+            alloc: _,
+            agent,
+            board,
+            wire,
+            salts: _,
+            buffer,
+        } = self;
+        board.close(rt);
+        drop(agent);
+        drop(wire);
+        drop(buffer);
+    }
+}
