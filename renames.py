@@ -98,7 +98,9 @@ class Names:
         """What the file said, with the names of now."""
         text, crate = text_at(self.before, self.old_file(file)), file.split("/")[1]
         for new, old in self.crates.items():
-            text = re.sub(rf"\bRattle\.{old}\.|(?<![:.\w]){old}::", lambda it: it[0].replace(old, new), text)
+            # (a module of the crate's own may have that name)
+            is_own = f"crates/{self.crates.get(crate, crate)}/src/{old}.rt" in objects(self.before)
+            text = re.sub(rf"\bRattle\.{old}\." + ("" if is_own else rf"|(?<![:.\w]){old}::"), lambda it: it[0].replace(old, new), text)
         path = lambda it: f"{it[1]}{self.modules[it[2]].get(it[3], it[3])}{it[4]}" if it[2] in self.modules else it[0]
         text = re.sub(r"(\bRattle\.(\w+)\.(?:specs\.declared|proofs)\.)(\w+)(\.)", path, text)
         own = lambda it: f"{it[1]}{self.modules[crate].get(it[2], it[2])}"
