@@ -1,7 +1,8 @@
 """What changed since a commit, apart from names: thereby the gate tells a change from a renaming.
 
 Where everything compiles, three names say nothing of what a function does: that of a crate, that of a source file and so of its module, and a
-word that no file had at that commit and that stands in the place of one other word alone. A number that has a name now is that number."""
+word that no file had at that commit and that stands, also where it is defined, in the place of one other word alone. A number that has a name
+now is that number."""
 import functools
 import re
 import subprocess
@@ -11,6 +12,9 @@ from collections import Counter, defaultdict
 USE = re.compile(r"(?m)^ *(?:pub(?:\(crate\))? |ghost |unfoldable )*use [^;{}\n]*(?:\{[^}]*\})?(?: as \w+)?;?\n|^(?:pub(?:\(crate\))? )?mod \w+;\n")
 COMMENT = re.compile(r"(?m)^ *(?://|--).*\n")
 TOKEN = re.compile(r"\w+|[^\w\s,]")
+NAME = re.compile(r"[^\W\d]\w*")
+# What stands before a name that is defined, or behind it.
+DEFINES, TYPED = {"fn", "const", "struct", "enum", "trait", "type", "record", "data"}, ":"
 # A number that has a name.
 NUMBER = re.compile(r"(?m)^abbrev pub (\w+) : ℕ\n\1 = ([\w *()]+)$")
 KINDS = (".rt", ".antt", ".edit")
@@ -108,13 +112,17 @@ class Names:
         return re.sub(r"\w+", lambda it: self.complete.get(it[0], it[0]), text)
 
     def words_renamed(self):
-        """Each word that no file had, and that stands wherever it does in the place of one other: with that one."""
-        found = defaultdict(set)
+        """Each word that no file had, and that stands wherever it does, also where it is defined, in the place of one other: with that one."""
+        found, defined = defaultdict(set), set()
         for file, name in objects("HEAD").items():
-            was = self.was(file) if objects(self.before).get(file) != name else ""
-            for old, new in differences(tokens(was), tokens(text_at("HEAD", file))) or () if was else ():
+            was = tokens(self.was(file)) if objects(self.before).get(file) != name else []
+            now = tokens(text_at("HEAD", file))
+            for old, new in differences(was, now) or ():
                 found[new].add(old)
-        return {new: min(old) for new, old in found.items() if len(old) == 1 and re.match(r"[^\W\d]", new) and new not in words(self.before)}
+            if len(was) == len(now):
+                defined |= {it for at, it in enumerate(now[:-1]) if it != was[at] and (now[at - 1] in DEFINES or now[at + 1] == TYPED)}
+        is_name = lambda it: NAME.fullmatch(it)
+        return {new: min(old) for new, old in found.items() if len(old) == 1 and all(map(is_name, (new, *old))) and new in defined - words(self.before)}
 
     def is_renaming(self, was, now):
         """Whether two lists of words differ in such names alone."""
