@@ -1,6 +1,7 @@
 pub mod CallLines
 pub mod Copies
 pub mod EndTags
+pub mod EntryTraces
 pub mod EventKinds
 pub mod LateResponses
 pub mod OfferPairs

@@ -100,10 +100,18 @@ StandsOn s what answer before now later =
     (t : List Datagram) (k : ℕ) → AgentStands s t k → (sends : List Sent) → now ≡ before ++ sends → (taken : Option Message) (ms : List Message) → IsPassed what answer sends taken ms
     → AgentStands later (t ++ passed k taken ms) (suc k)
 
--- entries that were put behind those of before: it stands after the trace with theirs
+-- entries that were put behind those of before are of datagrams that came from addresses
+abbrev pub PutsFromSource : List Entry → List Entry → Type 0
+PutsFromSource before now = (more : List Entry) → now ≡ before ++ more → All EntersFromSource more
+
+-- where an agent stood after a trace of so many events: these entries have a trace, and it stands after that with any trace of theirs
+pub record StandsAfter (t : List Datagram) (k : ℕ) (more : List Entry) (later : Contents) : Type 0 where
+  pub trace : (rest : List Datagram) × AreTrace k more rest
+  pub stands : (rest : List Datagram) → AreTrace k more rest → AgentStands later (t ++ rest) (k + length more)
+
+-- so it is of entries that were put behind those of before
 abbrev pub StandsThrough : Contents → List Entry → List Entry → Contents → Type 0
-StandsThrough s before now later =
-    (t : List Datagram) (k : ℕ) → AgentStands s t k → (more : List Entry) → now ≡ before ++ more → All EntersFromSource more → (rest : List Datagram) → AreTrace k more rest → AgentStands later (t ++ rest) (k + length more)
+StandsThrough s before now later = (t : List Datagram) (k : ℕ) → AgentStands s t k → (more : List Entry) → now ≡ before ++ more → StandsAfter t k more later
 
 -- what an event puts behind what was sent are messages by the grammar, so that the trace has each of them (RFC 3261 section 7)
 abbrev pub SaysMessages : Contents → List Sent → List Sent → Type 0

@@ -16,7 +16,7 @@ ghost use Rattle.message_laws.specs.Addresses.{IsConfigured};
 ghost use Rattle.message_laws.specs.Datagrams.{ComesFromSource, EntersFromSource};
 ghost use Rattle.media_laws.specs.Keeping.{HasPromisedCalls, HoldsFor, RelaysLive};
 ghost use Rattle.media_laws.specs.Living.{ListsLive};
-ghost use Rattle.media_laws.specs.Standing.{AgentStands, SaysMessages, StandsOn, StandsThrough};
+ghost use Rattle.media_laws.specs.Standing.{AgentStands, PutsFromSource, SaysMessages, StandsOn, StandsThrough};
 ghost use Rattle.message_laws.specs.Serving.{HoldNoOthers, holder_in};
 ghost use Rattle.message_laws.specs.Traces.{AreTrace, IsPassed};
 
@@ -30,7 +30,7 @@ use transactions::replies;
 
 /// A new agent, whose configuration keeps the rules, stands after the empty trace. An agent that stands after a trace stands after it with what an
 /// event took and sent, where its datagram came from an address; so it is of what it answers and puts behind what was sent, each of which is a message by
-/// the grammar, and of entries one behind the other. Of an agent that stands after a trace the whole media promise holds, with its address, its relay table and the holders of its ports;
+/// the grammar, and of entries one behind the other, which have a trace. Of an agent that stands after a trace the whole media promise holds, with its address, its relay table and the holders of its ports;
 /// a pair that is held is held by a call that stands, and by the live one that names it; while no offer is open in a call, it holds the pairs of its
 /// session alone; and its calls that were answered, and that no end has left, are exactly the live ones of the trace.
 pub fn agents_stand()
@@ -45,8 +45,10 @@ pub fn agents_stand()
         SaysMessages s before now }
     ensures entries { (s : Contents) (entries : List Entry) (t rest : List Datagram) (k : ℕ) → AgentStands s t k → AreEntries s entries →
         All EntersFromSource entries → AreTrace k entries rest → AgentStands (after_entries s entries) (t ++ rest) (k + length entries) }
+    ensures traced { (s : Contents) (entries : List Entry) (t : List Datagram) (k : ℕ) → AgentStands s t k → AreEntries s entries →
+        All EntersFromSource entries → (rest : List Datagram) × AreTrace k entries rest }
     ensures runs { (s : Contents) (before now : List Entry) (events : List Event) (later : Contents) → Ran s before events later now →
-        StandsThrough s before now later }
+        PutsFromSource before now → StandsThrough s before now later }
     ensures promised { (s : Contents) (t : List Datagram) (k : ℕ) → AgentStands s t k → HasPromisedCalls (office s) t k }
     ensures relays { (s : Contents) (t : List Datagram) (k : ℕ) → AgentStands s t k → RelaysLive s.range.ip s.calls.pool.rows t }
     ensures holds { (s : Contents) (t : List Datagram) (k port : ℕ) → AgentStands s t k → HoldsFor s.calls.calls t port (holder_in s.calls.pool port) }

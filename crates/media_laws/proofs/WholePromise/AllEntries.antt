@@ -4,13 +4,12 @@ use Rattle.std.specs.List.{All}
 use Rattle.std.proofs.lemmas.List.{append_assoc}
 use Rattle.std.proofs.lemmas.List.Elements.{All-head, All-tail}
 use Rattle.event_rows.specs.Rows.{after, moment_after, only_counts, row}
-use Rattle.event_rows.specs.State.{Contents, IsNew, after_event, office}
+use Rattle.event_rows.specs.State.{Contents, after_event, office}
 use Rattle.event_rows.specs.Trace.{AreEntries, Entry, IsEntryWith, after_answer, after_entries, after_entry}
 use Rattle.call_trace.specs.declared.call.Call.{Call}
 use Rattle.call_trace.specs.declared.datagram.Datagram.{Datagram}
 use Rattle.call_trace.specs.declared.datagram.Message.{Message}
 use Rattle.call_trace.specs.Events.{passed}
-use Rattle.configuration.specs.declared.config.Config.{Config}
 use Rattle.events.specs.declared.event.Event.{Event}
 use Rattle.events.specs.declared.event.What.{What}
 use Rattle.events.specs.declared.event.What.TheVariants as whats
@@ -21,7 +20,6 @@ use Rattle.plans.specs.Office.{Office}
 use Rattle.plans.specs.Plan.{nothing}
 use Rattle.plans.specs.declared.taken.Taken.{Taken}
 use Rattle.plans.specs.declared.taken.Taken.TheVariants.{Done, Dropped, Idle, Shed}
-use Rattle.message_laws.specs.Addresses.{IsConfigured}
 use Rattle.message_laws.specs.Datagrams.{ComesFromSource, EntersFromSource}
 use Rattle.message_laws.specs.Knowledge.{sends_of}
 use Rattle.message_laws.specs.Numbers.{begun_at, begun_in, begun_of}
@@ -32,7 +30,7 @@ use Rattle.transactions.specs.declared.transaction.Transaction.{Transaction}
 use Rattle.media_laws.specs.Standing.{IsUpheld, UpholdsCalls}
 use Rattle.media_laws.proofs.WholePromise.Invariant.{EventsAreMoves}
 use Rattle.media_laws.proofs.WholePromise.Counted.{counted_done, counted_row}
-use Rattle.media_laws.proofs.WholePromise.Invariant.{event_upheld, idle_upheld, new_upheld, same_upheld}
+use Rattle.media_laws.proofs.WholePromise.Invariant.{event_upheld, idle_upheld, same_upheld}
 use Rattle.media_laws.proofs.WholePromise.Knowing.{Laws}
 
 -- ---- what shows nothing
@@ -97,7 +95,7 @@ module _ (laws : Laws) (law : EventsAreMoves) (s : Contents) (e : Event) (begun 
 
 -- ---- an entry
 
-one_entry : Laws → EventsAreMoves → (s : Contents) (x : Entry) (answer : Option Taken) (begun : List Transaction) (sent : List Sent) (t : List Datagram) (calls : List Call) (k : ℕ) (taken : Option Message) (ms : List Message)
+pub one_entry : Laws → EventsAreMoves → (s : Contents) (x : Entry) (answer : Option Taken) (begun : List Transaction) (sent : List Sent) (t : List Datagram) (calls : List Call) (k : ℕ) (taken : Option Message) (ms : List Message)
     → IsEntryWith s x answer → EntersFromSource x → IsShownWith answer x.event.what x.sends taken ms → IsUpheld (office s) begun sent t calls k
     → UpholdsCalls (office (after_answer s x.event answer)) (begun ++ begun_at s x.event answer) (sent ++ x.sends) (t ++ passed k taken ms) (suc k)
 one_entry laws law s x None begun sent t calls k taken ms lost from shown h =

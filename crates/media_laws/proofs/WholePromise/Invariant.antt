@@ -14,12 +14,10 @@ use Rattle.call_trace.specs.Moves.{Move, quiet}
 use Rattle.configuration.specs.declared.config.Config.{Config}
 use Rattle.events.specs.declared.event.Event.{Event}
 use Rattle.events.specs.declared.sent.Sent.{Sent}
-use Rattle.media_laws.specs.Standing.{AreOfBegun, IsUpheld, Knows, UpholdsCalls}
+use Rattle.media_laws.specs.Standing.{IsUpheld, Knows, UpholdsCalls}
 use Rattle.media_laws.specs.Known.{IsMoved, IsTied}
 use Rattle.media_laws.specs.Steps.{IsAfter}
 use Rattle.message_laws.specs.Askers.{KnowsAskers}
-use Rattle.media_laws.specs.Answers.{KnowsAnswers}
-use Rattle.media_laws.specs.Byes.{KnowsByes}
 use Rattle.media_laws.proofs.OtherCalls.AnswersKnown.{answers_after, new_answers}
 use Rattle.plans.specs.Office.{Office}
 use Rattle.message_laws.specs.Addresses.{IsConfigured}

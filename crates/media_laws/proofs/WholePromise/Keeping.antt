@@ -28,8 +28,9 @@ use Rattle.transactions.specs.declared.transaction.Transaction.{Transaction}
 use Rattle.media_laws.specs.Standing.{IsUpheld}
 use Rattle.media_laws.proofs.WholePromise.Invariant.{EventsAreMoves}
 use Rattle.media_laws.specs.Keeping.{HasPromisedCalls, HoldsFor, KeepsPromise, RelaysLive, dialog_with_caller}
+use Rattle.media_laws.proofs.EntryTraces.Traces.{trace_of}
 use Rattle.media_laws.proofs.WholePromise.AllEntries.{entries_upheld, one_event}
-use Rattle.media_laws.specs.Standing.{AgentStands, StandsOn, StandsThrough}
+use Rattle.media_laws.specs.Standing.{AgentStands, PutsFromSource, StandsOn, StandsThrough}
 use Rattle.plans.specs.declared.taken.Taken.{Taken}
 use Rattle.message_laws.specs.Messages.{AreMessages}
 use Rattle.media_laws.proofs.WholePromise.Invariant.{new_upheld}
@@ -106,11 +107,16 @@ answers_on laws law s event answer before now later from answered sent left = λ
     subst (λ (x : Contents). AgentStands x (t ++ passed k taken ms) (suc k)) (sym left)
     (stands_on laws law s event t k h from taken ms (record { took = subst (λ a. IsTaken event.what a taken) answered shows.took; went = subst (λ l. AreMessages l ms) same shows.went }))
 
-pub runs_through : Laws → EventsAreMoves → (s : Contents) (before now : List Entry) (events : List Event) (later : Contents) → Ran s before events later now → StandsThrough s before now later
-runs_through laws law s before now events later ran = λ t k h more whole from rest trace.
+pub runs_through : Laws → EventsAreMoves → (s : Contents) (before now : List Entry) (events : List Event) (later : Contents) → Ran s before events later now → PutsFromSource before now → StandsThrough s before now later
+runs_through laws law s before now events later ran puts = λ t k h more whole.
     let same : ran.more ≡ more = append_cancel_left before ran.more more (sym ran.grown ∙ whole) in
-    subst (λ (x : Contents). AgentStands x (t ++ rest) (k + length more)) (sym (ran.agent ∙ ap (λ (l : List Entry). after_entries s l) same))
-    (stands_through laws law s more t rest k h (subst (AreEntries s) same ran.entries) from trace)
+    let are : AreEntries s more = subst (AreEntries s) same ran.entries in
+    let from : All EntersFromSource more = puts more whole in
+    record {
+      trace = trace_of laws law s more t k h are from;
+      stands = λ rest trace. subst (λ (x : Contents). AgentStands x (t ++ rest) (k + length more)) (sym (ran.agent ∙ ap (λ (l : List Entry). after_entries s l) same))
+          (stands_through laws law s more t rest k h are from trace);
+    }
 
 pub counted_from : (s : Contents) (t : List Datagram) (n : ℕ) → AgentStands s t (0 + n) → AgentStands s t n
 counted_from s t n h = let count : 0 + n ≡ n = omega arith in subst (AgentStands s t) count h

@@ -18,20 +18,16 @@ use Rattle.events.specs.declared.sent.Sent.{Sent}
 use Rattle.media_laws.specs.Standing.{Knows}
 use Rattle.media_laws.specs.Known.{KnowsAgent}
 use Rattle.media_laws.specs.Byes.{KnowsByes}
-use Rattle.media_laws.specs.Taken.{KnowsTaken}
 use Rattle.media_laws.proofs.RisingNumbers.RaisedRows.{after_taken, new_taken}
 use Rattle.plans.specs.Office.{Office}
 use Rattle.message_laws.specs.Addresses.{IsConfigured}
 use Rattle.message_laws.specs.Askers.{KnowsAskers}
 use Rattle.message_laws.specs.Bodies.{KnowsDescriptions}
-use Rattle.message_laws.specs.CalleeDialogs.{KnowsCallees}
 use Rattle.message_laws.specs.Datagrams.{ComesFromSource, IsOwnDatagram}
 use Rattle.message_laws.specs.Knowing.{KnowsTokens}
-use Rattle.message_laws.specs.Numbers.{KnowsNumbers, begun_of}
-use Rattle.message_laws.specs.OpenRequests.{KnowsRequests}
+use Rattle.message_laws.specs.Numbers.{begun_of}
 use Rattle.message_laws.specs.Sending.{KnowsSent}
 use Rattle.message_laws.specs.Sound.{KnowsDialogs}
-use Rattle.message_laws.specs.Waiting.{KnowsWaiting}
 use Rattle.message_laws.proofs.Askers.AskerKnown.{after_askers, after_kept, after_own, new_askers}
 use Rattle.message_laws.proofs.StandingCalls.Asking.{all_asked}
 use Rattle.message_laws.proofs.Messages.BodyRows.{after_bodies, new_bodies}
@@ -42,19 +38,16 @@ use Rattle.message_laws.proofs.AwaitedOffers.Rising.{after_numbers, new_numbers}
 use Rattle.message_laws.proofs.Messages.SendRows.{after_sent, new_sent}
 use Rattle.message_laws.proofs.StandingCalls.SoundRows.{after_dialogs, new_dialogs}
 use Rattle.message_laws.proofs.AwaitedOffers.WaitEvents.{after_waits, new_waits}
-use Rattle.media_laws.specs.Machines.{KnowsMachines}
 use Rattle.media_laws.specs.Ties.{AreTied}
 use Rattle.media_laws.proofs.Scenes.MachineEvents.{after_machines, new_machines}
 use Rattle.message_laws.specs.ReadDatagrams.{IsReadDatagram, IsReadText}
 use Rattle.message_laws.specs.SoundClients.{KnowsClients}
 use Rattle.message_laws.proofs.StandingCalls.ClientRows.{after_clients, new_clients}
-use Rattle.media_laws.specs.Coming.{KnowsNumbersLeft}
 use Rattle.media_laws.proofs.Scenes.CountingRows.{after_leaves, new_leaves}
 use Rattle.message_laws.specs.Serving.{AreStaged, KnowsServing}
 use Rattle.media_laws.specs.Steps.{IsAfter}
 use Rattle.sip_message.specs.Grammar.{ReadsMessage}
 use Rattle.message_laws.specs.Asked.{KnowsAsked}
-use Rattle.message_laws.specs.KnownTrace.{KnowsTrace}
 use Rattle.message_laws.specs.Messages.{AreMessages}
 use Rattle.message_laws.specs.Traces.{IsPassed}
 use Rattle.message_laws.proofs.AwaitedOffers.AskedRows.{after_asked, new_asked}

@@ -15,7 +15,7 @@ use Rattle.call_trace.specs.Listed.{AnyOf}
 use Rattle.call_trace.specs.Lives.{IsLegOf}
 use Rattle.call_trace.specs.Messages.{offering}
 use Rattle.call_trace.specs.Moves.{Move}
-use Rattle.call_trace.specs.Stands.{AsksAt, leg}
+use Rattle.call_trace.specs.Stands.{leg}
 use Rattle.call_trace.proofs.Members.{any_at, at_any}
 use Rattle.calls.specs.declared.standing_call.StandingCall.{StandingCall}
 use Rattle.media_laws.specs.Standing.{AreOfBegun, IsOfBegun}

@@ -20,14 +20,14 @@ use Rattle.call_trace.specs.Messages.{offering}
 use Rattle.calls.specs.declared.standing_call.StandingCall.{StandingCall}
 use Rattle.dialogs.specs.declared.state.Dialog.{Dialog as LegDialog}
 use Rattle.plans.specs.Office.{Office}
-use Rattle.message_laws.specs.CalleeDialogs.{FitsStage, HasCallee, IsUnanswered, KnowsCallees, is_unanswered}
+use Rattle.message_laws.specs.CalleeDialogs.{FitsStage, HasCallee, KnowsCallees, is_unanswered}
 use Rattle.message_laws.specs.Serving.{AreStaged, IsStaged}
 use Rattle.media_laws.specs.Listing.{Listed}
 use Rattle.media_laws.specs.Shows.{ShowsCall, ShowsCallee}
 use Rattle.trace_reading.specs.Message.{dialog_named}
 use Rattle.transactions.specs.declared.transaction.Transaction.{Transaction}
 use Rattle.media_laws.specs.Keeping.{dialog_with_caller}
-use Rattle.media_laws.specs.Living.{IsLiveCall, IsTalking, ListsLive, dialog_with_callee}
+use Rattle.media_laws.specs.Living.{IsLiveCall, IsTalking, ListsLive}
 use Rattle.media_laws.proofs.WholePromise.Sessions.{bare, standing_session, standing_settled}
 
 -- ---- the dialog with the callee

@@ -2,7 +2,8 @@ use Rattle.call_trace.specs.Messages.{offering}
 use Rattle.sip_message.specs.declared.message.Message.TheVariants as Kinds
 use Rattle.message_laws.proofs.Messages.ReadMessages.{message_reads, name_reads}
 use Rattle.media_laws.specs.Keeping.{dialog_with_caller}
-use Rattle.media_laws.proofs.WholePromise.Keeping.{PromiseLaws, answers_on, runs_through, standing_exact, standing_holds, standing_live, standing_promised, standing_relays, stands_new, stands_on, stands_through}
+use Rattle.media_laws.proofs.EntryTraces.Traces.{trace_of}
+use Rattle.media_laws.proofs.WholePromise.Keeping.{answers_on, runs_through, standing_exact, standing_holds, standing_live, standing_promised, standing_relays, stands_new, stands_on, stands_through}
 use Rattle.media_laws.proofs.WholePromise.SaidMessages.{says_messages}
 use Rattle.media_laws.proofs.agent_trace.agents_stand.Goals as goal
 
@@ -101,6 +102,29 @@ returns-clause-said c =
 pub returns-clause-entries : goal.returns-clause-entries
 returns-clause-entries c =
     stands_through (
+    record {
+      texts = record {
+        reading = record { message = message_reads; name = name_reads; callee = c.dialogs_are_sound.ensures.callee; contact = c.contacts_are_read.ensures };
+        describes = c.bodies_describe.ensures;
+        written = c.written_is_read.ensures;
+        replies = c.replies.ensures.reply;
+      };
+      names = λ text r read. c.invites_name_a_contact.ensures.answer text r (message_reads text (Kinds.Response r) read);
+      serves_new = c.calls_are_served.ensures.begins;
+      serves = c.calls_are_served.ensures.step;
+      staged = c.served_as_told.ensures.staged;
+      byes_new = c.byes_are_known.ensures.begins;
+      byes = c.byes_are_known.ensures.step;
+      reads = c.sends_are_read.ensures.step;
+      back = c.sends_are_read.ensures.back;
+      none_stand = c.moves_keep.ensures.none offering c.moves_keep.ensures.offering;
+      moved = c.moves_keep.ensures.one offering;
+    }
+    ) c.events_are_moves.ensures
+
+pub returns-clause-traced : goal.returns-clause-traced
+returns-clause-traced c =
+    trace_of (
     record {
       texts = record {
         reading = record { message = message_reads; name = name_reads; callee = c.dialogs_are_sound.ensures.callee; contact = c.contacts_are_read.ensures };
