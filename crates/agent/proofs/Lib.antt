@@ -3,3 +3,4 @@ mod ConfigLaws
 mod TraceLaws
 mod EnterLaws
 mod StandingLaws
+mod SourceLaws

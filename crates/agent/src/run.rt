@@ -3,11 +3,12 @@
 ghost use Rattle.std.specs.Prelude.{◌≡◌, ◌<◌, ◌∷◌, ◌++◌, [], IfOk, IsOk, OnErr, OnOk, vec_len};
 ghost use Rattle.std.specs.Vec.{vec_capacity};
 ghost use Rattle.event_rows.specs.Trace.{IsEntry, Ran, RanFirst, after_entry};
-ghost use Rattle.media_laws.specs.Standing.{StandsThrough};
+ghost use Rattle.media_laws.specs.Standing.{PutsFromSource, StandsThrough};
 
 use crate::agent::Agent;
 use events::{Event, Sent, What};
 use media_laws::agents_stand;
+use message_laws::event_comes_from_source;
 use plans::Taken;
 use std::alloc::{AllocError, Global};
 use std::marker::Model;
@@ -113,9 +114,11 @@ impl Agent {
 
     fn enter(&mut self, event: &Event, entries: &mut Vec<Entry>) -> Result<(), AllocError>
         ensures ran { OnOk result (Ran self.old entries.old.items (event.entry.now ∷ []) self.new entries.new.items) }
+        ensures sources { OnOk result (PutsFromSource entries.old.items entries.new.items) }
         ensures err_agent { OnErr result (self.new ≡ self.old) }
         ensures err_trace { OnErr result (entries.new.items ≡ entries.old.items) }
     {
+        event_comes_from_source(event);
         let event = copy_of(self.alloc, event)?;
         entries.reserve(1)?;
         let entry = self.entry_of(event);
@@ -126,6 +129,7 @@ impl Agent {
     fn run_in(&mut self, events: &[Event], entries: &mut Vec<Entry>) -> Result<(), AllocError>
         ensures ran { OnOk result (Ran self.old entries.old.items events.now self.new entries.new.items) }
         ensures front { OnErr result (RanFirst self.old entries.old.items events.now self.new entries.new.items) }
+        ensures sources { PutsFromSource entries.old.items entries.new.items }
     {
         for event in events {
             self.enter(event, entries)?;
@@ -134,8 +138,8 @@ impl Agent {
     }
 
     /// Takes events in order, and enters each with its answer and its sends; one that is lost counts as not come, and is entered
-    /// too. Where the trace can't grow, agent and trace stand after the events that were entered. An agent that stands after a trace of before
-    /// stands after that with these entries.
+    /// too. Where the trace can't grow, agent and trace stand after the events that were entered. These entries have a
+    /// trace; and an agent that stands after a trace of before stands after it with any trace of theirs.
     pub fn run(&mut self, events: &[Event], trace: &mut Trace) -> Result<(), AllocError>
         ensures ran { OnOk result (Ran self.old trace.old events.now self.new trace.new) }
         ensures front { OnErr result (RanFirst self.old trace.old events.now self.new trace.new) }
