@@ -5,7 +5,10 @@ pub mod Invariant
 pub mod Keeping
 pub mod Knowing
 pub mod LateInvites
+pub mod LeftCalls
+pub mod ListedOnce
 pub mod LiveCalls
 pub mod Openings
+pub mod QuietCalls
 pub mod SaidMessages
 pub mod Sessions

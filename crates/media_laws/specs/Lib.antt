@@ -28,5 +28,6 @@ pub mod NextTags
 pub mod Beginning
 pub mod Known
 pub mod Keeping
+pub mod Leaving
 pub mod Living
 pub mod Standing

@@ -1,5 +1,5 @@
 -- The calls that are kept after any entries keep the whole media promise.
-use Rattle.std.proofs.Common.{◌≡◌, ◌∙◌, ℕ, suc, ◌+◌, true, false, List, [], ◌++◌, length, Option, Some, ap, sym, subst, arith}
+use Rattle.std.proofs.Common.{◌≡◌, ◌∙◌, ℕ, suc, ◌+◌, true, false, List, [], ◌∷◌, ◌++◌, length, Option, Some, ap, sym, subst, arith}
 use Rattle.std.proofs.lemmas.List.{append_cancel_left}
 use Rattle.std.specs.List.{All}
 use Rattle.event_rows.specs.State.{Contents, IsNew, office}
@@ -9,6 +9,7 @@ use Rattle.call_trace.specs.declared.datagram.Datagram.{Datagram}
 use Rattle.call_trace.specs.declared.datagram.Dialog.{Dialog}
 use Rattle.call_trace.specs.Lives.{Stands}
 use Rattle.call_trace.specs.Messages.{offering}
+use Rattle.call_trace.specs.Listed.{AllOf}
 use Rattle.call_trace.specs.Promised.{AreServed, Promised}
 use Rattle.call_trace.specs.Serving.{Hop}
 use Rattle.configuration.specs.declared.config.Config.{Config}
@@ -16,6 +17,7 @@ use Rattle.events.specs.declared.sent.Sent.{Sent}
 use Rattle.call_core.specs.Calls.{awaits_answer, holds_in}
 use Rattle.call_media.specs.Sessions.{pairs_listed}
 use Rattle.port_pool.specs.Holdings.{even_of, is_among}
+use Rattle.calls.specs.declared.standing_call.StandingCall.{StandingCall}
 use Rattle.plans.specs.Office.{Office}
 use Rattle.message_laws.specs.Addresses.{IsConfigured}
 use Rattle.message_laws.specs.Datagrams.{EntersFromSource}
@@ -27,7 +29,7 @@ use Rattle.message_laws.specs.Traces.{AreTrace}
 use Rattle.transactions.specs.declared.transaction.Transaction.{Transaction}
 use Rattle.media_laws.specs.Standing.{IsUpheld}
 use Rattle.media_laws.proofs.WholePromise.Invariant.{EventsAreMoves}
-use Rattle.media_laws.specs.Keeping.{HasPromisedCalls, HoldsFor, KeepsPromise, RelaysLive, dialog_with_caller}
+use Rattle.media_laws.specs.Keeping.{HasPromisedCalls, HoldsFor, IsQuiet, KeepsPromise, RelaysLive, dialog_with_caller}
 use Rattle.media_laws.proofs.EntryTraces.Traces.{trace_of}
 use Rattle.media_laws.proofs.WholePromise.AllEntries.{entries_upheld, one_event}
 use Rattle.media_laws.specs.Standing.{AgentStands, PutsFromSource, StandsOn, StandsThrough}
@@ -44,6 +46,7 @@ use Rattle.message_laws.specs.Traces.{IsPassed, IsTaken}
 use Rattle.media_laws.proofs.WholePromise.Knowing.{Laws}
 use Rattle.media_laws.proofs.WholePromise.LiveCalls.{live_listed}
 use Rattle.media_laws.specs.Living.{ListsLive}
+use Rattle.media_laws.proofs.WholePromise.QuietCalls.{each_settles}
 use Rattle.media_laws.proofs.WholePromise.Sessions.{are_traced}
 
 -- what stands and is served is promised
@@ -79,21 +82,33 @@ standing_promised laws promises s t k h = (h.0, h.2.0, promise_kept laws promise
 -- the calls that were answered, and that no end has left, are the live ones
 pub standing_live : Laws → PromiseLaws → (s : Contents) (t : List Datagram) (k : ℕ) → AgentStands s t k → ListsLive s.calls.calls t
 standing_live laws promises s t k h =
-    live_listed (office s) h.0 t h.2.0 (laws.staged (office s) h.2.1.known.serving) h.2.1.known.callees h.2.1.listed (promise_kept laws promises (office s) h.0 h.1 t h.2.0 k h.2.1).promised.lives
+    live_listed (office s) h.0 t h.2.0 k (laws.staged (office s) h.2.1.known.serving) h.2.1.known.callees h.2.1.listed (promise_kept laws promises (office s) h.0 h.1 t h.2.0 k h.2.1).promised.lives h.2.1.stands
 
 -- the table, and who holds the pairs
 pub standing_relays : Laws → PromiseLaws → (s : Contents) (t : List Datagram) (k : ℕ) → AgentStands s t k → RelaysLive s.range.ip s.calls.pool.rows t
 standing_relays laws promises s t k h = let kept = (promise_kept laws promises (office s) h.0 h.1 t h.2.0 k h.2.1).promised in record { media = kept.media; each = kept.each; rows = kept.rows }
 
+-- a port that the call holds is of a pair of its session
+abbrev InSession : Contents → ℕ → StandingCall → Type 0
+InSession s port c = holder_in s.calls.pool port ≡ Some c.call.number → is_among (pairs_listed c.call.media.session) (even_of port) ≡ true
+
+both_of : (P Q R : StandingCall → Type 0) → ((c : StandingCall) → P c → Q c → R c) → (cs : List StandingCall) → AllOf P cs → AllOf Q cs → AllOf R cs
+both_of P Q R f [] ps qs = tt
+both_of P Q R f (c ∷ cs) ps qs = (f c ps.0 qs.0, both_of P Q R f cs ps.1 qs.1)
+
 pub standing_holds : Laws → PromiseLaws → ((s : Office) → KnowsServing s → AreHeldByCalls s) → ((s : Office) → KnowsServing s → HoldNoOthers s) → (s : Contents) (t : List Datagram) (k port : ℕ) → AgentStands s t k → HoldsFor s.calls.calls t port (holder_in s.calls.pool port)
 standing_holds laws promises holders exact s t k port h = record {
   listed = λ n is. holders (office s) h.2.1.known.serving port n is;
   pairs = λ caller callee session live pair. (promise_kept laws promises (office s) h.0 h.1 t h.2.0 k h.2.1).promised.ports.held caller callee session port live pair;
+  alone = alone;
+  quiet =
+      both_of (λ c. IsQuiet t c → holds_in awaits_answer c.call.standing ≡ false) (λ c. holds_in awaits_answer c.call.standing ≡ false → InSession s port c) (λ c. IsQuiet t c → InSession s port c) (λ c settles each quiet. each (settles quiet)) s.calls.calls
+      (each_settles s.table.slots h.0 t s.calls.calls h.2.0 h.2.1.listed h.2.1.stands.sessions.stand) alone;
+} where
+  alone : AllOf (λ c. holds_in awaits_answer c.call.standing ≡ false → InSession s port c) s.calls.calls
   alone =
       all_weaker (λ c. holds_in awaits_answer c.call.standing ≡ false → (n : ℕ) → holder_in s.calls.pool n ≡ Some c.call.number → is_among (pairs_listed c.call.media.session) (even_of n) ≡ true)
-      (λ c. holds_in awaits_answer c.call.standing ≡ false → holder_in s.calls.pool port ≡ Some c.call.number → is_among (pairs_listed c.call.media.session) (even_of port) ≡ true)
-      (λ c each settled. each settled port) s.calls.calls (exact (office s) h.2.1.known.serving);
-}
+      (λ c. holds_in awaits_answer c.call.standing ≡ false → InSession s port c) (λ c each settled. each settled port) s.calls.calls (exact (office s) h.2.1.known.serving)
 
 pub standing_exact : ((s : Office) → KnowsServing s → HoldNoOthers s) → (s : Contents) (t : List Datagram) (k : ℕ) → AgentStands s t k → HoldNoOthers (office s)
 standing_exact exact s t k h = exact (office s) h.2.1.known.serving

@@ -1,5 +1,5 @@
 -- The calls that were answered, and that no end has left, are exactly the live ones.
-use Rattle.std.proofs.Common.{◌≡◌, ◌∙◌, true, false, is_some, List, [], ◌∷◌, Option, Some, None, option_map, ap, refl, sym, subst, inl, inr}
+use Rattle.std.proofs.Common.{◌≡◌, ◌∙◌, ℕ, true, false, is_some, List, [], ◌∷◌, Option, Some, None, option_map, ap, refl, sym, subst, inl, inr}
 use Rattle.std.specs.List.{All}
 use Rattle.std.proofs.lemmas.Bool.{false≢true}
 use Rattle.std.proofs.lemmas.List.Elements.{All-head, All-tail}
@@ -15,7 +15,7 @@ use Rattle.call_trace.specs.declared.datagram.Datagram.{Datagram}
 use Rattle.call_trace.specs.declared.datagram.Dialog.{Dialog}
 use Rattle.call_trace.specs.Calls.{CallFrom, Live}
 use Rattle.call_trace.specs.Listed.{AllOf, AnyOf}
-use Rattle.call_trace.specs.Lives.{IsAnsweredCall, LivesExactly}
+use Rattle.call_trace.specs.Lives.{IsAnsweredCall, LivesExactly, Stands}
 use Rattle.call_trace.specs.Messages.{offering}
 use Rattle.calls.specs.declared.standing_call.StandingCall.{StandingCall}
 use Rattle.dialogs.specs.declared.state.Dialog.{Dialog as LegDialog}
@@ -28,6 +28,8 @@ use Rattle.trace_reading.specs.Message.{dialog_named}
 use Rattle.transactions.specs.declared.transaction.Transaction.{Transaction}
 use Rattle.media_laws.specs.Keeping.{dialog_with_caller}
 use Rattle.media_laws.specs.Living.{IsLiveCall, IsTalking, ListsLive}
+use Rattle.media_laws.proofs.WholePromise.LeftCalls.{left_listed}
+use Rattle.media_laws.proofs.WholePromise.ListedOnce.{talk_apart}
 use Rattle.media_laws.proofs.WholePromise.Sessions.{bare, standing_session, standing_settled}
 
 -- ---- the dialog with the callee
@@ -108,9 +110,11 @@ module _ (slots : List (Option Transaction)) (begun : List Transaction) (t : Lis
     | inr more ↦ inr (one_of_them caller callee cs h.2 h.5 staged.1 (All-tail HasCallee c cs own) more)
   ]
 
-pub live_listed : (s : Office) (begun : List Transaction) (t : List Datagram) (calls : List Call) → AreStaged s → KnowsCallees s → Listed (ShowsCall s.table.slots begun t) s.calls.calls calls → LivesExactly offering calls t → ListsLive s.calls.calls t
-live_listed s begun t calls staged callees shown lives = record {
+pub live_listed : (s : Office) (begun : List Transaction) (t : List Datagram) (calls : List Call) (k : ℕ) → AreStaged s → KnowsCallees s → Listed (ShowsCall s.table.slots begun t) s.calls.calls calls → LivesExactly offering calls t → Stands offering calls k t → ListsLive s.calls.calls t
+live_listed s begun t calls k staged callees shown lives stands = record {
   live = each_lives s.table.slots begun t s.calls.calls calls shown staged callees.calls lives.answered;
   listed = λ caller callee call a b. one_of_them s.table.slots begun t caller callee s.calls.calls calls shown staged callees.calls (lives.listed caller callee call a b);
+  once = talk_apart s.table.slots begun t s.calls.calls calls shown lives.once;
+  left = left_listed s begun t calls k callees shown lives stands;
   one_call = lives.one_call;
 }
