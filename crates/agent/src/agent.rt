@@ -95,7 +95,8 @@ impl Agent {
     }
 
     /// The calls that stand, in the order in which they began. Where the agent stands after a trace, those that were answered, and that no
-    /// end has left, are exactly the live ones of the trace. Takes no memory.
+    /// end has left, are exactly the live ones of the trace, each once; of a call with a leg that has ended, both have, or it is listed as one that
+    /// an end has left. Takes no memory.
     pub fn calls(&self) -> &[StandingCall]
         ensures calls { result.now ≡ self.now.calls.calls }
         ensures live { (t : List Datagram) (k : ℕ) → AgentStands self.now t k → ListsLive result.now t }
@@ -122,7 +123,7 @@ impl Agent {
     }
 
     /// The number of the call that holds the pair of this port, used or reserved. Where the agent stands after a trace, that call stands, and is the
-    /// live one that names the pair; and while no offer is open in it, its session has the pair. Takes no memory.
+    /// live one that names the pair; and while no offer is open in it, in the trace, its session has the pair. Takes no memory.
     pub fn holder(&self, port: u16) -> Option<u64>
         ensures holder { result ≡ holder_at self.now.calls.pool.holdings port }
         ensures live { (t : List Datagram) (k : ℕ) → AgentStands self.now t k → HoldsFor self.now.calls.calls t port result }
