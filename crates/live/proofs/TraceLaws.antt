@@ -157,6 +157,7 @@ none_went a = record { happenings = []; happens = none_happened a }
 pub record StandLaws : Type 0 where
   pub entries : (s : Contents) (entries : List Entry) (t rest : List Datagram) (k : ℕ) → AgentStands s t k → AreEntries s entries → All EntersFromSource entries → AreTrace k entries rest
       → AgentStands (after_entries s entries) (t ++ rest) (k + length entries)
+  pub traced : (s : Contents) (entries : List Entry) (t : List Datagram) (k : ℕ) → AgentStands s t k → AreEntries s entries → All EntersFromSource entries → (rest : List Datagram) × AreTrace k entries rest
   pub promised : (s : Contents) (t : List Datagram) (k : ℕ) → AgentStands s t k → HasPromisedCalls (office s) t k
   pub relays : (s : Contents) (t : List Datagram) (k : ℕ) → AgentStands s t k → RelaysLive s.range.ip s.calls.pool.rows t
   pub lives : (s : Contents) (t : List Datagram) (k : ℕ) → AgentStands s t k → ListsLive s.calls.calls t
@@ -173,7 +174,10 @@ pub lives_on : (laws : StandLaws) (a b : State) → Went a b → HasTable b.list
 lives_on laws a b w table = record {
   happenings = w.happenings;
   happens = w.happens;
-  keeps = λ t k stands rest are. keeps_live laws b (t ++ rest) (k + length (entries_of w.happenings)) table
-      (subst (λ (s : Contents). AgentStands s (t ++ rest) (k + length (entries_of w.happenings))) (sym w.happens.agent)
-      (laws.entries a.agent (entries_of w.happenings) t rest k stands w.happens.entries w.happens.sources are));
+  keeps = λ t k stands. record {
+    trace = laws.traced a.agent (entries_of w.happenings) t k stands w.happens.entries w.happens.sources;
+    keeps = λ rest are. keeps_live laws b (t ++ rest) (k + length (entries_of w.happenings)) table
+        (subst (λ (s : Contents). AgentStands s (t ++ rest) (k + length (entries_of w.happenings))) (sym w.happens.agent)
+        (laws.entries a.agent (entries_of w.happenings) t rest k stands w.happens.entries w.happens.sources are));
+  };
 }

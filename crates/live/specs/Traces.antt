@@ -70,11 +70,15 @@ pub record KeepsLive (b : State) (t : List Datagram) (k : ℕ) : Type 0 where
   pub relays : RelaysLive b.agent.range.ip (table_after b.lists) t
   pub lives : ListsLive b.agent.calls.calls t
 
--- Where the agent stood after a trace, as a new one after none, it stands after that with the trace of what happened, read by the grammar.
+-- Where the agent stood after this trace of so many events: what happened, read by the grammar, has a trace, and the agent stands after
+-- that with any trace of it.
+pub record KeepsAfter (b : State) (hs : List Happening) (t : List Datagram) (k : ℕ) : Type 0 where
+  pub trace : (rest : List Datagram) × AreTrace k (entries_of hs) rest
+  pub keeps : (rest : List Datagram) → AreTrace k (entries_of hs) rest → KeepsLive b (t ++ rest) (k + length (entries_of hs))
+
+-- so it is after each trace after which it stood, as a new one stands after none
 abbrev pub KeepsThrough : State → State → List Happening → Type 0
-KeepsThrough a b hs =
-    (t : List Datagram) (k : ℕ) → AgentStands a.agent t k → (rest : List Datagram) → AreTrace k (entries_of hs) rest
-    → KeepsLive b (t ++ rest) (k + length (entries_of hs))
+KeepsThrough a b hs = (t : List Datagram) (k : ℕ) → AgentStands a.agent t k → KeepsAfter b hs t k
 
 pub record LivesOn (a b : State) : Type 0 where
   pub happenings : List Happening

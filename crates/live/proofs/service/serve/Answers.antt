@@ -29,17 +29,17 @@ loop-init g c = record { table = c.requires; so_far = none_made _ _ }
 
 pub returns-then-load-clause-lives : goal.returns-then-load-clause-lives
 returns-then-load-clause-lives g c =
-    let laws : StandLaws = record { entries = c.agents_stand.ensures.entries; promised = c.agents_stand.ensures.promised; relays = c.agents_stand.ensures.relays; lives = c.agents_stand.ensures.lives } in
+    let laws : StandLaws = record { entries = c.agents_stand.ensures.entries; traced = c.agents_stand.ensures.traced; promised = c.agents_stand.ensures.promised; relays = c.agents_stand.ensures.relays; lives = c.agents_stand.ensures.lives } in
     lives_on laws _ _ c.loop.invariant.so_far.went c.loop.invariant.table
 
 pub returns-in_default-clause-lives : goal.returns-in_default-clause-lives
 returns-in_default-clause-lives g c =
-    let laws : StandLaws = record { entries = c.agents_stand.ensures.entries; promised = c.agents_stand.ensures.promised; relays = c.agents_stand.ensures.relays; lives = c.agents_stand.ensures.lives } in
+    let laws : StandLaws = record { entries = c.agents_stand.ensures.entries; traced = c.agents_stand.ensures.traced; promised = c.agents_stand.ensures.promised; relays = c.agents_stand.ensures.relays; lives = c.agents_stand.ensures.lives } in
     lives_on laws _ _ c.loop.invariant.so_far.went c.loop.invariant.table
 
 pub returns-in-Some-end-clause-lives : goal.returns-in-Some-end-clause-lives
 returns-in-Some-end-clause-lives g c =
-    let laws : StandLaws = record { entries = c.agents_stand.ensures.entries; promised = c.agents_stand.ensures.promised; relays = c.agents_stand.ensures.relays; lives = c.agents_stand.ensures.lives } in
+    let laws : StandLaws = record { entries = c.agents_stand.ensures.entries; traced = c.agents_stand.ensures.traced; promised = c.agents_stand.ensures.promised; relays = c.agents_stand.ensures.relays; lives = c.agents_stand.ensures.lives } in
     let ends : end_after c.go_on-round.new.streaks c.go_on-round.result ≡ Some c.in-Some-end.end = search rules in
     let signalling = c.go_on-round.new.signalling in
     let table : TableAt signalling.board signalling.agent c.in-Some-end.end =
