@@ -45,7 +45,7 @@ use Rattle.media_laws.proofs.OfferPairs.SeenWords.{response_replies}
 use Rattle.step_laws.specs.Offers.{GoesBack, IsFinalTo}
 use Rattle.step_laws.specs.Sending.{AllGo, RespondsTo, responds as responded}
 use Rattle.plans.specs.Effect.{Effect}
-use Rattle.step_laws.proofs.Refusals.{any_reply_tag}
+use Rattle.step_laws.proofs.RefusalLines.{any_reply_tag}
 
 -- ---- one final response to the request of these parts
 

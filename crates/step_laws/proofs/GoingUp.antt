@@ -44,6 +44,9 @@ module _ (table : Contents) (r : Response) where
   unfolding reception_of
   found = in_found (position (is_answered r.parts) table.slots) refl
 
+  pub place_up : (id : ℕ) → (reception_of table (Kinds.Response r)).verdict ≡ verdicts.Up id → position (is_answered r.parts) table.slots ≡ Some id
+  place_up id up = subst Found up found
+
   pub answered_up : (id : ℕ) (t : Transaction) → (reception_of table (Kinds.Response r)).verdict ≡ verdicts.Up id → at table.slots id ≡ Some t → is_answered r.parts (Some t) ≡ true
   answered_up id t up there =
-      subst (λ o. is_answered r.parts o ≡ true) there (position-Some (is_answered r.parts) table.slots id None (subst Found up found)).1
+      subst (λ o. is_answered r.parts o ≡ true) there (position-Some (is_answered r.parts) table.slots id None (place_up id up)).1

@@ -20,7 +20,7 @@ pub mod FitAnswerRows
 pub mod FitAnswers
 pub mod GoingUp
 pub mod RefusalEvents
-pub mod Refusals
+pub mod RefusalLines
 pub mod FinalReplies
 pub mod LaterSends
 pub mod LaterRequests
@@ -38,3 +38,5 @@ pub mod FirstTargets
 pub mod GivenUp
 pub mod Speaking
 pub mod SpeakingEvents
+pub mod OwnAcks
+pub mod RefusalSends

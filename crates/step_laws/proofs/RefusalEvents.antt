@@ -50,7 +50,7 @@ use Rattle.step_laws.specs.Coming.{GoesUp}
 use Rattle.step_laws.proofs.ComingRows.{setting_of, up_row}
 use Rattle.step_laws.proofs.FitAnswers.{asker_there}
 use Rattle.step_laws.proofs.Known.{scenes_known}
-use Rattle.step_laws.proofs.Refusals.{refused_behind, stage_refuses}
+use Rattle.step_laws.proofs.RefusalLines.{refused_behind, stage_refuses}
 
 module _ (reads : Reading) (describes : BodiesDescribe) (law : SentIsRead) (s : Contents) (event : Event) (scenes : KnowsScenes (office s)) (source : Addr) (bytes : List ℕ) (r : Response) (id : ℕ) (asked : Transaction) (up : GoesUp s event source bytes r id asked) (place status : ℕ) (c : StandingCall) (offered : Transaction) (h : IsAwaited s asked r (rule.Refusal place status) place c offered) (is : status ≡ r.status) (class : class_of r.status ≡ Failure) where
   abbrev e : Setting

@@ -1,5 +1,5 @@
 -- What a step of a call sends, and to whom, where the line of its signal is known.
-use Rattle.std.proofs.Common.{◌≡◌, ◌∙◌, ℕ, nat_lt, true, false, is_some, List, [], ◌∷◌, Option, Some, None, refl, ap, sym, subst}
+use Rattle.std.proofs.Common.{◌≡◌, ◌∙◌, ℕ, nat_lt, true, false, is_some, List, [], ◌∷◌, ◌++◌, Option, Some, None, refl, ap, sym, subst}
 use Rattle.std.specs.Prelude.{slice_get}
 use Rattle.std.proofs.lemmas.Bool.{false≢true}
 use Rattle.sip_uri.specs.Address.{address_of}
@@ -44,6 +44,7 @@ use Rattle.calls.specs.declared.standing_call.StandingCall.{StandingCall}
 use Rattle.call_trace.specs.declared.datagram.Message.{Message}
 use Rattle.plans.specs.CallRows.{occasion, with_step}
 use Rattle.plans.specs.Office.{Office}
+use Rattle.plans.specs.Plan.{goes}
 use Rattle.plans.specs.declared.setting.Setting.{Setting}
 use Rattle.message_laws.specs.Askers.{IsServed}
 use Rattle.message_laws.specs.CalleeDialogs.{FitsStage, HasCallee, is_unanswered}
@@ -60,6 +61,7 @@ use Rattle.media_laws.specs.Heard.{HearsActions}
 use Rattle.media_laws.specs.Lines.{actions_in}
 use Rattle.media_laws.specs.Steps.{IsSignalOf}
 use Rattle.media_laws.proofs.EndTags.HeardSteps.{step_heard}
+use Rattle.media_laws.proofs.Scenes.HeardActions.{split}
 use Rattle.media_laws.proofs.Scenes.Legs.{number_left}
 use Rattle.media_laws.proofs.Scenes.Reading.{Reading}
 use Rattle.media_laws.proofs.CallLines.SignalSteps.{signal_row}
@@ -160,6 +162,25 @@ pub row_sends : (x : Effect) (acks : List KeptAck) (begun : List Entry) (send : 
     → ((ms : List Message) → AreMessages y.dressed.sends ms → AllGo what y.dressed.sends ms) → Sends what x
 row_sends x acks begun send id y what is silent all =
     subst (Sends what) (sym (is ∙ ap (λ o. with_step acks begun o id y) silent)) (record { taken = refl; all = all })
+
+-- ---- an event, whose transactions send something before
+
+all_behind : (first : List Going) (what : List Going) (xs ys : List Sent) (ms ns : List Message) → AllGo first xs ms → AllGo what ys ns → AllGo (first ++ what) (xs ++ ys) (ms ++ ns)
+all_behind [] what xs ys ms ns one all = subst (λ l. AllGo what (l ++ ys) (ms ++ ns)) (sym one.0) (subst (λ l. AllGo what ys (l ++ ns)) (sym one.1) all)
+all_behind (g ∷ first) what [] ys ms ns one all = absurd one
+all_behind (g ∷ first) what (d ∷ xs) ys [] ns one all = absurd one
+all_behind (g ∷ first) what (d ∷ xs) ys (m ∷ ms) ns one all = (one.0, all_behind first what xs ys ms ns one.1 all)
+
+pub sends_behind : (x : Effect) (acks : List KeptAck) (begun : List Entry) (send : Option Outgoing) (id : Option ℕ) (y : steps.Effect) (first what : List Going) → x ≡ with_step acks begun send id y
+    → ((ms : List Message) → AreMessages (goes send) ms → AllGo first (goes send) ms) → ((ms : List Message) → AreMessages y.dressed.sends ms → AllGo what y.dressed.sends ms) → Sends (first ++ what) x
+sends_behind x acks begun send id y first what is before all =
+    subst (Sends (first ++ what)) (sym is)
+    (record {
+      taken = refl;
+      all = λ ms are.
+          let p = split (goes send) y.dressed.sends ms are in
+          subst (AllGo (first ++ what) (goes send ++ y.dressed.sends)) (sym p.whole) (all_behind first what (goes send) y.dressed.sends p.first p.rest (before p.first p.of_first) (all p.rest p.of_rest));
+    })
 
 -- ---- the INVITE that a CANCEL names
 

@@ -35,7 +35,7 @@ use Rattle.message_laws.specs.Saying.{SeesCancel, SeesIn, SeesTo}
 use Rattle.message_laws.specs.Seeing.{SeesRequest, SeesResponse}
 use Rattle.step_laws.specs.Sending.{AllGo, AsksIn, Goes, Going, RespondsTo}
 use Rattle.step_laws.specs.Sending.{responds, asks, cancels}
-use Rattle.step_laws.proofs.Refusals.{any_reply_tag}
+use Rattle.step_laws.proofs.RefusalLines.{any_reply_tag}
 
 -- these actions send just that, whatever tokens were made before
 pub record Tells (s : Scene) (actions : List Action) (what : List Going) : Type 0 where

@@ -4,6 +4,7 @@ pub mod Leaving
 pub mod Expiring
 pub mod Ringing
 pub mod Forks
+pub mod Refusals
 pub mod Ends
 pub mod Dropping
 pub mod Registering

@@ -35,6 +35,11 @@ pub record CancelsThe (invite : Transaction) (to : Addr) (m : Message) : Type 0 
   pub address : address_of invite.uri ≡ Some to
   pub like : SeesLike invite.parts invite.parts.to (codes "CANCEL") m
 
+-- the ACK to a refusal of this INVITE, with the tag of the refusal's To, which goes where the INVITE went (section 17.1.1.3)
+pub record AcksRefusal (invite : Transaction) (response : Parts) (to : Addr) (m : Message) : Type 0 where
+  pub address : to ≡ invite.place
+  pub like : SeesLike invite.parts response.to (codes "ACK") m
+
 -- what goes
 pub data Going : Type 0 where
   -- a response with this status to the request of these parts, which came from this source
@@ -43,11 +48,14 @@ pub data Going : Type 0 where
   asks : (d : Dialog) (name : List ℕ) → Going
   -- the CANCEL of this INVITE
   cancels : (invite : Transaction) → Going
+  -- the ACK to a refusal of this INVITE, which came with these parts
+  acks : (invite : Transaction) (response : Parts) → Going
 
 abbrev pub Goes : Going → Addr → Message → Type 0
 Goes (responds request source status) to m = RespondsTo request source status to m
 Goes (asks d name) to m = AsksIn d name to m
 Goes (cancels invite) to m = CancelsThe invite to m
+Goes (acks invite response) to m = AcksRefusal invite response to m
 
 -- these go, in this order, and nothing else
 abbrev pub AllGo : List Going → List Sent → List Message → Type 0

@@ -9,6 +9,7 @@ mod forks;
 mod hangups;
 mod offers;
 mod provisionals;
+mod refusals;
 mod registrations;
 mod timeouts;
 
@@ -24,5 +25,6 @@ pub use offers::{
     later_requests_go_across,
 };
 pub use provisionals::provisionals_are_passed_on;
+pub use refusals::refusals_go_back;
 pub use registrations::registers_are_counted;
 pub use timeouts::unanswered_offers_end;
