@@ -52,6 +52,7 @@ use Rattle.media_laws.proofs.RisingNumbers.RequestRules.{Fits, request_fits}
 use Rattle.step_laws.specs.Coming.{BeginsTransaction}
 use Rattle.step_laws.specs.Leaving.{IsBye, IsGoingOn, IsOfDialog, PassesBye, StandsAt, WithOffer, bye, okay, to_offerer}
 use Rattle.step_laws.specs.Sending.{cancels, Going, Sends}
+use Rattle.step_laws.proofs.AckLines.{bye_ends}
 use Rattle.step_laws.proofs.Byes.{offering_passes, settled_passes, waits_for_ack}
 use Rattle.step_laws.proofs.Cancels.{bye_cancels, bye_waits, can_cancel}
 use Rattle.step_laws.proofs.ComingRows.{begun_row, setting_of}
@@ -167,6 +168,15 @@ module _ (reads : Reading) (describes : BodiesDescribe) (law : SentIsRead) (s : 
             (bye_waits scene (lent_asker came) refl (asker_for c o.0) (asker_there (office s) e w c step.description o.0 refl o.1) n.offerer))),
       )
 
+  -- ---- an offerer whose ACK is waited for, once the end across has left
+
+  pub both_left_bye : end ≡ n.offerer → (interval : ℕ) → n.stage ≡ stages.Ending interval → Sends (okay r source ∷ []) (row s event)
+  both_left_bye same interval is =
+      let what = okay r source ∷ [] in
+      bye_sends what
+      (subst (λ x. Tells scene (actions_in (row_in x n.offerer (signals.Bye end))) what) (sym is)
+      (subst (λ x. Tells scene (actions_in (row_in (stages.Ending interval) n.offerer (signals.Bye x))) what) (sym same) (bye_ends scene (lent_asker came) refl interval n.offerer)))
+
 -- ---- of an agent that stands
 
 module _ (reads : Reading) (describes : BodiesDescribe) (law : SentIsRead) (s : Contents) (event : Event) (t : List Datagram) (k : ℕ) (stands : AgentStands s t k) (source : Addr) (bytes : List ℕ) (r : Request) (id : ℕ) (from : IsSource source) (begins : BeginsTransaction s event source bytes r id) (place : ℕ) (c : StandingCall) (n : Standing) (at_place : StandsAt s place c n) (end : End) (is_bye : IsBye s event r place end) where
@@ -190,3 +200,6 @@ module _ (reads : Reading) (describes : BodiesDescribe) (law : SentIsRead) (s : 
 
   pub silent : end ≡ n.offerer → n.stage ≡ stages.Asked false → WithOffer s c (λ offered. Sends (okay r source ∷ to_offerer c offered 487 ∷ []) (row s event))
   silent = silent_bye reads describes law s event scenes knows source bytes r id from begins place c n at_place end is_bye
+
+  pub both_left : end ≡ n.offerer → (interval : ℕ) → n.stage ≡ stages.Ending interval → Sends (okay r source ∷ []) (row s event)
+  both_left = both_left_bye reads describes law s event scenes knows source bytes r id from begins place c n at_place end is_bye

@@ -1,5 +1,5 @@
 -- The event of a CANCEL that a call of an agent takes.
-use Rattle.std.proofs.Common.{◌≡◌, ◌∙◌, ℕ, true, false, codes, List, [], ◌∷◌, Some, None, refl, ap, sym, subst}
+use Rattle.std.proofs.Common.{◌≡◌, ◌∙◌, ℕ, Bool, true, false, codes, List, [], ◌∷◌, Some, None, refl, ap, sym, subst}
 use Rattle.std.specs.Prelude.{slice_get}
 use Rattle.std.proofs.lemmas.Slice.Eq.{bytes_eq-Decides}
 use Rattle.sip_uri.specs.declared.uri.Addr.{Addr}
@@ -15,7 +15,7 @@ use Rattle.call_core.specs.Plans.{Step}
 use Rattle.call_core.specs.Table.{row_in}
 use Rattle.call_core.specs.declared.input.Input.TheVariants as inputs
 use Rattle.call_core.specs.declared.signal.Signal.TheVariants as signals
-use Rattle.call_core.specs.declared.stage.Cancelled.TheVariants.{Never}
+use Rattle.call_core.specs.declared.stage.Cancelled.TheVariants.{Never, PassedOn, Waits}
 use Rattle.call_core.specs.declared.stage.Stage.{Stage}
 use Rattle.call_core.specs.declared.stage.Stage.TheVariants as stages
 use Rattle.call_core.specs.declared.stage.Standing.{Standing}
@@ -41,7 +41,7 @@ use Rattle.media_laws.proofs.Scenes.Reading.{Reading}
 use Rattle.step_laws.specs.Coming.{BeginsTransaction}
 use Rattle.step_laws.specs.Leaving.{IsCancel, IsGoingOn, StandsAt, WithOffer, okay, to_offerer}
 use Rattle.step_laws.specs.Sending.{Going, Sends, cancels}
-use Rattle.step_laws.proofs.Cancels.{can_cancel, cancel_cancels, cancel_waits, inside_cancels, inside_waits}
+use Rattle.step_laws.proofs.Cancels.{again_passed, again_waits, can_cancel, cancel_cancels, cancel_waits, inside_cancels, inside_waits}
 use Rattle.step_laws.proofs.ComingRows.{begun_row, setting_of}
 use Rattle.step_laws.proofs.FitAnswers.{asker_for, asker_there}
 use Rattle.step_laws.proofs.Known.{scenes_known}
@@ -109,3 +109,10 @@ module _ (reads : Reading) (describes : BodiesDescribe) (law : SentIsRead) (s : 
 
   pub inside_silent : n.stage ≡ stages.Reasked false Never → Sends (okay r source ∷ []) (row s event)
   inside_silent is = sends _ (stages.Reasked false Never) is (inside_waits scene (lent_asker came) refl n.offerer)
+
+  -- a further one
+  pub waiting : (rung : Bool) → n.stage ≡ stages.Reasked rung Waits → Sends (okay r source ∷ []) (row s event)
+  waiting rung is = sends _ (stages.Reasked rung Waits) is (again_waits scene (lent_asker came) refl rung n.offerer)
+
+  pub passed : (rung : Bool) → n.stage ≡ stages.Reasked rung PassedOn → Sends (okay r source ∷ []) (row s event)
+  passed rung is = sends _ (stages.Reasked rung PassedOn) is (again_passed scene (lent_asker came) refl rung n.offerer)

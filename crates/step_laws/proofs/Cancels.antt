@@ -1,5 +1,5 @@
 -- The lines by which a call gives its open INVITE up, and passes a CANCEL on: what they send.
-use Rattle.std.proofs.Common.{◌≡◌, ◌∙◌, true, false, is_some, List, [], ◌∷◌, Option, Some, None, ap, subst}
+use Rattle.std.proofs.Common.{◌≡◌, ◌∙◌, Bool, true, false, is_some, List, [], ◌∷◌, Option, Some, None, ap, subst}
 use Rattle.std.specs.Option.{option_copied}
 use Rattle.std.specs.Prelude.{option_map}
 use Rattle.std.proofs.lemmas.Bool.{and_parts}
@@ -18,7 +18,7 @@ use Rattle.call_core.specs.Table.{row_in}
 use Rattle.call_core.specs.declared.action.Action.TheVariants.{Cancel, Release, Set}
 use Rattle.call_core.specs.declared.action.CallTimer.TheVariants as timers
 use Rattle.call_core.specs.declared.signal.Signal.TheVariants as signals
-use Rattle.call_core.specs.declared.stage.Cancelled.TheVariants.{Never}
+use Rattle.call_core.specs.declared.stage.Cancelled.TheVariants.{Never, PassedOn, Waits}
 use Rattle.call_core.specs.declared.stage.Stage.TheVariants as stages
 use Rattle.call_messages.specs.declared.scene.Asker.{Asker}
 use Rattle.call_messages.specs.declared.scene.Scene.{Scene}
@@ -129,3 +129,14 @@ module _ (s : Scene) (a : Asker) (has : s.request ≡ Some a) where
   pub inside_waits : (x : End) → Tells s (actions_in (row_in (stages.Reasked false Never) x signals.Cancel)) (responds a.parts.now a.source 200 ∷ [])
   unfolding reasked_row
   inside_waits x = then_okay s a x has (tells_nothing s)
+
+  -- its CANCEL came before
+  pub again_waits : (rung : Bool) (x : End) → Tells s (actions_in (row_in (stages.Reasked rung Waits) x signals.Cancel)) (responds a.parts.now a.source 200 ∷ [])
+  unfolding reasked_row
+  again_waits true x = then_okay s a x has (tells_nothing s)
+  again_waits false x = then_okay s a x has (tells_nothing s)
+
+  pub again_passed : (rung : Bool) (x : End) → Tells s (actions_in (row_in (stages.Reasked rung PassedOn) x signals.Cancel)) (responds a.parts.now a.source 200 ∷ [])
+  unfolding reasked_row
+  again_passed true x = then_okay s a x has (tells_nothing s)
+  again_passed false x = then_okay s a x has (tells_nothing s)

@@ -1,5 +1,5 @@
 -- The row of an event with a message that counts: what the agent does for it.
-use Rattle.std.proofs.Common.{◌≡◌, ◌∙◌, ℕ, false, cond, nat_le, ◌&&◌, List, [], ◌∷◌, refl, ap}
+use Rattle.std.proofs.Common.{◌≡◌, ◌∙◌, ℕ, false, cond, nat_le, ◌&&◌, List, [], ◌∷◌, Option, refl, ap}
 use Rattle.std.proofs.lemmas.Bool.{and_right, lt-leb}
 use Rattle.sip_uri.specs.declared.uri.Addr.{Addr}
 use Rattle.sip_message.specs.declared.message.Message.{Message}
@@ -10,10 +10,14 @@ use Rattle.transactions.specs.Contents.{reception_of}
 use Rattle.transactions.specs.Limits.{max_served}
 use Rattle.transactions.specs.Slots.{serving}
 use Rattle.transactions.specs.Changes.{change_of}
+use Rattle.transactions.specs.declared.change.Entry.{Entry}
+use Rattle.transactions.specs.declared.outcome.Outgoing.{Outgoing}
+use Rattle.transactions.specs.declared.outcome.Verdict.{Verdict}
+use Rattle.transactions.specs.declared.outcome.Verdict.TheVariants as verdicts
 use Rattle.transactions.specs.declared.transaction.Transaction.{Transaction}
 use Rattle.events.specs.declared.event.Event.{Event}
 use Rattle.call_rules.specs.Responses.{response_rule}
-use Rattle.plans.specs.CallRows.{of_plan, responds_by, response_by_asked, response_row}
+use Rattle.plans.specs.CallRows.{ack_row, of_plan, responds_by, response_by_asked, response_row}
 use Rattle.plans.specs.Plan.{nothing}
 use Rattle.plans.specs.declared.setting.Setting.{Setting}
 use Rattle.plans.specs.declared.taken.Taken.TheVariants.{Dropped, Shed}
@@ -22,6 +26,7 @@ use Rattle.event_rows.specs.Rows.{begins, by_reading, datagram_row, fit_row, is_
 use Rattle.event_rows.specs.Rules.{request_rule}
 use Rattle.event_rows.specs.State.{Contents, moment_at, office}
 use Rattle.step_laws.specs.Coming.{BeginsTransaction, Comes, GoesUp}
+use Rattle.step_laws.specs.Dropping.{NoneTakes}
 
 -- the setting of an event with a datagram from this source
 abbrev pub setting_of : Contents → Event → Addr → Setting
@@ -56,6 +61,28 @@ module _ (s : Contents) (event : Event) (source : Addr) (bytes : List ℕ) where
       received_row (Kinds.Request r) h.comes refl
       ∙ (not_full (Kinds.Request r) (and_right (begins x.verdict) (nat_le max_served (serving s.table.slots)) (lt-leb max_served (serving s.table.slots) h.room))
       ∙ ap (λ v. request_by (office s) e r (change_of s.table (Kinds.Request r) source ∷ []) v x.send) h.new)
+
+  none_begins : (v : Verdict) → NoneTakes v → begins v ≡ false
+  none_begins (verdicts.New id) h = absurd h
+  none_begins verdicts.Repeat h = absurd h
+  none_begins verdicts.Swallowed h = absurd h
+  none_begins (verdicts.Up id) h = refl
+  none_begins verdicts.Stray h = refl
+
+  none_row : (r : Request) (begun : List Entry) (send : Option Outgoing) (v : Verdict) → NoneTakes v → request_by (office s) e r begun v send ≡ ack_row (office s) e r begun
+  unfolding request_by
+  none_row r begun send (verdicts.New id) h = absurd h
+  none_row r begun send verdicts.Repeat h = absurd h
+  none_row r begun send verdicts.Swallowed h = absurd h
+  none_row r begun send (verdicts.Up id) h = refl
+  none_row r begun send verdicts.Stray h = refl
+
+  -- a request that no transaction takes
+  pub passed_row : (r : Request) → Comes s event source bytes (Kinds.Request r) → NoneTakes (reception_of s.table (Kinds.Request r)).verdict → row s event ≡ ack_row (office s) e r (change_of s.table (Kinds.Request r) source ∷ [])
+  passed_row r comes none =
+      let x = reception_of s.table (Kinds.Request r) in
+      received_row (Kinds.Request r) comes refl
+      ∙ (not_full (Kinds.Request r) (ap (λ b. b && nat_le max_served (serving s.table.slots)) (none_begins x.verdict none)) ∙ none_row r (change_of s.table (Kinds.Request r) source ∷ []) x.send x.verdict none)
 
   -- a response that goes up, by the rule of the request that it responds to
   pub up_row : (r : Response) (id : ℕ) (asked : Transaction) → GoesUp s event source bytes r id asked

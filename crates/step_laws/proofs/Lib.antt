@@ -40,3 +40,5 @@ pub mod Speaking
 pub mod SpeakingEvents
 pub mod OwnAcks
 pub mod RefusalSends
+pub mod AckLines
+pub mod AckEvents

@@ -179,7 +179,7 @@ module _ (reads : Reading) (laws : ReadingLaws) (describes : BodiesDescribe) (la
 
 -- ---- a timer
 
-timer_comes : (kind : CallTimer) → CanCome (timer_input kind) (without_offer None None)
+pub timer_comes : (kind : CallTimer) → CanCome (timer_input kind) (without_offer None None)
 timer_comes timers.Limit = alone_comes inputs.Limit tt refl tt
 timer_comes timers.Repeat = alone_comes inputs.Repeat tt refl tt
 timer_comes timers.Wait = alone_comes inputs.Wait tt refl tt

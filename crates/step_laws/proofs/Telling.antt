@@ -17,24 +17,24 @@ use Rattle.transactions.specs.SameBranch.{cancel_of}
 use Rattle.transactions.specs.declared.transaction.Transaction.{Transaction}
 use Rattle.call_media.specs.declared.end.End.{End}
 use Rattle.call_core.specs.declared.action.Action.{Action}
-use Rattle.call_core.specs.declared.action.Action.TheVariants.{Answer, Offer, Trying, Provisional, Ack, Refusal, Okay, Cancel, Bye}
+use Rattle.call_core.specs.declared.action.Action.TheVariants.{Answer, AnswerAgain, Offer, Trying, Provisional, Ack, Refusal, Okay, Cancel, Bye}
 use Rattle.call_core.specs.declared.row.Row.{Row}
 use Rattle.call_core.specs.declared.signal.OfferMethod.{OfferMethod}
 use Rattle.sdp.specs.Writing.{description_text}
 use Rattle.call_messages.specs.Dressed.{asks_at, sent_request}
-use Rattle.call_messages.specs.Dressing.{asks_if, branch, dialog_with, dress_one, dressed, says_ack, says_answer, says_bye, says_offer, method_of, says_cancel, says_okay, says_provisional, says_refusal, says_trying}
+use Rattle.call_messages.specs.Dressing.{asks_if, branch, dialog_with, dress_one, dressed, says_ack, says_again, says_answer, says_bye, says_offer, method_of, says_cancel, says_okay, says_provisional, says_refusal, says_trying}
 use Rattle.call_messages.specs.Messages as messages
 use Rattle.call_messages.specs.declared.scene.Asker.{Asker}
 use Rattle.call_messages.specs.declared.scene.Scene.{Scene}
 use Rattle.call_trace.specs.declared.datagram.Message.{Message}
 use Rattle.media_laws.specs.Lines.{actions_in}
-use Rattle.media_laws.specs.Heard.{HearsAction, HearsActions}
+use Rattle.media_laws.specs.Heard.{HearsAction, HearsActions, HearsAgain}
 use Rattle.media_laws.proofs.OfferPairs.SeenWords.{response_replies}
 use Rattle.media_laws.proofs.OfferPairs.Taking.{skip, take_one}
 use Rattle.message_laws.specs.Saying.{SeesCancel, SeesIn, SeesTo}
 use Rattle.message_laws.specs.Seeing.{SeesRequest, SeesResponse}
 use Rattle.step_laws.specs.Sending.{AllGo, AsksIn, Goes, Going, RespondsTo}
-use Rattle.step_laws.specs.Sending.{responds, asks, cancels}
+use Rattle.step_laws.specs.Sending.{again, asks, cancels, responds}
 use Rattle.step_laws.proofs.RefusalLines.{any_reply_tag}
 
 -- these actions send just that, whatever tokens were made before
@@ -126,6 +126,18 @@ module _ (s : Scene) (a : Asker) where
       (λ tokens. subst (λ (o : Option Asker). (x : Sent) × ((says_answer s.server o (option_copied s.description)).sends ≡ x ∷ []) × To x.to) (sym has)
       (subst (λ (o : Option Description). (x : Sent) × ((says_answer s.server (Some a) o).sends ≡ x ∷ []) × To x.to) (sym says) (_, refl, refl)))
       (λ tokens to m there h. responds_seen a 200 (option_copied s.description) to m there (subst (λ (o : Option Asker). SeesTo o 200 (option_copied s.description) m) has h)) next
+
+-- ---- the 200 that went before
+
+pub then_again : {later : List Action} {what : List Going} (s : Scene) (end : End) (x : Sent) → option_copied s.again ≡ Some x → Tells s later what → Tells s (AnswerAgain end ∷ later) (again x ∷ what)
+unfolding dress_one
+then_again s end x has next =
+    then_one s (AnswerAgain end) _ (again x) _ (λ to. to ≡ x.to) (λ tokens. subst (λ (o : Option Sent). (y : Sent) × ((says_again o).sends ≡ y ∷ []) × (y.to ≡ x.to)) (sym has) (x, refl, refl))
+    (λ tokens to m there h. record { address = there; is = subst (λ o. HearsAgain o m) has h }) next
+
+pub then_none_again : {later : List Action} {what : List Going} (s : Scene) (end : End) → option_copied s.again ≡ None → Tells s later what → Tells s (AnswerAgain end ∷ later) what
+unfolding dress_one
+then_none_again s end has next = then_silent s (AnswerAgain end) (λ tokens. subst (λ (o : Option Sent). (says_again o).sends ≡ []) (sym has) refl) next
 
 -- ---- requests in a dialog
 

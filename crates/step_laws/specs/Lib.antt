@@ -5,6 +5,7 @@ pub mod Expiring
 pub mod Ringing
 pub mod Forks
 pub mod Refusals
+pub mod Acks
 pub mod Ends
 pub mod Dropping
 pub mod Registering

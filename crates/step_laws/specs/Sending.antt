@@ -10,7 +10,7 @@ use Rattle.transactions.specs.declared.transaction.Transaction.{Transaction}
 use Rattle.call_trace.specs.declared.datagram.Kind.TheVariants.{Request, Response}
 use Rattle.call_trace.specs.declared.datagram.Message.{Message}
 use Rattle.call_trace.specs.Messages.{Replies}
-use Rattle.message_laws.specs.Messages.{AreMessages, IsRequestOf}
+use Rattle.message_laws.specs.Messages.{AreMessages, IsMessage, IsRequestOf}
 use Rattle.message_laws.specs.Seeing.{SeesLike}
 use Rattle.plans.specs.Effect.{Effect}
 use Rattle.plans.specs.declared.taken.Taken.TheVariants.{Done}
@@ -40,6 +40,11 @@ pub record AcksRefusal (invite : Transaction) (response : Parts) (to : Addr) (m 
   pub address : to ≡ invite.place
   pub like : SeesLike invite.parts response.to (codes "ACK") m
 
+-- what went before, once more: these bytes, to this address
+pub record GoesAgain (before : Sent) (to : Addr) (m : Message) : Type 0 where
+  pub address : to ≡ before.to
+  pub is : IsMessage before.bytes m
+
 -- what goes
 pub data Going : Type 0 where
   -- a response with this status to the request of these parts, which came from this source
@@ -50,12 +55,15 @@ pub data Going : Type 0 where
   cancels : (invite : Transaction) → Going
   -- the ACK to a refusal of this INVITE, which came with these parts
   acks : (invite : Transaction) (response : Parts) → Going
+  -- this datagram, as it went before
+  again : (before : Sent) → Going
 
 abbrev pub Goes : Going → Addr → Message → Type 0
 Goes (responds request source status) to m = RespondsTo request source status to m
 Goes (asks d name) to m = AsksIn d name to m
 Goes (cancels invite) to m = CancelsThe invite to m
 Goes (acks invite response) to m = AcksRefusal invite response to m
+Goes (again before) to m = GoesAgain before to m
 
 -- these go, in this order, and nothing else
 abbrev pub AllGo : List Going → List Sent → List Message → Type 0

@@ -1,6 +1,6 @@
 //! What a step does for an end that leaves a call.
 
-ghost use Rattle.std.specs.Prelude.{◌≡◌, true, false, ℕ, List, [], ◌∷◌};
+ghost use Rattle.std.specs.Prelude.{◌≡◌, Bool, true, false, ℕ, List, [], ◌∷◌};
 ghost use Rattle.sip_message.specs.declared.message.Request.{Request};
 ghost use Rattle.sip_uri.specs.declared.uri.Addr.{Addr};
 ghost use Rattle.call_core.specs.Calls.{awaits_answer, has_session};
@@ -16,7 +16,7 @@ ghost use Rattle.events.specs.declared.event.Event.{Event};
 ghost use Rattle.media_laws.specs.Standing.{AgentStands};
 ghost use Rattle.message_laws.specs.Addresses.{IsSource};
 ghost use Rattle.step_laws.specs.Coming.{BeginsTransaction};
-ghost use Rattle.call_core.specs.declared.stage.Cancelled.TheVariants.{Never};
+ghost use Rattle.call_core.specs.declared.stage.Cancelled.TheVariants.{Never, PassedOn, Waits};
 ghost use Rattle.call_core.specs.declared.stage.Stage.TheVariants as stages;
 ghost use Rattle.transactions.specs.declared.transaction.Transaction.{Transaction};
 ghost use Rattle.step_laws.specs.Leaving.{IsBye, IsCancel, IsGoingOn, PassesBye, StandsAt, WithOffer, okay, to_offerer};
@@ -73,6 +73,22 @@ pub fn cancels_are_passed_on()
     ensures inside_silent { (s : Contents) (event : Event) (t : List Datagram) (k : ℕ) → AgentStands s t k → (source : Addr) (bytes : List ℕ) (r : Request) (id : ℕ) →
         IsSource source → BeginsTransaction s event source bytes r id → (place : ℕ) (c : StandingCall) (n : Standing) → StandsAt s place c n → IsCancel s event r place →
         n.stage ≡ stages.Reasked false Never → Sends (okay r source ∷ []) (row s event) }
+{
+    bytes_say_all();
+    written_is_read();
+    bodies_describe();
+    sent_is_read();
+}
+
+/// A second CANCEL of an INVITE inside a call gets 200, and nothing else is sent: the first one waits for a provisional response (`waiting`), or was
+/// passed on (`passed`). The agent stands after any events, and the CANCEL came from an address and is no repeat.
+pub fn second_cancels_go_no_further()
+    ensures waiting { (s : Contents) (event : Event) (t : List Datagram) (k : ℕ) → AgentStands s t k → (source : Addr) (bytes : List ℕ) (r : Request) (id : ℕ) →
+        IsSource source → BeginsTransaction s event source bytes r id → (place : ℕ) (c : StandingCall) (n : Standing) → StandsAt s place c n → IsCancel s event r place →
+        (rung : Bool) → n.stage ≡ stages.Reasked rung Waits → Sends (okay r source ∷ []) (row s event) }
+    ensures passed { (s : Contents) (event : Event) (t : List Datagram) (k : ℕ) → AgentStands s t k → (source : Addr) (bytes : List ℕ) (r : Request) (id : ℕ) →
+        IsSource source → BeginsTransaction s event source bytes r id → (place : ℕ) (c : StandingCall) (n : Standing) → StandsAt s place c n → IsCancel s event r place →
+        (rung : Bool) → n.stage ≡ stages.Reasked rung PassedOn → Sends (okay r source ∷ []) (row s event) }
 {
     bytes_say_all();
     written_is_read();

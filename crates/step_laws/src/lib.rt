@@ -2,6 +2,7 @@
 //! to whom, for each event that a call takes: offers, their answers, BYE, CANCEL, provisional responses and timers. Nothing here runs.
 #![tactic(auto)]
 
+mod acks;
 mod answers;
 mod drops;
 mod ends;
@@ -13,13 +14,14 @@ mod refusals;
 mod registrations;
 mod timeouts;
 
+pub use acks::answers_wait_for_their_acks;
 pub use answers::{
     fit_answers_are_passed_on, fit_answers_go_back, refusals_are_passed_on, unfit_answers_end_calls,
 };
 pub use drops::nothing_is_dropped_unasked;
 pub use ends::calls_speak_to_their_ends;
 pub use forks::forks_are_ended;
-pub use hangups::{byes_are_passed_on, cancels_are_passed_on};
+pub use hangups::{byes_are_passed_on, cancels_are_passed_on, second_cancels_go_no_further};
 pub use offers::{
     first_invites_are_passed_on, first_invites_go_where_bound, later_requests_are_served,
     later_requests_go_across,
