@@ -18,7 +18,7 @@ use Rattle.transactions.specs.declared.transaction.Transaction.{Transaction}
 use Rattle.events.specs.declared.event.Event.{Event}
 use Rattle.call_rules.specs.Responses.{response_rule}
 use Rattle.plans.specs.CallRows.{ack_row, of_plan, responds_by, response_by_asked, response_row}
-use Rattle.plans.specs.Plan.{nothing}
+use Rattle.plans.specs.Plan.{moves, nothing}
 use Rattle.plans.specs.declared.setting.Setting.{Setting}
 use Rattle.plans.specs.declared.taken.Taken.TheVariants.{Dropped, Shed}
 use Rattle.plans.specs.declared.taken.Why.TheVariants.{Stray}
@@ -31,6 +31,13 @@ use Rattle.step_laws.specs.Dropping.{NoneTakes}
 -- the setting of an event with a datagram from this source
 abbrev pub setting_of : Contents → Event → Addr → Setting
 setting_of s event source = setting (moment_at s event.now) event.salt source
+
+abbrev pub IsStill : Verdict → Type 0
+IsStill (verdicts.New id) = ⊥
+IsStill verdicts.Repeat = Unit {0}
+IsStill verdicts.Swallowed = Unit {0}
+IsStill (verdicts.Up id) = ⊥
+IsStill verdicts.Stray = ⊥
 
 module _ (s : Contents) (event : Event) (source : Addr) (bytes : List ℕ) where
   abbrev e : Setting
@@ -61,6 +68,31 @@ module _ (s : Contents) (event : Event) (source : Addr) (bytes : List ℕ) where
       received_row (Kinds.Request r) h.comes refl
       ∙ (not_full (Kinds.Request r) (and_right (begins x.verdict) (nat_le max_served (serving s.table.slots)) (lt-leb max_served (serving s.table.slots) h.room))
       ∙ ap (λ v. request_by (office s) e r (change_of s.table (Kinds.Request r) source ∷ []) v x.send) h.new)
+
+  -- a message that its transaction keeps for itself
+  still_begins : (v : Verdict) → IsStill v → begins v ≡ false
+  still_begins (verdicts.New id) h = absurd h
+  still_begins verdicts.Repeat h = refl
+  still_begins verdicts.Swallowed h = refl
+  still_begins (verdicts.Up id) h = absurd h
+  still_begins verdicts.Stray h = absurd h
+
+  still_by : (m : Message) (begun : List Entry) (send : Option Outgoing) (v : Verdict) → IsStill v → received_by (office s) e m begun v send ≡ of_plan (office s) (moves begun send)
+  unfolding request_by response_by
+  still_by m begun send (verdicts.New id) h = absurd h
+  still_by (Kinds.Request r) begun send verdicts.Repeat h = refl
+  still_by (Kinds.Response r) begun send verdicts.Repeat h = refl
+  still_by (Kinds.Request r) begun send verdicts.Swallowed h = refl
+  still_by (Kinds.Response r) begun send verdicts.Swallowed h = refl
+  still_by m begun send (verdicts.Up id) h = absurd h
+  still_by m begun send verdicts.Stray h = absurd h
+
+  pub still_row : (m : Message) → Comes s event source bytes m → is_unreachable_message m ≡ false → IsStill (reception_of s.table m).verdict
+      → row s event ≡ of_plan (office s) (moves (change_of s.table m source ∷ []) (reception_of s.table m).send)
+  still_row m comes reached still =
+      let x = reception_of s.table m in
+      received_row m comes reached
+      ∙ (not_full m (ap (λ b. b && nat_le max_served (serving s.table.slots)) (still_begins x.verdict still)) ∙ still_by m (change_of s.table m source ∷ []) x.send x.verdict still)
 
   none_begins : (v : Verdict) → NoneTakes v → begins v ≡ false
   none_begins (verdicts.New id) h = absurd h

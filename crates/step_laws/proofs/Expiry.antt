@@ -60,6 +60,7 @@ use Rattle.media_laws.proofs.Scenes.Reading.{Reading}
 use Rattle.media_laws.proofs.OfferPairs.Taking.{abandons_none}
 use Rattle.step_laws.specs.Expiring.{CallTimerIsDue, LeavesBoth, LimitIsReached, RequestTimesOut}
 use Rattle.step_laws.specs.Leaving.{IsGoingOn, StandsAt, WithOffer, bye, to_offerer}
+use Rattle.step_laws.specs.Repeats.{TimerIsDue}
 use Rattle.step_laws.specs.Sending.{AllGo, Going, Sends, cancels, responds}
 use Rattle.step_laws.proofs.ByeEvents.{talks_answered}
 use Rattle.step_laws.proofs.Cancels.{can_cancel, limit_cancels}
@@ -135,6 +136,14 @@ module _ (s : Contents) (event : Event) where
       ∙ (call_first h.timer (first_due s.table.timers (moment_at s event.now)) h.before
       ∙ (ap (call_timer_at (without_call_timer h.timer.key (office s)) due_at h.timer.key.timer) h.call
       ∙ ap (λ k. takes (without_call_timer h.timer.key (office s)) due_at [] None None place (timer_input k) None) h.kind_is))))
+
+  -- a timer of a transaction
+  pub table_timer_is : (timer : Timer TimerId) → TimerIsDue s event timer → row s event ≡ timer_row (office s) due_at timer.key
+  unfolding row what_row
+  table_timer_is timer h =
+      ap (row_by s event) h.counts
+      ∙ (ap (what_row (office s) (moment_at s event.now) event.salt) h.due
+      ∙ (ap (λ o. due_row (office s) due_at o (first_due s.calls.timers (moment_at s event.now))) h.first ∙ table_first timer (first_due s.calls.timers (moment_at s event.now)) h.before))
 
   pub timeout_is : (place : ℕ) (h : RequestTimesOut s event place) → row s event ≡ takes (office s) due_at (fire_of h.timer.key ∷ []) None None place inputs.TimedOut None
   unfolding row what_row timer_row timeout_row

@@ -42,3 +42,5 @@ pub mod OwnAcks
 pub mod RefusalSends
 pub mod AckLines
 pub mod AckEvents
+pub mod RepeatRows
+pub mod RepeatEvents

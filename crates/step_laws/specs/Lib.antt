@@ -6,6 +6,7 @@ pub mod Ringing
 pub mod Forks
 pub mod Refusals
 pub mod Acks
+pub mod Repeats
 pub mod Ends
 pub mod Dropping
 pub mod Registering

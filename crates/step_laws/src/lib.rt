@@ -12,6 +12,7 @@ mod offers;
 mod provisionals;
 mod refusals;
 mod registrations;
+mod repeats;
 mod timeouts;
 
 pub use acks::answers_wait_for_their_acks;
@@ -29,4 +30,5 @@ pub use offers::{
 pub use provisionals::provisionals_are_passed_on;
 pub use refusals::refusals_go_back;
 pub use registrations::registers_are_counted;
+pub use repeats::{repeats_get_what_went_before, timers_send_what_went_before};
 pub use timeouts::unanswered_offers_end;
