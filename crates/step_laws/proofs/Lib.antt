@@ -44,3 +44,4 @@ pub mod AckLines
 pub mod AckEvents
 pub mod RepeatRows
 pub mod RepeatEvents
+pub mod RefusalSpeech

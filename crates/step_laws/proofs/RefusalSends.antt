@@ -147,8 +147,8 @@ module _ (reads : Reading) (names : ReadsNames) (describes : BodiesDescribe) (la
   abbrev scene : Scene
   scene = scene_at (office s) e w c description
 
-  scenes : KnowsScenes (office s)
-  scenes = scenes_known (office s) stands.0 stands.1 t stands.2.1.known (few_tokens s event up.comes.counts)
+  pub refusal_scenes : KnowsScenes (office s)
+  refusal_scenes = scenes_known (office s) stands.0 stands.1 t stands.2.1.known (few_tokens s event up.comes.counts)
 
   knows : KnowsLegs (office s)
   knows = legs_known (office s) stands.0 stands.1 t stands.2.1.known
@@ -163,19 +163,19 @@ module _ (reads : Reading) (names : ReadsNames) (describes : BodiesDescribe) (la
   sends what stage is tells =
       sends_behind (row s event) s.acks begins (reception_of s.table (Kinds.Response r)).send None (takes_row s.calls s.table (occasion (office s) e) place (inputs.Refusal r.status) None None) (own_acks asked r) what
       (up_row s event source bytes r id asked up ∙ ap (responds_by (office s) e r begins (reception_of s.table (Kinds.Response r)).send id asked) rule_is)
-      (own_acks_go reads names s scenes bytes r up.comes.read id asked up.stands refusal_class up.up)
-      (takes_sends reads describes law (office s) scenes e place c n at_place.there at_place.stands (inputs.Refusal r.status) (signals.Refusal r.status) refl None None refusal_can what
+      (own_acks_go reads names s refusal_scenes bytes r up.comes.read id asked up.stands refusal_class up.up)
+      (takes_sends reads describes law (office s) refusal_scenes e place c n at_place.there at_place.stands (inputs.Refusal r.status) (signals.Refusal r.status) refl None None refusal_can what
       (subst (λ x. Tells scene (actions_in (row_in x n.offerer (signals.Refusal r.status))) what) (sym is) tells))
 
   pub first : (rung : Bool) → n.stage ≡ stages.Asked rung → WithOffer s c (λ offered. Sends (own_acks asked r ++ to_offerer c offered (status_passed_on r.status) ∷ []) (row s event))
   first rung is =
-      let o = offer_came (office s) scenes place c n at_place.there at_place.stands (ap awaits_answer is) in
+      let o = offer_came (office s) refusal_scenes place c n at_place.there at_place.stands (ap awaits_answer is) in
       (o.0, o.1, sends _ (stages.Asked rung) is (first_refused scene (asker_for c o.0) (asker_there (office s) e w c description o.0 refl o.1) r.status rung n.offerer))
 
   module _ (talks : has_session n.stage ≡ true) (waits : awaits_answer n.stage ≡ true) where
     pub inside : has_lost_the_call r.status ≡ false → WithOffer s c (λ offered. Sends (own_acks asked r ++ to_offerer c offered (status_passed_on r.status) ∷ []) (row s event))
     inside kept =
-        let o = offer_came (office s) scenes place c n at_place.there at_place.stands waits in
+        let o = offer_came (office s) refusal_scenes place c n at_place.there at_place.stands waits in
         (o.0, o.1, sends _ n.stage refl (inside_refused scene (asker_for c o.0) (asker_there (office s) e w c description o.0 refl o.1) r.status n.stage n.offerer talks waits kept))
 
     reached : (end : End) → Reaches c scene end
@@ -188,7 +188,7 @@ module _ (reads : Reading) (names : ReadsNames) (describes : BodiesDescribe) (la
 
     pub lost : has_lost_the_call r.status ≡ true → WithOffer s c OffererLeft
     lost is =
-        let o = offer_came (office s) scenes place c n at_place.there at_place.stands waits in
+        let o = offer_came (office s) refusal_scenes place c n at_place.there at_place.stands waits in
         let across = reached (other n.offerer) in
         let own = reached n.offerer in (
           o.0,

@@ -39,7 +39,7 @@ use Rattle.step_laws.proofs.Expiry.{due_at, table_timer_is}
 use Rattle.step_laws.proofs.RepeatRows.{last_sent, repeat_goes_back, swallowed_again, swallowed_quietly}
 
 -- what the transactions move
-moves_just : (s : Contents) (begun : List Entry) (send out : Option Outgoing) (x : Effect) → x ≡ of_plan (office s) (moves begun send) → send ≡ out → SendsJust (goes out) x
+pub moves_just : (s : Contents) (begun : List Entry) (send out : Option Outgoing) (x : Effect) → x ≡ of_plan (office s) (moves begun send) → send ≡ out → SendsJust (goes out) x
 moves_just s begun send out x is same = subst (SendsJust (goes out)) (sym is) (record { taken = refl; sends = ap goes same })
 
 module _ (s : Contents) (event : Event) where

@@ -57,7 +57,9 @@ use Rattle.step_laws.proofs.CancelEvents.{cancel_can, cancel_row}
 use Rattle.step_laws.specs.Coming.{GoesUp}
 use Rattle.step_laws.specs.Expiring.{CallTimerIsDue, RequestTimesOut}
 use Rattle.step_laws.proofs.AnswerSends.{answer_can, why}
-use Rattle.step_laws.proofs.ComingRows.{up_row}
+use Rattle.plans.specs.CallRows.{ack_by, ack_row}
+use Rattle.step_laws.specs.Acks.{IsAwaitedAck}
+use Rattle.step_laws.proofs.ComingRows.{passed_row, up_row}
 use Rattle.step_laws.proofs.Expiry.{call_timer_is, due_at, same_dressed, timeout_is}
 use Rattle.step_laws.proofs.Ringing.{provisional_can, provisional_class, provisional_silent}
 use Rattle.sip_message.specs.declared.message.Response.{Response}
@@ -152,7 +154,7 @@ module _ (reads : Reading) (describes : BodiesDescribe) (law : SentIsRead) (s : 
 
 -- ---- where nothing asks for a 200
 
-nothing_asked : (s : Contents) (c : StandingCall) (leg : Option LegDialog) (source : Addr) (a : Asker) → None ≡ Some a → (to : Addr) (m : Message) → RespondsTo a.parts.now a.source 200 to m
+pub nothing_asked : (s : Contents) (c : StandingCall) (leg : Option LegDialog) (source : Addr) (a : Asker) → None ≡ Some a → (to : Addr) (m : Message) → RespondsTo a.parts.now a.source 200 to m
     → IsToAnEnd s c leg None source to m
 nothing_asked s c leg source a has to m h = absurd (none-some a has)
 
@@ -197,3 +199,14 @@ module _ (reads : Reading) (describes : BodiesDescribe) (law : SentIsRead) (s : 
   timeout_speaks h =
       event_speaks reads describes law s (scenes_known (office s) stands.0 stands.1 t stands.2.1.known (few_tokens s event h.counts)) (due_at s event) place c at_place.there inputs.TimedOut None None None
       (alone_comes inputs.TimedOut tt refl tt) (nothing_asked s c None no_source) (row s event) s.acks (fire_of h.timer.key ∷ []) None None (timeout_is s event place h) refl
+
+-- ---- the ACK that the call waits for
+
+module _ (reads : Reading) (describes : BodiesDescribe) (law : SentIsRead) (s : Contents) (event : Event) (t : List Datagram) (k : ℕ) (stands : AgentStands s t k) (source : Addr) (bytes : List ℕ) (r : Request) (place : ℕ) (h : IsAwaitedAck s event source bytes r place) (c : StandingCall) (n : Standing) (at_place : StandsAt s place c n) where
+  pub ack_speaks : SpeaksToEnds s c None None source (row s event)
+  unfolding ack_row
+  ack_speaks =
+      let entries = change_of s.table (Kinds.Request r) source ∷ [] in
+      event_speaks reads describes law s (scenes_known (office s) stands.0 stands.1 t stands.2.1.known (few_tokens s event h.comes.counts)) (setting_of s event source) place c at_place.there inputs.Ack None None None
+      (alone_comes inputs.Ack tt refl tt) (nothing_asked s c None source) (row s event) s.acks entries None None
+      (passed_row s event source bytes r h.comes h.passes ∙ ap (ack_by (office s) (setting_of s event source) entries) h.call) refl

@@ -1,7 +1,8 @@
 -- To whom a call speaks, whatever its line.
-use Rattle.std.specs.Prelude.{◌≡◌, ℕ, List, Option, Some}
+use Rattle.std.specs.Prelude.{◌≡◌, ◌⊎◌, ℕ, List, Option, Some, None}
 use Rattle.sip_uri.specs.declared.uri.Addr.{Addr}
 use Rattle.sip_message.specs.declared.message.Request.{Request}
+use Rattle.sip_message.specs.declared.message.Response.{Response}
 use Rattle.dialogs.specs.declared.state.Dialog.{Dialog}
 use Rattle.call_media.specs.declared.end.End.{End}
 use Rattle.call_steps.specs.Scenes.{at_id, dialog_in, passed_id}
@@ -15,7 +16,7 @@ use Rattle.plans.specs.Effect.{Effect}
 use Rattle.plans.specs.declared.taken.Taken.TheVariants.{Done}
 use Rattle.transactions.specs.Slots.{at}
 use Rattle.transactions.specs.declared.transaction.Transaction.{Transaction}
-use Rattle.step_laws.specs.Sending.{AsksIn, CancelsThe, EachGoes, RespondsTo}
+use Rattle.step_laws.specs.Sending.{AcksRefusal, AsksIn, CancelsThe, EachGoes, RespondsTo}
 
 -- a message of this call, where this dialog comes with the event, if any, and this request from this source
 pub data IsToAnEnd (s : Contents) (c : StandingCall) (leg : Option LegDialog) (request : Option Request) (source : Addr) (to : Addr) (m : Message) : Type 0 where
@@ -33,3 +34,11 @@ pub data IsToAnEnd (s : Contents) (c : StandingCall) (leg : Option LegDialog) (r
 pub record SpeaksToEnds (s : Contents) (c : StandingCall) (leg : Option LegDialog) (request : Option Request) (source : Addr) (x : Effect) : Type 0 where
   pub taken : x.plan.taken ≡ Done
   pub each : (ms : List Message) → AreMessages x.plan.sends ms → EachGoes (IsToAnEnd s c leg request source) x.plan.sends ms
+
+-- to one of its ends, or the ACK to this refusal of its INVITE
+abbrev pub IsToAnEndOrAcks : Contents → StandingCall → Transaction → Response → Addr → Addr → Message → Type 0
+IsToAnEndOrAcks s c asked r source to m = AcksRefusal asked r.parts to m ⊎ IsToAnEnd s c None None source to m
+
+pub record SpeaksOrAcks (s : Contents) (c : StandingCall) (asked : Transaction) (r : Response) (source : Addr) (x : Effect) : Type 0 where
+  pub taken : x.plan.taken ≡ Done
+  pub each : (ms : List Message) → AreMessages x.plan.sends ms → EachGoes (IsToAnEndOrAcks s c asked r source) x.plan.sends ms

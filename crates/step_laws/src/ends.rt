@@ -19,7 +19,9 @@ ghost use Rattle.media_laws.specs.Standing.{AgentStands};
 ghost use Rattle.message_laws.specs.Addresses.{IsSource};
 ghost use Rattle.transactions.specs.declared.transaction.Transaction.{Transaction};
 ghost use Rattle.step_laws.specs.Coming.{BeginsTransaction, GoesUp};
-ghost use Rattle.step_laws.specs.Ends.{SpeaksToEnds};
+ghost use Rattle.step_laws.specs.Acks.{IsAwaitedAck};
+ghost use Rattle.step_laws.specs.Ends.{SpeaksOrAcks, SpeaksToEnds};
+ghost use Rattle.step_laws.specs.Refusals.{IsRefusal};
 ghost use Rattle.step_laws.specs.Expiring.{CallTimerIsDue, RequestTimesOut};
 ghost use Rattle.step_laws.specs.Leaving.{IsBye, IsCancel, StandsAt};
 
@@ -29,9 +31,10 @@ use sip_writing::written_is_read;
 use trace_reading::{bodies_describe, bytes_say_all};
 use transactions::replies;
 
-/// Whatever a call does for a BYE, a CANCEL, a provisional response, a 2xx, a timer of its own, or the end of timer B or F, each message that goes in
-/// that step is to one of its ends: a response to the request in which its offer came, the 200 to the request that comes, a request in its dialog with
-/// an end, at the address of its target, the CANCEL of the INVITE that it passed on, or its 200 again.
+/// Whatever a call does for a BYE, a CANCEL, an ACK, a response, a timer of its own, or the end of timer B or F, each message that goes in that step is
+/// to one of its ends: a response to the request in which its offer came, the 200 to the request that comes, a request in its dialog with an end, at
+/// the address of its target, the CANCEL of the INVITE that it passed on, or its 200 again; or, for a refusal, the ACK of the INVITE that is refused. All
+/// that goes for an offer, and to whom, is told by `first_invites_are_passed_on`, `first_invites_go_where_bound` and `later_requests_go_across`.
 pub fn calls_speak_to_their_ends()
     ensures bye { (s : Contents) (event : Event) (t : List Datagram) (k : ℕ) → AgentStands s t k → (source : Addr) (bytes : List ℕ) (r : Request) (id : ℕ) →
         IsSource source → BeginsTransaction s event source bytes r id → (place : ℕ) (c : StandingCall) (n : Standing) → StandsAt s place c n → (end : End) → IsBye s event r place end →
@@ -44,6 +47,10 @@ pub fn calls_speak_to_their_ends()
     ensures answer { (s : Contents) (event : Event) (t : List Datagram) (k : ℕ) → AgentStands s t k → (source : Addr) (bytes : List ℕ) (r : Response) (id : ℕ) (asked : Transaction) →
         GoesUp s event source bytes r id asked → (place : ℕ) (c : StandingCall) (n : Standing) → StandsAt s place c n → response_rule s.calls.calls asked.parts r ≡ rule.Answer place →
         SpeaksToEnds s c (answers_leg s.calls.calls place asked.parts r) None source (row s event) }
+    ensures refusal { (s : Contents) (event : Event) (t : List Datagram) (k : ℕ) → AgentStands s t k → (source : Addr) (bytes : List ℕ) (r : Response) (id : ℕ) (asked : Transaction) →
+        GoesUp s event source bytes r id asked → (place : ℕ) (c : StandingCall) (n : Standing) → StandsAt s place c n → IsRefusal s asked r place → SpeaksOrAcks s c asked r source (row s event) }
+    ensures ack { (s : Contents) (event : Event) (t : List Datagram) (k : ℕ) → AgentStands s t k → (source : Addr) (bytes : List ℕ) (r : Request) (place : ℕ) →
+        IsAwaitedAck s event source bytes r place → (c : StandingCall) (n : Standing) → StandsAt s place c n → SpeaksToEnds s c None None source (row s event) }
     ensures timer { (s : Contents) (event : Event) (t : List Datagram) (k : ℕ) → AgentStands s t k → (place : ℕ) (c : StandingCall) (n : Standing) → StandsAt s place c n → (kind : CallTimer) → CallTimerIsDue s event place kind → SpeaksToEnds s c None None no_source (row s event) }
     ensures timeout { (s : Contents) (event : Event) (t : List Datagram) (k : ℕ) → AgentStands s t k → (place : ℕ) (c : StandingCall) (n : Standing) → StandsAt s place c n → RequestTimesOut s event place → SpeaksToEnds s c None None no_source (row s event) }
 {

@@ -28,7 +28,7 @@ pub use offers::{
     later_requests_go_across,
 };
 pub use provisionals::provisionals_are_passed_on;
-pub use refusals::refusals_go_back;
+pub use refusals::{refusals_go_back, unclaimed_responses_get_an_ack_at_most};
 pub use registrations::registers_are_counted;
 pub use repeats::{repeats_get_what_went_before, timers_send_what_went_before};
 pub use timeouts::unanswered_offers_end;

@@ -1,6 +1,7 @@
 use Rattle.sip_message.specs.declared.message.Message.TheVariants as Kinds
 use Rattle.message_laws.proofs.Messages.ReadMessages.{message_reads, name_reads}
-use Rattle.step_laws.proofs.SpeakingEvents.{answer_speaks, bye_speaks, cancel_speaks, provisional_speaks, timeout_speaks, timer_speaks}
+use Rattle.step_laws.proofs.RefusalSpeech.{refusal_speaks}
+use Rattle.step_laws.proofs.SpeakingEvents.{ack_speaks, answer_speaks, bye_speaks, cancel_speaks, provisional_speaks, timeout_speaks, timer_speaks}
 use Rattle.step_laws.proofs.ends.calls_speak_to_their_ends.Goals as goal
 
 pub returns-clause-bye : goal.returns-clause-bye
@@ -28,3 +29,12 @@ returns-clause-answer c =
       replies = c.replies.ensures.reply;
     }
     ) c.bodies_describe.ensures c.sent_is_read.ensures
+
+pub returns-clause-ack : goal.returns-clause-ack
+returns-clause-ack c = ack_speaks (record { same = c.bytes_say_all.ensures.one; bytes = c.bytes_say_all.ensures.bytes; back = c.written_is_read.ensures }) c.bodies_describe.ensures c.sent_is_read.ensures
+
+pub returns-clause-refusal : goal.returns-clause-refusal
+returns-clause-refusal c =
+    refusal_speaks (record { same = c.bytes_say_all.ensures.one; bytes = c.bytes_say_all.ensures.bytes; back = c.written_is_read.ensures })
+    (record { message = message_reads; name = name_reads; callee = c.dialogs_are_sound.ensures.callee; contact = c.contacts_are_read.ensures })
+    c.bodies_describe.ensures c.sent_is_read.ensures
