@@ -45,3 +45,4 @@ pub mod AckEvents
 pub mod RepeatRows
 pub mod RepeatEvents
 pub mod RefusalSpeech
+pub mod ReplyRows

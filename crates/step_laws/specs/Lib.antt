@@ -7,6 +7,7 @@ pub mod Forks
 pub mod Refusals
 pub mod Acks
 pub mod Repeats
+pub mod Replies
 pub mod Ends
 pub mod Dropping
 pub mod Registering

@@ -1,11 +1,12 @@
 //! Events that count as not come.
 
-ghost use Rattle.std.specs.Prelude.{List};
+ghost use Rattle.std.specs.Prelude.{◌≡◌, [], List};
 ghost use Rattle.event_rows.specs.Rows.{row};
 ghost use Rattle.event_rows.specs.State.{Contents, IsNew};
 ghost use Rattle.event_rows.specs.Trace.{AreEntries, Entry, after_entries};
 ghost use Rattle.configuration.specs.declared.config.Config.{Config};
 ghost use Rattle.events.specs.declared.event.Event.{Event};
+ghost use Rattle.plans.specs.declared.taken.Taken.TheVariants.{Done};
 ghost use Rattle.transactions.specs.Fireable.{IsFireable};
 ghost use Rattle.step_laws.specs.Dropping.{IsAnsweredFor};
 
@@ -23,4 +24,9 @@ pub fn nothing_is_dropped_unasked()
         IsFireable (after_entries s entries).table.slots (after_entries s entries).table.timers }
     ensures agents { (config : Config) (s : Contents) (entries : List Entry) → IsNew config s → AreEntries s entries → (event : Event) →
         IsAnsweredFor (after_entries s entries) event (row (after_entries s entries) event).plan.taken }
+{}
+
+/// An event that is not done sends nothing.
+pub fn what_is_not_done_sends_nothing()
+    ensures { (s : Contents) (event : Event) → ((row s event).plan.taken ≡ Done → ⊥) → (row s event).plan.sends ≡ [] }
 {}

@@ -13,13 +13,14 @@ mod provisionals;
 mod refusals;
 mod registrations;
 mod repeats;
+mod replies;
 mod timeouts;
 
 pub use acks::answers_wait_for_their_acks;
 pub use answers::{
     fit_answers_are_passed_on, fit_answers_go_back, refusals_are_passed_on, unfit_answers_end_calls,
 };
-pub use drops::nothing_is_dropped_unasked;
+pub use drops::{nothing_is_dropped_unasked, what_is_not_done_sends_nothing};
 pub use ends::calls_speak_to_their_ends;
 pub use forks::forks_are_ended;
 pub use hangups::{byes_are_passed_on, cancels_are_passed_on, second_cancels_go_no_further};
@@ -31,4 +32,5 @@ pub use provisionals::provisionals_are_passed_on;
 pub use refusals::{refusals_go_back, unclaimed_responses_get_an_ack_at_most};
 pub use registrations::registers_are_counted;
 pub use repeats::{repeats_get_what_went_before, timers_send_what_went_before};
+pub use replies::own_responses_go_back;
 pub use timeouts::unanswered_offers_end;
