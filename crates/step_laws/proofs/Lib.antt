@@ -46,3 +46,5 @@ pub mod RepeatRows
 pub mod RepeatEvents
 pub mod RefusalSpeech
 pub mod ReplyRows
+pub mod WholeRows
+pub mod WholeEvents

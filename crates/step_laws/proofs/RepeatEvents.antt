@@ -42,6 +42,27 @@ use Rattle.step_laws.proofs.RepeatRows.{last_sent, repeat_goes_back, swallowed_a
 pub moves_just : (s : Contents) (begun : List Entry) (send out : Option Outgoing) (x : Effect) → x ≡ of_plan (office s) (moves begun send) → send ≡ out → SendsJust (goes out) x
 moves_just s begun send out x is same = subst (SendsJust (goes out)) (sym is) (record { taken = refl; sends = ap goes same })
 
+-- ---- what a timer sends
+
+sends_last : (t : Transaction) (send : Sending) (out : Outgoing) → sent t None send ≡ Some out → last_sent t ≡ Some out
+sends_last t Nothing out is = absurd cc
+sends_last t Again out is = is
+sends_last t Fresh out is = absurd cc
+
+told_send : (told : Told) (send : Option Outgoing) (out : Outgoing) → fired_by told send ≡ Some (fires.Send out) → send ≡ Some out
+told_send tellings.TimedOut send out e = absurd cc
+told_send tellings.Ended send out e = absurd cc
+told_send tellings.Silent None out e = absurd cc
+told_send tellings.Silent (Some o) out e = cc
+told_send tellings.Up None out e = absurd cc
+told_send tellings.Up (Some o) out e = cc
+
+step_last : (t : Transaction) (step : Option Step) (out : Outgoing) → fired_step t step ≡ Some (fires.Send out) → last_sent t ≡ Some out
+step_last t None out is = absurd cc
+step_last t (Some step) out is = sends_last t step.send out (told_send step.told (sent t None step.send) out is)
+
+-- ---- the events
+
 module _ (s : Contents) (event : Event) where
   module _ (source : Addr) (bytes : List ℕ) (r : Request) where
     moved : (comes : Finds s event source bytes (Kinds.Request r) verdicts.Repeat ⊎ Finds s event source bytes (Kinds.Request r) verdicts.Swallowed)
@@ -82,23 +103,6 @@ module _ (s : Contents) (event : Event) where
 
   -- ---- a timer
 
-  sends_last : (t : Transaction) (send : Sending) (out : Outgoing) → sent t None send ≡ Some out → last_sent t ≡ Some out
-  sends_last t Nothing out is = absurd cc
-  sends_last t Again out is = is
-  sends_last t Fresh out is = absurd cc
-
-  told_send : (told : Told) (send : Option Outgoing) (out : Outgoing) → fired_by told send ≡ Some (fires.Send out) → send ≡ Some out
-  told_send tellings.TimedOut send out e = absurd cc
-  told_send tellings.Ended send out e = absurd cc
-  told_send tellings.Silent None out e = absurd cc
-  told_send tellings.Silent (Some o) out e = cc
-  told_send tellings.Up None out e = absurd cc
-  told_send tellings.Up (Some o) out e = cc
-
-  step_last : (t : Transaction) (step : Option Step) (out : Outgoing) → fired_step t step ≡ Some (fires.Send out) → last_sent t ≡ Some out
-  step_last t None out is = absurd cc
-  step_last t (Some step) out is = sends_last t step.send out (told_send step.told (sent t None step.send) out is)
-
   module _ (timer : Timer TimerId) (h : TimerIsDue s event timer) where
     abbrev e : Setting
     e = due_at s event
@@ -132,3 +136,11 @@ module _ (s : Contents) (event : Event) where
     unclaimed asked there is times none =
         moves_just s (fire_of timer.key ∷ []) None None (row s event)
         (timed true times is ∙ (ap (timed_out (office s) e (fire_of timer.key ∷ [])) there ∙ ap (timed_out_at (office s) e (fire_of timer.key ∷ [])) none)) refl
+
+-- what a timer sends is what its transaction sent last
+pub slot_last : (s : Contents) (timer : TimerId) (out : Outgoing) → fired_of (at s.table.slots timer.id) timer.kind ≡ Some (fires.Send out) → (t : Transaction) × (at s.table.slots timer.id ≡ Some t) × (last_of t ≡ goes (Some out))
+slot_last s timer out fired = by_slot (at s.table.slots timer.id) refl fired
+  where
+    by_slot : (o : Option Transaction) → at s.table.slots timer.id ≡ o → fired_of o timer.kind ≡ Some (fires.Send out) → (t : Transaction) × (at s.table.slots timer.id ≡ Some t) × (last_of t ≡ goes (Some out))
+    by_slot None there is = absurd cc
+    by_slot (Some t) there is = (t, there, ap goes (step_last t (row_of t.state (inputs.Fires timer.kind)) out is))

@@ -49,7 +49,7 @@ module _ (s : Office) (e : Setting) (r : Request) (begun : List Entry) (id : ℕ
   registers_once user (Ok bindings) = record { taken = refl; status = _; tag = _; further = _; sends = refl }
   registers_once user (Err refusal) = record { taken = refl; status = _; tag = _; further = _; sends = refl }
 
-  reply_once : (x : Reply) → Once (of_plan s (reply_row s e r begun id x))
+  pub reply_once : (x : Reply) → Once (of_plan s (reply_row s e r begun id x))
   unfolding reply_row registers
   reply_once (reply.CancelOf other) = record { taken = refl; status = _; tag = _; further = _; sends = refl }
   reply_once (reply.Refusal status) = record { taken = refl; status = _; tag = _; further = _; sends = refl }

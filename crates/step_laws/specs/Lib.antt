@@ -8,6 +8,7 @@ pub mod Refusals
 pub mod Acks
 pub mod Repeats
 pub mod Replies
+pub mod Whole
 pub mod Ends
 pub mod Dropping
 pub mod Registering

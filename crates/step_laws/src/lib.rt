@@ -15,6 +15,7 @@ mod registrations;
 mod repeats;
 mod replies;
 mod timeouts;
+mod whole;
 
 pub use acks::answers_wait_for_their_acks;
 pub use answers::{
@@ -34,3 +35,4 @@ pub use registrations::registers_are_counted;
 pub use repeats::{repeats_get_what_went_before, timers_send_what_went_before};
 pub use replies::own_responses_go_back;
 pub use timeouts::unanswered_offers_end;
+pub use whole::whatever_goes_has_a_reason;
