@@ -21,7 +21,6 @@ use Rattle.calls.specs.declared.change.LegDialog.{LegDialog}
 use Rattle.calls.specs.declared.standing_call.StandingCall.{StandingCall}
 use Rattle.plans.specs.CallRows.{occasion}
 use Rattle.plans.specs.Effect.{Effect}
-use Rattle.plans.specs.Plan.{goes}
 use Rattle.plans.specs.declared.setting.Setting.{Setting}
 use Rattle.event_rows.specs.State.{Contents, office}
 use Rattle.media_laws.specs.Coming.{scene_at}
