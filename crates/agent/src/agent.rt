@@ -94,9 +94,9 @@ impl Agent {
         self.tally
     }
 
-    /// The calls that stand, in the order in which they began. Where the agent stands after a trace, those that were answered, and that no
-    /// end has left, are exactly the live ones of the trace, each once; of a call with a leg that has ended, both have, or it is listed as one that
-    /// an end has left. Takes no memory.
+    /// The calls that stand, in the order in which they began. Where the agent stands after a trace, those that were
+    /// answered, and that no end has left, are exactly the live ones of the trace, each once; of a call with a leg that
+    /// has ended, both have, or it is listed as one that an end has left. Takes no memory.
     pub fn calls(&self) -> &[StandingCall]
         ensures calls { result.now ≡ self.now.calls.calls }
         ensures live { (t : List Datagram) (k : ℕ) → AgentStands self.now t k → ListsLive result.now t }
@@ -105,8 +105,8 @@ impl Agent {
         self.calls.as_slice()
     }
 
-    /// The relay table. Where the agent stands after a trace, it has the rows of the live calls and no other, and joined by it their legs mean what
-    /// RFC 3264 gives offer and answer passed directly. Takes no memory.
+    /// The relay table. Where the agent stands after a trace, it has the rows of the live calls and no other, and
+    /// joined by it their legs mean what RFC 3264 gives offer and answer passed directly. Takes no memory.
     pub fn relay(&self) -> &RelayTable
         ensures rows { result.now ≡ self.now.calls.pool.rows }
         ensures live { (t : List Datagram) (k : ℕ) → AgentStands self.now t k → RelaysLive self.now.range.ip result.now t }
@@ -115,15 +115,17 @@ impl Agent {
         self.calls.pool().table()
     }
 
-    /// The changes that the last event made in the relay table, by rising port; an event that was lost is none. Takes no memory.
+    /// The changes that the last event made in the relay table, by rising port; an event that was lost is none. Takes
+    /// no memory.
     pub fn changes(&self) -> &[Change]
         ensures { result.now ≡ self.now.changes }
     {
         &self.changes
     }
 
-    /// The number of the call that holds the pair of this port, used or reserved. Where the agent stands after a trace, that call stands, and is the
-    /// live one that names the pair; and while no offer is open in it, in the trace, its session has the pair. Takes no memory.
+    /// The number of the call that holds the pair of this port, used or reserved. Where the agent stands after a trace,
+    /// that call stands, and is the live one that names the pair; and while no offer is open in it, in the trace, its
+    /// session has the pair. Takes no memory.
     pub fn holder(&self, port: u16) -> Option<u64>
         ensures holder { result ≡ holder_at self.now.calls.pool.holdings port }
         ensures live { (t : List Datagram) (k : ℕ) → AgentStands self.now t k → HoldsFor self.now.calls.calls t port result }
@@ -156,9 +158,10 @@ impl Agent {
         }
     }
 
-    /// Takes an event: what it answers, sends and changes is its row. Where memory is refused, the agent and the list are as
-    /// before, and the event counts as not come. An event that is only counted takes no memory.
-    /// An agent that stands after a trace stands after it with what the event took and sent, so that the media promise goes on to hold.
+    /// Takes an event: what it answers, sends and changes is its row. Where memory is refused, the agent and the list
+    /// are as before, and the event counts as not come. An event that is only counted takes no memory. An agent that
+    /// stands after a trace stands after it with what the event took and sent, so that the media promise goes on to
+    /// hold.
     pub fn step(&mut self, event: &Event, sent: &mut Vec<Sent>) -> Result<Taken, AllocError>
         ensures answer { IfOk result (λ taken. taken ≡ (row self.old event.entry.now).plan.taken) }
         ensures sends { OnOk result (sent.new.items ≡ sent.old.items ++ (row self.old event.entry.now).plan.sends) }

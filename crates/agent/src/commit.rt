@@ -12,8 +12,8 @@ use registrar::Registrar;
 use std::alloc::AllocError;
 use transactions::{Change, Table};
 
-/// What is sent goes behind what stands in the list, and the changes of the transactions are entered. Where memory is refused,
-/// neither.
+/// What is sent goes behind what stands in the list, and the changes of the transactions are entered. Where memory is
+/// refused, neither.
 pub(crate) fn commit(
     table: &mut Table,
     sent: &mut Vec<Sent>,

@@ -50,8 +50,8 @@ impl Agent {
         }
     }
 
-    /// What an event is answered that is only counted: one at no moment that counts, one for which no token is left, a datagram
-    /// that is too long, and a timer where none is due. None for all others. Takes no memory.
+    /// What an event is answered that is only counted: one at no moment that counts, one for which no token is left, a
+    /// datagram that is too long, and a timer where none is due. None for all others. Takes no memory.
     #[tactic(auto, unfolding(event_rows::specs::Rows::only_counts))]
     pub(crate) fn only_counts(&self, event: &Event) -> Option<Taken>
         ensures { result ≡ only_counts self.now event.entry.now }

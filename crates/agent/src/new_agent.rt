@@ -68,9 +68,9 @@ fn range_of(config: &Config) -> OwnRange
 }
 
 impl Agent {
-    /// An agent that nothing has happened to, which stands after the empty trace. The configuration keeps the rules, or the first that it breaks
-    /// is told. Transactions, calls and users are looked up by prints under this key, which no clause here or elsewhere asks for: so what is
-    /// sent doesn't depend on it.
+    /// An agent that nothing has happened to, which stands after the empty trace. The configuration keeps the rules, or
+    /// the first that it breaks is told. Transactions, calls and users are looked up by prints under this key, which no
+    /// clause here or elsewhere asks for: so what is sent doesn't depend on it.
     pub fn new(alloc: Global, key: PrintKey, config: &Config) -> Result<Agent, ConfigError>
         ensures new { IfOk result (IsNew config.now) }
         ensures stands { IfOk result (λ agent. AgentStands agent [] 0) }

@@ -137,9 +137,9 @@ impl Agent {
         Ok(())
     }
 
-    /// Takes events in order, and enters each with its answer and its sends; one that is lost counts as not come, and is entered
-    /// too. Where the trace can't grow, agent and trace stand after the events that were entered. These entries have a
-    /// trace; and an agent that stands after a trace of before stands after it with any trace of theirs.
+    /// Takes events in order, and enters each with its answer and its sends; one that is lost counts as not come, and
+    /// is entered too. Where the trace can't grow, agent and trace stand after the events that were entered. These
+    /// entries have a trace; and an agent that stands after a trace of before stands after it with any trace of theirs.
     pub fn run(&mut self, events: &[Event], trace: &mut Trace) -> Result<(), AllocError>
         ensures ran { OnOk result (Ran self.old trace.old events.now self.new trace.new) }
         ensures front { OnErr result (RanFirst self.old trace.old events.now self.new trace.new) }

@@ -19,8 +19,8 @@ rings false limit x status =
     if status == 100 then Set timers.Limit limit ∷ []
     else Provisional x status ∷ Set timers.Limit limit ∷ []
 
--- the caller leaves: its INVITE is refused, and CANCEL goes to the callee where that has sent a provisional response, and else
--- waits for one (RFC 3261 section 9.1)
+-- the caller leaves: its INVITE is refused, and CANCEL goes to the callee where that has sent a provisional response,
+-- and else waits for one (RFC 3261 section 9.1)
 abbrev pub given_up : Bool → End → Row
 given_up true x = row (Okay x ∷ Refusal x 487 ∷ Cancel (other x) ∷ Set timers.Limit short_time ∷ Release ∷ []) x (Cancelling true)
 given_up false x = row (Okay x ∷ Refusal x 487 ∷ Release ∷ []) x (Cancelling false)

@@ -1,5 +1,5 @@
--- The table of calls with its effects: for a call, an input, the pool and the moment, what is done, the call and the pool
--- afterwards, and the changes of the relay table.
+-- The table of calls with its effects: for a call, an input, the pool and the moment, what is done, the call and the
+-- pool afterwards, and the changes of the relay table.
 use Rattle.std.specs.Prelude.{ℕ, Bool, false, is_none, [], Option, Some, None, if◌then◌else◌}
 use Rattle.port_pool.specs.Pool.{Contents, changes_of, lowest_free, with_changes, with_pairs, without_call, without_others}
 use Rattle.sdp.specs.declared.description.Description.{Description}
@@ -33,7 +33,8 @@ unchanged c pool = record { actions = []; description = None; call = moved c c.s
 abbrev pub kept_step : Call → Contents → Row → Step
 kept_step c pool row = record { actions = row.actions; description = None; call = moved c row.next c.media; pool = pool; changes = [] }
 
--- INVITE Y, UPDATE Y: over the pairs in use and the lowest that are free, which are the call's; its number counts in Y's dialog
+-- INVITE Y, UPDATE Y: over the pairs in use and the lowest that are free, which are the call's; its number counts in
+-- Y's dialog
 abbrev pub offer_step : Call → Contents → ℕ → End → Description → Row → Step
 offer_step c pool now x offer row = record {
   actions = row.actions;
@@ -43,7 +44,8 @@ offer_step c pool now x offer row = record {
   changes = [];
 }
 
--- rows, 200 X: the session is that of the open offer and its answer, its rows stand, and the pairs that it doesn't use rest
+-- rows, 200 X: the session is that of the open offer and its answer, its rows stand, and the pairs that it doesn't use
+-- rest
 abbrev pub session_step : Call → Contents → ℕ → Session → Row → Step
 session_step c pool now s row = record {
   actions = row.actions;
@@ -139,7 +141,8 @@ step_in c (Some s) input pool now = step_at c s input pool now
 unfoldable pub call_row : Call → Input → Contents → ℕ → Step
 call_row c input pool now = step_in c c.standing input pool now
 
--- what the first offer does to a new call: 100 X, INVITE Y. The callee has no dialog yet: its number is in that of its 2xx
+-- what the first offer does to a new call: 100 X, INVITE Y. The callee has no dialog yet: its number is in that of its
+-- 2xx
 unfoldable pub first_call_row : Call → Description → Contents → ℕ → Step
 first_call_row c offer pool now = record {
   actions = first_row.actions;

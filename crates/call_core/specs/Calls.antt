@@ -128,8 +128,8 @@ new_call number range caller = record { number = number; standing = None; media 
 
 -- ---- what holds of a call with the pool that serves it
 
--- The pool serves its media; an offer is open exactly while the call waits for its answer, and a session stands exactly from the
--- first fit 2xx until an end leaves.
+-- The pool serves its media; an offer is open exactly while the call waits for its answer, and a session stands exactly
+-- from the first fit 2xx until an end leaves.
 pub record IsServed (c : Call) (pool : Contents) : Type 0 where
   pub number : c.media.number ≡ c.number
   pub media : Serves c.media pool

@@ -22,8 +22,8 @@ use Rattle.call_core.specs.declared.signal.Signal.TheVariants as signals
 use Rattle.call_core.specs.declared.stage.Stage.{Stage}
 use Rattle.call_core.specs.Calls.{after, awaits_answer, has_session, holds_in}
 
--- What a call does: the actions in order, the offer or the answer that is passed on with them, as the server sends it, the call and
--- the pool after it, and the changes of the relay table.
+-- What a call does: the actions in order, the offer or the answer that is passed on with them, as the server sends it,
+-- the call and the pool after it, and the changes of the relay table.
 pub record Step : Type 0 where
   pub actions : List Action
   pub description : Option Description

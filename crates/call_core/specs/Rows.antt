@@ -30,7 +30,7 @@ wait_time = timeout
 abbrev pub ringing_time : ℕ
 ringing_time = 180000
 
--- how long the end across may take after its first provisional response to an INVITE inside a call, or after a CANCEL: 32
--- seconds (RFC 3261 section 9.1)
+-- how long the end across may take after its first provisional response to an INVITE inside a call, or after a CANCEL:
+-- 32 seconds (RFC 3261 section 9.1)
 abbrev pub short_time : ℕ
 short_time = timeout

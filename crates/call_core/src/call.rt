@@ -46,8 +46,8 @@ fn put_target_in(dialog: &mut Option<Dialog>, target: Uri<'static>)
 }
 
 impl Call {
-    /// A call with this number, before its first offer: the server answers the caller in this dialog. The server's address is
-    /// not 0.0.0.0. Takes no memory.
+    /// A call with this number, before its first offer: the server answers the caller in this dialog. The server's
+    /// address is not 0.0.0.0. Takes no memory.
     pub fn new(number: u64, range: OwnRange, caller: Dialog) -> Call
         requires { range.ip ≢ hold_address }
         ensures call { result ≡ new_call number range caller }
@@ -93,8 +93,8 @@ impl Call {
         }
     }
 
-    /// Puts this dialog in place of that with this end: the callee's first, or one that took a request in its order or has
-    /// another target. Takes no memory.
+    /// Puts this dialog in place of that with this end: the callee's first, or one that took a request in its order or
+    /// has another target. Takes no memory.
     pub fn put_dialog(&mut self, end: End, dialog: Dialog)
         ensures call { self.new ≡ with_dialog end dialog self.old }
         ensures serves { (pool : Contents) → IsServed self.old pool → IsServed self.new pool }
@@ -105,7 +105,8 @@ impl Call {
         }
     }
 
-    /// The end is reached at this target from now on, where there is a dialog with it (RFC 3261 section 12.2.2). Takes no memory.
+    /// The end is reached at this target from now on, where there is a dialog with it (RFC 3261 section 12.2.2). Takes
+    /// no memory.
     pub fn put_target(&mut self, end: End, target: Uri<'static>)
         ensures call { self.new ≡ with_target end target.entry self.old }
         ensures serves { (pool : Contents) → IsServed self.old pool → IsServed self.new pool }

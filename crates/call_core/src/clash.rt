@@ -50,8 +50,8 @@ pub fn clash_at(standing: Standing, end: End) -> Option<Clash>
     }
 }
 
-/// What an UPDATE without an offer meets: K2 where the same end has an UPDATE open (RFC 3311 section 5.2), or none. Takes no
-/// memory.
+/// What an UPDATE without an offer meets: K2 where the same end has an UPDATE open (RFC 3311 section 5.2), or none.
+/// Takes no memory.
 #[tactic(auto, unfolding(crate::specs::Clashes::clash_without_offer))]
 pub fn clash_without_offer(standing: Standing, end: End) -> Option<Clash>
     ensures { result ≡ clashes.clash_without_offer standing.stage standing.offerer end }

@@ -7,8 +7,8 @@ use crate::signal::{OfferMethod, Signal};
 use call_media::End;
 use sdp::Description;
 
-/// What reaches a call. The responses are those to the open offer, which the end across from the offerer gives. A body that is
-/// missing, of another type or encoding, or unreadable is no description.
+/// What reaches a call. The responses are those to the open offer, which the end across from the offerer gives. A body
+/// that is missing, of another type or encoding, or unreadable is no description.
 pub enum Input<'d> {
     /// An offer of this end, inside the call.
     Offer(End, OfferMethod, Option<Description<'d>>),

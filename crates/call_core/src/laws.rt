@@ -20,9 +20,9 @@ ghost use Rattle.call_core.specs.declared.stage.Standing.{Standing};
 ghost use Rattle.call_core.specs.CallRows.{call_row, is_fit_input};
 ghost use Rattle.call_core.specs.Calls.{IsServed, awaits_answer, has_session, holds_in};
 
-/// Where a session stands, the call's two legs, joined by the relay table, mean what the offerer's own offer and the answerer's
-/// own answer mean directly; each was asked what the other offered; and each pair of the session is the call's. A session stands
-/// exactly from the first fit 2xx until an end leaves.
+/// Where a session stands, the call's two legs, joined by the relay table, mean what the offerer's own offer and the
+/// answerer's own answer mean directly; each was asked what the other offered; and each pair of the session is the
+/// call's. A session stands exactly from the first fit 2xx until an end leaves.
 pub fn session_is_direct()
     ensures joined { (call : Call) (pool : Contents) (s : Session) → IsServed call pool → call.media.session ≡ Some s →
         joined call.media.range.ip (leads_by pool.rows) s.offer_taken s.answer_sent s.offer_sent s.answer_taken
@@ -46,8 +46,8 @@ pub fn spared_call_is_served()
     call_media::spared_call_serves();
 }
 
-/// A fit 2xx makes the session that of its exchange: the offer as it was taken, the answer as it is sent, the offer as it was
-/// sent, the answer as it was taken. No other input makes another one.
+/// A fit 2xx makes the session that of its exchange: the offer as it was taken, the answer as it is sent, the offer as
+/// it was sent, the answer as it was taken. No other input makes another one.
 pub fn session_is_of_its_exchange()
     ensures fit { (call : Call) (s : Standing) (pool : Contents) (now : ℕ) (o : OpenOffer) (answer : Description) →
         call.standing ≡ Some s → awaits_answer s.stage ≡ true → call.media.offer ≡ Some o →

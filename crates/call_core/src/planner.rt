@@ -32,8 +32,8 @@ use sdp::Description;
 use std::alloc::{AllocError, Global};
 
 impl Call {
-    /// What a call that stands nowhere yet does for its first offer, which the caller makes, at the moment `now` in milliseconds.
-    /// K3 and K4 are the refusals. Nothing changes.
+    /// What a call that stands nowhere yet does for its first offer, which the caller makes, at the moment `now` in
+    /// milliseconds. K3 and K4 are the refusals. Nothing changes.
     pub fn plan_ask(
         &self,
         alloc: Global,
@@ -53,8 +53,9 @@ impl Call {
         Ok(plan_of(row, Numbers::none(), MediaPlan::Holds(planned)))
     }
 
-    /// What the call does for an input at the moment `now` in milliseconds. An offer is refused by K1 or K2, which come first,
-    /// then K3, K4 and K5 (RFC 3261 section 14.2, RFC 3264); no other input is, but for want of memory. Nothing changes.
+    /// What the call does for an input at the moment `now` in milliseconds. An offer is refused by K1 or K2, which come
+    /// first, then K3, K4 and K5 (RFC 3261 section 14.2, RFC 3264); no other input is, but for want of memory. Nothing
+    /// changes.
     pub fn plan_take(
         &self,
         alloc: Global,

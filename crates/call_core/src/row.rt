@@ -15,12 +15,12 @@ pub(crate) const WAIT: u64 = LIMIT;
 /// How long a callee may ring after its first provisional response, in milliseconds.
 pub(crate) const RINGING: u64 = 180_000;
 
-/// How long the end across may take after its first provisional response to an offer inside a call, or after a CANCEL, in
-/// milliseconds.
+/// How long the end across may take after its first provisional response to an offer inside a call, or after a CANCEL,
+/// in milliseconds.
 pub(crate) const SHORT: u64 = LIMIT;
 
-/// What is done for a signal, in order, and where the call stands then: none where it is gone. A call that is gone frees
-/// its pairs, which rest, has no row, and its timers stop.
+/// What is done for a signal, in order, and where the call stands then: none where it is gone. A call that is gone
+/// frees its pairs, which rest, has no row, and its timers stop.
 #[derive(Drop)]
 pub struct Row {
     pub actions: Actions,

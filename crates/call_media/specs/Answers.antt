@@ -57,8 +57,9 @@ pub record FitsRows (number : ℕ) (pool : Contents) (s : Session) (r : SessionR
   pub ports : (port : ℕ) → get (with_changes pool r.changes.items).rows port
       ≡ row_after pool number (session_lines s.offer_taken s.answer_sent s.offer_sent s.answer_taken) port
 
--- What is known of the planned answer to an open offer, on the values that it was planned with: the offerer gets the answer but
--- for addresses and ports, which are the server's; the session's pairs are the call's, and each serves one medium and one end.
+-- What is known of the planned answer to an open offer, on the values that it was planned with: the offerer gets the
+-- answer but for addresses and ports, which are the server's; the session's pairs are the call's, and each serves one
+-- medium and one end.
 pub record IsFit (m : CallMedia) (pool : Contents) (o : OpenOffer) (p : PlannedAnswer) : Type 0 where
   pub sent : p.sent ≡ answer_sent m o p.taken
   pub alike : Alike p.taken p.sent

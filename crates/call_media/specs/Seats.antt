@@ -62,8 +62,8 @@ behind_two _ = []
 abbrev pub pairs_left : Media → Option Seat → List Pair → List Pair
 pairs_left m kept fresh = if needs_pairs m kept then behind_two fresh else fresh
 
--- The pairs of an offer of the caller, or of the callee: medium by medium, over those of the media in use, which are kept, and
--- over fresh ones.
+-- The pairs of an offer of the caller, or of the callee: medium by medium, over those of the media in use, which are
+-- kept, and over fresh ones.
 abbrev pub seated : Bool → List Media → List (Option Seat) → List Pair → List (Option Seat)
 seated caller_offers [] kept fresh = []
 seated caller_offers (m ∷ ms) kept fresh =

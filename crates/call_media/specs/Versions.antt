@@ -1,4 +1,5 @@
--- The `o=` lines of what the server sends (RFC 4566 section 5.2, RFC 3264 section 8): of one session a leg, its versions counted.
+-- The `o=` lines of what the server sends (RFC 4566 section 5.2, RFC 3264 section 8): of one session a leg, its
+-- versions counted.
 use Rattle.std.specs.Prelude.{ℕ, List, ◌+◌, ◌*◌, ◌%◌, min}
 use Rattle.offer_answer.specs.declared.sent_description.ServerOrigin.{ServerOrigin}
 use Rattle.call_media.specs.declared.end.End.{End}

@@ -103,8 +103,8 @@ fn with_taken(
 }
 
 impl CallMedia {
-    /// What passing the answer to the open offer on takes. The answer must be one that the offer lets the answerer give, and
-    /// that the relay carries (RFC 3264 section 6). Nothing changes.
+    /// What passing the answer to the open offer on takes. The answer must be one that the offer lets the answerer
+    /// give, and that the relay carries (RFC 3264 section 6). Nothing changes.
     pub fn plan_answer(
         &self,
         alloc: Global,

@@ -66,9 +66,9 @@ impl CallMedia {
         drop(self.offer.take());
     }
 
-    /// Passes the planned answer to the open offer on: the session is that of the offer and its answer, the relay table has its
-    /// rows, and the call's pairs that it doesn't use rest from the moment `now`, in milliseconds. Gives the changes of the
-    /// table. Takes no memory.
+    /// Passes the planned answer to the open offer on: the session is that of the offer and its answer, the relay table
+    /// has its rows, and the call's pairs that it doesn't use rest from the moment `now`, in milliseconds. Gives the
+    /// changes of the table. Takes no memory.
     pub fn put_answer(&mut self, pool: &mut Pool, planned: PlannedAnswer, now: u64) -> Vec<Change>
         requires serves { Serves self.old pool.old }
         requires asked { IsTrue (is_some self.old.offer) }
@@ -127,8 +127,8 @@ impl CallMedia {
         pool.plan_drop(self.number)
     }
 
-    /// Ends the media of the call: no session stands and no offer is open, its rows are gone, and its pairs rest from the
-    /// moment `now`, in milliseconds. Takes no memory.
+    /// Ends the media of the call: no session stands and no offer is open, its rows are gone, and its pairs rest from
+    /// the moment `now`, in milliseconds. Takes no memory.
     pub fn end(&mut self, pool: &mut Pool, removals: &[Change], now: u64)
         requires serves { Serves self.old pool.old }
         requires removals { removals.now ≡ changes_of pool.old self.old.number [] }

@@ -17,8 +17,8 @@ ghost use Rattle.call_media.specs.Sessions.{pairs_of_session};
 ghost use Rattle.call_media.specs.Serving.{Serves, SameFor, are_held};
 ghost use Rattle.call_media.specs.Seats.{are_apart, are_seated, evens, pairs_needed, pairs_of, seated};
 
-/// The pairs of an offer are those of the media in use and the fresh ones, each for one medium and one end; and with as many
-/// fresh ones as it needs, each medium has pairs whose port is not 0.
+/// The pairs of an offer are those of the media in use and the fresh ones, each for one medium and one end; and with as
+/// many fresh ones as it needs, each medium has pairs whose port is not 0.
 pub fn seats_are_apart()
     ensures each { (caller_offers : Bool) (media : List Media) (kept : List (Option Seat)) (fresh : List Pair) (p : ℕ → Bool) →
         IsTrue (list_all p (pairs_of kept)) → IsTrue (list_all p (evens fresh)) →
@@ -32,8 +32,8 @@ pub fn seats_are_apart()
         IsTrue (are_seated media (seated caller_offers media kept fresh)) }
 {}
 
-/// Where the session of a call stands, its two legs, joined by the relay table, mean what the offerer's own offer and the
-/// answerer's own answer mean directly; each was asked what the other offered.
+/// Where the session of a call stands, its two legs, joined by the relay table, mean what the offerer's own offer and
+/// the answerer's own answer mean directly; each was asked what the other offered.
 pub fn session_is_direct()
     ensures joined { (media : CallMedia) (pool : Contents) (s : Session) → Serves media pool → media.session ≡ Some s →
         joined media.range.ip (leads_by pool.rows) s.offer_taken s.answer_sent s.offer_sent s.answer_taken

@@ -1,5 +1,5 @@
-//! The media of a call (RFC 3264): which pair of ports faces which end, medium by medium. Nothing here knows of messages, phases
-//! or sockets.
+//! The media of a call (RFC 3264): which pair of ports faces which end, medium by medium. Nothing here knows of
+//! messages, phases or sockets.
 #![tactic(auto)]
 
 mod answer_plan;

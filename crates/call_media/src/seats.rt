@@ -52,8 +52,8 @@ fn push_media_in_use(
     push_media_in_use(seats, offered, answers_sent, offers_sent, answered)
 }
 
-/// The pairs of a session's media, one after the other; none for a medium that an end rejects. The session is the offer and
-/// the answer taken, and what the server sent on in place of them.
+/// The pairs of a session's media, one after the other; none for a medium that an end rejects. The session is the offer
+/// and the answer taken, and what the server sent on in place of them.
 pub fn seats_in_use(
     alloc: Global,
     offer_taken: &Description<'_>,
@@ -101,8 +101,8 @@ fn needs_pairs(medium: &Media<'_>, kept: Option<Seat>) -> bool
     medium.port != 0 && kept.is_none()
 }
 
-/// How many fresh pairs an offer of these media asks for, over those of the media in use: two for each medium that is offered
-/// and was not in use. Takes no memory.
+/// How many fresh pairs an offer of these media asks for, over those of the media in use: two for each medium that is
+/// offered and was not in use. Takes no memory.
 pub fn pairs_needed(media: &[Media<'_>], kept: &[Option<Seat>]) -> usize
     ensures count { result ≡ pairs_needed media.now kept.now }
     ensures most { pairs_needed media.now kept.now ≤ 2 * length media.now }
@@ -190,8 +190,8 @@ fn push_seated(
     push_seated(seats, caller_offers, media, rest(kept), fresh)
 }
 
-/// The pairs of an offer of the caller, or of the callee: medium by medium, over those of the media in use, which are kept, and
-/// over fresh ones, of which the lower faces the caller. `kept` is as the offerer sees it.
+/// The pairs of an offer of the caller, or of the callee: medium by medium, over those of the media in use, which are
+/// kept, and over fresh ones, of which the lower faces the caller. `kept` is as the offerer sees it.
 pub fn seat_media(
     alloc: Global,
     caller_offers: bool,

@@ -33,7 +33,8 @@ impl CallMedia {
     ghost use Rattle.call_media.specs.Serving.{Serves};
     ghost use Rattle.call_media.specs.Versions.{none_sent};
 
-    /// The media of a call of this number, which has no offer yet. The server's address is not 0.0.0.0. Takes no memory.
+    /// The media of a call of this number, which has no offer yet. The server's address is not 0.0.0.0. Takes no
+    /// memory.
     pub fn new(number: u64, range: OwnRange) -> CallMedia
         requires { range.ip ≢ hold_address }
         ensures media { result ≡ record { number = number; range = range; versions = none_sent; offer = None; session = None } }

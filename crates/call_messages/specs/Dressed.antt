@@ -35,8 +35,8 @@ responds_through a response = record {
   made = 0;
 }
 
--- a request begins a transaction, unless it is an ACK, whose change leaves all as it is; it is not sent to a host that is no
--- address
+-- a request begins a transaction, unless it is an ACK, whose change leaves all as it is; it is not sent to a host that
+-- is no address
 abbrev pub asks_at : Option Addr → Request → ℕ → Dressed
 asks_at None request made = no_message
 asks_at (Some to) request made = record { changes = start_of request to ∷ []; sends = sent_request to request ∷ []; made = made }

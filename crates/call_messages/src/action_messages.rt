@@ -224,8 +224,8 @@ impl Scene<'_, '_> {
         asks_if(alloc, request, 1)
     }
 
-    /// What an action comes to, where so many tokens were made before it. An offer, an ACK and a BYE make a token each, that of
-    /// their branch. An action that sends nothing, or for which something is missing, comes to nothing.
+    /// What an action comes to, where so many tokens were made before it. An offer, an ACK and a BYE make a token each,
+    /// that of their branch. An action that sends nothing, or for which something is missing, comes to nothing.
     #[tactic(auto, unfolding(crate::specs::Dressing::dress_one))]
     pub fn dress_one(
         &self,
@@ -264,8 +264,9 @@ impl Scene<'_, '_> {
         }
     }
 
-    /// What these actions come to, in order, where so many tokens were made before the first. An offer, an ACK and a BYE make a token
-    /// each, that of their branch. An action that sends nothing, or for which something is missing, comes to nothing.
+    /// What these actions come to, in order, where so many tokens were made before the first. An offer, an ACK and a
+    /// BYE make a token each, that of their branch. An action that sends nothing, or for which something is missing,
+    /// comes to nothing.
     pub fn dress(
         &self,
         alloc: Global,

@@ -8,8 +8,8 @@ use std::alloc::Global;
 use std::marker::Model;
 use transactions::Change;
 
-/// What actions come to: the changes of the transactions and the datagrams that are sent, each in order, and how many tokens
-/// are made. All that takes memory has been done.
+/// What actions come to: the changes of the transactions and the datagrams that are sent, each in order, and how many
+/// tokens are made. All that takes memory has been done.
 #[derive(Drop)]
 pub struct Dressed {
     pub changes: Vec<Change>,

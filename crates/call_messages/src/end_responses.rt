@@ -54,7 +54,8 @@ pub fn trying(alloc: Global, asker: &Asker<'_, '_>) -> Result<Text<'static>, All
     response_to(alloc, asker, 100, &[])
 }
 
-/// A provisional response that is passed on, 101 to 199: it has the server's Contact and no body (RFC 3261 section 12.1.1).
+/// A provisional response that is passed on, 101 to 199: it has the server's Contact and no body (RFC 3261 section
+/// 12.1.1).
 pub fn provisional(
     alloc: Global,
     server: Addr,
@@ -67,8 +68,8 @@ pub fn provisional(
     response_to(alloc, asker, status, &further)
 }
 
-/// 200 to an INVITE or an UPDATE with an offer: it has the server's Contact, and this answer (RFC 3261 section 13.3.1.4, RFC
-/// 3311 section 5.2).
+/// 200 to an INVITE or an UPDATE with an offer: it has the server's Contact, and this answer (RFC 3261 section
+/// 13.3.1.4, RFC 3311 section 5.2).
 pub fn answer(
     alloc: Global,
     server: Addr,
@@ -93,7 +94,8 @@ pub fn refusal(
     response_to(alloc, asker, status, &[])
 }
 
-/// 500 to an offer that comes while the same end's last one is open: it says when it may come again (RFC 3261 section 14.2).
+/// 500 to an offer that comes while the same end's last one is open: it says when it may come again (RFC 3261 section
+/// 14.2).
 pub fn retry_later(alloc: Global, asker: &Asker<'_, '_>) -> Result<Text<'static>, AllocError>
     ensures later { IfOk result (λ t. t ≡ message_text (Kinds.Response (retry_later asker.now))) }
 {

@@ -21,8 +21,8 @@ use std::marker::Model;
 use text::{Text, both};
 use transactions::{Change, OwnRequest};
 
-/// What an action comes to: a change of a transaction at most, a datagram at most, and how many tokens are made. Contracts see it as
-/// what a list of this action comes to.
+/// What an action comes to: a change of a transaction at most, a datagram at most, and how many tokens are made.
+/// Contracts see it as what a list of this action comes to.
 #[derive(Drop)]
 pub struct Saying {
     pub change: Option<Change>,

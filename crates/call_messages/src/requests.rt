@@ -49,8 +49,9 @@ fn one_hop_less(hops: u8) -> u8
     hops.saturating_sub(1)
 }
 
-/// An INVITE or UPDATE with an offer that is passed on: the first INVITE of a call, in its new leg, and those that follow. It
-/// has the server's Contact, a branch of this token, and one hop less than it came with. None where no number is left.
+/// An INVITE or UPDATE with an offer that is passed on: the first INVITE of a call, in its new leg, and those that
+/// follow. It has the server's Contact, a branch of this token, and one hop less than it came with. None where no
+/// number is left.
 pub fn offer(
     alloc: Global,
     server: Addr,

@@ -1,5 +1,5 @@
--- What an offer inside a call meets, and an UPDATE without one, before the call takes it (RFC 3261 sections 8.2.3, 14.2 and 16.3, RFC
--- 3311 section 5.2). The first line that applies decides.
+-- What an offer inside a call meets, and an UPDATE without one, before the call takes it (RFC 3261 sections 8.2.3, 14.2
+-- and 16.3, RFC 3311 section 5.2). The first line that applies decides.
 use Rattle.std.specs.Prelude.{ℕ, ◌==◌, Bool, true, false, List, slice_get, Option, Some, None, option_map, if◌then◌else◌}
 use Rattle.sip_message.specs.declared.message.Request.{Request}
 use Rattle.sip_message.specs.Contact.{contacts_of}

@@ -1,5 +1,5 @@
--- Which rule a response to a request of the server's own falls under, and the end of its time (RFC 3261 sections 9.1, 13.2.2 and
--- 17.1, RFC 3311).
+-- Which rule a response to a request of the server's own falls under, and the end of its time (RFC 3261 sections 9.1,
+-- 13.2.2 and 17.1, RFC 3311).
 use Rattle.std.specs.Prelude.{ℕ, ◌==◌, ◌&&◌, ◌||◌, Bool, true, false, List, length, slice_get, Option, Some, None, if◌then◌else◌}
 use Rattle.sip_message.specs.declared.message.Parts.{Parts}
 use Rattle.sip_message.specs.declared.message.Response.{Response}
@@ -89,8 +89,8 @@ further_rule asked r place c = if is_of_known_dialog asked r c (asked_end asked 
 abbrev pub late_rule : Parts → Response → ℕ → StandingCall → ResponseRule
 late_rule asked r place c = if is_acknowledged asked r then further_rule asked r place c else Silent
 
--- the call is gone: the dialog of its first INVITE, which has no tag in To and the first number, is ended too; that of a later one has
--- ended with the call
+-- the call is gone: the dialog of its first INVITE, which has no tag in To and the first number, is ended too; that of
+-- a later one has ended with the call
 abbrev pub is_first : Parts → Bool
 is_first asked = length (tag_text asked.to.params) == 0 && asked.cseq.number == 1
 

@@ -26,8 +26,8 @@ fn coding_rule(alloc: Global, headers: &[Header<'_>]) -> Result<Option<ContentRu
     Ok(Some(ContentRule::Encoding))
 }
 
-/// Why the body of a message with these header fields is not taken, if it is not: its type is looked at first. A body whose type
-/// is not named counts as a description.
+/// Why the body of a message with these header fields is not taken, if it is not: its type is looked at first. A body
+/// whose type is not named counts as a description.
 #[tactic(auto, unfolding(crate::specs::Content::content_rule))]
 pub fn content_rule(
     alloc: Global,
@@ -65,8 +65,8 @@ fn described_by(
     }
 }
 
-/// What the body of a message with these header fields describes; none where there is no body, where it is not taken, and where it
-/// can't be read.
+/// What the body of a message with these header fields describes; none where there is no body, where it is not taken,
+/// and where it can't be read.
 #[tactic(auto, unfolding(crate::specs::Content::described))]
 pub fn body_description<'d>(
     alloc: Global,

@@ -18,8 +18,8 @@ fn address_in(value: &ContactValue<'_>) -> Option<Addr>
     }
 }
 
-/// The address that the first Contact of these says; none where there is no Contact, where the first is no URI, and where its host
-/// is a name. Takes no memory.
+/// The address that the first Contact of these says; none where there is no Contact, where the first is no URI, and
+/// where its host is a name. Takes no memory.
 #[tactic(auto, unfolding(crate::specs::Reach::contact_address))]
 pub fn contact_address(values: &[ContactValue<'_>]) -> Option<Addr>
     ensures { result ≡ contact_address values.now }
@@ -58,8 +58,8 @@ pub(crate) fn leaves_unreached(parts: &Parts<'_>, values: &[ContactValue<'_>]) -
     }
 }
 
-/// Whether a response can't be taken, since its Contact leaves nowhere to send what follows it: a 2xx to an INVITE, and one to an
-/// UPDATE that has a Contact.
+/// Whether a response can't be taken, since its Contact leaves nowhere to send what follows it: a 2xx to an INVITE, and
+/// one to an UPDATE that has a Contact.
 #[tactic(auto, unfolding(crate::specs::Reach::is_unreachable))]
 pub fn is_unreachable(alloc: Global, response: &Response<'_>) -> Result<bool, AllocError>
     ensures { IfOk result (λ b. b ≡ is_unreachable response.now) }

@@ -13,8 +13,8 @@ use dialogs::{Dialog, is_above};
 use sip_message::Request;
 use std::alloc::{AllocError, Global};
 
-/// What a request with a tag in To, or one that is no INVITE, is to the calls that stand. The place is that of the call, and the
-/// end is the one that sent the request.
+/// What a request with a tag in To, or one that is no INVITE, is to the calls that stand. The place is that of the
+/// call, and the end is the one that sent the request.
 #[derive(Clone, Copy)]
 pub enum DialogRule {
     /// It stands in no dialog, or its end has left the call (RFC 3261 section 12.2.2).

@@ -27,8 +27,8 @@ pub enum ResponseRule {
     Answer { place: usize },
     /// A 2xx to an INVITE that comes again: its ACK goes again (RFC 3261 section 13.2.2.4).
     Again { place: usize },
-    /// A 2xx to the first INVITE of a call, of another dialog than the call has, or whose call is gone: its dialog is ended (section
-    /// 13.2.2.4).
+    /// A 2xx to the first INVITE of a call, of another dialog than the call has, or whose call is gone: its dialog is
+    /// ended (section 13.2.2.4).
     Fork,
     /// A 2xx to a later INVITE, whose call is gone: the dialog has ended, and its ACK goes (section 13.2.2.4).
     AckAlone,
@@ -258,7 +258,8 @@ fn rule_of(calls: &Calls, asked: &Parts<'_>, response: &Response<'_>) -> Respons
     at_place(calls, asked, response, asked_place(calls, asked))
 }
 
-/// Which rule a response falls under to the request with which a transaction of the server's own began. Takes no memory.
+/// Which rule a response falls under to the request with which a transaction of the server's own began. Takes no
+/// memory.
 pub fn response_rule(calls: &Calls, asked: &Transaction, response: &Response<'_>) -> ResponseRule
     ensures rule { result ≡ response_rule calls.now.calls asked.now.parts response.now }
     // A call stands at the place that it names.
@@ -297,8 +298,8 @@ fn open_place(calls: &Calls, asked: &Parts<'_>) -> Option<usize>
     open_at(calls, asked, asked_place(calls, asked))
 }
 
-/// The place of the call that waits for the final response to the request with which a transaction of the server's own began, and
-/// which did not come in time: none where the request was a BYE or a CANCEL. Takes no memory.
+/// The place of the call that waits for the final response to the request with which a transaction of the server's own
+/// began, and which did not come in time: none where the request was a BYE or a CANCEL. Takes no memory.
 pub fn timeout_rule(calls: &Calls, asked: &Transaction) -> Option<usize>
     ensures rule { result ≡ timeout_rule calls.now.calls asked.now.parts }
     // A call stands there.

@@ -1,5 +1,5 @@
--- What an action sends is the same, whether it is dressed alone or among others: an ACK that is the first has the first token, and an
--- answer makes none.
+-- What an action sends is the same, whether it is dressed alone or among others: an ACK that is the first has the first
+-- token, and an answer makes none.
 use Rattle.std.proofs.Common.{◌≡◌, ◌≤◌, ◌+◌, ◌-◌, ℕ, Bool, true, cond, List, [], ◌∷◌, ◌++◌, length, take, drop, slice_index_or, find, Some, refl, ap, sym, ◌∙◌, arith}
 use Rattle.std.proofs.Math.Seq.{take-length}
 use Rattle.events.specs.declared.sent.Sent.{Sent}

@@ -1,4 +1,5 @@
--- What actions are dressed with, as values. The dressing itself is told of references: a value stands for each reference to it.
+-- What actions are dressed with, as values. The dressing itself is told of references: a value stands for each
+-- reference to it.
 use Rattle.std.specs.Prelude.{ℕ, List, Option, None, option_map}
 use Rattle.std.specs.Option.{option_copied}
 use Rattle.std.specs.Borrow.{Bor}
@@ -17,16 +18,16 @@ use Rattle.call_messages.specs.Dressed.{Dressed}
 use Rattle.call_messages.specs.Dressing.{dressed}
 use Rattle.call_steps.specs.declared.arrival.Coming.{Coming}
 
--- a request of an end's, which waits for a response of the server's: the number of its transaction, where it came from, and the
--- tag that To has in its responses
+-- a request of an end's, which waits for a response of the server's: the number of its transaction, where it came from,
+-- and the tag that To has in its responses
 pub record AskerValue : Type 0 where
   pub id : ℕ
   pub parts : Parts
   pub source : Addr
   pub tag : List ℕ
 
--- what comes with an event to a call: a dialog that is put in place of one of the call's; the request that offers, where one comes; a
--- request that gets a 200 now; the hops of an offer; and the offer that is taken
+-- what comes with an event to a call: a dialog that is put in place of one of the call's; the request that offers,
+-- where one comes; a request that gets a 200 now; the hops of an offer; and the offer that is taken
 pub record ComingValue : Type 0 where
   pub leg : Option LegDialog
   pub offer : Option AskerValue

@@ -100,9 +100,9 @@ fn leg_after(
     Ok(Some(LegDialog { end, dialog }))
 }
 
-/// The dialog of the call at this place with the end across from the offerer, after a 2xx to the offer: the one that the 2xx makes, or
-/// that which stands, whose other side is reached where the 2xx says (RFC 3261 sections 12.1.2 and 12.2.1.2); none where its Contact
-/// doesn't say where that is, and where no call stands.
+/// The dialog of the call at this place with the end across from the offerer, after a 2xx to the offer: the one that
+/// the 2xx makes, or that which stands, whose other side is reached where the 2xx says (RFC 3261 sections 12.1.2 and
+/// 12.2.1.2); none where its Contact doesn't say where that is, and where no call stands.
 #[tactic(auto, unfolding(crate::specs::Rows::answers_leg), using(crate::proofs::ContactLaws::leg_of_none, crate::proofs::ContactLaws::leg_of_some))]
 pub fn answers_leg(
     alloc: Global,

@@ -173,9 +173,9 @@ pub(crate) fn takes_at(
     }
 }
 
-/// What the call at this place does for an input that is no offer, with the dialog that comes with it (that of a 2xx, or the one that
-/// counted a request) and the request that waits for a response. It is refused for want of memory alone. Where no call stands,
-/// nothing is done. Nothing changes.
+/// What the call at this place does for an input that is no offer, with the dialog that comes with it (that of a 2xx,
+/// or the one that counted a request) and the request that waits for a response. It is refused for want of memory
+/// alone. Where no call stands, nothing is done. Nothing changes.
 #[tactic(auto, using(crate::proofs::StepLaws::takes_there, crate::proofs::StepLaws::takes_nothing))]
 pub fn takes(
     alloc: Global,

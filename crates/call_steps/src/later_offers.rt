@@ -107,9 +107,10 @@ fn offers_at(
     }
 }
 
-/// What the call at this place does for an offer of this end, whose request began the transaction `id` and came from this source:
-/// it is passed on with one hop less, and the dialog with its sender counts its number (RFC 3261 section 14.2, RFC 3311 section
-/// 5.2). K2 and K1 are the first refusals, then K3, K4 and K5. Where no call stands, nothing is done. Nothing changes.
+/// What the call at this place does for an offer of this end, whose request began the transaction `id` and came from
+/// this source: it is passed on with one hop less, and the dialog with its sender counts its number (RFC 3261 section
+/// 14.2, RFC 3311 section 5.2). K2 and K1 are the first refusals, then K3, K4 and K5. Where no call stands, nothing is
+/// done. Nothing changes.
 #[tactic(auto, using(crate::proofs::StepLaws::offers_nothing))]
 pub fn offers(
     alloc: Global,

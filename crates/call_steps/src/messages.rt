@@ -58,7 +58,8 @@ fn first_sent(alloc: Global, send: Option<&Sent>) -> Result<Option<Sent>, AllocE
     Ok(Some(Sent { to: sent.to, bytes }))
 }
 
-/// The messages of these actions, where so many tokens were made before the first, and what the first answer among them sends.
+/// The messages of these actions, where so many tokens were made before the first, and what the first answer among them
+/// sends.
 fn with_answer(
     alloc: Global,
     scene: &Scene<'_, '_>,
@@ -84,7 +85,8 @@ fn with_answer(
     Ok((first.before(later)?, answer))
 }
 
-/// The messages of these actions, with copies of those that go again: the 200 with the answer, and an ACK that is the first.
+/// The messages of these actions, with copies of those that go again: the 200 with the answer, and an ACK that is the
+/// first.
 #[tactic(auto, using(crate::proofs::SceneLaws::dressed_lent))]
 fn with_copies(
     alloc: Global,

@@ -255,10 +255,10 @@ fn begins_none(
     Ok(CallStep::nothing(alloc))
 }
 
-/// What a first INVITE comes to, whose transaction has this number, which came from this source, and whose callee is bound at this target:
-/// a call with the next number begins. It has two new legs; the offer is passed on to the callee, and 100 goes to the caller (RFC 3261
-/// section 16). The tags of the two legs, the Call-ID and the branch are tokens. K3 is the first refusal, K4 comes behind it, and else
-/// memory is missing. Nothing changes.
+/// What a first INVITE comes to, whose transaction has this number, which came from this source, and whose callee is
+/// bound at this target: a call with the next number begins. It has two new legs; the offer is passed on to the callee,
+/// and 100 goes to the caller (RFC 3261 section 16). The tags of the two legs, the Call-ID and the branch are tokens.
+/// K3 is the first refusal, K4 comes behind it, and else memory is missing. Nothing changes.
 #[tactic(auto, using(crate::proofs::StepLaws::begins_nothing))]
 pub fn first_call(
     alloc: Global,

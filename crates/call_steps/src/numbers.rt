@@ -43,8 +43,8 @@ fn counts_by(
     }
 }
 
-/// The dialog of the call at this place with this end, once a request with this number was taken in it, whatever that is answered; none
-/// where no call stands, or has no such dialog. Nothing changes.
+/// The dialog of the call at this place with this end, once a request with this number was taken in it, whatever that
+/// is answered; none where no call stands, or has no such dialog. Nothing changes.
 #[tactic(auto, unfolding(crate::specs::Rows::counts))]
 pub fn counts(
     alloc: Global,
@@ -70,9 +70,9 @@ fn leg_at(target: Option<Uri<'static>>, leg: Option<LegDialog>) -> Option<LegDia
     Some(leg)
 }
 
-/// The dialog of the call at this place with this end, once an UPDATE without an offer was taken in it: it counts the number, and its
-/// other side is reached from then on where the UPDATE says, if it says so (RFC 3311 section 5.1); none where no call stands, or has
-/// no such dialog. Nothing changes.
+/// The dialog of the call at this place with this end, once an UPDATE without an offer was taken in it: it counts the
+/// number, and its other side is reached from then on where the UPDATE says, if it says so (RFC 3311 section 5.1); none
+/// where no call stands, or has no such dialog. Nothing changes.
 #[tactic(auto, unfolding(crate::specs::Rows::refreshes))]
 pub fn refreshes(
     alloc: Global,

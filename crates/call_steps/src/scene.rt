@@ -51,8 +51,8 @@ pub(crate) fn tag_with(call: &Call, end: End) -> &Text<'static>
     }
 }
 
-/// The server's tag in the dialog with the offerer, whose offer was taken last: the one that To has in the responses to that offer.
-/// Takes no memory.
+/// The server's tag in the dialog with the offerer, whose offer was taken last: the one that To has in the responses to
+/// that offer. Takes no memory.
 pub fn offerer_tag(call: &Call) -> &[u8]
     ensures { result.now ≡ offerer_tag call.now }
 {

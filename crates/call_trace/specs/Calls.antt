@@ -47,7 +47,8 @@ pub record IsAccepted (t : List Datagram) (d : Dialog) (i : ℕ) (p : Datagram) 
   pub sent : IsSentIn t d i p
   pub accepts : IsTrue (accepts p.message)
 
--- the branch is that of no INVITE that was sent: so an ACK with it is one to a 2xx (RFC 3261 sections 13.2.2.4 and 17.1.1.3)
+-- the branch is that of no INVITE that was sent: so an ACK with it is one to a 2xx (RFC 3261 sections 13.2.2.4 and
+-- 17.1.1.3)
 abbrev pub IsOwnBranch : List Datagram → List ℕ → Type 0
 IsOwnBranch t branch = (k : ℕ) (q : Datagram) → At t k q → q.direction ≡ Sent → IsTrue (is_request_of invite q.message) → q.message.branch ≢ branch
 

@@ -30,7 +30,8 @@ dialog_sent m = dialog_of (sent_at 0 m)
 
 -- ---- what changes nothing
 
--- neither a request that may carry an offer, nor an ACK or a BYE; no answer to such a request, and no 2xx to an INVITE or to a BYE
+-- neither a request that may carry an offer, nor an ACK or a BYE; no answer to such a request, and no 2xx to an INVITE
+-- or to a BYE
 abbrev pub is_plain : List (List ℕ) → Message → Bool
 is_plain methods m =
     not (asks methods m) && (not (is_request_of ack m) && (not (is_request_of bye m)
@@ -57,7 +58,8 @@ pub data IsIdleTaken (methods : List (List ℕ)) (t : List Datagram) (taken : Op
   -- nothing was taken: a timer fired, or what came counts as not come
   due : taken ≡ None → IsIdleTaken methods t taken
   calm : (m : Message) → taken ≡ Some m → IsTrue (is_calm methods m) → IsIdleTaken methods t taken
-  -- a final response with the branch of a request that was finally answered before: a repeat, one that is late, one of a second telephone
+  -- a final response with the branch of a request that was finally answered before: a repeat, one that is late, one of
+  -- a second telephone
   swallowed : (m : Message) (i k : ℕ) (q r : Datagram) → taken ≡ Some m → AsksAt methods t i q → q.message.branch ≡ m.branch → At t k r → TakesFinal r q.message → IsIdleTaken methods t taken
 
 -- ---- what is new

@@ -44,8 +44,9 @@ pub record IsMade (t : List Datagram) (e : Exchange) : Type 0 where
   pub answered : e.answered.direction ≡ Taken
   pub first : NoneTakenBefore t e.answered_at e.asked.message
 
--- In the dialog an offer was answered: a request with an offer, and a later 2xx with an answer that replies to it, stand in the
--- trace; one of the two names the dialog; one was taken and the other sent (RFC 3261 sections 13 and 14, RFC 3264 section 4).
+-- In the dialog an offer was answered: a request with an offer, and a later 2xx with an answer that replies to it,
+-- stand in the trace; one of the two names the dialog; one was taken and the other sent (RFC 3261 sections 13 and 14,
+-- RFC 3264 section 4).
 pub record IsExchange (methods : List (List ℕ)) (t : List Datagram) (d : Dialog) (e : Exchange) : Type 0 where
   pub at_asked : At t e.asked_at e.asked
   pub at_answered : At t e.answered_at e.answered

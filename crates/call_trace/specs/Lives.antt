@@ -25,7 +25,8 @@ pub record IsLegOf (d : Dialog) (c : Call) : Type 0 where
   pub answered : c.stage ≢ Asked
   pub leg : (c.caller ≡ d) ⊎ (c.callee ≡ d)
 
--- what this BYE says leaves the call alone: it is in neither dialog, and where the callee has no tag yet, not from the callee's leg
+-- what this BYE says leaves the call alone: it is in neither dialog, and where the callee has no tag yet, not from the
+-- callee's leg
 pub record SparesCall (p : Datagram) (c : Call) : Type 0 where
   pub caller : ¬ IsEnding c.stage → dialog_of p ≢ c.caller
   pub callee : ¬ IsEnding c.stage → dialog_of p ≢ c.callee
@@ -62,9 +63,9 @@ pub record IsAnsweredCall (dx dy : Dialog) (c : Call) : Type 0 where
   pub caller : c.caller ≡ dx
   pub callee : c.callee ≡ dy
 
--- The calls that are listed as answered are exactly those with two live dialogs, each once, with the dialogs of its caller and its callee.
--- The leg of an ending call that has left it has ended. Each live dialog is a leg of a listed call that was answered, and is a call with
--- exactly one other dialog.
+-- The calls that are listed as answered are exactly those with two live dialogs, each once, with the dialogs of its
+-- caller and its callee. The leg of an ending call that has left it has ended. Each live dialog is a leg of a listed
+-- call that was answered, and is a call with exactly one other dialog.
 pub record LivesExactly (methods : List (List ℕ)) (calls : List Call) (t : List Datagram) : Type 0 where
   pub answered : AllOf (λ c. (z : Settled) → c.stage ≡ Answered z → CallFrom methods t c.caller c.callee × Live t c.caller × Live t c.callee) calls
   pub listed : (dx dy : Dialog) → CallFrom methods t dx dy → Live t dx → Live t dy → AnyOf (IsAnsweredCall dx dy) calls

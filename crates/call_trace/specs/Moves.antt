@@ -15,8 +15,8 @@ use Rattle.call_trace.specs.Listed.{AllOf}
 
 -- ---- an offer is passed on
 
--- The request came in the dialog x, and another was sent in the dialog y with a branch of its own, behind what is plain: a 100 to
--- an INVITE, nothing to an UPDATE.
+-- The request came in the dialog x, and another was sent in the dialog y with a branch of its own, behind what is
+-- plain: a 100 to an INVITE, nothing to an UPDATE.
 pub record PassesOffer (methods : List (List ℕ)) (t : List Datagram) (x y : Dialog) (came : Message) (before : List Message) (went : Message) : Type 0 where
   pub plain : AllOf (λ m. IsTrue (is_plain methods m)) before
   pub offer_came : IsTrue (is_offer methods came)
@@ -98,9 +98,9 @@ Leaves t taken sent c by_caller = EndsNow t taken sent (leg c by_caller) ⊎ (c.
 
 -- What an event may do to the calls, having taken the one and sent the others after the trace.
 pub data Move (methods : List (List ℕ)) (t : List Datagram) (old : List Call) (taken : Option Message) (sent : List Message) (new : List Call) : Type 0 where
-  -- No call moves: what is refused at once, what is swallowed, what is sent again, a 2xx that comes again and is acknowledged again;
-  -- and a final response that is of no listed call. Of a first INVITE, a 2xx gets ACK and BYE with its own tag; of a later one whose call
-  -- is gone, an ACK in the dialog, which has ended.
+  -- No call moves: what is refused at once, what is swallowed, what is sent again, a 2xx that comes again and is
+  -- acknowledged again; and a final response that is of no listed call. Of a first INVITE, a 2xx gets ACK and BYE with
+  -- its own tag; of a later one whose call is gone, an ACK in the dialog, which has ended.
   quiet : IsPartingTaken methods t taken old → AllOf (IsParting methods t taken sent old) sent → new ≡ old → Move methods t old taken sent new
   -- the callee is asked
   ask : (caller callee : Dialog) (came : Message) (before : List Message) (went : Message) → PassesOffer methods t caller callee came before went → IsNewCall t old came (new_call caller callee came went)
@@ -124,7 +124,7 @@ pub data Move (methods : List (List ℕ)) (t : List Datagram) (old : List Call) 
   -- one end leaves an answered call, and the other is told later
   part : (k : ℕ) (c : Call) (z : Settled) (by_caller : Bool) → slice_get old k ≡ Some c → c.stage ≡ Answered z → EndsNow t taken sent (leg c by_caller)
       → IsIdleTaken methods t taken → AllOf (IsParting methods t taken sent (slice_set old k (ending c by_caller))) sent → new ≡ slice_set old k (ending c by_caller) → Move methods t old taken sent new
-  -- A call goes: it was not answered, and its first offer is declined, cancelled or given up; or its two legs have ended, hung up, also
-  -- while an offer is open, or dropped.
+  -- A call goes: it was not answered, and its first offer is declined, cancelled or given up; or its two legs have
+  -- ended, hung up, also while an offer is open, or dropped.
   go : (k : ℕ) (c : Call) → slice_get old k ≡ Some c → (c.stage ≡ Asked) ⊎ (Leaves t taken sent c true × Leaves t taken sent c false)
       → IsPartingTaken methods t taken (remove old k) → AllOf (IsParting methods t taken sent (remove old k)) sent → new ≡ remove old k → Move methods t old taken sent new

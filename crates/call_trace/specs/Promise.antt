@@ -12,7 +12,8 @@ use Rattle.call_trace.specs.Exchanges.{Exchange, IsLast}
 use Rattle.call_trace.specs.Passing.{IsPassedOn, PassedTogether}
 use Rattle.call_trace.specs.Calls.{CallOf, Live, Open}
 
--- one of the last exchanges of dx was passed on as one of the last of dy, and no other two of these were passed together
+-- one of the last exchanges of dx was passed on as one of the last of dy, and no other two of these were passed
+-- together
 pub record AreLast (methods : List (List ℕ)) (t : List Datagram) (dx dy : Dialog) (x y : Exchange) : Type 0 where
   pub last_x : IsLast methods t dx x
   pub last_y : IsLast methods t dy y
@@ -26,8 +27,8 @@ pub record AreSaid (x y : Exchange) (s : Session) : Type 0 where
   pub offer_sent : y.asked.message.description ≡ Some s.offer_sent
   pub answer_taken : y.answered.message.description ≡ Some s.answer_taken
 
--- Joined by the table, the two legs mean what the offer of the one end and the answer of the other mean directly; and each end
--- was asked what the other offered, and told what the other answered (RFC 3264 sections 5 to 8).
+-- Joined by the table, the two legs mean what the offer of the one end and the answer of the other mean directly; and
+-- each end was asked what the other offered, and told what the other answered (RFC 3264 sections 5 to 8).
 pub record IsDirect (server : List ℕ) (table : ℕ → Option Addr) (s : Session) : Type 0 where
   pub joined : joined server table s.offer_taken s.answer_sent s.offer_sent s.answer_taken ≡ direct s.offer_taken s.answer_taken
   pub offers : Alike s.offer_taken s.offer_sent

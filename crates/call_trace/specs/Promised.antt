@@ -1,4 +1,5 @@
--- The whole promise, of a trace, the relay table, the holders of its ports and the calls that are listed; and what gives it.
+-- The whole promise, of a trace, the relay table, the holders of its ports and the calls that are listed; and what
+-- gives it.
 use Rattle.std.specs.Prelude.{◌≡◌, ℕ, not, List, Option}
 use Rattle.sip_uri.specs.declared.uri.Addr.{Addr}
 use Rattle.call_trace.specs.declared.datagram.Datagram.{Datagram}
@@ -12,8 +13,9 @@ use Rattle.call_trace.specs.Lives.{LivesExactly}
 use Rattle.call_trace.specs.Listed.{AllOf}
 use Rattle.call_trace.specs.Stands.{leg}
 
--- The calls meet the media promise, and each of them also while an offer is open; the table is the union of their rows; no port serves two of
--- them, and each that is held is held by a listed one; and those listed are exactly the live ones.
+-- The calls meet the media promise, and each of them also while an offer is open; the table is the union of their rows;
+-- no port serves two of them, and each that is held is held by a listed one; and those listed are exactly the live
+-- ones.
 pub record Promised (methods : List (List ℕ)) (server : List ℕ) (table : ℕ → Option Hop) (holder : ℕ → Option Dialog) (calls : List Call) (t : List Datagram) : Type 0 where
   pub media : MediaPromise methods server (places_of table) t
   pub each : EachMeets methods server (places_of table) t
@@ -24,7 +26,8 @@ pub record Promised (methods : List (List ℕ)) (server : List ℕ) (table : ℕ
 
 -- ---- what gives it
 
--- the sessions of the answered calls are relayed: each end was told what is alike to what the other said, and the table has their rows
+-- the sessions of the answered calls are relayed: each end was told what is alike to what the other said, and the table
+-- has their rows
 abbrev pub AreRelayed : List ℕ → (ℕ → Option Addr) → List Call → Type 0
 AreRelayed server table calls = AllOf (λ c. (z : Settled) → c.stage ≡ Answered z → IsRelayed server table z.session) calls
 
@@ -32,7 +35,8 @@ AreRelayed server table calls = AllOf (λ c. (z : Settled) → c.stage ≡ Answe
 abbrev pub AreReaddressed : List ℕ → List Call → Type 0
 AreReaddressed server calls = AllOf (λ c. (z : Settled) → c.stage ≡ Answered z → IsReaddressed server z.session) calls
 
--- what a server owes for it beside the moves: what it told each end, the table as the sessions ask, and who holds their pairs
+-- what a server owes for it beside the moves: what it told each end, the table as the sessions ask, and who holds their
+-- pairs
 pub record AreServed (server : List ℕ) (table : ℕ → Option Hop) (holder : ℕ → Option Dialog) (calls : List Call) : Type 0 where
   pub told : AreReaddressed server calls
   pub rows : IsTableOf table calls

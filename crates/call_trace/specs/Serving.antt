@@ -1,4 +1,5 @@
--- The promise about the relay table and its ports, of a trace: the table is the union of the live calls' rows, and no port serves two calls.
+-- The promise about the relay table and its ports, of a trace: the table is the union of the live calls' rows, and no
+-- port serves two calls.
 use Rattle.std.specs.Prelude.{◌≡◌, ℕ, List, All, Option, Some, option_map, ◌⊎◌}
 use Rattle.sip_uri.specs.declared.uri.Addr.{Addr}
 use Rattle.offer_answer.specs.Rows.{Named, Row, ports_named, rows_of, pairs_named}
@@ -40,7 +41,8 @@ LastSaid methods t dx dy s = (x : Exchange) × (y : Exchange) × AreLast methods
 abbrev pub LastBetween : List (List ℕ) → List Datagram → Dialog → Dialog → Session → Type 0
 LastBetween methods t dx dy s = LastSaid methods t dx dy s ⊎ LastSaid methods t dy dx s
 
--- the two dialogs are a live call, the caller's and the callee's, and this was said last in it, whether or not an offer is open
+-- the two dialogs are a live call, the caller's and the callee's, and this was said last in it, whether or not an offer
+-- is open
 pub record IsLiveSession (methods : List (List ℕ)) (t : List Datagram) (caller callee : Dialog) (s : Session) : Type 0 where
   pub call : CallFrom methods t caller callee
   pub caller_lives : Live t caller
@@ -62,7 +64,8 @@ pub record PortsPromise (methods : List (List ℕ)) (holder : ℕ → Option Dia
   pub held : (caller callee : Dialog) (s : Session) (port : ℕ) → IsLiveSession methods t caller callee s → IsPairOf port s → holder port ≡ Some caller
   pub one_call : (a b c d : Dialog) (s r : Session) (port : ℕ) → IsLiveSession methods t a b s → IsLiveSession methods t c d r → IsPairOf port s → IsPairOf port r → (a ≡ c) × (b ≡ d)
 
--- A port is held by a listed call alone, by the name of its caller's dialog; so no port is kept for a call that is gone.
+-- A port is held by a listed call alone, by the name of its caller's dialog; so no port is kept for a call that is
+-- gone.
 abbrev pub HoldersPromise : (ℕ → Option Dialog) → List Call → Type 0
 HoldersPromise holder calls = (port : ℕ) (d : Dialog) → holder port ≡ Some d → AnyOf (λ c. c.caller ≡ d) calls
 

@@ -22,7 +22,8 @@ leg c false = c.callee
 
 -- ---- an open offer
 
--- The offer of x was passed on to y in one event, by requests that stand at these places, and no final response to it was taken.
+-- The offer of x was passed on to y in one event, by requests that stand at these places, and no final response to it
+-- was taken.
 pub record IsOffered (methods : List (List ℕ)) (t : List Datagram) (x y : Dialog) (p : Offer) (i k : ℕ) (came went : Datagram) : Type 0 where
   pub at_came : At t i came
   pub at_went : At t k went
@@ -98,7 +99,8 @@ pub record IsCallOf (dx dy : Dialog) (c : Call) : Type 0 where
   pub caller : c.caller ≡ dx
   pub callee : c.callee ≡ dy
 
--- of the methods that may carry an offer, INVITE is one (RFC 3261 section 13.2.1), and neither ACK nor BYE nor CANCEL is
+-- of the methods that may carry an offer, INVITE is one (RFC 3261 section 13.2.1), and neither ACK nor BYE nor CANCEL
+-- is
 pub record AreOffering (methods : List (List ℕ)) : Type 0 where
   pub invites : IsTrue (is_listed methods invite)
   pub acks : IsTrue (not (is_listed methods ack))
@@ -120,8 +122,8 @@ pub record AskedAt (methods : List (List ℕ)) (t : List Datagram) (i : ℕ) (p 
 abbrev pub Known : List (List ℕ) → List Datagram → List Call → Type 0
 Known methods t calls = (dx dy : Dialog) → CallFrom methods t dx dy → AnyOf (IsCallOf dx dy) calls ⊎ (Ended t dx × Ended t dy)
 
--- n events have passed. One event takes at most one datagram. Requests that are sent with one branch are copies, and of these only one
--- was sent in an event that took a request. Two dialogs that are a call are listed, or both have ended.
+-- n events have passed. One event takes at most one datagram. Requests that are sent with one branch are copies, and of
+-- these only one was sent in an event that took a request. Two dialogs that are a call are listed, or both have ended.
 pub record StandsAfter (methods : List (List ℕ)) (calls : List Call) (n : ℕ) (t : List Datagram) : Type 0 where
   pub offering : AreOffering methods
   pub events : (i : ℕ) (p : Datagram) → At t i p → p.event < n

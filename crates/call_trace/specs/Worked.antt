@@ -1,5 +1,5 @@
--- Calls written out as events, with any four descriptions: one that the caller ends, one that the callee leaves before the
--- caller's ACK has come, and one that is cancelled while the callee accepts it.
+-- Calls written out as events, with any four descriptions: one that the caller ends, one that the callee leaves before
+-- the caller's ACK has come, and one that is cancelled while the callee accepts it.
 use Rattle.std.specs.Prelude.{ℕ, List, [], ◌∷◌, ◌++◌, codes, Option, Some, None}
 use Rattle.sdp.specs.declared.description.Description.{Description}
 use Rattle.call_trace.specs.declared.datagram.Kind.{Kind}

@@ -1,5 +1,5 @@
--- Calls written out as events, with any descriptions, whose ends are not plain: cancelled and then refused, given up, left while they are
--- asked for, answered too late, and left by the caller before the callee has acknowledged.
+-- Calls written out as events, with any descriptions, whose ends are not plain: cancelled and then refused, given up,
+-- left while they are asked for, answered too late, and left by the caller before the callee has acknowledged.
 use Rattle.std.specs.Prelude.{List, [], ◌∷◌, ◌++◌, codes, Some, None}
 use Rattle.call_trace.specs.declared.datagram.Kind.TheVariants.{Request, Response}
 use Rattle.call_trace.specs.declared.datagram.Message.{Message}

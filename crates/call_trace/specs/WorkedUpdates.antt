@@ -1,5 +1,6 @@
--- A call written out as events, with any descriptions: its caller offers by UPDATE (RFC 3311) and is refused, while the callee's UPDATE
--- crosses it and another one without a description is answered; it offers once more, a timer sends that again, and it is answered.
+-- A call written out as events, with any descriptions: its caller offers by UPDATE (RFC 3311) and is refused, while the
+-- callee's UPDATE crosses it and another one without a description is answered; it offers once more, a timer sends that
+-- again, and it is answered.
 use Rattle.std.specs.Prelude.{List, [], ◌∷◌, ◌++◌, codes, Some, None}
 use Rattle.call_trace.specs.declared.datagram.Kind.TheVariants.{Request, Response}
 use Rattle.call_trace.specs.declared.datagram.Message.{Message}

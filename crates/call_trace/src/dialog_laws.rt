@@ -15,9 +15,9 @@ ghost use Rattle.call_trace.specs.Lives.{IsEnding, SparesCall, Stands};
 ghost use Rattle.call_trace.specs.Events.{taken_at, sent_at, passed, dialog_sent, AreNewBytes, EndsNow};
 ghost use Rattle.call_trace.specs.Runs.{AreRead};
 
-/// A dialog of a call that is listed no more has ended, and so has one that ends by an event, after it; the legs of a call
-/// that no end has left have not. The first 2xx of a call has bytes that were not sent before. An event of which nothing
-/// stands in the trace counts, and changes nothing.
+/// A dialog of a call that is listed no more has ended, and so has one that ends by an event, after it; the legs of a
+/// call that no end has left have not. The first 2xx of a call has bytes that were not sent before. An event of which
+/// nothing stands in the trace counts, and changes nothing.
 pub fn dialogs_are_known()
     ensures gone { (methods : List (List ℕ)) (calls : List Call) (n : ℕ) (t : List Datagram) (d e : Dialog) →
         Stands methods calls n t → CallOf methods t d e → AllOf (λ c. ¬ IsTagOf c d.ours) calls → Ended t d }
@@ -32,8 +32,8 @@ pub fn dialogs_are_known()
         Stands methods calls n t → Stands methods calls (suc n) t }
 {}
 
-/// What is said in a dialog of one call leaves the others alone: they have none of its tags, a BYE that is sent in it is in
-/// none of them, and the 200 to one that was taken in it has no tag of theirs.
+/// What is said in a dialog of one call leaves the others alone: they have none of its tags, a BYE that is sent in it
+/// is in none of them, and the 200 to one that was taken in it has no tag of theirs.
 pub fn calls_are_spared()
     ensures tags { (calls : List Call) (k : ℕ) (c : Call) (tag : List ℕ) →
         AllApart calls → slice_get calls k ≡ Some c → IsTagOf c tag → AllOf (λ d. ¬ IsTagOf d tag) (remove calls k) }

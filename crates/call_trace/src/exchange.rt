@@ -117,8 +117,8 @@ pub(crate) fn is_exchange_at(
     is_exchange_of(methods, trace, dialog, at, asked, answered)
 }
 
-/// Whether an offer and its answer stand at these places, in the dialog. The methods are those whose requests may carry an
-/// offer (RFC 3261 sections 13 and 14, RFC 3264 section 4).
+/// Whether an offer and its answer stand at these places, in the dialog. The methods are those whose requests may carry
+/// an offer (RFC 3261 sections 13 and 14, RFC 3264 section 4).
 pub fn is_exchange(methods: &Texts<'_>, trace: &[Datagram], dialog: &Dialog, at: Places) -> bool
     ensures { IsTrue result
         ↔ HoldsAt trace.now at (λ e. IsExchange methods.now trace.now dialog.now e) }

@@ -144,8 +144,8 @@ fn last_together(
         && !has_rival(methods, trace, dx, dy, chosen)
 }
 
-/// Whether the exchange at `x`, one of the last of the dialog `dx`, was passed on as that at `y`, one of the last of `dy`, and no
-/// other two of these were passed together.
+/// Whether the exchange at `x`, one of the last of the dialog `dx`, was passed on as that at `y`, one of the last of
+/// `dy`, and no other two of these were passed together.
 pub fn are_last(
     methods: &Texts<'_>,
     trace: &[Datagram],

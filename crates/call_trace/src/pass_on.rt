@@ -46,8 +46,8 @@ pub(crate) fn is_together_at(trace: &[Datagram], x: Places, y: Places) -> bool
     is_passed_on_at(trace, x, y) || is_passed_on_at(trace, y, x)
 }
 
-/// Whether the exchange at the first places was passed on as that at the second: one event took the offer of the first and
-/// sent that of the second, and one event took the answer of the second and sent that of the first.
+/// Whether the exchange at the first places was passed on as that at the second: one event took the offer of the first
+/// and sent that of the second, and one event took the answer of the second and sent that of the first.
 pub fn is_passed_on(trace: &[Datagram], x: Places, y: Places) -> bool
     ensures { IsTrue result ↔ HoldTogether trace.now x y IsPassedOn }
 {

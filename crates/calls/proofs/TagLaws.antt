@@ -1,4 +1,5 @@
--- The prints of tags stand for the tags: who has a tag has its print, so that the first with a print is looked for in place of the first with a tag.
+-- The prints of tags stand for the tags: who has a tag has its print, so that the first with a print is looked for in
+-- place of the first with a tag.
 use Rattle.std.proofs.Common.{◌≡◌, ◌∙◌, ◌<◌, ◌≤◌, ◌+◌, ℕ, zero, suc, Bool, true, false, not, cond, is_some, List, [], ◌∷◌, length, get_or, map, set, Option, Some, None, refl, sym, ap, subst, ltb, arith}
 use Rattle.std.specs.Prelude.{◌||◌, ◌&&◌, nat_eq, slice_get}
 use Rattle.std.specs.List.{position, position_or_len, remove}

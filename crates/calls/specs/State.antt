@@ -6,8 +6,8 @@ use Rattle.timers.specs.declared.timers.Timer.{Timer}
 use Rattle.calls.specs.declared.timer_id.CallTimerId.{CallTimerId}
 use Rattle.calls.specs.declared.standing_call.StandingCall.{StandingCall}
 
--- the calls in the order in which they began, the pool, how many calls began, and the timers of calls, the first due first; beside
--- them for how many calls and timers more there is room
+-- the calls in the order in which they began, the pool, how many calls began, and the timers of calls, the first due
+-- first; beside them for how many calls and timers more there is room
 pub record Contents : Type 0 where
   pub calls : List StandingCall
   pub pool : pools.Contents
@@ -40,8 +40,8 @@ RiseTo last begun (c ∷ calls) = (last < c.call.number) × RiseTo c.call.number
 abbrev pub HoldsNone : pools.Contents → ℕ → Type 0
 HoldsNone pool begun = (number port : ℕ) → begun < number → pools.is_port_of pool number port ≡ false
 
--- Each call has a number of its own, which is that of its beginning, counted from 1; the pool serves each, and holds nothing for
--- those to come.
+-- Each call has a number of its own, which is that of its beginning, counted from 1; the pool serves each, and holds
+-- nothing for those to come.
 pub record AreKept (calls : List StandingCall) (pool : pools.Contents) (begun : ℕ) : Type 0 where
   pub served : AreServed pool calls
   pub numbers : RiseTo 0 begun calls

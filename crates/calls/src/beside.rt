@@ -1,4 +1,5 @@
-//! What is put beside a call that stands. Nothing here takes memory, and where no call stands at the place, nothing changes.
+//! What is put beside a call that stands. Nothing here takes memory, and where no call stands at the place, nothing
+//! changes.
 
 ghost use Rattle.std.specs.Prelude.{◌≡◌, slice_get};
 ghost use Rattle.port_pool.specs.Pool.{Contents};
@@ -71,8 +72,8 @@ pub(crate) fn put_beside(call: &mut StandingCall, kept: Beside)
 }
 
 impl Calls {
-    /// Puts this dialog in place of the one with its end: the callee's first, or one that took a request in its order or has
-    /// another target (RFC 3261 section 12.2).
+    /// Puts this dialog in place of the one with its end: the callee's first, or one that took a request in its order
+    /// or has another target (RFC 3261 section 12.2).
     pub(crate) fn put_leg(&mut self, place: usize, leg: LegDialog)
         ensures calls { self.new.calls ≡ changed_at (with_dialog_at leg.end leg.dialog) place self.old.calls (slice_get self.old.calls place) }
         ensures pool { self.new.pool ≡ self.old.pool }

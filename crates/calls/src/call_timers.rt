@@ -73,7 +73,8 @@ fn stop_all(timers: &mut Timers<CallTimerId>, number: u64)
     stop(timers, timer_id(number, CallTimer::Wait));
 }
 
-/// What a plan does to the timers of the call with this number: its actions set and stop them, and a call that is gone has none.
+/// What a plan does to the timers of the call with this number: its actions set and stop them, and a call that is gone
+/// has none.
 pub(crate) fn take_plan(timers: &mut Timers<CallTimerId>, now: u64, number: u64, plan: &Plan)
     requires { length plan.now.actions ≤ timers.old.room }
     ensures { timers.new.timers ≡ timers_planned now number plan.now timers.old.timers }
@@ -86,8 +87,8 @@ pub(crate) fn take_plan(timers: &mut Timers<CallTimerId>, now: u64, number: u64,
 }
 
 impl Calls {
-    /// The timer that is due first, of those whose moment is not after `now`, in milliseconds: the one with the least moment, and
-    /// at equal moments the one set first. Takes no memory.
+    /// The timer that is due first, of those whose moment is not after `now`, in milliseconds: the one with the least
+    /// moment, and at equal moments the one set first. Takes no memory.
     pub fn first_due(&self, now: u64) -> Option<Timer<CallTimerId>>
         ensures first { result ≡ first_due self.now.timers now }
         ensures least { IsDue self.now.timers now result }

@@ -135,8 +135,9 @@ fn begin_in(
 }
 
 impl Calls {
-    /// Carries out what was planned for the call at this place, with what comes beside it, and answers the changes of the relay
-    /// table, by rising port; a call that is gone then is taken off the list. Where no call stands at the place, nothing is done.
+    /// Carries out what was planned for the call at this place, with what comes beside it, and answers the changes of
+    /// the relay table, by rising port; a call that is gone then is taken off the list. Where no call stands at the
+    /// place, nothing is done.
     #[inline(never)]
     pub(crate) fn carry_out(
         &mut self,
@@ -176,7 +177,8 @@ impl Calls {
         changes
     }
 
-    /// Begins a call, of the number that comes next, with its first plan carried out; answers the changes of the relay table.
+    /// Begins a call, of the number that comes next, with its first plan carried out; answers the changes of the relay
+    /// table.
     #[inline(never)]
     pub(crate) fn begin(
         &mut self,

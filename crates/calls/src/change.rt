@@ -20,7 +20,8 @@ pub struct Beside {
     pub leg: Option<LegDialog>,
     /// This offer is the one that was taken last.
     pub taken: Option<TakenOffer>,
-    /// This 200 is the one that goes again. The offerer is reached from then on where its offer said (RFC 3261 section 12.2.2).
+    /// This 200 is the one that goes again. The offerer is reached from then on where its offer said (RFC 3261 section
+    /// 12.2.2).
     pub answer: Option<Sent>,
 }
 

@@ -155,8 +155,8 @@ impl Calls {
         first_of_end(&self.calls, &self.tags, self.key, end, request)
     }
 
-    /// The place of the call whose INVITE came with this transaction and has no final response: a CANCEL of it changes something
-    /// (RFC 3261 section 9.2).
+    /// The place of the call whose INVITE came with this transaction and has no final response: a CANCEL of it changes
+    /// something (RFC 3261 section 9.2).
     pub fn place_by_offer(&self, id: usize) -> Option<usize>
         ensures { result ≡ place_by_offer id self.now.calls }
     {
@@ -170,8 +170,8 @@ impl Calls {
         place_by_ack(&self.calls, request)
     }
 
-    /// The place of the call of which this is the server's own tag: that of the leg to the callee, or of the dialog with the
-    /// caller.
+    /// The place of the call of which this is the server's own tag: that of the leg to the callee, or of the dialog
+    /// with the caller.
     pub fn place_by_tag(&self, tag: &[u8]) -> Option<usize>
         ensures { result ≡ place_by_tag tag.now self.now.calls }
     {

@@ -44,7 +44,8 @@ pub struct StandingCall {
     pub callee_tag: Text<'static>,
     /// The offer that was taken last.
     pub asked: OfferRequest,
-    /// Where the sender of that offer is reached once it is answered with 2xx, if the offer is inside the call and said so.
+    /// Where the sender of that offer is reached once it is answered with 2xx, if the offer is inside the call and said
+    /// so.
     pub target: Option<Uri<'static>>,
     /// The 200 to it, which goes again until its ACK comes.
     pub answer: Option<Sent>,

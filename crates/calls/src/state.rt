@@ -65,8 +65,8 @@ fn call_at(calls: &[StandingCall], place: usize) -> Option<&StandingCall>
 }
 
 impl Calls {
-    /// No call, over a pool of this many pairs, the first of which begins at this even port. Calls are looked up by prints under this
-    /// key. No answer depends on the key.
+    /// No call, over a pool of this many pairs, the first of which begins at this even port. Calls are looked up by
+    /// prints under this key. No answer depends on the key.
     pub fn new(alloc: Global, key: PrintKey, first: u16, pairs: u16) -> Result<Calls, AllocError>
         requires even { first % 2 ≡ 0 }
         requires least { min_port ≤ first }

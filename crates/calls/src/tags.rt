@@ -56,7 +56,8 @@ fn has_print_at(tags: &TagPrints, end: End, print: u64) -> bool
     }
 }
 
-/// The place of the first whose leg to the callee, or whose dialog with the caller, has a tag of this print. Takes no memory.
+/// The place of the first whose leg to the callee, or whose dialog with the caller, has a tag of this print. Takes no
+/// memory.
 pub(crate) fn place_of(tags: &[TagPrints], print: u64) -> Option<usize>
     ensures { result ≡ position (has_print print) tags.now }
 {

@@ -2,7 +2,8 @@
 use Rattle.std.specs.Prelude.{[], ◌∷◌, codes, Some, replicate}
 use Rattle.configuration.specs.declared.config.Config.{Config}
 
--- users 100, 101 and 102 of office.example, at 192.0.2.1:5060, bound for a minute at least, with eight pairs of ports from 40000 on
+-- users 100, 101 and 102 of office.example, at 192.0.2.1:5060, bound for a minute at least, with eight pairs of ports
+-- from 40000 on
 abbrev pub example : Config
 example = record {
   relay_first = 40000;

@@ -82,7 +82,8 @@ numbers_at ms =
 abbrev pub text_at : List ℕ → Members → Option (List ℕ)
 text_at key ms = option_and_then as_str (get_member key ms)
 
--- the octets of an address in dotted form; any other text reads as 0.0.0.0, which the rule of addresses refuses as it refuses the text
+-- the octets of an address in dotted form; any other text reads as 0.0.0.0, which the rule of addresses refuses as it
+-- refuses the text
 abbrev pub octets_of : List ℕ → List ℕ
 octets_of text = unwrap_or (ip4_of text) (0 ∷ 0 ∷ 0 ∷ 0 ∷ [])
 
@@ -130,7 +131,8 @@ config_from numbers ip key domain users = record {
   random_key = key;
 }
 
--- the configuration that a table says, whether or not it keeps the rules: none where a key is unknown, missing or of another type
+-- the configuration that a table says, whether or not it keeps the rules: none where a key is unknown, missing or of
+-- another type
 unfoldable pub config_of : Members → Option Config
 config_of ms =
     if has_known_keys ms then

@@ -3,18 +3,18 @@
 use std::alloc::{AllocError, AllocFailed};
 use thiserror::Error;
 
-/// Why a configuration is refused: the first rule, in the order of the variants, that it breaks, or want of memory. Of a file,
-/// `File` comes before them.
+/// Why a configuration is refused: the first rule, in the order of the variants, that it breaks, or want of memory. Of
+/// a file, `File` comes before them.
 #[derive(Clone, Copy, Debug, Error)]
 pub enum ConfigError {
     #[error("out of memory")]
     OutOfMemory,
-    /// The first relay port is odd or below 1024, the pairs are none or more than 2,048, the last port is above 65535, or the
-    /// port for SIP is one of them.
+    /// The first relay port is odd or below 1024, the pairs are none or more than 2,048, the last port is above 65535,
+    /// or the port for SIP is one of them.
     #[error("C1: relay ports")]
     RelayPorts,
-    /// The address is no IPv4 address in dotted form, or 0.0.0.0, or 224.0.0.0 or above, or the port for SIP is not in 1 to
-    /// 65535.
+    /// The address is no IPv4 address in dotted form, or 0.0.0.0, or 224.0.0.0 or above, or the port for SIP is not in
+    /// 1 to 65535.
     #[error("C2: address or port")]
     Address,
     /// There is no user, or more than 1,000, or one that is not 1 to 64 letters, digits, `-`, `_` or `.`, or one twice.
@@ -26,8 +26,8 @@ pub enum ConfigError {
     /// The domain is no host name.
     #[error("C5: domain")]
     Domain,
-    /// The text is no TOML, has another key, lacks one, or has a value of another type; or the workers are not 1 to 8, or the key
-    /// of the random numbers is not 64 hexadecimal digits.
+    /// The text is no TOML, has another key, lacks one, or has a value of another type; or the workers are not 1 to 8,
+    /// or the key of the random numbers is not 64 hexadecimal digits.
     #[error("C6: file")]
     File,
 }

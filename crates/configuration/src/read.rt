@@ -63,7 +63,8 @@ fn read(alloc: Global, bytes: &[u8]) -> Result<Config, ConfigError>
     keep_valid(said_by(alloc, bytes)?)
 }
 
-/// The configuration that the text of a file says (TOML). A file that says none is refused before any rule is looked at.
+/// The configuration that the text of a file says (TOML). A file that says none is refused before any rule is looked
+/// at.
 pub fn read_config(alloc: Global, bytes: &[u8]) -> Result<Config, ConfigError>
     // What is read is what the bytes say, and it keeps the rules.
     ensures found { IfOk result (λ c. ReadsConfig bytes.now c) }

@@ -28,11 +28,13 @@ reached_at (Address name ∷ other ∷ more) = None
 abbrev pub party_named : NameAddr → Party
 party_named name = record { display = name.display; uri = name.uri }
 
--- the tag of the server's responses to an INVITE: that of its To where it has one, and else the given one (section 8.2.6.2)
+-- the tag of the server's responses to an INVITE: that of its To where it has one, and else the given one (section
+-- 8.2.6.2)
 abbrev pub own_tag : Request → List ℕ → List ℕ
 own_tag invite tag = if length (tag_text invite.parts.to.params) == 0 then tag else tag_text invite.parts.to.params
 
--- with the sender of an INVITE (section 12.1.1): To is ours and has our tag in the answer, From is theirs, and their number counts
+-- with the sender of an INVITE (section 12.1.1): To is ours and has our tag in the answer, From is theirs, and their
+-- number counts
 abbrev pub callees_dialog : Request → List ℕ → Uri → Dialog
 callees_dialog invite tag target = record {
   id = record { call_id = invite.parts.call_id; ours = own_tag invite tag; theirs = tag_text invite.parts.from.params };
@@ -43,8 +45,8 @@ callees_dialog invite tag target = record {
   remote_number = Some invite.parts.cseq.number;
 }
 
--- with the sender of a 2xx to our INVITE (section 12.1.2): From is ours, To is theirs and has their tag in the answer, and our
--- number counts
+-- with the sender of a 2xx to our INVITE (section 12.1.2): From is ours, To is theirs and has their tag in the answer,
+-- and our number counts
 abbrev pub callers_dialog : Parts → Response → Uri → Dialog
 callers_dialog invite answer target = record {
   id = record { call_id = invite.call_id; ours = tag_text invite.from.params; theirs = tag_text answer.parts.to.params };

@@ -11,7 +11,8 @@ use sip_uri::{NameAddr, Uri, keep_text};
 use std::alloc::{AllocError, Global};
 use text::{Text, both};
 
-/// The party of a name and address: its display name and its URI, without parameters of the field (RFC 3261 section 12.1).
+/// The party of a name and address: its display name and its URI, without parameters of the field (RFC 3261 section
+/// 12.1).
 pub fn party_named(alloc: Global, name: &NameAddr<'_>) -> Result<Party, AllocError>
     ensures { IfOk result (λ party. party ≡ party_named name.now) }
 {
@@ -47,8 +48,8 @@ fn own_tag<'m>(invite: &'m Request<'_>, tag: &'m [u8]) -> &'m [u8]
 }
 
 impl Dialog {
-    /// The dialog with the sender of an INVITE, whose Contact says this target, and which the server answers with this tag, or with
-    /// that of its To where it has one (RFC 3261 section 12.1.1).
+    /// The dialog with the sender of an INVITE, whose Contact says this target, and which the server answers with this
+    /// tag, or with that of its To where it has one (RFC 3261 section 12.1.1).
     pub fn as_callee(
         alloc: Global,
         invite: &Request<'_>,
@@ -77,8 +78,8 @@ impl Dialog {
         })
     }
 
-    /// The dialog with the sender of a 2xx to an INVITE of the server's, which has these parts, where the Contact of the 2xx says
-    /// this target (RFC 3261 section 12.1.2).
+    /// The dialog with the sender of a 2xx to an INVITE of the server's, which has these parts, where the Contact of
+    /// the 2xx says this target (RFC 3261 section 12.1.2).
     pub fn as_caller(
         alloc: Global,
         invite: &Parts<'_>,

@@ -1,7 +1,7 @@
 //! The methods of the requests that the server numbers in a dialog.
 
-/// A method of a request of the server's that has a number of its own in a dialog (RFC 3261 sections 14 and 15, RFC 3311). An
-/// ACK has that of its INVITE.
+/// A method of a request of the server's that has a number of its own in a dialog (RFC 3261 sections 14 and 15, RFC
+/// 3311). An ACK has that of its INVITE.
 #[derive(Clone, Copy)]
 pub enum Method {
     Invite,

@@ -8,7 +8,8 @@ use crate::method::Method;
 use crate::state::Dialog;
 use sip_message::Request;
 
-/// Whether the number of a request is above that of the last one, or it is the first (RFC 3261 section 12.2.2). Takes no memory.
+/// Whether the number of a request is above that of the last one, or it is the first (RFC 3261 section 12.2.2). Takes
+/// no memory.
 pub fn is_above(last: Option<u32>, number: u32) -> bool
     ensures { result ≡ is_above last number }
 {
@@ -35,8 +36,8 @@ impl Dialog {
         Ok(())
     }
 
-    /// The number of the next request of this method: 1, or one more than that of the last. G2 is the only refusal. Takes no
-    /// memory.
+    /// The number of the next request of this method: 1, or one more than that of the last. G2 is the only refusal.
+    /// Takes no memory.
     pub fn next_number(&self, method: Method) -> Result<u32, DialogError>
         ensures number { IfOk result (λ n. n ≡ following self.now) }
         ensures left { OnOk result (following self.now ≤ max_for method) }

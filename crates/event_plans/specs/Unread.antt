@@ -1,5 +1,5 @@
--- The last line of the order of checks, but for whether the body of a first INVITE can be read: the call that begins reads it, and
--- answers the same where it can't be.
+-- The last line of the order of checks, but for whether the body of a first INVITE can be read: the call that begins
+-- reads it, and answers the same where it can't be.
 use Rattle.std.specs.Prelude.{Option, Some, None}
 use Rattle.sip_message.specs.declared.message.Request.{Request}
 use Rattle.call_rules.specs.Content.{content_rule}

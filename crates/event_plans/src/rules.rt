@@ -264,8 +264,8 @@ fn offered_rule(office: &Office<'_>, request: &Request<'_>, now: u64) -> Result<
     invite_rule(office, request, now)
 }
 
-/// The first line of the order of checks that applies to a request that begins a transaction, but for whether the body of a first INVITE
-/// can be read.
+/// The first line of the order of checks that applies to a request that begins a transaction, but for whether the body
+/// of a first INVITE can be read.
 #[tactic(auto, unfolding(event_rows::specs::Rules::rule_by))]
 pub(crate) fn request_rule(
     office: &Office<'_>,

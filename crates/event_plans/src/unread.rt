@@ -1,4 +1,5 @@
-//! Datagrams that can't be read, and branches that do not begin as they have to: what is answered, no transaction sends.
+//! Datagrams that can't be read, and branches that do not begin as they have to: what is answered, no transaction
+//! sends.
 
 ghost use Rattle.std.specs.Prelude.{◌≡◌, [], IfOk};
 ghost use Rattle.std.specs.Option.{option_copied};

@@ -1,4 +1,5 @@
--- A request that goes up, or that belongs to no transaction and begins none, is an ACK (RFC 3261 sections 17.1.1.3 and 17.2).
+-- A request that goes up, or that belongs to no transaction and begins none, is an ACK (RFC 3261 sections 17.1.1.3 and
+-- 17.2).
 use Rattle.std.proofs.Common.{◌≡◌, ◌∙◌, ℕ, Bool, true, false, codes, Option, Some, None, position, refl, sym}
 use Rattle.std.proofs.lemmas.Bool.{and_parts, false≢true}
 use Rattle.std.proofs.lemmas.List.Quantifiers.{position-Some}

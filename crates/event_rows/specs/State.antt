@@ -23,9 +23,10 @@ use Rattle.plans.specs.Effect.{Effect}
 use Rattle.plans.specs.Office.{Office}
 use Rattle.event_rows.specs.Tally.{counted, none_counted}
 
--- the registrar, the transactions, the calls with their pool, the ACKs that go again, and the changes that the last event made in the
--- relay table; where the server is reached, its relay ports, and the seconds that a binding has to last at least; the greatest moment
--- so far in milliseconds, how many tokens were made, and how many events were answered how
+-- the registrar, the transactions, the calls with their pool, the ACKs that go again, and the changes that the last
+-- event made in the relay table; where the server is reached, its relay ports, and the seconds that a binding has to
+-- last at least; the greatest moment so far in milliseconds, how many tokens were made, and how many events were
+-- answered how
 pub record Contents : Type 0 where
   pub registrar : registrar.Contents
   pub table : transactions.Contents
@@ -60,7 +61,8 @@ moments_end = 2 ^ 60
 abbrev pub max_tokens : ℕ
 max_tokens = 2 ^ 63
 
--- every moment is before the end; each call that began made tokens, of which one more can be counted; and the server has an address
+-- every moment is before the end; each call that began made tokens, of which one more can be counted; and the server
+-- has an address
 pub record IsCounted (moment tokens begun : ℕ) (range : OwnRange) : Type 0 where
   pub early : moment < 2 ^ 60
   pub few : tokens + 1 < 2 ^ 64

@@ -5,8 +5,8 @@ ghost use Rattle.event_rows.specs.Tally.{counted, none_counted, one_more};
 
 use plans::{Taken, Why};
 
-/// How many events were answered how, since the agent was made. A count that has reached 2^64 - 1 stays there. An event that
-/// was lost for want of memory is not counted.
+/// How many events were answered how, since the agent was made. A count that has reached 2^64 - 1 stays there. An event
+/// that was lost for want of memory is not counted.
 #[derive(Clone, Copy)]
 pub struct Tally {
     pub done: u64,

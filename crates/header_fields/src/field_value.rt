@@ -18,8 +18,8 @@ enum Form<'a> {
     Folded(&'a [u8]),
 }
 
-/// The value of a header field without blanks at its ends, each line end in it, and the blanks around that, read as one space
-/// (RFC 3261 section 7.3.1). Contracts see it as a list of bytes, wherever it stands.
+/// The value of a header field without blanks at its ends, each line end in it, and the blanks around that, read as one
+/// space (RFC 3261 section 7.3.1). Contracts see it as a list of bytes, wherever it stands.
 pub struct FieldValue<'a> {
     form: Form<'a>,
 }

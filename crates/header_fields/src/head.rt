@@ -14,8 +14,8 @@ use crate::lines::next_line;
 use std::alloc::{AllocError, AllocFailed, Global};
 use thiserror::Error;
 
-/// Room for header fields that is asked for at once: most messages have fewer, and the allocator gives so much back without
-/// joining it with what lies beside it.
+/// Room for header fields that is asked for at once: most messages have fewer, and the allocator gives so much back
+/// without joining it with what lies beside it.
 const FIELDS_AT_FIRST: usize = 14;
 
 /// Why the header fields cannot be read.

@@ -52,7 +52,8 @@ pub fn is_clean(text: &[u8]) -> bool
     text.iter().all(|b| is_text_byte(*b))
 }
 
-/// The first line, and what stands behind its end, where the line is clean: then its end is the first CR, LF or NUL. Takes no memory.
+/// The first line, and what stands behind its end, where the line is clean: then its end is the first CR, LF or NUL.
+/// Takes no memory.
 pub fn next_line(text: &[u8]) -> Option<(&[u8], &[u8])>
     ensures { option_map (λ x. (x.0.now, x.1.now)) result ≡ line_of text.now }
 {

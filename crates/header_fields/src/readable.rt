@@ -103,7 +103,8 @@ fn readable<'a>(
     }
 }
 
-/// The headers of the fields that are of their form, in order; others are passed over, with the lines that continue them.
+/// The headers of the fields that are of their form, in order; others are passed over, with the lines that continue
+/// them.
 pub fn readable_headers<'a>(
     alloc: Global,
     lines: &[&'a [u8]],

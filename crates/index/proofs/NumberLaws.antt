@@ -1,4 +1,5 @@
--- The numbers of those in a list that pass a test: before and behind a change of one place, and what is found among them.
+-- The numbers of those in a list that pass a test: before and behind a change of one place, and what is found among
+-- them.
 use Rattle.std.proofs.Common.{◌≡◌, ℕ, ◌+◌, ◌<◌, ◌≤◌, Bool, true, false, not, ◌||◌, cond, ltb, eqb, List, [], ◌∷◌, length, map, get_or, set, Some, None, option_map, count_by, find, position, slice_get, refl, sym, ap, ◌∙◌, inl, inr, arith}
 use Prim.Native.Nat.{suc, zero}
 use Rattle.std.specs.List.{list_any, position_or_len}

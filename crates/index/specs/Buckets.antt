@@ -3,7 +3,8 @@ use Rattle.std.specs.Prelude.{ℕ, ◌%◌, ◌<◌, ◌≤◌, List, [], length
 use Rattle.index.specs.Entries.{numbers_of}
 use Rattle.index.specs.Numbers.{Indexed}
 
--- Numbers with their prints in buckets, and how many more can be put without memory. `numbers_in` says which are under a print.
+-- Numbers with their prints in buckets, and how many more can be put without memory. `numbers_in` says which are under
+-- a print.
 pub record Bucketed : Type 0 where
   pub buckets : List Indexed
   pub room : ℕ

@@ -1,5 +1,5 @@
--- Numbers under prints. A print is a number that is made of what is looked for: equal things have equal prints, and what has another
--- print is not looked at.
+-- Numbers under prints. A print is a number that is made of what is looked for: equal things have equal prints, and
+-- what has another print is not looked at.
 use Rattle.std.specs.Prelude.{ℕ, List, [], ◌∷◌, nat_lt, nat_eq, if◌then◌else◌}
 use Rattle.index.specs.declared.index.Entry.{Entry}
 

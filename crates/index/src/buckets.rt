@@ -15,8 +15,8 @@ const BUCKETS: usize = 64;
 /// For so many numbers each bucket makes room, where it is asked for room at all: so it is seldom asked.
 const SPARE: usize = 32;
 
-/// Numbers under prints, as an `Index` has them. They lie in buckets by their prints, so that what a change moves is one
-/// bucket's share of all that stand. Room that a number took is not given back where the number is removed.
+/// Numbers under prints, as an `Index` has them. They lie in buckets by their prints, so that what a change moves is
+/// one bucket's share of all that stand. Room that a number took is not given back where the number is removed.
 #[derive(Drop)]
 pub struct Buckets {
     buckets: Vec<Index>,

@@ -172,7 +172,8 @@ one_of (inr h) not_socket not_memory = not_memory h
 neither : (b c d : Bool) (end : End) → cond b (Some Memory) (cond c (Some Socket) (cond d (Some Memory) None)) ≡ Some end → (end ≡ Socket → ⊥) → (end ≡ Memory → ⊥) → ⊥
 neither b c d end e not_socket not_memory = one_of (end_cases b c d end e) not_socket not_memory
 
--- it lives on behind a round that left the board with what the agent has; memory ended it, and it lived until its last round
+-- it lives on behind a round that left the board with what the agent has; memory ended it, and it lived until its last
+-- round
 pub lives_at : (laws : StandLaws) (a b c : Course) (turns left : Option ℕ) (streaks after : Streaks) (round : Round) (end : End) → Going a b turns left streaks → Leads b c round → end_after after round ≡ Some end
     → HasTable b.state.lists b.state.agent → TableAt c.state.lists c.state.agent end → LivesUntil a.state c.state end
 lives_at laws a b c turns left streaks after round Socket h leads e before table =

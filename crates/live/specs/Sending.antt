@@ -20,8 +20,8 @@ Went [] gone failed = (gone ≡ []) × (failed ≡ 0)
 Went (d ∷ ds) gone failed =
     ((rest : List Sent) × (gone ≡ d ∷ rest) × Went ds rest failed) ⊎ ((others : ℕ) × (failed ≡ 1 + others) × Went ds gone others)
 
--- The wire was asked to send these datagrams, each once and in this order; what went of them stands behind what went before, and so
--- many failed.
+-- The wire was asked to send these datagrams, each once and in this order; what went of them stands behind what went
+-- before, and so many failed.
 pub record Sends (tried tried_after : Tried) (datagrams : List Sent) (failed : ℕ) : Type 0 where
   pub asked : tried_after.asked ≡ tried.asked ++ datagrams
   pub gone : List Sent

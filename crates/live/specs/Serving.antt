@@ -12,7 +12,8 @@ use Rattle.live.specs.declared.streaks.End.{End}
 use Rattle.live.specs.declared.streaks.End.TheVariants.{Turns, Stopped, Socket, Memory}
 use Rattle.live.specs.declared.trouble.Trouble.{Trouble}
 
--- what an event can change, with the stream of salts, the moments that the clock told, in order, and what the operator was told last
+-- what an event can change, with the stream of salts, the moments that the clock told, in order, and what the operator
+-- was told last
 pub record Course : Type 0 where
   pub state : State
   pub salts : ChaCha
@@ -100,8 +101,8 @@ EndsAt turns rounds Stopped = GoOn rounds
 EndsAt turns rounds Socket = EndBy rounds Socket
 EndsAt turns rounds Memory = EndBy rounds Memory
 
--- These rounds were made, one for each moment that the clock told, with the salts of the stream in their order. The trouble that began in
--- them was told as it began, and they ended so.
+-- These rounds were made, one for each moment that the clock told, with the salts of the stream in their order. The
+-- trouble that began in them was told as it began, and they ended so.
 pub record Served (a b : Course) (turns : Option ℕ) (end : End) : Type 0 where
   pub rounds : List RoundAt
   pub made : Made a.salts a.state rounds b.state

@@ -5,8 +5,8 @@ use Rattle.event_rows.specs.State.{Contents}
 use Rattle.live.specs.Arrivals.{Arrival}
 use Rattle.live.specs.Sending.{Tried}
 
--- What a wire took, and the room in bytes that it was given for each datagram; what it was asked to send, and what of that went; how many
--- milliseconds it was asked to wait, each time; and whether its last call failed.
+-- What a wire took, and the room in bytes that it was given for each datagram; what it was asked to send, and what of
+-- that went; how many milliseconds it was asked to wait, each time; and whether its last call failed.
 pub record WireState : Type 0 where
   pub taken : List Arrival
   pub rooms : List ℕ

@@ -21,8 +21,8 @@ use Rattle.live.specs.declared.streaks.End.TheVariants.{Turns, Stopped, Socket, 
 
 -- ---- what came, and what the agent made of it
 
--- A datagram that came, or a timer that fired, and its entry: the event, with its answer and what was sent. One that was lost has no
--- entry, and counts as not come.
+-- A datagram that came, or a timer that fired, and its entry: the event, with its answer and what was sent. One that
+-- was lost has no entry, and counts as not come.
 pub record Happening : Type 0 where
   pub arrival : Option Arrival
   pub entry : Option Entry
@@ -50,8 +50,8 @@ entries_of (h ∷ hs) = with_first h.entry (entries_of hs)
 
 -- ---- the wire and the agent
 
--- The wire took the datagrams of these happenings, in order, and was asked to send what their entries say, each once and in order; and
--- these are the entries of the agent, which is as they leave it.
+-- The wire took the datagrams of these happenings, in order, and was asked to send what their entries say, each once
+-- and in order; and these are the entries of the agent, which is as they leave it.
 pub record Happens (a b : State) (hs : List Happening) : Type 0 where
   pub each : All IsHappening hs
   pub taken : b.wire.taken ≡ a.wire.taken ++ arrivals_of hs
@@ -62,16 +62,17 @@ pub record Happens (a b : State) (hs : List Happening) : Type 0 where
 
 -- ---- the promise
 
--- The agent stands after this trace of so many events, and the media promise holds of its calls; the table that was published to the
--- board's viewers has the rows of the live calls and no other; and its calls that were answered are the live ones.
+-- The agent stands after this trace of so many events, and the media promise holds of its calls; the table that was
+-- published to the board's viewers has the rows of the live calls and no other; and its calls that were answered are
+-- the live ones.
 pub record KeepsLive (b : State) (t : List Datagram) (k : ℕ) : Type 0 where
   pub stands : AgentStands b.agent t k
   pub promised : HasPromisedCalls (office b.agent) t k
   pub relays : RelaysLive b.agent.range.ip (table_after b.lists) t
   pub lives : ListsLive b.agent.calls.calls t
 
--- Where the agent stood after this trace of so many events: what happened, read by the grammar, has a trace, and the agent stands after
--- that with any trace of it.
+-- Where the agent stood after this trace of so many events: what happened, read by the grammar, has a trace, and the
+-- agent stands after that with any trace of it.
 pub record KeepsAfter (b : State) (hs : List Happening) (t : List Datagram) (k : ℕ) : Type 0 where
   pub trace : (rest : List Datagram) × AreTrace k (entries_of hs) rest
   pub keeps : (rest : List Datagram) → AreTrace k (entries_of hs) rest → KeepsLive b (t ++ rest) (k + length (entries_of hs))

@@ -136,8 +136,8 @@ impl<W: Wire> Signalling<W> {
         }
     }
 
-    /// Fires one timer that is due at this moment, in milliseconds, or else takes one datagram, or else waits until the next
-    /// moment that is due, at most 100 milliseconds. An event has the next salt of the stream.
+    /// Fires one timer that is due at this moment, in milliseconds, or else takes one datagram, or else waits until the
+    /// next moment that is due, at most 100 milliseconds. An event has the next salt of the stream.
     pub fn round<R: Wait>(&mut self, rt: &R, now: u64) -> Round
         requires { HasTable self.old.board self.old.agent }
         ensures round { Rounds now (salt_at self.old.salts)

@@ -71,8 +71,8 @@ fn go_on<W: Wire, C: Clock, O: Operator, R: Wait>(
     round
 }
 
-/// Makes rounds until as many are made as are asked for, until the flag is set, or until too many in a row fail. The operator is told
-/// of each kind of trouble as it begins.
+/// Makes rounds until as many are made as are asked for, until the flag is set, or until too many in a row fail. The
+/// operator is told of each kind of trouble as it begins.
 pub fn serve<W: Wire, C: Clock, O: Operator, R: Wait>(
     rt: &R,
     signalling: &mut Signalling<W>,

@@ -16,8 +16,8 @@ use relay::Board;
 use std::alloc::Global;
 use std::sync::Wait;
 
-/// The agent with its board, its socket, its salts and a buffer for one datagram. It is not `Drop`, since the board is not:
-/// end it by `close`.
+/// The agent with its board, its socket, its salts and a buffer for one datagram. It is not `Drop`, since the board is
+/// not: end it by `close`.
 pub struct Signalling<W> {
     pub alloc: Global,
     pub agent: Agent,
@@ -28,8 +28,9 @@ pub struct Signalling<W> {
 }
 
 impl<W> Signalling<W> {
-    /// The signalling of a configuration, to which nothing has happened, on a board and a wire: its salts are those of the configured key
-    /// in the stream of the second of the start, behind the key of prints. The board comes back where it can't be made.
+    /// The signalling of a configuration, to which nothing has happened, on a board and a wire: its salts are those of
+    /// the configured key in the stream of the second of the start, behind the key of prints. The board comes back
+    /// where it can't be made.
     pub fn new(
         alloc: Global,
         config: &Config,

@@ -27,7 +27,8 @@ pub trait Operator {
 }
 
 impl Streaks {
-    /// The trouble that begins with a round before which these are the counts, and after which the others are. Takes no memory.
+    /// The trouble that begins with a round before which these are the counts, and after which the others are. Takes no
+    /// memory.
     pub fn trouble_until(self, after: Streaks) -> Option<Trouble>
         ensures { result ≡ trouble_between self after }
     {

@@ -67,8 +67,8 @@ fn publish<R: Wait>(
     board.publish(rt, alloc, changes)
 }
 
-/// The agent takes an event; then the changes of its relay table are published as one list; then what it sends goes out in
-/// order. A send that fails loses that datagram alone. It waits for look-ups in the table to end.
+/// The agent takes an event; then the changes of its relay table are published as one list; then what it sends goes out
+/// in order. A send that fails loses that datagram alone. It waits for look-ups in the table to end.
 pub fn live_turn<W: Wire, R: Wait>(
     rt: &R,
     alloc: Global,

@@ -7,7 +7,8 @@ use Rattle.call_trace.specs.declared.call.Offer.{Offer}
 use Rattle.call_trace.specs.Messages.{cancel}
 use Rattle.call_trace.specs.Stands.{leg}
 
--- the request that offered has no To tag, and is the caller's first; or it names the dialog of its end by the server's tag
+-- the request that offered has no To tag, and is the caller's first; or it names the dialog of its end by the server's
+-- tag
 abbrev pub BeginsDialog : Offer → Type 0
 BeginsDialog p = (p.came.to_tag ≡ []) × (p.by_caller ≡ true)
 

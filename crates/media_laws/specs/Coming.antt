@@ -1,4 +1,5 @@
--- The dialog that comes with an event to a call: which of the call's it is put in place of (RFC 3261 sections 12.1.2, 12.2.1.2 and 12.2.2).
+-- The dialog that comes with an event to a call: which of the call's it is put in place of (RFC 3261 sections 12.1.2,
+-- 12.2.1.2 and 12.2.2).
 use Rattle.std.specs.Prelude.{◌≡◌, nat_lt, true, Option, Some, None}
 use Rattle.std.specs.List.{All}
 use Rattle.sip_uri.specs.declared.uri.Uri.{Uri}

@@ -16,7 +16,8 @@ use Rattle.media_laws.specs.Listing.{listing, talking}
 abbrev pub session_with : Call → OpenOffer → Description → Session
 session_with c offer answer = session_over offer (answer_sent c.media offer answer) answer
 
--- the step: what the line of the signal says and leads to, with the answer as the offerer is sent it, and the session of the exchange
+-- the step: what the line of the signal says and leads to, with the answer as the offerer is sent it, and the session
+-- of the exchange
 pub record IsFitStep (c : Call) (n : Standing) (given : Option Description) (step : Step) : Type 0 where
   pub offer : OpenOffer
   pub answer : Description

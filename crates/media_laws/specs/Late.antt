@@ -1,4 +1,5 @@
--- The dialogs of the later INVITEs of the server's own: that of a call which was answered, or one that has ended (RFC 3261 section 13.2.2.4).
+-- The dialogs of the later INVITEs of the server's own: that of a call which was answered, or one that has ended (RFC
+-- 3261 section 13.2.2.4).
 use Rattle.std.specs.Prelude.{◌≡◌, ℕ, true, false, List, Some, ◌⊎◌}
 use Rattle.sip_message.specs.declared.message.Parts.{Parts}
 use Rattle.sip_message.specs.Words.{tag_text}

@@ -31,6 +31,7 @@ pub record IsClosed (calls : List StandingCall) (asked : Parts) : Type 0 where
   pub tag : has_tag (tag_text asked.from.params) call ≡ true
   pub closed : is_open asked call ≡ false
 
--- no call waits for the final response to a request with these parts: none has its tag, or one that does not wait for it
+-- no call waits for the final response to a request with these parts: none has its tag, or one that does not wait for
+-- it
 abbrev pub IsLate : List StandingCall → Parts → Type 0
 IsLate calls asked = AllOf (HaveNot (tag_text asked.from.params)) calls ⊎ IsClosed calls asked

@@ -47,8 +47,9 @@ pub record HasDialog (d : Dialog) (c : StandingCall) : Type 0 where
   pub answered : (holds_in has_session c.call.standing ≡ true) ⊎ (holds_in is_ending c.call.standing ≡ true)
   pub leg : (dialog_with_caller c ≡ d) ⊎ (dialog_with_callee c ≡ Some d)
 
--- The dialog of a listed call with the end that left it has ended. Where a dialog of a call of the trace has ended, the call is listed as one that
--- an end has left, or both its dialogs have ended; and a dialog that has begun is one of a listed call, or has ended.
+-- The dialog of a listed call with the end that left it has ended. Where a dialog of a call of the trace has ended, the
+-- call is listed as one that an end has left, or both its dialogs have ended; and a dialog that has begun is one of a
+-- listed call, or has ended.
 pub record ListsLeft (calls : List StandingCall) (t : List Datagram) : Type 0 where
   pub left : AllOf (λ c. (n : Standing) → c.call.standing ≡ Some n → is_ending n.stage ≡ true → IsLeft t c n) calls
   pub both : (caller callee : Dialog) → CallFrom offering t caller callee → Ended t caller ⊎ Ended t callee → AnyOf (IsLeaving caller callee) calls ⊎ (Ended t caller × Ended t callee)

@@ -1,4 +1,5 @@
--- The lines of a call's table beside the moves of a trace's calls: what a line asks of the call and of its scene, and what it does to the trace's calls.
+-- The lines of a call's table beside the moves of a trace's calls: what a line asks of the call and of its scene, and
+-- what it does to the trace's calls.
 use Rattle.std.specs.Prelude.{◌≡◌, ℕ, List, [], Option, Some, None, slice_set, remove}
 use Rattle.call_media.specs.declared.end.End.{End}
 use Rattle.call_media.specs.declared.end.End.TheVariants.{Caller, Callee}

@@ -6,7 +6,8 @@ use Rattle.call_core.specs.Calls.{holds_in}
 use Rattle.calls.specs.declared.standing_call.StandingCall.{StandingCall}
 use Rattle.call_trace.specs.declared.call.Call.{Call}
 
--- a call whose first offer was given up is listed by the server until its final response comes, and by a trace no more (RFC 3261 section 9.1)
+-- a call whose first offer was given up is listed by the server until its final response comes, and by a trace no more
+-- (RFC 3261 section 9.1)
 abbrev pub is_listed_stage : Stage → Bool
 is_listed_stage (Asked rung) = true
 is_listed_stage (Cancelling sent) = false
@@ -17,8 +18,8 @@ is_listed_stage (Reanswered interval) = true
 is_listed_stage Updating = true
 is_listed_stage (Ending interval) = true
 
--- what a trace lists of it: its first offer; the session that was settled last; an INVITE or an UPDATE inside it beside that; that one end has
--- left it; nothing
+-- what a trace lists of it: its first offer; the session that was settled last; an INVITE or an UPDATE inside it beside
+-- that; that one end has left it; nothing
 pub data Listing : Type 0 where
   first : Listing
   talking : Listing

@@ -11,7 +11,8 @@ use Rattle.calls.specs.declared.standing_call.StandingCall.{StandingCall}
 use Rattle.media_laws.specs.Leaving.{ListsLeft}
 use Rattle.media_laws.specs.Keeping.{dialog_with_callee, dialog_with_caller}
 
--- the call has these dialogs with its caller and its callee; it was answered, and no end has left it (RFC 3261 sections 12.1 and 15)
+-- the call has these dialogs with its caller and its callee; it was answered, and no end has left it (RFC 3261 sections
+-- 12.1 and 15)
 pub record IsTalking (dx dy : Dialog) (c : StandingCall) : Type 0 where
   pub answered : holds_in has_session c.call.standing ≡ true
   pub caller : dialog_with_caller c ≡ dx
@@ -45,8 +46,9 @@ EachTalksApart (c ∷ cs) = AllOf (TalkApart c) cs × EachTalksApart cs
 
 -- ---- the calls that stand
 
--- Each call that was answered, and that no end has left, is a live one of the trace, each live call of the trace is one of these, and none is
--- listed twice; of those that an end has left, what is listed is what has ended; and each live dialog is a call with exactly one other.
+-- Each call that was answered, and that no end has left, is a live one of the trace, each live call of the trace is one
+-- of these, and none is listed twice; of those that an end has left, what is listed is what has ended; and each live
+-- dialog is a call with exactly one other.
 pub record ListsLive (calls : List StandingCall) (t : List Datagram) : Type 0 where
   pub live : AllOf (λ c. holds_in has_session c.call.standing ≡ true → IsLiveCall t c) calls
   pub listed : (caller callee : Dialog) → CallFrom offering t caller callee → Live t caller → Live t callee → AnyOf (IsTalking caller callee) calls

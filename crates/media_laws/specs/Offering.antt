@@ -1,4 +1,5 @@
--- Which offers a call passes on: the first INVITE of a caller, and an INVITE or UPDATE of either end of a call that was answered.
+-- Which offers a call passes on: the first INVITE of a caller, and an INVITE or UPDATE of either end of a call that was
+-- answered.
 use Rattle.std.specs.Prelude.{◌≡◌, ℕ, true, codes, slice_get, Some, None}
 use Rattle.call_core.specs.Calls.{dialog_of, has_number_left}
 use Rattle.call_media.specs.Ends.{other}
@@ -23,8 +24,8 @@ pub record IsFirstOffer (s : Office) (now : ℕ) (r : Request) (to : Uri) (offer
   pub bound : target s r now ≡ Some to
   pub described : described r.headers r.body ≡ Some offer
 
--- a request with an offer in this end's dialog of the call at this place, which no rule of offers refuses; and a number is left for the
--- request to the other end (RFC 3261 sections 12.2.2 and 14.2, RFC 3311 section 5.2)
+-- a request with an offer in this end's dialog of the call at this place, which no rule of offers refuses; and a number
+-- is left for the request to the other end (RFC 3261 sections 12.2.2 and 14.2, RFC 3311 section 5.2)
 pub record IsLaterOffer (s : Office) (r : Request) (place : ℕ) (end : End) (c : StandingCall) (offer : Description) : Type 0 where
   pub there : slice_get s.calls.calls place ≡ Some c
   pub rule : dialog_rule s.calls.calls r ≡ Offers place end

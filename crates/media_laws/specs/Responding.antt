@@ -10,7 +10,8 @@ use Rattle.call_rules.specs.Speaking.{may_offer}
 use Rattle.plans.specs.Office.{Office}
 use Rattle.message_laws.specs.Waiting.{from_tag}
 
--- it is one to the INVITE or UPDATE of this transaction (RFC 3261 section 17.1.3), for whose final response the call waits
+-- it is one to the INVITE or UPDATE of this transaction (RFC 3261 section 17.1.3), for whose final response the call
+-- waits
 pub record RespondsToOffer (s : Office) (r : Response) (id : ℕ) (x : Transaction) (c : StandingCall) : Type 0 where
   pub there : at s.table.slots id ≡ Some x
   pub answers : is_answered r.parts (Some x) ≡ true

@@ -1,4 +1,5 @@
--- What a trace sees of a call's messages: its offers, its answers, and how it ends, in the words of its moves (RFC 3261 sections 12 to 15, RFC 3311).
+-- What a trace sees of a call's messages: its offers, its answers, and how it ends, in the words of its moves (RFC 3261
+-- sections 12 to 15, RFC 3311).
 use Rattle.std.specs.Prelude.{◌≡◌, ◌⊎◌, ℕ, List, [], ◌∷◌, ◌++◌, Option, Some, None, IsTrue}
 use Rattle.sip_message.specs.declared.message.Parts.{Parts}
 use Rattle.sip_message.specs.Words.{tag_text}
@@ -105,8 +106,8 @@ pub record IsLeft (x : Dialog) (came went : Message) : Type 0 where
   pub seen : SeesResponse parts 200 tag None went
   pub reply_tag : IsReplyTag (tag_text parts.to.params) (response_tag 200 parts tag)
 
--- what is said where this call goes: what moves none, a BYE in one of its dialogs, the 200 to one that came in it, the ACK of a 2xx in a dialog
--- that ends at once
+-- what is said where this call goes: what moves none, a BYE in one of its dialogs, the 200 to one that came in it, the
+-- ACK of a 2xx in a dialog that ends at once
 pub data EndSaid (t : List Datagram) (taken : Option Message) (sent : List Message) (c : Call) (m : Message) : Type 0 where
   moves_none : IsIdle offering t taken m → EndSaid t taken sent c m
   leaves : (y : Dialog) → IsTagOf c y.ours → Leaves y m → EndSaid t taken sent c m

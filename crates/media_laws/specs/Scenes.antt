@@ -1,4 +1,5 @@
--- Who is there when a call says something, in the words of a trace: the legs in which it can send a request, the request that offered, and a BYE that came.
+-- Who is there when a call says something, in the words of a trace: the legs in which it can send a request, the
+-- request that offered, and a BYE that came.
 use Rattle.std.specs.Prelude.{◌≡◌, ℕ, nat_lt, true, is_some, List, Some}
 use Rattle.sip_uri.specs.Address.{address_of}
 use Rattle.sip_message.specs.Words.{tag_text}

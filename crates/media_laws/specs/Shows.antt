@@ -1,4 +1,5 @@
--- What the calls of a trace show of those of the server: their dialogs, their sessions, and their open offers with the requests of them.
+-- What the calls of a trace show of those of the server: their dialogs, their sessions, and their open offers with the
+-- requests of them.
 use Rattle.std.specs.Prelude.{◌≡◌, ◌≢◌, ℕ, Bool, true, false, List, [], Option, Some, None, IsTrue}
 use Rattle.transactions.specs.Slots.{at}
 use Rattle.transactions.specs.declared.transaction.Transaction.{Transaction}
@@ -37,7 +38,8 @@ abbrev pub is_caller : End → Bool
 is_caller Caller = true
 is_caller Callee = false
 
--- before the first 2xx there is none with the callee: its leg has the server's tag, and no other (RFC 3261 section 12.1.2)
+-- before the first 2xx there is none with the callee: its leg has the server's tag, and no other (RFC 3261 section
+-- 12.1.2)
 abbrev pub ShowsCallee : List ℕ → Option LegDialog → Dialog → Type 0
 ShowsCallee tag None d = (d.ours ≡ tag) × (d.theirs ≡ [])
 ShowsCallee tag (Some leg) d = d ≡ dialog_named leg.id

@@ -1,4 +1,5 @@
--- How an agent stands after the trace of so many events: what is known of it, of the trace, and of the calls of that trace.
+-- How an agent stands after the trace of so many events: what is known of it, of the trace, and of the calls of that
+-- trace.
 use Rattle.event_rows.specs.State.{Contents, office}
 use Rattle.event_rows.specs.Trace.{Entry}
 use Rattle.events.specs.declared.event.What.{What}
@@ -94,7 +95,8 @@ UpholdsCalls s begun sent t k = (calls : List Call) × IsUpheld s begun sent t c
 abbrev pub AgentStands : Contents → List Datagram → ℕ → Type 0
 AgentStands s t k = (begun : List Transaction) × (sent : List Sent) × UpholdsCalls (office s) begun sent t k
 
--- an event that has this answer, and puts what it sends behind what was sent: it stands after the trace with what that took and sent
+-- an event that has this answer, and puts what it sends behind what was sent: it stands after the trace with what that
+-- took and sent
 abbrev pub StandsOn : Contents → What → Taken → List Sent → List Sent → Contents → Type 0
 StandsOn s what answer before now later =
     (t : List Datagram) (k : ℕ) → AgentStands s t k → (sends : List Sent) → now ≡ before ++ sends → (taken : Option Message) (ms : List Message) → IsPassed what answer sends taken ms
@@ -104,7 +106,8 @@ StandsOn s what answer before now later =
 abbrev pub PutsFromSource : List Entry → List Entry → Type 0
 PutsFromSource before now = (more : List Entry) → now ≡ before ++ more → All EntersFromSource more
 
--- where an agent stood after a trace of so many events: these entries have a trace, and it stands after that with any trace of theirs
+-- where an agent stood after a trace of so many events: these entries have a trace, and it stands after that with any
+-- trace of theirs
 pub record StandsAfter (t : List Datagram) (k : ℕ) (more : List Entry) (later : Contents) : Type 0 where
   pub trace : (rest : List Datagram) × AreTrace k more rest
   pub stands : (rest : List Datagram) → AreTrace k more rest → AgentStands later (t ++ rest) (k + length more)
@@ -113,7 +116,8 @@ pub record StandsAfter (t : List Datagram) (k : ℕ) (more : List Entry) (later 
 abbrev pub StandsThrough : Contents → List Entry → List Entry → Contents → Type 0
 StandsThrough s before now later = (t : List Datagram) (k : ℕ) → AgentStands s t k → (more : List Entry) → now ≡ before ++ more → StandsAfter t k more later
 
--- what an event puts behind what was sent are messages by the grammar, so that the trace has each of them (RFC 3261 section 7)
+-- what an event puts behind what was sent are messages by the grammar, so that the trace has each of them (RFC 3261
+-- section 7)
 abbrev pub SaysMessages : Contents → List Sent → List Sent → Type 0
 SaysMessages s before now =
     (t : List Datagram) (k : ℕ) → AgentStands s t k → (sends : List Sent) → now ≡ before ++ sends → (ms : List Message) × AreMessages sends ms

@@ -90,7 +90,8 @@ GoOn shows after t old taken sent = (calls : List Call) × Move offering t old t
 
 -- ---- before an event, and after it
 
--- the trace's calls show the server's, which have begun the requests of their open offers, and whose media are as their stages ask
+-- the trace's calls show the server's, which have begun the requests of their open offers, and whose media are as their
+-- stages ask
 pub record StandsShown (s : Office) (begun : List Transaction) (t : List Datagram) (old : List Call) (k : ℕ) : Type 0 where
   pub listed : Listed (ShowsCall s.table.slots begun t) s.calls.calls old
   pub asked : All (HasAsked begun) s.calls.calls

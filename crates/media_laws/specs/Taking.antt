@@ -1,4 +1,5 @@
--- A call of the server's that takes a signal, beside the call of the trace that shows it: what a line of its table asks for.
+-- A call of the server's that takes a signal, beside the call of the trace that shows it: what a line of its table asks
+-- for.
 use Rattle.std.specs.Prelude.{◌≡◌, ℕ, Bool, true, false, List, Option, Some, slice_get}
 use Rattle.transactions.specs.declared.transaction.Transaction.{Transaction}
 use Rattle.call_core.specs.declared.signal.Signal.{Signal}
@@ -25,8 +26,8 @@ pub record IsShownAt (s : Office) (begun : List Transaction) (t : List Datagram)
   pub stands : c.call.standing ≡ Some n
   pub shows : ShowsCall s.table.slots begun t c d
 
--- what is known of the dialogs of the calls: each leads to an address and has a number left for a BYE, and who was answered has both
--- (RFC 3261 sections 12.1 and 12.2.1.1)
+-- what is known of the dialogs of the calls: each leads to an address and has a number left for a BYE, and who was
+-- answered has both (RFC 3261 sections 12.1 and 12.2.1.1)
 pub record KnowsLegs (s : Office) : Type 0 where
   pub dialogs : KnowsDialogs s
   pub callees : KnowsCallees s

@@ -26,8 +26,9 @@ ghost use Rattle.media_laws.specs.Said.{Accepts};
 ghost use Rattle.media_laws.specs.Scenes.{AreAllRead, AreOwn, AskerIn, LegIn};
 ghost use Rattle.media_laws.specs.Shows.{IsUnanswered};
 
-/// A fit answer that a call passes on settles its offer in the trace: the first one, which gives the callee's leg its tag, and later ones to
-/// an INVITE or to an UPDATE. What a trace reads of its bytes, and the tokens in it, are the server's; no 2xx answered the offer before.
+/// A fit answer that a call passes on settles its offer in the trace: the first one, which gives the callee's leg its
+/// tag, and later ones to an INVITE or to an UPDATE. What a trace reads of its bytes, and the tokens in it, are the
+/// server's; no 2xx answered the offer before.
 pub fn answers_are_moves()
     ensures first { (made : ℕ) (t : List Datagram) → AreOwn made t → AreAllRead t → (ds : List Call) (k : ℕ) (d : Call) → slice_get ds k ≡ Some d →
         (s : Scene) (tokens : ℕ) → made ≤ tokens → tokens + 1 < 2 ^ 64 → (p : Offer) → d.offer ≡ Some p → (z : Session) (came : Message) → Accepts p z came →

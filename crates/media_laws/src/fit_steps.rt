@@ -18,15 +18,17 @@ ghost use Rattle.sip_message.specs.declared.words.Class.TheVariants.{Success};
 ghost use Rattle.media_laws.specs.Lines.{next_in};
 ghost use Rattle.transactions.specs.Contents.{Contents, reception_of};
 
-/// A step of a call for a fit answer to its open offer does what the line of that signal says, and leads where that leads: both ends talk. The
-/// offerer is sent the answer at the server's address, and the session is that of the exchange.
+/// A step of a call for a fit answer to its open offer does what the line of that signal says, and leads where that
+/// leads: both ends talk. The offerer is sent the answer at the server's address, and the session is that of the
+/// exchange.
 pub fn fit_steps_are_lines()
     ensures step { (c : Call) (n : Standing) (pool : pools.Contents) (now : ℕ) (given : Option Description) → c.standing ≡ Some n → awaits_answer n.stage ≡ true →
         is_fit c c.media.offer given ≡ true → IsFitStep c n given (call_row c (Answer given) pool now) }
     ensures talks { (n : Standing) → awaits_answer n.stage ≡ true → Talks (next_in n (row_of n FitAnswer)) }
 {}
 
-/// A 2xx has the transaction of its request send nothing (RFC 3261 sections 17.1.1.2 and 17.1.2.2): of an INVITE the call acknowledges it.
+/// A 2xx has the transaction of its request send nothing (RFC 3261 sections 17.1.1.2 and 17.1.2.2): of an INVITE the
+/// call acknowledges it.
 pub fn successes_send_nothing()
     ensures { (table : Contents) (r : Response) → class_of r.status ≡ Success → (reception_of table (Kinds.Response r)).send ≡ None }
 {}

@@ -1,4 +1,5 @@
-//! After any events of a new agent the calls of their trace stand, show the agent's, and keep the whole media promise. Nothing here runs.
+//! After any events of a new agent the calls of their trace stand, show the agent's, and keep the whole media promise.
+//! Nothing here runs.
 #![tactic(auto)]
 
 mod action_words;

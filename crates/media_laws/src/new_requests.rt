@@ -17,8 +17,8 @@ ghost use Rattle.transactions.specs.declared.change.Entry.{Entry};
 ghost use Rattle.transactions.specs.declared.outcome.Verdict.TheVariants as verdicts;
 ghost use Rattle.transactions.specs.declared.transaction.Transaction.{Transaction};
 
-/// Where a new request begins a transaction that waits for its final response after all the changes of the event, of which the others begin
-/// requests of the server's own alone, that transaction is of the request that came.
+/// Where a new request begins a transaction that waits for its final response after all the changes of the event, of
+/// which the others begin requests of the server's own alone, that transaction is of the request that came.
 pub fn new_requests_stand()
     ensures { (s : Office) (e : Setting) (r : Request) (id : ℕ) (rest : List Entry) (now : ℕ) → (reception_of s.table (Kinds.Request r)).verdict ≡ verdicts.New id →
         ((t : Transaction) → IsAmong (begun_of rest) t → is_server t.state ≡ false) → IsUnanswered (entered_all now s.table (entries_of s e r ++ rest)).slots id →

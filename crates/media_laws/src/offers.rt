@@ -25,8 +25,8 @@ ghost use Rattle.media_laws.specs.Lines.{actions_in};
 ghost use Rattle.media_laws.specs.Said.{Asks, OfferHeard, Offers};
 ghost use Rattle.media_laws.specs.Scenes.{AreOwn, AskedLeg};
 
-/// An offer that a call passes on is open in the trace: that of a new call, whose tags are made now, and those of either end of a call that
-/// was answered, by INVITE or by UPDATE.
+/// An offer that a call passes on is open in the trace: that of a new call, whose tags are made now, and those of
+/// either end of a call that was answered, by INVITE or by UPDATE.
 pub fn offers_are_moves()
     ensures first { (t : List Datagram) (old : List Call) (caller callee : Dialog) (taken sent : Description) (came : Message) (before : List Message) (went : Message) →
         Offers caller taken came → Asks t callee came.method sent went → AllOf (λ m. IsTrue (is_plain offering m)) before → IsNewCall t old came (new_call caller callee came went) →

@@ -40,10 +40,11 @@ use sip_writing::written_is_read;
 use trace_reading::{bodies_describe, bytes_say_all};
 use transactions::replies;
 
-/// Where a call that the trace lists takes a fit 2xx to the request of its open offer, the first INVITE or one inside the call or an UPDATE, the
-/// event is the move of the trace's calls that settles that offer: its transaction sends nothing, and the call acknowledges the 2xx of an INVITE
-/// and sends the offerer a 200 with the answer. After it the trace's calls show the server's, this one with the session of that exchange, and
-/// after the first answer with the callee's tag.
+/// Where a call that the trace lists takes a fit 2xx to the request of its open offer, the first INVITE or one inside
+/// the call or an UPDATE, the event is the move of the trace's calls that settles that offer: its transaction sends
+/// nothing, and the call acknowledges the 2xx of an INVITE and sends the offerer a 200 with the answer. After it the
+/// trace's calls show the server's, this one with the session of that exchange, and after the first answer with the
+/// callee's tag.
 pub fn answers_go_on()
     ensures { (s after : Office) (begun more : List Transaction) (sent : List Sent) (t : List Datagram) (old : List Call) (k : ℕ) → StandsShown s begun t old k →
         IsAfter s after (begun ++ more) → AreTied s begun sent t old → KnowsLegs s → (e : Setting) (place : ℕ) (c : StandingCall) (n : Standing)

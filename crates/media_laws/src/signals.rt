@@ -26,8 +26,8 @@ ghost use Rattle.sip_message.specs.declared.message.Request.{Request};
 ghost use Rattle.message_laws.specs.Messages.{IsTakenOf};
 ghost use Rattle.transactions.specs.declared.transaction.Transaction.{Transaction};
 
-/// A call that the trace lists takes the signal of a timer, with which nothing is taken; and that of an ACK, of a CANCEL, or of a BYE in one of
-/// its dialogs, with which the trace takes the request.
+/// A call that the trace lists takes the signal of a timer, with which nothing is taken; and that of an ACK, of a
+/// CANCEL, or of a BYE in one of its dialogs, with which the trace takes the request.
 pub fn signals_come()
     ensures due { (s : Office) (e : Setting) (place : ℕ) (c : StandingCall) (description : Option Description) (begun : List Transaction) (t : List Datagram)
         (n : Standing) (d : Call) (signal : Signal) → KnowsLegs s → IsShownAt s begun t place c n d → is_due_signal signal ≡ true →

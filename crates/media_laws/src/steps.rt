@@ -48,8 +48,9 @@ use call_trace::moves_keep;
 use sip_writing::written_is_read;
 use trace_reading::bytes_say_all;
 
-/// A step of a call that takes no offer and no fit answer does what the line of its signal says, and leads where that leads; its dialogs are
-/// those of before, and its session and its open offer are kept or given up. So it is of the call that is put in its place.
+/// A step of a call that takes no offer and no fit answer does what the line of its signal says, and leads where that
+/// leads; its dialogs are those of before, and its session and its open offer are kept or given up. So it is of the
+/// call that is put in its place.
 pub fn signal_steps_are_lines()
     ensures step { (c : ServerCall) (n : Standing) (input : Input) (signal : Signal) (pool : Contents) (now : ℕ) → c.standing ≡ Some n →
         IsSignalOf c input signal → IsSignalStep c n signal (call_row c input pool now) }
@@ -58,8 +59,9 @@ pub fn signal_steps_are_lines()
         GoesOnAt c (put_as w said (call_row c.call input pool now).call c) (next_in n (row_of n signal)) }
 {}
 
-/// Where what a call's line says moves the calls of the trace as that line does, the trace's calls after the move show the server's calls after
-/// the step: the call goes on, is hidden, has no offer more, was left by one end, or is gone, in both; and the others are as they were.
+/// Where what a call's line says moves the calls of the trace as that line does, the trace's calls after the move show
+/// the server's calls after the step: the call goes on, is hidden, has no offer more, was left by one end, or is gone,
+/// in both; and the others are as they were.
 pub fn lines_go_on()
     ensures { (slots : List (Option Transaction)) (begun more : List Transaction) (t : List Datagram) (cs : List StandingCall) (old : List Call) (place : ℕ)
         (c : StandingCall) (n : Standing) → c.call.standing ≡ Some n → slice_get cs place ≡ Some c → (spot : HasSpot slots begun t cs old place c) →
@@ -83,8 +85,9 @@ pub fn answers_go_again()
     written_is_read();
 }
 
-/// Where a call that the trace lists takes a signal that is no offer and no fit answer, with what comes with it in the scene of its step, and the
-/// trace hears what the line of the signal says, behind what moves no call: that is a move, and the trace's calls after it show the server's.
+/// Where a call that the trace lists takes a signal that is no offer and no fit answer, with what comes with it in the
+/// scene of its step, and the trace hears what the line of the signal says, behind what moves no call: that is a move,
+/// and the trace's calls after it show the server's.
 pub fn signals_go_on()
     ensures { (slots : List (Option Transaction)) (begun more : List Transaction) (t : List Datagram) (cs : List StandingCall) (old : List Call) (place : ℕ)
         (c : StandingCall) (n : Standing) → c.call.standing ≡ Some n → slice_get cs place ≡ Some c → (spot : HasSpot slots begun t cs old place c) →

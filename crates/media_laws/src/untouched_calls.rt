@@ -22,17 +22,18 @@ ghost use Rattle.media_laws.specs.Shows.{IsUnanswered, ShowsCall};
 ghost use Rattle.message_laws.specs.Askers.{KeepsAsked, KeepsRequest};
 ghost use Rattle.transactions.specs.declared.transaction.Transaction.{Transaction};
 
-/// A move answers no offer that is open afterwards: what it sends with an answer goes again, or settles the offer of a call, which has none
-/// then.
+/// A move answers no offer that is open afterwards: what it sends with an answer goes again, or settles the offer of a
+/// call, which has none then.
 pub fn open_offers_stay_unanswered()
     ensures { (n : ℕ) (t : List Datagram) (old : List Call) (taken : Option Message) (sent : List Message) (new : List Call) →
         Move offering t old taken sent new → AllApart new → (j : ℕ) (d : Call) (p : Offer) → slice_get new j ≡ Some d → d.offer ≡ Some p →
         (tag : List ℕ) (number : ℕ) → IsTagOf d tag → IsUnanswered t tag number → IsUnanswered (t ++ passed n taken sent) tag number }
 {}
 
-/// A call that an event leaves as it was is shown by the longer trace as it was by the shorter one, where the trace lists it after the move
-/// of the event as before: the requests that begin have greater numbers than that of its open offer, and nothing answers that. So it is of a
-/// list of calls of which the event changed none; and of one of which it changed one, which shows itself.
+/// A call that an event leaves as it was is shown by the longer trace as it was by the shorter one, where the trace
+/// lists it after the move of the event as before: the requests that begin have greater numbers than that of its open
+/// offer, and nothing answers that. So it is of a list of calls of which the event changed none; and of one of which it
+/// changed one, which shows itself.
 pub fn calls_left_stay_shown()
     ensures call { (slots : List (Option Transaction)) (s : Office) (begun more : List Transaction) (n : ℕ) (t : List Datagram) (old : List Call)
         (taken : Option Message) (sent : List Message) (new : List Call) → Move offering t old taken sent new → AllApart new →
@@ -51,8 +52,9 @@ pub fn calls_left_stay_shown()
         Listed (ShowsCall s.table.slots (begun ++ more) (t ++ passed n taken sent)) s.calls.calls new }
 {}
 
-/// The trace has each call that it lists at a place of its own, and both lists change together: as the call goes on, as it is hidden, and as
-/// it goes. A call that is hidden changes the trace's list neither as it goes on so nor as it goes; and one that begins is the last of both.
+/// The trace has each call that it lists at a place of its own, and both lists change together: as the call goes on, as
+/// it is hidden, and as it goes. A call that is hidden changes the trace's list neither as it goes on so nor as it
+/// goes; and one that begins is the last of both.
 pub fn listed_calls_have_spots()
     ensures spot { (slots : List (Option Transaction)) (begun : List Transaction) (t : List Datagram) (cs : List StandingCall) (old : List Call) (place : ℕ)
         (c : StandingCall) → Listed (ShowsCall slots begun t) cs old → All (HasAsked begun) cs → slice_get cs place ≡ Some c → is_listed c ≡ true →

@@ -1,4 +1,5 @@
--- The transactions in which the offers came for whose answers the calls wait (RFC 3261 sections 13.3.1 and 14.2, RFC 3311 section 5.2).
+-- The transactions in which the offers came for whose answers the calls wait (RFC 3261 sections 13.3.1 and 14.2, RFC
+-- 3311 section 5.2).
 use Rattle.std.specs.Prelude.{◌≡◌, true, List, Option, Some}
 use Rattle.std.specs.List.{All}
 use Rattle.call_rules.specs.Speaking.{may_offer}

@@ -81,7 +81,8 @@ pub record KnowsOffers (slots : List (Option Transaction)) (calls : List Standin
   pub served : All (IsServed slots) calls
   pub apart : AreAskedApart calls
 
--- each request that is answered was read, and that of each open offer waits for its final response; and where the server is
+-- each request that is answered was read, and that of each open offer waits for its final response; and where the
+-- server is
 pub record KnowsAskers (s : Office) : Type 0 where
   pub slots : All IsAskedIf s.table.slots
   pub offers : KnowsOffers s.table.slots s.calls.calls

@@ -1,4 +1,5 @@
--- The descriptions that the calls keep: each was read, or is what the server sends in place of one that was read (RFC 3264).
+-- The descriptions that the calls keep: each was read, or is what the server sends in place of one that was read (RFC
+-- 3264).
 use Rattle.std.specs.Prelude.{◌≡◌, ℕ, ◌≤◌, List, length, Option, Some, None}
 use Rattle.std.specs.List.{All}
 use Rattle.sip_message.specs.Read.{max_datagram}

@@ -16,8 +16,8 @@ use Rattle.transaction_machines.specs.Machines.{is_server}
 use Rattle.transactions.specs.declared.change.Entry.{Entry as Change}
 use Rattle.transactions.specs.declared.transaction.Transaction.{Transaction}
 
--- A datagram: what went before; the request of a client transaction that begins at this event, a CANCEL among them (RFC 3261 section 9.1);
--- an ACK, which begins none (sections 13.2.2.4 and 17.1.1.3); or a response.
+-- A datagram: what went before; the request of a client transaction that begins at this event, a CANCEL among them (RFC
+-- 3261 section 9.1); an ACK, which begins none (sections 13.2.2.4 and 17.1.1.3); or a response.
 pub data IsOfKind (before : List Sent) (made : ℕ) (changes : List Change) (d : Sent) : Type 0 where
   again : WasSent before d.bytes → IsOfKind before made changes d
   begins : (r : Request) (t : Transaction) → IsAmong (begun_of changes) t → is_server t.state ≡ false → r.parts ≡ t.parts → d.bytes ≡ message_text (Kinds.Request r) → IsWrittenMessage (Kinds.Request r)

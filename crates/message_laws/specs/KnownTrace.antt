@@ -1,4 +1,5 @@
--- What is known of the trace of an agent's events: whose texts stand in it, and that it has the requests for which transactions stand.
+-- What is known of the trace of an agent's events: whose texts stand in it, and that it has the requests for which
+-- transactions stand.
 use Rattle.std.specs.Prelude.{◌≡◌, ℕ, false, List, Some, IsTrue, true}
 use Rattle.std.specs.List.{All}
 use Rattle.call_trace.specs.declared.datagram.Datagram.{Datagram}
@@ -23,8 +24,8 @@ use Rattle.message_laws.specs.Messages.{IsMessage, IsRequestOf}
 
 -- ---- one datagram
 
--- Whose texts it has: the branch of a request that was sent, and of a response that was taken, is the server's own (RFC 3261 section
--- 8.1.1.7); and so is the From tag of a BYE that was sent (section 12.2.1.1).
+-- Whose texts it has: the branch of a request that was sent, and of a response that was taken, is the server's own (RFC
+-- 3261 section 8.1.1.7); and so is the From tag of a BYE that was sent (section 12.2.1.1).
 pub record HasTokens (made : ℕ) (p : Datagram) : Type 0 where
   pub branch : IsTrue (is_ours_in_from p.direction p.message.kind) → IsMadeBranch made (Some p.message.branch)
   pub bye_sent : p.direction ≡ directions.Sent → IsTrue (is_request_of bye p.message) → IsMade made p.message.from_tag

@@ -25,8 +25,8 @@ pub record IsOpenRequest (c : StandingCall) (t : Transaction) : Type 0 where
   pub opens : is_open t.parts c ≡ true
   pub carries : CarriesIf t c.call.media.offer
 
--- where the call waits for a final response of an end with which it has a dialog, or of the callee to its first INVITE, it waits for that
--- to one of these
+-- where the call waits for a final response of an end with which it has a dialog, or of the callee to its first INVITE,
+-- it waits for that to one of these
 abbrev pub HasRequest : List Transaction → StandingCall → Type 0
 HasRequest begun c = (n : Standing) → c.call.standing ≡ Some n → awaits_final n.stage ≡ true → has_leg (dialog_of (other n.offerer) c.call) (Some n) ≡ true
     → (t : Transaction) × IsAmong begun t × IsOpenRequest c t

@@ -22,8 +22,8 @@ pub record SeesRequest (d : Dialog) (token : List ℕ) (n : ℕ) (name : List �
   pub method : m.method ≡ name
   pub description : m.description ≡ body
 
--- a request without a body that has branch, Call-ID, From tag and number of an INVITE, and this tag in its To: its CANCEL, or the ACK
--- of a refusal (sections 9.1 and 17.1.1.3)
+-- a request without a body that has branch, Call-ID, From tag and number of an INVITE, and this tag in its To: its
+-- CANCEL, or the ACK of a refusal (sections 9.1 and 17.1.1.3)
 pub record SeesLike (invite : Parts) (to : NameAddr) (name : List ℕ) (m : Message) : Type 0 where
   pub kind : m.kind ≡ Request
   pub branch : m.branch ≡ branch_text invite.vias

@@ -39,8 +39,8 @@ holder_in pool port = holder_at pool.holdings port
 abbrev pub HoldsNoOther : Contents → CallMedia → Type 0
 HoldsNoOther pool m = (port : ℕ) → is_port_of pool m.number port ≡ true → is_among (pairs_listed m.session) (even_of port) ≡ true
 
--- They have the server's range; the table leads each port that the session names as the session asks; and while no offer is open, the
--- call holds the pairs of its session alone.
+-- They have the server's range; the table leads each port that the session names as the session asks; and while no
+-- offer is open, the call holds the pairs of its session alone.
 pub record IsServedAsAsked (server : OwnRange) (pool : Contents) (m : CallMedia) : Type 0 where
   pub range : m.range ≡ server
   pub leads : IfSome m.session (λ x. LeadsSession (trace_table pool) (trace_session x))
@@ -48,7 +48,8 @@ pub record IsServedAsAsked (server : OwnRange) (pool : Contents) (m : CallMedia)
 
 -- ---- what the agent knows
 
--- Each row of the table is of a pair that is held; the pool serves each call that stands, as it asks; and it is held by these calls alone.
+-- Each row of the table is of a pair that is held; the pool serves each call that stands, as it asks; and it is held by
+-- these calls alone.
 pub record IsServing (server : OwnRange) (s : Standing) : Type 0 where
   pub pool : IsPool s.pool
   pub kept : AreKept s.calls s.pool s.begun
@@ -70,7 +71,8 @@ IsSessionOf x c = c.call.media.session ≡ Some x
 abbrev pub OfEach : (StandingCall → Session → Type 0) → Office → Type 0
 OfEach P s = AllOf (λ c. (x : Session) → IsSessionOf x c → P c x) s.calls.calls
 
--- a session stands in a call exactly where the stage of the call has one, and an offer is open where it awaits an answer
+-- a session stands in a call exactly where the stage of the call has one, and an offer is open where it awaits an
+-- answer
 pub record IsStaged (c : Call) : Type 0 where
   pub session : is_some c.media.session ≡ holds_in has_session c.standing
   pub offer : is_some c.media.offer ≡ holds_in awaits_answer c.standing

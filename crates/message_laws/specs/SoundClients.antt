@@ -1,5 +1,5 @@
--- The requests of the server's own whose transactions stand are of values that were read, and no dialog of a call counts past the numbers of
--- CSeq (RFC 3261 section 8.1.1.5).
+-- The requests of the server's own whose transactions stand are of values that were read, and no dialog of a call
+-- counts past the numbers of CSeq (RFC 3261 section 8.1.1.5).
 use Rattle.std.specs.Prelude.{◌≡◌, false, Option, Some, None}
 use Rattle.std.specs.List.{All}
 use Rattle.dialogs.specs.declared.state.Dialog.{Dialog}

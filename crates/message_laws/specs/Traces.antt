@@ -11,8 +11,8 @@ use Rattle.plans.specs.declared.taken.Taken.{Taken}
 use Rattle.plans.specs.declared.taken.Taken.TheVariants.{Done, Dropped, Idle, Shed}
 use Rattle.message_laws.specs.Messages.{AreMessages, IsTakenOf}
 
--- What an event that is answered so took: of a datagram that the agent took up its message; of one that counts as not come, and of a
--- timer, nothing.
+-- What an event that is answered so took: of a datagram that the agent took up its message; of one that counts as not
+-- come, and of a timer, nothing.
 abbrev pub IsTaken : What → Taken → Option TraceMessage → Type 0
 IsTaken (whats.Datagram source bytes) Done taken = IsTakenOf bytes taken
 IsTaken (whats.Datagram source bytes) (Dropped why) taken = taken ≡ None

@@ -45,9 +45,9 @@ pub fn address_has_four_octets(config: &Config)
     octets_fit(&config.ip);
 }
 
-/// Of a new agent, whose configuration keeps the rules, and after any event: each description that the media of a call keep was read of a
-/// body that fits into a datagram, or is what the server sends in place of one, at its own address and ports. So it is after any events
-/// of a new agent.
+/// Of a new agent, whose configuration keeps the rules, and after any event: each description that the media of a call
+/// keep was read of a body that fits into a datagram, or is what the server sends in place of one, at its own address
+/// and ports. So it is after any events of a new agent.
 pub fn descriptions_are_known()
     ensures begins { (config : Config) (s : Contents) → KeepsRules config → HasFourOctets config.ip → IsNew config s → KnowsDescriptions (office s) }
     ensures step { (s : Contents) (event : Event) → KnowsDescriptions (office s) → KnowsDescriptions (office (after s event)) }
@@ -57,7 +57,8 @@ pub fn descriptions_are_known()
     trace_reading::bodies_describe();
 }
 
-/// What the rules take as the description of a message that was read, was read of its body, and is what a trace sees in it.
+/// What the rules take as the description of a message that was read, was read of its body, and is what a trace sees in
+/// it.
 pub fn descriptions_are_read()
     ensures read { (bytes : List ℕ) (m : Message) (d : Description) → message_of bytes ≡ Ok m → described (headers_in m) (body_in m) ≡ Some d → WasRead d }
     ensures seen { (bytes : List ℕ) (m : Message) → (trace_message bytes m).description ≡ described (headers_in m) (body_in m) }
@@ -65,9 +66,9 @@ pub fn descriptions_are_read()
     trace_reading::bodies_describe();
 }
 
-/// What a call sends on for an input is sent in place of a description that was read, where that of the input was, and so are those that
-/// it keeps. What is sent so reads back, and so do the offer that is open and what was sent in the session of a call that stands; it is no
-/// longer than a body may be.
+/// What a call sends on for an input is sent in place of a description that was read, where that of the input was, and
+/// so are those that it keeps. What is sent so reads back, and so do the offer that is open and what was sent in the
+/// session of a call that stands; it is no longer than a body may be.
 pub fn descriptions_read_back()
     ensures call { (ip : List ℕ) (c : Call) (input : Input) (pool : pools.Contents) (now : ℕ) → IsServerAddress ip → KnowsMedia ip c.media →
         HavePorts pool → WasReadIn input → KnowsStep ip (call_row c input pool now) }

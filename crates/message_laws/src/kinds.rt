@@ -17,9 +17,9 @@ ghost use Rattle.message_laws.specs.Kinds.{AreBegun, IsOfKind};
 use dialogs::{contacts_are_read, dialogs_are_sound};
 use trace_reading::bodies_describe;
 
-/// Each datagram of an event went before; or it is the request of a client transaction that begins in this event, or an ACK with a branch
-/// that was made, both of the form that is written and read again; or it is a response. And the request of each client transaction that
-/// begins is among them.
+/// Each datagram of an event went before; or it is the request of a client transaction that begins in this event, or an
+/// ACK with a branch that was made, both of the form that is written and read again; or it is a response. And the
+/// request of each client transaction that begins is among them.
 pub fn sends_are_of_kinds()
     ensures kinds { (s : Contents) (event : Event) (sent : List Sent) → KnowsTokens (office s) → KnowsSent (office s) sent → KnowsAskers (office s) →
         KnowsDialogs (office s) → KnowsDescriptions (office s) → KnowsClients (office s) →

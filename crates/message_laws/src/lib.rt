@@ -1,5 +1,5 @@
-//! What the agent knows after any events, as laws over what each event comes to: of its own messages, of its pool of ports and relay table,
-//! of what it sends, which reads back, and of the trace of all that. Nothing here runs.
+//! What the agent knows after any events, as laws over what each event comes to: of its own messages, of its pool of
+//! ports and relay table, of what it sends, which reads back, and of the trace of all that. Nothing here runs.
 #![tactic(auto)]
 
 mod acks;

@@ -13,8 +13,8 @@ ghost use Rattle.sip_writing.specs.Requests.{branch_text};
 ghost use Rattle.message_laws.specs.KnownTrace.{KnowsTrace};
 ghost use Rattle.transactions.specs.declared.transaction.Transaction.{Transaction};
 
-/// A token that is made next is in no branch of a request that was sent, or of a response that was taken, and is the From tag of no BYE
-/// that was sent.
+/// A token that is made next is in no branch of a request that was sent, or of a response that was taken, and is the
+/// From tag of no BYE that was sent.
 pub fn next_tokens_are_unused()
     ensures branch { (s : Office) (begun : List Transaction) (sent : List Sent) (t : List Datagram) (salt count : ℕ) → KnowsTrace s begun sent t →
         s.tokens < count → count < 2 ^ 64 → IsUnused t (branch_text (token salt count)) }

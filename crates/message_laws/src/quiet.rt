@@ -31,8 +31,8 @@ ghost use Rattle.trace_reading.specs.Message.{trace_message};
 ghost use Rattle.message_laws.specs.Quiet.{GoesAgain, IsQuietReply, IsQuietStatus, IsRequestIf, MovesNone, SayPlain, SeenMove};
 ghost use Rattle.message_laws.specs.Saying.{IsSeen};
 
-/// What the server answers by itself is plain in a trace, whichever methods may carry an offer: a response without a body that is no 2xx,
-/// or answers neither INVITE nor BYE. A request that was taken is calm.
+/// What the server answers by itself is plain in a trace, whichever methods may carry an offer: a response without a
+/// body that is no 2xx, or answers neither INVITE nor BYE. A request that was taken is calm.
 pub fn replies_are_plain()
     ensures any { (methods : List (List ℕ)) (bytes : List ℕ) (parts : Parts) (source : Addr) (status : ℕ) (tag : List ℕ) (further : List Header) →
         IsQuietStatus parts status →
@@ -46,8 +46,9 @@ pub fn replies_are_plain()
     ensures request { (methods : List (List ℕ)) (bytes : List ℕ) (r : Request) → IsTrue (is_calm methods (trace_message bytes (Kinds.Request r))) }
 {}
 
-/// Where no call takes what came, and what goes is plain or went before, the calls stay as they are: a quiet move of the trace, whichever
-/// trace and calls there were. What was taken is a request, or counts as not come; or it moves none of the calls.
+/// Where no call takes what came, and what goes is plain or went before, the calls stay as they are: a quiet move of
+/// the trace, whichever trace and calls there were. What was taken is a request, or counts as not come; or it moves
+/// none of the calls.
 pub fn what_no_call_takes_is_quiet()
     ensures ignored { (methods : List (List ℕ)) (t : List Datagram) (calls : List Call) (answer : Taken) →
         SeenMove methods t calls None (nothing answer).sends calls }
@@ -66,8 +67,9 @@ pub fn what_no_call_takes_is_quiet()
         SeenMove methods t calls taken (moves begun (Some out)).sends calls }
 {}
 
-/// Of a request whose line has the method of its CSeq, each reply that the rules give by themselves is quiet: a 200 goes only to OPTIONS,
-/// REGISTER and CANCEL. An offer that no call takes is refused, and an UPDATE without an offer is neither INVITE nor BYE.
+/// Of a request whose line has the method of its CSeq, each reply that the rules give by themselves is quiet: a 200
+/// goes only to OPTIONS, REGISTER and CANCEL. An offer that no call takes is refused, and an UPDATE without an offer is
+/// neither INVITE nor BYE.
 pub fn rules_reply_quietly()
     ensures alone { (s : Office) (r : Request) (now : ℕ) (reply : Reply) → r.parts.cseq.method ≡ r.method → request_rule s r now ≡ rules.Alone reply →
         IsQuietReply r reply }

@@ -21,9 +21,9 @@ ghost use Rattle.transactions.specs.declared.transaction.Transaction.{Transactio
 ghost use Rattle.transactions.specs.Matching.{RepliesTo};
 ghost use Rattle.transactions.specs.Slots.{at};
 
-/// In the trace stands what was sent before in these bytes, as the same message; and the INVITE or UPDATE of the server's own whose
-/// transaction a response is one to, to which it replies there too. Where that waits for no final response, the trace has one, so that
-/// this one moves no call.
+/// In the trace stands what was sent before in these bytes, as the same message; and the INVITE or UPDATE of the
+/// server's own whose transaction a response is one to, to which it replies there too. Where that waits for no final
+/// response, the trace has one, so that this one moves no call.
 pub fn replies_stand_in_traces()
     ensures again { (s : Office) (begun : List Transaction) (sent : List Sent) (t : List Datagram) (bytes : List ℕ) (m : Message) →
         KnowsTrace s begun sent t → WasSent sent bytes → IsMessage bytes m →

@@ -22,8 +22,9 @@ ghost use Rattle.text.specs.Class.{is_run_of, is_token_byte};
 ghost use Rattle.transactions.specs.SameBranch.{HasReadVia, IsSoundInvite, ack_of, ack_to, cancel_of};
 ghost use Rattle.transactions.specs.declared.transaction.Transaction.{Transaction};
 
-/// An offer, an ACK and a BYE in a dialog of messages that were read are of the form that is written and read again, where the branch is
-/// made of a token: the offer with a description that is no longer than Content-Length can say, the ACK with a number that CSeq can say.
+/// An offer, an ACK and a BYE in a dialog of messages that were read are of the form that is written and read again,
+/// where the branch is made of a token: the offer with a description that is no longer than Content-Length can say, the
+/// ACK with a number that CSeq can say.
 pub fn requests_are_written()
     ensures offer { (server : Addr) (d : Dialog) (method : Method) (hops : ℕ) (description : Description) (token : List ℕ) (request : Request) →
         IsReached server → IsSound d → IsTrue (is_run_of is_token_byte token) → hops ≤ 255 → length (description_text description) ≤ max_content_length →

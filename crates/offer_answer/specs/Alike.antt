@@ -57,6 +57,7 @@ bare d = record {
   media = map bare_media d.media;
 }
 
--- equal but for the `o=` line, addresses, ports and the attributes that tell them; port 0 and 0.0.0.0 stand at the same places
+-- equal but for the `o=` line, addresses, ports and the attributes that tell them; port 0 and 0.0.0.0 stand at the same
+-- places
 abbrev pub Alike : Description → Description → Type 0
 Alike d e = bare d ≡ bare e

@@ -56,8 +56,8 @@ is_ip4 (Some (Name text)) = false
 abbrev pub is_relay_port : OwnRange → ℕ → Bool
 is_relay_port range port = nat_le range.first port && nat_le port range.last
 
--- the server's own address, where the port or the one above, which is for reports, is a relay port; 0.0.0.0 is nobody's own
--- (RFC 3264 section 8.4)
+-- the server's own address, where the port or the one above, which is for reports, is a relay port; 0.0.0.0 is nobody's
+-- own (RFC 3264 section 8.4)
 abbrev pub is_own_place : OwnRange → Option Place → Bool
 is_own_place range None = false
 is_own_place range (Some p) = not (is_hold p.address) && is_server range.ip p.address && (is_relay_port range p.port || is_relay_port range (p.port + 1))

@@ -46,8 +46,8 @@ joined_media server table OX (ox ∷ oxs) SX (sx ∷ sxs) OY (oy ∷ oys) SY (sy
     ∷ joined_media server table OX oxs SX sxs OY oys SY sys
 joined_media server table OX _ SX _ OY _ SY _ = []
 
--- what the offer taken OX, the answer sent SX, the offer sent OY and the answer taken SY mean together: a stream for each medium that all
--- four have
+-- what the offer taken OX, the answer sent SX, the offer sent OY and the answer taken SY mean together: a stream for
+-- each medium that all four have
 abbrev pub joined : List ℕ → (ℕ → Option Addr) → Description → Description → Description → Description → List Stream
 joined server table OX SX OY SY = joined_media server table OX OX.media SX SX.media OY OY.media SY SY.media
 

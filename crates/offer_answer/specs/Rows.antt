@@ -6,7 +6,8 @@ use Rattle.sdp.specs.declared.description.Media.{Media}
 use Rattle.sdp.specs.declared.description.Description.{Description}
 use Rattle.offer_answer.specs.Direct.{destination}
 
--- a port of the server that a session names: where what comes in there goes, if anywhere, and the port from which it is sent
+-- a port of the server that a session names: where what comes in there goes, if anywhere, and the port from which it is
+-- sent
 pub record Named : Type 0 where
   pub port : ℕ
   pub to : Option Addr
@@ -42,8 +43,8 @@ media_named OX _ _ _ SY _ = []
 abbrev pub ports_named : Description → Description → Description → Description → List Named
 ports_named OX SX OY SY = media_named OX OX.media SX.media OY.media SY SY.media
 
--- the pairs of ports that the session names, by their even ports: for each medium that is not rejected, the one told to the offerer
--- and the one told to the answerer
+-- the pairs of ports that the session names, by their even ports: for each medium that is not rejected, the one told to
+-- the offerer and the one told to the answerer
 abbrev pub medium_pairs : Media → Media → Media → Media → List ℕ
 medium_pairs ox sx oy sy = if ox.port == 0 || sy.port == 0 then [] else sx.port ∷ oy.port ∷ []
 

@@ -14,7 +14,8 @@ use Rattle.offer_answer.specs.Rows.{Named, ports_named, pairs_named}
 abbrev pub line_of : Named → RelayLine
 line_of n = record { port = n.port; hop = option_map (λ a. record { to = a; from = n.from }) n.to }
 
--- a line for each port that is named by the offer taken OX, the answer sent SX, the offer sent OY and the answer taken SY
+-- a line for each port that is named by the offer taken OX, the answer sent SX, the offer sent OY and the answer taken
+-- SY
 abbrev pub session_lines : Description → Description → Description → Description → List RelayLine
 session_lines OX SX OY SY = map line_of (ports_named OX SX OY SY)
 

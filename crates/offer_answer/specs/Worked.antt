@@ -1,4 +1,5 @@
--- A plain call, with its four descriptions, and what becomes of it with hold, with a video that is rejected and at the last port.
+-- A plain call, with its four descriptions, and what becomes of it with hold, with a video that is rejected and at the
+-- last port.
 use Rattle.std.specs.Prelude.{ℕ, Bool, List, [], ◌∷◌, codes, Option, Some, None}
 use Rattle.sip_uri.specs.declared.uri.Addr.{Addr}
 use Rattle.sdp.specs.declared.address.Address.TheVariants.{Ip4}

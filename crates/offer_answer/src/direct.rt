@@ -35,7 +35,8 @@ fn sent_to(address: &Address<'_>, port: u16) -> Option<Addr>
     }
 }
 
-/// Where media for this medium are sent, if anywhere: to no address but an IPv4 address that is not 0.0.0.0 (RFC 3264 sections 5.1 and 8.4).
+/// Where media for this medium are sent, if anywhere: to no address but an IPv4 address that is not 0.0.0.0 (RFC 3264
+/// sections 5.1 and 8.4).
 pub fn destination(description: &Description<'_>, medium: &Media<'_>) -> Option<Addr>
     ensures { result ≡ destination description.now medium.now }
 {

@@ -68,8 +68,8 @@ pub fn sent_is_read()
         (readdressed_description origin ports taken) }
 {}
 
-/// The lines of a session are of the ports of a call that holds the session's pairs, no port stands in two of them, and a
-/// table with these lines has the rows of the session.
+/// The lines of a session are of the ports of a call that holds the session's pairs, no port stands in two of them, and
+/// a table with these lines has the rows of the session.
 pub fn rows_of_session_stand()
     ensures own { (pool : Contents) (call : ℕ) (OX SX OY SY : Description) →
         IsTrue (list_all is_even (pairs_named OX SX OY SY)) → HoldsPairs pool call OX SX OY SY →
@@ -81,8 +81,8 @@ pub fn rows_of_session_stand()
         All (λ l. map.get rows l.port ≡ l.hop) (session_lines OX SX OY SY) → HasRows (leads_by rows) OX SX OY SY }
 {}
 
-/// A medium at the address 0.0.0.0 is refused neither in an offer nor in an answer on account of its place, whatever the
-/// server's own places are (RFC 3264 section 8.4).
+/// A medium at the address 0.0.0.0 is refused neither in an offer nor in an answer on account of its place, whatever
+/// the server's own places are (RFC 3264 section 8.4).
 pub fn hold_passes()
     ensures offer { (range : OwnRange) (d : Description) (m : Media) →
         address_of_medium d m ≡ Some (Ip4 hold_address) → IsTrue (is_carried m.proto) → m.count ≡ None →

@@ -1,7 +1,7 @@
 //! What the threads of a program share.
 
-/// A runtime that several threads may use at once. Its law says what the bound `Sync` says: a block of methods that implements a
-/// trait learns nothing from `Sync` in its own head, and a method that starts threads has to know it.
+/// A runtime that several threads may use at once. Its law says what the bound `Sync` says: a block of methods that
+/// implements a trait learns nothing from `Sync` in its own head, and a method that starts threads has to know it.
 pub(crate) trait Shared {
     ghost use Rattle.std.specs.Prelude.{ℕ};
     ghost use denote.Param.Send.{Common};

@@ -121,7 +121,8 @@ fn report<R: Eprint>(rt: &R, tally: Tally) {
     let _ = eprintln!(rt; " shed {} idle {}", tally.shed, tally.idle);
 }
 
-/// Serves on a board to which nothing was published, once each worker has a thread, and ends it. Gives how events were answered, too.
+/// Serves on a board to which nothing was published, once each worker has a thread, and ends it. Gives how events were
+/// answered, too.
 fn serve_on<R: Threads + Wait + Sync, A: Announcer, M: Moments, O: Operator>(
     rt: &R,
     announcer: &A,

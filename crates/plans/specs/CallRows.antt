@@ -1,4 +1,5 @@
--- What an event comes to that calls have to do with: one row for each rule of calls, for ACK, for responses and for timers.
+-- What an event comes to that calls have to do with: one row for each rule of calls, for ACK, for responses and for
+-- timers.
 use Rattle.std.specs.Prelude.{ℕ, ◌+◌, ◌==◌, Bool, true, false, nat_le, List, [], ◌∷◌, ◌++◌, codes, find, length, is_some, slice_get, Option, Some, None, option_map, if◌then◌else◌}
 use Rattle.sip_uri.specs.declared.uri.Addr.{Addr}
 use Rattle.sip_uri.specs.declared.uri.Uri.{Uri}
@@ -136,7 +137,8 @@ unless_full s e r begun id step =
     if are_full s then of_plan s (responds_in s e r begun id 503 [] None)
     else with_step s.acks begun None None step
 
--- the offer is none that the relay carries: 488 (RFC 3264 section 6); as many calls stand as may, or too few pairs are free: 503
+-- the offer is none that the relay carries: 488 (RFC 3264 section 6); as many calls stand as may, or too few pairs are
+-- free: 503
 abbrev pub first_by : Office → Setting → Request → List Entry → ℕ → Uri → Description → Effect
 first_by s e r begun id target offer =
     if is_some (offer_fault s.range offer None) then of_plan s (responds_in s e r begun id 488 [] None)
@@ -224,8 +226,8 @@ is_unfit c end offer = is_some (offer_fault c.media.range offer (previous end c.
 abbrev pub has_pairs_for : Office → ℕ → Call → End → Description → Bool
 has_pairs_for s now c end offer = nat_le (fresh_needed c.media end offer) (length (free_pairs now s.calls.pool.holdings))
 
--- it is none that the end may make or the relay carries: 488 (RFC 3264 section 8); too few pairs are free: 503; no number is left for a
--- request to the end across: 500
+-- it is none that the end may make or the relay carries: 488 (RFC 3264 section 8); too few pairs are free: 503; no
+-- number is left for a request to the end across: 500
 abbrev pub passes_if : Office → Setting → Request → List Entry → ℕ → ℕ → End → Call → Description → Effect
 passes_if s e r begun id place end c offer =
     if is_unfit c end offer then refuses s e r begun id place end (Refusal 488)
@@ -329,7 +331,8 @@ abbrev pub timed_out : Office → Setting → List Entry → Option Transaction 
 timed_out s e begun None = of_plan s (moves begun None)
 timed_out s e begun (Some asked) = timed_out_at s e begun (timeout_rule s.calls.calls asked.parts)
 
--- B and F time the responses to a request of the server's own; H times an ACK, which no call waits for (sections 17.1 and 17.2.1)
+-- B and F time the responses to a request of the server's own; H times an ACK, which no call waits for (sections 17.1
+-- and 17.2.1)
 abbrev pub times_responses : TimerKind → Bool
 times_responses kinds.B = true
 times_responses kinds.F = true

@@ -1,4 +1,5 @@
--- What an event comes to for all that the agent has: its plan, and what changes among the calls and the ACKs that go again.
+-- What an event comes to for all that the agent has: its plan, and what changes among the calls and the ACKs that go
+-- again.
 use Rattle.std.specs.Prelude.{ℕ, ◌<◌, ◌≤◌, ◌+◌, ◌^◌, ◌==◌, not, List, [], ◌∷◌, ◌++◌, filter, Option, Some, None}
 use Rattle.events.specs.declared.sent.Sent.{Sent}
 use Rattle.calls.specs.State.{Standing}
@@ -11,8 +12,8 @@ use Rattle.plans.specs.declared.acks.KeptAck.{KeptAck}
 use Rattle.plans.specs.declared.effects_of_events.Doing.{Doing}
 use Rattle.plans.specs.Plan.{Plan}
 
--- what is answered, sent and changed in transactions and registrar; the calls afterwards, with the changes of the relay table; and the
--- ACKs that go again
+-- what is answered, sent and changed in transactions and registrar; the calls afterwards, with the changes of the relay
+-- table; and the ACKs that go again
 pub record Effect : Type 0 where
   pub plan : Plan
   pub calls : Outcome

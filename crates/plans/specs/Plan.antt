@@ -12,8 +12,8 @@ use Rattle.transactions.specs.Changes.{answer_of}
 use Rattle.plans.specs.declared.taken.Taken.{Taken}
 use Rattle.plans.specs.declared.taken.Taken.TheVariants.{Done}
 
--- what is answered, the changes of the transactions in order, what is sent in order, what changes in the registrar, and how many
--- tokens are made
+-- what is answered, the changes of the transactions in order, what is sent in order, what changes in the registrar, and
+-- how many tokens are made
 pub record Plan : Type 0 where
   pub taken : Taken
   pub changes : List Entry

@@ -57,7 +57,8 @@ abbrev pub token_or_sent : Option (List ℕ) → Option (List ℕ) → Option (L
 token_or_sent None sent = sent
 token_or_sent (Some tag) sent = if is_run_of is_token_byte tag then Some tag else sent
 
--- the tag of the responses to a request (section 8.2.6.2): that of its To, or, where its To has none, the one in what its transaction sent last
+-- the tag of the responses to a request (section 8.2.6.2): that of its To, or, where its To has none, the one in what
+-- its transaction sent last
 abbrev pub response_tag : Transaction → Option (List ℕ)
 response_tag t = token_or_sent (tag_value t.parts.to.params) (tag_in t.last)
 

@@ -20,8 +20,8 @@ use events::Sent;
 use std::alloc::AllocError;
 use transactions::{Change, Outgoing};
 
-/// What an event comes to: its plan, and what changes among the calls and the ACKs that go again. All that takes memory has been
-/// done, but for the room of the lists that it goes into.
+/// What an event comes to: its plan, and what changes among the calls and the ACKs that go again. All that takes memory
+/// has been done, but for the room of the lists that it goes into.
 #[derive(Drop)]
 pub struct Doing {
     pub plan: Plan,

@@ -1,5 +1,6 @@
-//! What each rule comes to, as one value: what is answered and sent, and what changes in the transactions, the registrar, the calls and
-//! the ACKs that go again. It is asked of an office that is lent, so nothing changes here. Nothing here knows of the order of checks.
+//! What each rule comes to, as one value: what is answered and sent, and what changes in the transactions, the
+//! registrar, the calls and the ACKs that go again. It is asked of an office that is lent, so nothing changes here.
+//! Nothing here knows of the order of checks.
 #![tactic(auto)]
 
 mod acks;

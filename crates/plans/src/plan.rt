@@ -15,8 +15,8 @@ use std::marker::Model;
 use text::Text;
 use transactions::{Change, Outgoing};
 
-/// What an event comes to: its answer, the changes of the transactions, what is sent, and what changes in the registrar. All
-/// that takes memory has been done.
+/// What an event comes to: its answer, the changes of the transactions, what is sent, and what changes in the
+/// registrar. All that takes memory has been done.
 #[derive(Drop)]
 pub struct Plan {
     pub taken: Taken,
@@ -132,7 +132,8 @@ impl Plan {
         })
     }
 
-    /// A request began transaction `id`, and is answered there at once, with a response of this status, of which these are the bytes.
+    /// A request began transaction `id`, and is answered there at once, with a response of this status, of which these
+    /// are the bytes.
     pub(crate) fn answers(
         alloc: Global,
         begun: Vec<Change>,

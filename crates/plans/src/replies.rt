@@ -79,7 +79,8 @@ fn tag_in(alloc: Global, transaction: &Transaction) -> Result<Option<Text<'stati
     }
 }
 
-/// The tag of the responses to a transaction's request: that of its To, or, where its To has none, the one in what was sent last.
+/// The tag of the responses to a transaction's request: that of its To, or, where its To has none, the one in what was
+/// sent last.
 fn response_tag(
     alloc: Global,
     transaction: &Transaction,
@@ -112,8 +113,8 @@ fn tags_made(request: &Request<'_>) -> u8
     }
 }
 
-/// The plan of a response to a request that began transaction `id`: its status, the tag that To is given where it has none, and further
-/// header fields.
+/// The plan of a response to a request that began transaction `id`: its status, the tag that To is given where it has
+/// none, and further header fields.
 #[tactic(auto, unfolding(responses::specs::Responding::responds, sip_writing::specs::Reply::reply_of))]
 fn answers(
     alloc: Global,

@@ -34,8 +34,8 @@ changes_between port old new = if same_row old new then [] else change_to port n
 abbrev pub changes_at : ℕ → List Change → List Change
 changes_at port changes = filter (λ c. port_of c == port) changes
 
--- These changes and no others lead from the old table to the new one: they rise by their ports, each port has what leads
--- from its old row to its new one, and all of them, one by one, make the new table.
+-- These changes and no others lead from the old table to the new one: they rise by their ports, each port has what
+-- leads from its old row to its new one, and all of them, one by one, make the new table.
 pub record LeadFrom (old new : Rows) (changes : List Change) : Type 0 where
   pub rising : AllPairs (λ a b. port_of a < port_of b) changes
   pub each : (port : ℕ) → changes_at port changes ≡ changes_between port (get old port) (get new port)

@@ -49,8 +49,8 @@ resting_from now holding = record { even = holding.even; holder = holding.holder
 
 -- ---- what holds of the places of any pool
 
--- Pairs rise. Under each call are the places of the pairs that it holds, and of no other; each pair that nobody holds can be
--- put under a call without memory.
+-- Pairs rise. Under each call are the places of the pairs that it holds, and of no other; each pair that nobody holds
+-- can be put under a call without memory.
 pub record IsIndexed (holdings : List Holding) (calls : Indexed) : Type 0 where
   pub rising : PairsFrom min_port holdings
   pub by_call : (call : ℕ) → numbers_of calls.entries call ≡ places_of call 0 holdings

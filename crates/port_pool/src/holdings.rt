@@ -13,8 +13,8 @@ use std::alloc::{AllocError, Global};
 /// For how long a pair rests after it was freed, in milliseconds.
 const REST: u64 = 32_000;
 
-/// A pair, by its even port, the call that holds it, if any, and the moment at which it was last freed, if it ever was, in
-/// milliseconds.
+/// A pair, by its even port, the call that holds it, if any, and the moment at which it was last freed, if it ever was,
+/// in milliseconds.
 #[derive(Clone, Copy)]
 pub(crate) struct Holding {
     pub even: u16,

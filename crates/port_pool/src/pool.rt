@@ -66,8 +66,8 @@ impl Pool {
         })
     }
 
-    /// The `n` lowest pairs that are free at the moment `now`, in milliseconds: nobody holds them, and they do not rest. They
-    /// are what `reserve` gives. P1 comes only where fewer are free.
+    /// The `n` lowest pairs that are free at the moment `now`, in milliseconds: nobody holds them, and they do not
+    /// rest. They are what `reserve` gives. P1 comes only where fewer are free.
     pub fn plan_reserve(&self, n: usize, now: u64) -> Result<Vec<Pair>, PoolError>
         ensures pairs { IfOk result (λ pairs. pairs.items ≡ lowest_free self.now now n) }
         ensures count { IfOk result (λ pairs. length pairs.items ≡ n) }
@@ -100,8 +100,8 @@ impl Pool {
         self.places.take(call, pairs);
     }
 
-    /// Gives a call the `n` lowest pairs that are free at the moment `now`, in milliseconds: nobody holds them, and they do
-    /// not rest. P1 comes only where fewer are free, and every refusal leaves the pool as it was.
+    /// Gives a call the `n` lowest pairs that are free at the moment `now`, in milliseconds: nobody holds them, and
+    /// they do not rest. P1 comes only where fewer are free, and every refusal leaves the pool as it was.
     pub fn reserve(&mut self, call: u64, n: usize, now: u64) -> Result<Vec<Pair>, PoolError>
         ensures pairs { IfOk result (λ pairs. pairs.items ≡ lowest_free self.old now n) }
         ensures count { IfOk result (λ pairs. length pairs.items ≡ n) }
@@ -125,7 +125,8 @@ impl Pool {
         Ok(pairs)
     }
 
-    /// Frees a pair that a call holds, at whose ports no row stands; from the moment `now` the pair rests. Takes no memory.
+    /// Frees a pair that a call holds, at whose ports no row stands; from the moment `now` the pair rests. Takes no
+    /// memory.
     pub fn free(&mut self, pair: Pair, now: u64)
         requires held { is_some (holder_of self.old.holdings pair.even) ≡ true }
         requires bare { HasNoRow self.old pair }
@@ -137,8 +138,8 @@ impl Pool {
         self.places.release(pair, now);
     }
 
-    /// Frees a pair of a call, at whose ports the call has no row; from the moment `now` the pair rests. P2 comes where the
-    /// pair is not the call's, and leaves the pool as it was. Takes no memory.
+    /// Frees a pair of a call, at whose ports the call has no row; from the moment `now` the pair rests. P2 comes where
+    /// the pair is not the call's, and leaves the pool as it was. Takes no memory.
     pub fn release(&mut self, call: u64, pair: Pair, now: u64) -> Result<(), PoolError>
         requires { holder_of self.old.holdings pair.even ≡ Some call → HasNoRow self.old pair }
         ensures held { OnOk result (holder_of self.old.holdings pair.even ≡ Some call) }
@@ -157,8 +158,8 @@ impl Pool {
         Ok(())
     }
 
-    /// Frees the pairs of a call but for these, at whose ports alone the call has rows; from the moment `now` they rest. Takes
-    /// no memory.
+    /// Frees the pairs of a call but for these, at whose ports alone the call has rows; from the moment `now` they
+    /// rest. Takes no memory.
     pub fn free_others(&mut self, call: u64, kept: &[Pair], now: u64)
         requires { AreBareBut self.old call kept.now }
         ensures pool { self.new ≡ without_others self.old call kept.now now }
@@ -196,9 +197,10 @@ impl Pool {
         self.table.change_all(changes);
     }
 
-    /// Puts these rows of a call in place of its former ones, and answers what changed, by rising port: Put for each port
-    /// whose row is new or other, Remove for each whose row went. A line without a hop, or no line, leaves its port without
-    /// a row. No pair is freed, so the moment changes nothing. A refusal (no memory) leaves the pool as it was.
+    /// Puts these rows of a call in place of its former ones, and answers what changed, by rising port: Put for each
+    /// port whose row is new or other, Remove for each whose row went. A line without a hop, or no line, leaves its
+    /// port without a row. No pair is freed, so the moment changes nothing. A refusal (no memory) leaves the pool as it
+    /// was.
     pub fn commit(
         &mut self,
         call: u64,
@@ -234,8 +236,8 @@ impl Pool {
         Ok(removals)
     }
 
-    /// Frees all pairs of a call, which rest from the moment `now`, and makes the removals of its rows, which are those of
-    /// `plan_drop`. Takes no memory.
+    /// Frees all pairs of a call, which rest from the moment `now`, and makes the removals of its rows, which are those
+    /// of `plan_drop`. Takes no memory.
     pub fn end_call(&mut self, call: u64, removals: &[Change], now: u64)
         requires { removals.now ≡ changes_of self.old call [] }
         ensures pool { self.new ≡ without_call self.old call now }
@@ -250,8 +252,8 @@ impl Pool {
         self.places.drop_all(call, now);
     }
 
-    /// Frees all pairs of a call, which rest from the moment `now`, and removes all its rows, and answers these removals, by
-    /// rising port. A refusal (no memory) leaves the pool as it was.
+    /// Frees all pairs of a call, which rest from the moment `now`, and removes all its rows, and answers these
+    /// removals, by rising port. A refusal (no memory) leaves the pool as it was.
     pub fn drop_call(&mut self, call: u64, now: u64) -> Result<Vec<Change>, AllocError>
         ensures changes { IfOk result (λ changes. changes.items ≡ changes_of self.old call []) }
         ensures pool { OnOk result (self.new ≡ without_call self.old call now) }
@@ -269,9 +271,9 @@ impl Pool {
         Ok(removals)
     }
 
-    /// What holds of every pool. Two pairs that meet in a port have one holder, so no port serves two calls; a pair that a
-    /// call holds is led by an even port, not below 1024, that has one above it; pairs rise; and a port that has a row
-    /// belongs to a pair that a call holds.
+    /// What holds of every pool. Two pairs that meet in a port have one holder, so no port serves two calls; a pair
+    /// that a call holds is led by an even port, not below 1024, that has one above it; pairs rise; and a port that has
+    /// a row belongs to a pair that a call holds.
     pub fn pairs_never_meet(&self)
         ensures apart { NeverMeet self.now }
         ensures ports { (even call : ℕ) → holder_of self.now.holdings even ≡ Some call → LeadsPair even }

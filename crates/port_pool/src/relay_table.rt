@@ -12,8 +12,8 @@ use std::marker::Model;
 /// The number of ports.
 const PORTS: usize = 65_536;
 
-/// Where the datagrams of each port of the server go: a finite map from a port to a place and a sending port. It is made
-/// once, with room for a row at every port.
+/// Where the datagrams of each port of the server go: a finite map from a port to a place and a sending port. It is
+/// made once, with room for a row at every port.
 pub struct RelayTable {
     slots: Vec<Option<Hop>>,
 }

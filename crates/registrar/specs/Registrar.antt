@@ -120,8 +120,8 @@ plan_of user bindings = record { user = user; bindings = bindings }
 abbrev pub after_plan : Contents → PlanContents → Contents
 after_plan r plan = with_user r plan.user plan.bindings
 
--- the plan is of the user that the REGISTER names, and leaves it what it is answered; it fails where the answer is a refusal,
--- or memory ran out
+-- the plan is of the user that the REGISTER names, and leaves it what it is answered; it fails where the answer is a
+-- refusal, or memory ran out
 abbrev pub Plans : Result PlanContents Refusal → Option (List ℕ) → Result (List Binding) Refusal → Type 0
 Plans (Ok plan) user answer = (user ≡ Some plan.user) × (answer ≡ Ok plan.bindings)
 Plans (Err refusal) user answer = Fails refusal answer

@@ -2,8 +2,8 @@
 
 ghost use Rattle.registrar.specs.Bound.{FewBound, LastContactIsTarget, QueryKeepsTarget};
 
-/// A user has eight bindings at most. A call goes to the last contact of a REGISTER, where that is bound by it, and goes
-/// where it went, after a REGISTER without contacts.
+/// A user has eight bindings at most. A call goes to the last contact of a REGISTER, where that is bound by it, and
+/// goes where it went, after a REGISTER without contacts.
 pub fn laws_of_bindings()
     ensures few { FewBound }
     ensures last { LastContactIsTarget }

@@ -138,8 +138,9 @@ impl Registrar {
         self.entries.put_bindings(&user, bindings);
     }
 
-    /// Takes a REGISTER, and answers the bindings that its user then has, oldest first (RFC 3261 section 10.3): `plan` and
-    /// `carry_out` together. The refusals are met in the order B1, B2, B6, then contact by contact B3 and B4, then B5.
+    /// Takes a REGISTER, and answers the bindings that its user then has, oldest first (RFC 3261 section 10.3): `plan`
+    /// and `carry_out` together. The refusals are met in the order B1, B2, B6, then contact by contact B3 and B4, then
+    /// B5.
     pub fn apply(&mut self, register: &Register<'_>, now: u64) -> Result<Vec<Binding>, Refusal>
         requires { now < 2 ^ 60 }
         ensures answer { (rules : Rules) (history : List Event) → StandsAfter self.old rules history
@@ -168,8 +169,8 @@ impl Registrar {
         present(self.alloc, self.look_up(user).1, now)
     }
 
-    /// Where a call to a user goes: the URI of the binding that was refreshed last, of those that are not over (RFC 3261
-    /// section 16.5, one target of several). Takes no memory.
+    /// Where a call to a user goes: the URI of the binding that was refreshed last, of those that are not over (RFC
+    /// 3261 section 16.5, one target of several). Takes no memory.
     #[tactic(auto, unfolding(crate::specs::Bound::bound, crate::specs::Registrar::bindings_at))]
     pub fn target(&self, user: &Text<'_>, now: u64) -> Option<&Uri<'static>>
         ensures bound { (rules : Rules) (history : List Event) → StandsAfter self.now rules history

@@ -1,4 +1,5 @@
--- The rule of the published table: it is what the published lists make of the empty table, and what each thread knows begins them.
+-- The rule of the published table: it is what the published lists make of the empty table, and what each thread knows
+-- begins them.
 use Rattle.std.specs.Prelude.{◌≡◌, ℕ, List, [], ◌∷◌, ◌++◌, length}
 use mathlib.Core.Option.{some}
 use lib.ListN.{get_elem?}

@@ -1,5 +1,5 @@
-//! The relay table as media threads see it: one writer publishes lists of changes, and each worker looks ports up in the
-//! table that was published last, without waiting.
+//! The relay table as media threads see it: one writer publishes lists of changes, and each worker looks ports up in
+//! the table that was published last, without waiting.
 #![tactic(auto)]
 
 mod board;

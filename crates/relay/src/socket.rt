@@ -11,8 +11,8 @@ use thiserror::Error;
 #[error("a socket failed")]
 pub struct SocketFault;
 
-/// Sockets at relay ports, by the datagrams that they took, those that they sent, the room that a receive was given, and whether
-/// the last call failed.
+/// Sockets at relay ports, by the datagrams that they took, those that they sent, the room that a receive was given,
+/// and whether the last call failed.
 pub trait MediaSocket {
     ghost taken: { Self → List Taken };
 
@@ -24,8 +24,8 @@ pub trait MediaSocket {
     /// The bytes of room that the last receive was given.
     ghost room: { Self → ℕ };
 
-    /// Takes a datagram into the buffer, and gives its port and length. None where there is none now. What doesn't fit the
-    /// buffer is cut off.
+    /// Takes a datagram into the buffer, and gives its port and length. None where there is none now. What doesn't fit
+    /// the buffer is cut off.
     fn receive(&mut self, buffer: &mut [u8]) -> Result<Option<(u16, usize)>, SocketFault>
         ensures fits { IfOk result (λ r. IfSome r (λ d. d.1 ≤ length buffer.new)) }
         ensures taken { MatchResult result (λ r. MatchOption r (taken self.new ≡ taken self.old) (λ d. taken self.new ≡ taken self.old ++ record { port = d.0; bytes = take d.1 buffer.new } ∷ [])) (λ _. taken self.new ≡ taken self.old) }

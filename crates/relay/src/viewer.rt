@@ -29,8 +29,8 @@ impl Sighted for TableReader {
     ghost known = { λ r. sides.view r.place };
 }
 
-/// A reader with the number of lists that it knows of. It is generic, since the check finds that a generic struct may go
-/// to another thread, and does not where the reader's type is written out.
+/// A reader with the number of lists that it knows of. It is generic, since the check finds that a generic struct may
+/// go to another thread, and does not where the reader's type is written out.
 #[derive(Drop)]
 pub struct Sight<T: Sighted> {
     pub(crate) reader: T,
@@ -83,7 +83,8 @@ impl Viewer {
         found
     }
 
-    /// Takes in what the stamp stands for, and uses it up. The stamp is of the same board: then one's lists begin the other's.
+    /// Takes in what the stamp stands for, and uses it up. The stamp is of the same board: then one's lists begin the
+    /// other's.
     pub fn learn(&mut self, stamp: Stamp)
         ensures one { (self.new ≡ self.old) ⊎ (self.new ≡ stamp) }
         ensures number { (length self.old ≤ length self.new) × (length stamp ≤ length self.new) }

@@ -33,8 +33,8 @@ fn put_head(out: &mut Vec<u8>, to: Addr, count: u64) -> Result<(), AllocError>
     Ok(())
 }
 
-/// Writes `S ip port length`, a line feed, the bytes and a line feed behind what is there. Where memory runs out, a part may be
-/// written there.
+/// Writes `S ip port length`, a line feed, the bytes and a line feed behind what is there. Where memory runs out, a
+/// part may be written there.
 pub fn put_sent(out: &mut Vec<u8>, sent: &Sent) -> Result<(), AllocError>
     ensures ok { OnOk result (out.new.items ≡ out.old.items ++ sent_text sent.now) }
     ensures err { OnErr result (BeginsWith out.old.items out.new.items) }
@@ -59,8 +59,8 @@ pub fn put_call(out: &mut Vec<u8>, number: u64, phase: &[u8]) -> Result<(), Allo
     Ok(())
 }
 
-/// Writes `hop PORT IP PORT FROM`, the row of a port, and a line feed behind what is there. Where memory runs out, a part may
-/// be written there.
+/// Writes `hop PORT IP PORT FROM`, the row of a port, and a line feed behind what is there. Where memory runs out, a
+/// part may be written there.
 pub fn put_hop(out: &mut Vec<u8>, port: u16, hop: Hop) -> Result<(), AllocError>
     ensures ok { OnOk result (out.new.items ≡ out.old.items ++ hop_text port hop) }
     ensures err { OnErr result (BeginsWith out.old.items out.new.items) }

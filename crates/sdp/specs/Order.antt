@@ -1,5 +1,5 @@
--- The order of the lines of a description, by their first bytes (RFC 4566 section 5): v o s i u e p c b t r z k a, and per
--- medium m i c b k a. s and at least one t stand. e, p, b, t with its r, and a may repeat.
+-- The order of the lines of a description, by their first bytes (RFC 4566 section 5): v o s i u e p c b t r z k a, and
+-- per medium m i c b k a. s and at least one t stand. e, p, b, t with its r, and a may repeat.
 use Rattle.std.specs.Prelude.{ℕ, Bool, false, ◌&&◌, ◌==◌, List, [], ◌∷◌, length, codes, Option, Some, None, if◌then◌else◌}
 use Rattle.std.specs.List.{list_all}
 use Rattle.sdp.specs.Classes.{begins}

@@ -5,8 +5,8 @@ use crate::line::Lines;
 use std::marker::Model;
 use text::{Text, Texts};
 
-/// The fields of an `o=` line (RFC 4566 section 5.2), as written. Of a description that was read the id and the version are
-/// decimal digits.
+/// The fields of an `o=` line (RFC 4566 section 5.2), as written. Of a description that was read the id and the version
+/// are decimal digits.
 pub struct Origin<'a> {
     pub username: Text<'a>,
     pub id: Text<'a>,
@@ -29,8 +29,8 @@ impl Drop for Origin<'_> {
     }
 }
 
-/// A medium: an `m=` line and what stands under it (RFC 4566 sections 5 and 5.14). Of a description that was read a count is 1 or
-/// more, and there is a format.
+/// A medium: an `m=` line and what stands under it (RFC 4566 sections 5 and 5.14). Of a description that was read a
+/// count is 1 or more, and there is a format.
 pub struct Media<'a> {
     /// What is sent, as `audio`.
     pub kind: Text<'a>,

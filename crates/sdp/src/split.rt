@@ -119,7 +119,8 @@ fn are_clean(lines: &[&[u8]]) -> bool
     true
 }
 
-/// The lines of a text, and whether none has a CR or a NUL. Each ends with LF or CR LF, which may be missing behind the last.
+/// The lines of a text, and whether none has a CR or a NUL. Each ends with LF or CR LF, which may be missing behind the
+/// last.
 pub(crate) fn lines_of(alloc: Global, text: &[u8]) -> Result<(Vec<&[u8]>, bool), AllocError>
     ensures lines { IfOk result (λ x. texts x.0.items ≡ lines_of text.now) }
     ensures clean { IfOk result (λ x. x.1 ≡ list_all is_clean (lines_of text.now)) }

@@ -1,5 +1,5 @@
--- What `replay` writes for a script: the text of all that the agent sends, event by event, on an office to which nothing has
--- happened, and what stands at the end.
+-- What `replay` writes for a script: the text of all that the agent sends, event by event, on an office to which
+-- nothing has happened, and what stands at the end.
 use Rattle.std.specs.Prelude.{◌≡◌, ◌≢◌, ℕ, List, [], ◌∷◌, ◌++◌, ◌⊎◌, fold, Option, Some, None}
 use Rattle.std.specs.List.{flat_map}
 use Rattle.std.specs.Io.KnownBytes.{Appends, Keeps}
@@ -65,7 +65,8 @@ pub record Day (config : Option (Option (List ℕ))) (script : Option (List ℕ)
   pub new : IsNew office agent
   pub told : IsScript script events
 
--- the text of all that is sent was written behind what the writer held, and behind it the lines of what stands at the end
+-- the text of all that is sent was written behind what the writer held, and behind it the lines of what stands at the
+-- end
 abbrev pub Replays : Option (Option (List ℕ)) → Option (List ℕ) → Option (List ℕ) → Option (List ℕ) → Type 0
 Replays config script held held_after = (day : Day config script) × Appends held held_after (day_text day.agent day.events)
 
@@ -90,8 +91,8 @@ RunLeaves agent events Output held held_after = Unit {0}
 RunLeaves agent events Socket held held_after = ⊥
 RunLeaves agent events OutOfMemory held held_after = WritesFirst agent events held held_after
 
--- what a fault leaves of the output, and when it comes: one of the configuration only where a file was handed over for it, and
--- one of the script only where there is an office
+-- what a fault leaves of the output, and when it comes: one of the configuration only where a file was handed over for
+-- it, and one of the script only where there is an office
 abbrev pub ReplayLeaves : Option (Option (List ℕ)) → Option (List ℕ) → Fault → Option (List ℕ) → Option (List ℕ) → Type 0
 ReplayLeaves config script Input held held_after = (office : Config) × IsOffice config office × Keeps held held_after
 ReplayLeaves config script ConfigFault held held_after = (config ≢ None) × Keeps held held_after

@@ -48,6 +48,7 @@ hops_below rows (suc n) = hops_below rows n ++ hop_line rows n
 abbrev pub hops_text : Rows → List ℕ
 hops_text rows = hops_below rows 65536
 
--- `call NUMBER PHASE` for each call, in the order in which they began, and behind them `hop PORT IP PORT FROM` for each row
+-- `call NUMBER PHASE` for each call, in the order in which they began, and behind them `hop PORT IP PORT FROM` for each
+-- row
 abbrev pub state_text : Contents → List ℕ
 state_text s = calls_text s.calls.calls ++ hops_text s.calls.pool.rows

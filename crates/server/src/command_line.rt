@@ -48,8 +48,9 @@ fn serve_file<F: Shelf, H: Host>(
     serve(alloc, shelf.open(config), host, turns)
 }
 
-/// Does what the words of the command line ask, of which the first is the program's own: `once` answers the datagram that
-/// the reader has on the writer, `replay` runs the script of a file, and `serve` has the host serve the configuration of a file.
+/// Does what the words of the command line ask, of which the first is the program's own: `once` answers the datagram
+/// that the reader has on the writer, `replay` runs the script of a file, and `serve` has the host serve the
+/// configuration of a file.
 pub fn run<F: Shelf, H: Host, R: Read, W: Write>(
     alloc: Global,
     words: &[&str],

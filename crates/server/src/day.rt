@@ -149,9 +149,9 @@ fn play_day<W: Write>(
     write_state(alloc, agent, writer)
 }
 
-/// Reads a configuration, if there is a file of one, then a whole script, and writes the text of all that the office sends at its
-/// events, one event after the other, and behind it the calls that stand and the rows of the relay table. An event that memory is
-/// refused for ends the run behind what was sent before it.
+/// Reads a configuration, if there is a file of one, then a whole script, and writes the text of all that the office
+/// sends at its events, one event after the other, and behind it the calls that stand and the rows of the relay table.
+/// An event that memory is refused for ends the run behind what was sent before it.
 pub fn replay<C: Read + Drop, S: Read + Drop, W: Write>(
     alloc: Global,
     config: Option<C>,

@@ -67,8 +67,8 @@ fn put_hops(out: &mut Vec<u8>, relay: &RelayTable) -> Result<(), AllocError>
     put_hop_line(out, relay, u16::MAX)
 }
 
-/// The lines of the calls that stand, in the order in which they began, and behind them those of the relay table's rows, by rising
-/// port.
+/// The lines of the calls that stand, in the order in which they began, and behind them those of the relay table's
+/// rows, by rising port.
 pub(crate) fn put_state(out: &mut Vec<u8>, agent: &Agent) -> Result<(), AllocError>
     ensures ok { OnOk result (out.new.items ≡ out.old.items ++ state_text agent.now) }
 {

@@ -23,7 +23,8 @@ pub enum Asked<'a> {
         config: Option<&'a str>,
         script: &'a str,
     },
-    /// Serve telephones on the sockets of a configuration, until so many turns are made, or without an end. It is a path.
+    /// Serve telephones on the sockets of a configuration, until so many turns are made, or without an end. It is a
+    /// path.
     Serve {
         config: &'a str,
         turns: Option<u64>,

@@ -1,4 +1,5 @@
--- What can be answered of a request that can't be read (RFC 3261 section 8.2.6): the values that a response repeats, each read alone.
+-- What can be answered of a request that can't be read (RFC 3261 section 8.2.6): the values that a response repeats,
+-- each read alone.
 use Rattle.std.specs.Prelude.{ℕ, Bool, false, not, ◌&&◌, nat_eq, List, [], ◌∷◌, codes, Option, Some, None, option_map, option_and_then, if◌then◌else◌}
 use Rattle.std.specs.Cmp.Lexicographic.{pointwise}
 use Rattle.text.specs.Cut.{before, after}
@@ -28,7 +29,8 @@ abbrev pub are_two_parts : Option (List ℕ) → Bool
 are_two_parts None = false
 are_two_parts (Some text) = is_part (before 32 text) && is_part_there (after 32 text)
 
--- a method that asks for a response: an ACK gets none (section 17), and a first line that begins with `SIP/` is that of a response
+-- a method that asks for a response: an ACK gets none (section 17), and a first line that begins with `SIP/` is that of
+-- a response
 abbrev pub asks_answer : List ℕ → Bool
 asks_answer method = is_part method && not (begins_sip method) && not (pointwise nat_eq method (codes "ACK"))
 

@@ -1,4 +1,5 @@
--- What the body of a message is by its header fields: its type and its codings (RFC 3261 sections 7.4, 20.12 and 20.15).
+-- What the body of a message is by its header fields: its type and its codings (RFC 3261 sections 7.4, 20.12 and
+-- 20.15).
 use Rattle.std.specs.Prelude.{ℕ, Bool, true, nat_eq, List, codes, Option, Some, None}
 use Rattle.std.specs.Cmp.Lexicographic.{pointwise}
 use Rattle.std.specs.List.{list_all}

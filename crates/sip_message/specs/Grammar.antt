@@ -1,5 +1,5 @@
--- Which texts are messages, by what they are made of, to be read beside RFC 3261. No limit is part of it: how long a text may be,
--- and how many header lines it may have, stand apart.
+-- Which texts are messages, by what they are made of, to be read beside RFC 3261. No limit is part of it: how long a
+-- text may be, and how many header lines it may have, stand apart.
 use Rattle.std.specs.Prelude.{◌≡◌, ℕ, Bool, true, false, ◌≤◌, ◌<◌, IsTrue, List, [], ◌∷◌, ◌++◌, length, map, codes, Some, Err}
 use Rattle.std.specs.Char.{is_ascii_digit}
 use Rattle.text.specs.Class.{is_run_of, is_token_byte}
@@ -37,7 +37,8 @@ use Rattle.sip_message.specs.ContentLength.{without_length, max_content_length}
 
 -- ---- the start line
 
--- Request-Line: Method SP Request-URI SP SIP-Version (section 7.1), of any version: the method is a token, and the Request-URI a URI
+-- Request-Line: Method SP Request-URI SP SIP-Version (section 7.1), of any version: the method is a token, and the
+-- Request-URI a URI
 pub record HasRequestForm (text : List ℕ) (line : RequestLine) (version : List ℕ) : Type 0 where
   pub uri_part : List ℕ
   pub whole : text ≡ line.method ++ 32 ∷ (uri_part ++ 32 ∷ version)
@@ -46,8 +47,8 @@ pub record HasRequestForm (text : List ℕ) (line : RequestLine) (version : List
   pub reads : ReadsUri uri_part line.uri
   pub some_version : IsTrue (is_part version)
 
--- Status-Line: SIP-Version SP Status-Code SP Reason-Phrase (section 7.2), of any version that begins with `SIP/`: the number has three
--- digits and is 100 to 699, and the reason may be empty
+-- Status-Line: SIP-Version SP Status-Code SP Reason-Phrase (section 7.2), of any version that begins with `SIP/`: the
+-- number has three digits and is 100 to 699, and the reason may be empty
 pub record HasStatusForm (text : List ℕ) (line : StatusLine) (version : List ℕ) : Type 0 where
   pub digits : List ℕ
   pub whole : text ≡ version ++ 32 ∷ (digits ++ 32 ∷ line.reason)
@@ -102,13 +103,15 @@ pub record SaysParts (start : Start) (fields : List Header) (parts : Parts) : Ty
   pub cseq : cseq_of parts.cseq_text ≡ Some parts.cseq
   pub cseq_method : IsTrue (is_method_for start parts.cseq.method)
 
--- the values of Contact: one address where one is needed, one at most where it may stand, and elsewhere it isn't looked at
+-- the values of Contact: one address where one is needed, one at most where it may stand, and elsewhere it isn't looked
+-- at
 abbrev pub SaysContact : ContactNeed → List ContactValue → Type 0
 SaysContact One values = IsTrue (is_one_address values)
 SaysContact AtMostOne values = IsTrue (is_one_address_at_most values)
 SaysContact Unlooked values = Unit {0}
 
--- the values of Max-Forwards, of which there is one at most: it is 0 to 255 (section 20.22), and the usual one where there is none (section 8.1.1.6)
+-- the values of Max-Forwards, of which there is one at most: it is 0 to 255 (section 20.22), and the usual one where
+-- there is none (section 8.1.1.6)
 abbrev pub SaysHops : List (List ℕ) → ℕ → Type 0
 SaysHops [] hops = hops ≡ usual_hops
 SaysHops (text ∷ []) hops = max_forwards_of text ≡ Some hops
@@ -120,8 +123,8 @@ SaysType [] = Unit {0}
 SaysType (text ∷ []) = IsTrue (is_media_type text)
 SaysType (one ∷ two ∷ more) = ⊥
 
--- the values of Content-Length, of which there is one at most (section 20.14): as many bytes are the body as it says, and others may
--- stand behind them; where there is none, all bytes are the body (section 18.3)
+-- the values of Content-Length, of which there is one at most (section 20.14): as many bytes are the body as it says,
+-- and others may stand behind them; where there is none, all bytes are the body (section 18.3)
 abbrev pub SaysBody : List (List ℕ) → List ℕ → List ℕ → Type 0
 SaysBody [] raw body = body ≡ raw
 SaysBody (text ∷ []) raw body = IsTrue (is_run_of is_ascii_digit text) × (number_upto max_content_length text ≡ Some (length body)) × ((behind : List ℕ) × (raw ≡ body ++ behind))
@@ -178,8 +181,8 @@ IsShort text = length text ≤ max_datagram
 abbrev pub IsWithin : (text : List ℕ) (message : Message) → ReadsMessage text message → Type 0
 IsWithin text message reads = IsShort text × (header_lines text message reads ≤ max_lines)
 
--- start line and header fields stand, and the first header field, in the order of `HeaderName`, that does not say its value, or then
--- the body, has this fault
+-- start line and header fields stand, and the first header field, in the order of `HeaderName`, that does not say its
+-- value, or then the body, has this fault
 pub record RefusesContents (text : List ℕ) (fault : MessageError) : Type 0 where
   pub short : IsShort text
   pub start : Start

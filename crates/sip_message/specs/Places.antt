@@ -21,7 +21,8 @@ abbrev pub ArePlaced : List ℕ → ℕ → List RawField → Type 0
 ArePlaced text place [] = Unit {0}
 ArePlaced text place (f ∷ fs) = StandsAt text place (field_text f) × ArePlaced text (place + length (field_text f)) fs
 
--- the header fields, but for Content-Length, are what fields say that stand in the text in this order, none over another
+-- the header fields, but for Content-Length, are what fields say that stand in the text in this order, none over
+-- another
 pub record IsPlaced (text : List ℕ) (headers : List Header) : Type 0 where
   pub fields : List RawField
   pub begin : ℕ

@@ -1,5 +1,5 @@
--- The start line of a message: of a request method, Request-URI and version, of a response version, number and reason, with a single
--- space between each two (RFC 3261 sections 7.1 and 7.2).
+-- The start line of a message: of a request method, Request-URI and version, of a response version, number and reason,
+-- with a single space between each two (RFC 3261 sections 7.1 and 7.2).
 use Rattle.std.specs.Prelude.{ℕ, Bool, not, ◌&&◌, ◌==◌, nat_le, List, length, codes, Option, Some, None, is_some, Result, Ok, Err, if◌then◌else◌}
 use Rattle.std.specs.List.{list_all}
 use Rattle.std.specs.Char.{is_ascii_digit}

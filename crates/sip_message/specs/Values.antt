@@ -1,4 +1,5 @@
--- What the header fields of a message say (RFC 3261 sections 8.1.1 and 20), and the first fault of those that say nothing.
+-- What the header fields of a message say (RFC 3261 sections 8.1.1 and 20), and the first fault of those that say
+-- nothing.
 use Rattle.std.specs.Prelude.{ℕ, List, [], ◌∷◌, codes, Option, Some, None, Result, Ok, Err, if◌then◌else◌}
 use Rattle.sip_uri.specs.declared.uri.NameAddr.{NameAddr}
 use Rattle.sip_message.specs.Hops.{usual_hops}
@@ -75,7 +76,8 @@ contacts_for One values = one_address values
 contacts_for AtMostOne values = if is_one_address_at_most values then Ok tt else Err (Unreadable Names.Contact)
 contacts_for Unlooked values = Ok tt
 
--- Contact has one value, an address, where the message needs one, and one at most where it may have one; elsewhere it isn't looked at
+-- Contact has one value, an address, where the message needs one, and one at most where it may have one; elsewhere it
+-- isn't looked at
 abbrev pub contact_for : Start → List ℕ → List Header → Result (Unit {0}) MessageError
 contact_for start method headers = contacts_for (contact_need start method) (contacts_of headers)
 

@@ -1,4 +1,5 @@
--- The Via header fields (RFC 3261 sections 20.42 and 25.1): the text of one value in its parts, what it says, and all values.
+-- The Via header fields (RFC 3261 sections 20.42 and 25.1): the text of one value in its parts, what it says, and all
+-- values.
 use Rattle.std.specs.Prelude.{ℕ, Bool, ◌&&◌, nat_lt, List, [], ◌∷◌, ◌++◌, codes, Option, Some, None, unwrap_or, option_map, option_and_then, Result, Err, if◌then◌else◌}
 use Rattle.std.specs.Char.{is_ascii_digit}
 use Rattle.std.specs.List.{flat_map}

@@ -175,8 +175,8 @@ fn need_by_method(method: &[u8]) -> ContactNeed
     }
 }
 
-/// How many Contacts the message needs: an INVITE and a 2xx to one say where their sender is reached, and an UPDATE and a
-/// 2xx to one may say so.
+/// How many Contacts the message needs: an INVITE and a 2xx to one say where their sender is reached, and an UPDATE and
+/// a 2xx to one may say so.
 pub(crate) fn contact_need(start: &Start<'_>, method: &Text<'_>) -> ContactNeed
     ensures { result ≡ contact_need start.now method.now }
 {

@@ -1,4 +1,5 @@
-//! What the body of a message is by its header fields: its type and its codings (RFC 3261 sections 7.4, 20.12 and 20.15).
+//! What the body of a message is by its header fields: its type and its codings (RFC 3261 sections 7.4, 20.12 and
+//! 20.15).
 
 ghost use Rattle.std.specs.Prelude.{◌≡◌, map, IfOk};
 ghost use Rattle.std.specs.List.{list_all};
@@ -46,8 +47,8 @@ fn is_uncoded_by_each(alloc: Global, values: &[&FieldValue<'_>]) -> Result<bool,
     Ok(true)
 }
 
-/// Whether each element of Content-Encoding leaves the body as it is: `identity`, without case. Without that header field
-/// it does; an empty element is no coding, so that the body is coded.
+/// Whether each element of Content-Encoding leaves the body as it is: `identity`, without case. Without that header
+/// field it does; an empty element is no coding, so that the body is coded.
 pub fn is_uncoded(alloc: Global, headers: &[Header<'_>]) -> Result<bool, AllocError>
     ensures uncoded { IfOk result (λ b. b ≡ is_uncoded headers.now) }
 {

@@ -62,8 +62,8 @@ pub fn tag_value<'m, 'a>(params: &'m [Param<'a>]) -> Option<&'m Text<'a>>
     param_value(params, b"tag")
 }
 
-/// The tag of a From or To with these parameters, as a text that is empty where there is none (RFC 3261 section 12.1.1).
-/// Takes no memory.
+/// The tag of a From or To with these parameters, as a text that is empty where there is none (RFC 3261 section
+/// 12.1.1). Takes no memory.
 pub fn tag_text<'m>(params: &'m [Param<'_>]) -> &'m [u8]
     ensures tag { result.now ≡ tag_text params.now }
 {

@@ -16,7 +16,8 @@ use Rattle.sip_uri.specs.FieldParams.{is_bracket_byte, is_there_and_empty, is_br
 use Rattle.sip_uri.proofs.BlankLaws.{lead_of, trail_of}
 use Rattle.sip_uri.proofs.QuotedLaws.{quoted_is}
 
--- a byte that stands between parts: none that a token, a host or blanks have, and none that begins or ends a quoted string
+-- a byte that stands between parts: none that a token, a host or blanks have, and none that begins or ends a quoted
+-- string
 pub record Separates (c : ℕ) : Type 0 where
   pub token : is_token_byte c ≡ false
   pub bracket : is_bracket_byte c ≡ false

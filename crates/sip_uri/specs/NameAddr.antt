@@ -99,8 +99,8 @@ pub record ReadsNameAddr (text : List ℕ) (name : NameAddr) : Type 0 where
   pub display : name.display ≡ raw.display
   pub params : name.params ≡ field_params_of raw.params
 
--- the text has this fault, and none before it: of the parts that it is cut into, another scheme goes before the form of the whole, and
--- that before the URI's other faults
+-- the text has this fault, and none before it: of the parts that it is cut into, another scheme goes before the form of
+-- the whole, and that before the URI's other faults
 abbrev pub RefusesName : List ℕ → UriError → Type 0
 RefusesName text OutOfMemory = Unit {0}
 RefusesName text Scheme = (raw : RawName) × (name_of text ≡ Some raw) × SpellsName text raw × Refuses raw.uri Scheme

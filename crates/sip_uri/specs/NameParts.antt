@@ -1,5 +1,5 @@
--- A name and an address in parts (RFC 3261 section 25.1, name-addr and addr-spec): `"display" <uri>;params`, `display <uri>;params`,
--- `<uri>;params` or `uri;params`.
+-- A name and an address in parts (RFC 3261 section 25.1, name-addr and addr-spec): `"display" <uri>;params`, `display
+-- <uri>;params`, `<uri>;params` or `uri;params`.
 use Rattle.std.specs.Prelude.{ℕ, Bool, true, false, not, ◌||◌, ◌==◌, List, [], ◌∷◌, length, codes, Option, Some, None, is_some, option_and_then, if◌then◌else◌}
 use Rattle.std.specs.List.{list_all}
 use Rattle.text.specs.Class.{is_blank, is_token_byte, is_one_of}

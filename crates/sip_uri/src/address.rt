@@ -15,8 +15,8 @@ pub fn port_or_default(port: Option<u16>) -> u16
     port.unwrap_or(DEFAULT_PORT)
 }
 
-/// Where a request to this URI goes: to the address of its host and to its port, 5060 where it names none. None where its
-/// host is a name. Takes no memory.
+/// Where a request to this URI goes: to the address of its host and to its port, 5060 where it names none. None where
+/// its host is a name. Takes no memory.
 pub fn address_of(uri: &Uri<'_>) -> Option<Addr>
     ensures address { result ≡ address_of uri.now }
 {

@@ -82,8 +82,8 @@ fn token_end(text: &[u8]) -> Option<usize>
     text.iter().position(|b| !is_token_byte(*b))
 }
 
-/// The parameter that all of the text is, where it is a token, `=` and a token, as most are: then it has no separator and no blank,
-/// and is looked at once.
+/// The parameter that all of the text is, where it is a token, `=` and a token, as most are: then it has no separator
+/// and no blank, and is looked at once.
 fn plain_param(text: &[u8]) -> Option<Param<'_>>
     ensures { IfSome result (λ p. field_params_read (Some text.now) ≡ Some (p ∷ [])) }
 {

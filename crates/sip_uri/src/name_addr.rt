@@ -82,8 +82,8 @@ fn put_display(out: &mut Vec<u8>, display: Option<&Text>) -> Result<(), AllocErr
     Ok(())
 }
 
-/// Writes a display and a URI behind what is there: `"display" <uri>`, without the display where there is none. Where memory runs
-/// out, a part may be written there.
+/// Writes a display and a URI behind what is there: `"display" <uri>`, without the display where there is none. Where
+/// memory runs out, a part may be written there.
 pub fn put_display_and_uri(
     out: &mut Vec<u8>,
     display: Option<&Text>,
@@ -99,8 +99,8 @@ pub fn put_display_and_uri(
     Ok(())
 }
 
-/// Writes a name and an address behind what is there: `"display" <uri>;name=value`, without the display where there is none. Where
-/// memory runs out, a part may be written there.
+/// Writes a name and an address behind what is there: `"display" <uri>;name=value`, without the display where there is
+/// none. Where memory runs out, a part may be written there.
 #[tactic(auto, unfolding(crate::specs::NameAddr::name_addr_text))]
 pub fn put_name_addr(out: &mut Vec<u8>, name: &NameAddr) -> Result<(), AllocError>
     ensures ok { OnOk result (out.new.items ≡ out.old.items ++ name_addr_text name.now) }

@@ -87,7 +87,8 @@ impl<'a> Parts<'a> {
     }
 }
 
-/// Whether the byte begins no port, parameters or headers. `<`, `=` and `>` count with `:`, `;` and `?`, so that these are one range.
+/// Whether the byte begins no port, parameters or headers. `<`, `=` and `>` count with `:`, `;` and `?`, so that these
+/// are one range.
 fn is_no_mark(b: u8) -> bool
     ensures { result ≡ (nat_lt b 58 || nat_lt 63 b) }
 {

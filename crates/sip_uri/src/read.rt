@@ -27,8 +27,8 @@ fn host(text: &[u8], octets: Option<[u8; 4]>) -> Host<'_>
     }
 }
 
-/// The host that the bytes are, as in a URI and in a Via (RFC 3261 section 25.1): an IPv4 address by its octets, or a host
-/// name as written. `None` for others. Takes no memory.
+/// The host that the bytes are, as in a URI and in a Via (RFC 3261 section 25.1): an IPv4 address by its octets, or a
+/// host name as written. `None` for others. Takes no memory.
 #[tactic(auto, unfolding(crate::specs::Reading::host_read, crate::specs::Hosts::is_host))]
 pub fn read_host(text: &[u8]) -> Option<Host<'_>>
     ensures { result ≡ host_read text.now }

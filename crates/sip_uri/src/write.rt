@@ -119,8 +119,8 @@ fn put_port(out: &mut Vec<u8>, port: Option<u16>) -> Result<(), AllocError>
     Ok(())
 }
 
-/// Writes a URI behind what is there. Bytes of its user that may not stand in one are written as `%` and two upper-case digits. Where
-/// memory runs out, a part may be written there.
+/// Writes a URI behind what is there. Bytes of its user that may not stand in one are written as `%` and two upper-case
+/// digits. Where memory runs out, a part may be written there.
 #[tactic(auto, unfolding(crate::specs::Writing::uri_text))]
 pub fn put_uri(out: &mut Vec<u8>, uri: &Uri) -> Result<(), AllocError>
     ensures ok { OnOk result (out.new.items ≡ out.old.items ++ uri_text uri.now) }

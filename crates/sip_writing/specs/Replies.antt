@@ -1,5 +1,5 @@
--- When a response is one to a request (RFC 3261 sections 8.2.6.2 and 17.1.3): by the branch of the top Via, Call-ID, the tags, and
--- number and method of CSeq.
+-- When a response is one to a request (RFC 3261 sections 8.2.6.2 and 17.1.3): by the branch of the top Via, Call-ID,
+-- the tags, and number and method of CSeq.
 use Rattle.std.specs.Prelude.{◌≡◌, ℕ, ◌==◌, List, [], ◌∷◌, codes, Option, Some, None, if◌then◌else◌}
 use Rattle.sip_uri.specs.declared.uri.Param.{Param}
 use Rattle.sip_uri.specs.Binding.{param_named}

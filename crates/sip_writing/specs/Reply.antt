@@ -63,8 +63,8 @@ with_received needed source params = if needed then params ++ received source �
 abbrev pub marked_params : Bool → Bool → Addr → List Param → List Param
 marked_params asked needed source params = with_received needed source (without (codes "received") (filled asked source.port params))
 
--- an empty `rport` gets the source port, a `received` of the sender's own is taken out, and ours is put behind where the host is
--- another or `rport` was empty
+-- an empty `rport` gets the source port, a `received` of the sender's own is taken out, and ours is put behind where
+-- the host is another or `rport` was empty
 unfoldable pub marked : Addr → Via → Via
 marked source via =
     let asked = asks_port via.params in

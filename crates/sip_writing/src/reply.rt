@@ -217,8 +217,8 @@ fn reply(
     })
 }
 
-/// The response to a request that came from `source`, with no body: each Via, From, To, Call-ID and CSeq as received, the
-/// top Via with the source, and To with the tag where it has none and the status is not 100.
+/// The response to a request that came from `source`, with no body: each Via, From, To, Call-ID and CSeq as received,
+/// the top Via with the source, and To with the tag where it has none and the status is not 100.
 pub fn reply_to(
     alloc: Global,
     parts: &Parts<'_>,
@@ -229,7 +229,8 @@ pub fn reply_to(
     ensures answer { IfOk result (λ r. r ≡ reply_of parts.now source status tag.now) }
     // It is a response to the request, by branch, Call-ID, tags, number and method.
     ensures replies { IfOk result (λ r. Replies r.parts parts.now status tag.now) }
-    // What is written for it is read as it, where the parts were read, the tag is a token and the status is one of a response.
+    // What is written for it is read as it, where the parts were read, the tag is a token and the status is one of a
+    // response.
     ensures again { IfOk result (λ r. CanBeRepeated parts.now → IsTrue (is_run_of is_token_byte tag.now) → 100 ≤ status → status ≤ 699 → IsReadAgain r) }
 {
     numbers_fit(&source.ip, source.port);

@@ -18,8 +18,8 @@ use sip_uri::{Addr, put_params};
 use std::alloc::{AllocError, Global};
 use text::{Text, put_number};
 
-/// What a response is made of: the request's parts and where it came from, the status, the tag that To is given where it has
-/// none, and what stands behind what each response has.
+/// What a response is made of: the request's parts and where it came from, the status, the tag that To is given where
+/// it has none, and what stands behind what each response has.
 #[derive(Clone, Copy)]
 pub struct Reply<'m, 'a> {
     pub parts: &'m Parts<'a>,

@@ -278,8 +278,8 @@ fn hops_fit(hops: u8)
     ensures { hops ≤ 255 }
 {}
 
-/// The request of a draft: its header fields are Via, Max-Forwards, From, To, Call-ID, CSeq and the further ones, in this
-/// order. It borrows nothing.
+/// The request of a draft: its header fields are Via, Max-Forwards, From, To, Call-ID, CSeq and the further ones, in
+/// this order. It borrows nothing.
 pub fn build_request(alloc: Global, draft: &Draft<'_, '_>) -> Result<Request<'static>, AllocError>
     ensures request { IfOk result (λ r. r ≡ request_of draft.now) }
     // What is written for the request of a sound draft is read as that request.

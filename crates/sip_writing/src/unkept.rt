@@ -18,8 +18,8 @@ use sip_uri::{Uri, put_display_and_uri};
 use std::alloc::{AllocError, Global};
 use text::{Text, put_number};
 
-/// From or To of a request: display and URI of an end, with its tag alone, which is left out where it is empty (RFC 3261 section
-/// 12.2.1.1).
+/// From or To of a request: display and URI of an end, with its tag alone, which is left out where it is empty (RFC
+/// 3261 section 12.2.1.1).
 #[derive(Clone, Copy)]
 pub struct EndName<'m, 'a> {
     pub display: &'m Option<Text<'a>>,

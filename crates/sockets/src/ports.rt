@@ -116,8 +116,8 @@ fn bind_all<R: Net>(
     Ok(sockets)
 }
 
-/// Opens the socket for SIP and those of all relay ports. Err where the system refuses one, or memory: those that were opened are closed
-/// then.
+/// Opens the socket for SIP and those of all relay ports. Err where the system refuses one, or memory: those that were
+/// opened are closed then.
 pub fn bind<R: Net>(rt: &R, alloc: Global, config: &Config) -> io::Result<Sockets>
     ensures sip { IfOk result (λ s. s.sip ≡ no_traffic) }
     ensures relay { IfOk result (λ s. s.relay ≡ relay_ports config.now) }

@@ -15,8 +15,8 @@ const MAX_READY_IN_A_ROW: u32 = 64;
 /// So many milliseconds are waited at most.
 const MAX_WAIT: u64 = 100;
 
-/// What waits for the sockets of one worker, and which of them were ready when it was asked last. Sockets are named by their
-/// places among all relay sockets.
+/// What waits for the sockets of one worker, and which of them were ready when it was asked last. Sockets are named by
+/// their places among all relay sockets.
 #[derive(Drop)]
 pub(crate) struct Ready {
     poll: Poll,

@@ -14,7 +14,8 @@ use std::io::ErrorKind;
 use std::marker::Model;
 use std::time::Duration;
 
-/// A socket at the server's port for SIP, and what waits for it. It notes what it takes, and what it is asked to send and sends, for clauses alone.
+/// A socket at the server's port for SIP, and what waits for it. It notes what it takes, and what it is asked to send
+/// and sends, for clauses alone.
 #[derive(Drop)]
 pub struct SipSocket {
     pub(crate) socket: UdpSocket,
@@ -61,8 +62,8 @@ impl Model for SipSocket {
 }
 
 impl SipSocket {
-    /// Takes a datagram into the buffer, and gives where it came from and its length in bytes. None where there is none now, or where
-    /// one came by IPv6. What doesn't fit the buffer is cut off. Err is the system's refusal.
+    /// Takes a datagram into the buffer, and gives where it came from and its length in bytes. None where there is none
+    /// now, or where one came by IPv6. What doesn't fit the buffer is cut off. Err is the system's refusal.
     pub fn receive(&mut self, buffer: &mut [u8]) -> io::Result<Option<(Addr, usize)>>
         ensures fits { IfOk result (λ r. IfSome r (λ d. d.1 ≤ length buffer.new)) }
         ensures taken { MatchResult result (λ r. MatchOption r (self.new.taken ≡ self.old.taken) (λ d. self.new.taken ≡ self.old.taken ++ at_sip d.0 (take d.1 buffer.new) ∷ [])) (λ _. self.new.taken ≡ self.old.taken) }

@@ -43,8 +43,8 @@ fn worker_of(
     }
 }
 
-/// A worker for each viewer, with what waits for its sockets. Err where memory is refused, or where the sockets are shared by fewer
-/// workers than there are viewers: all sockets are closed then, and the viewers are gone.
+/// A worker for each viewer, with what waits for its sockets. Err where memory is refused, or where the sockets are
+/// shared by fewer workers than there are viewers: all sockets are closed then, and the viewers are gone.
 pub fn workers_of(
     alloc: Global,
     relay: RelaySockets,

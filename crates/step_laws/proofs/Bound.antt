@@ -1,4 +1,5 @@
--- What a REGISTER is answered by a registrar that stands after some, from the list of these alone: and what its user is bound to then.
+-- What a REGISTER is answered by a registrar that stands after some, from the list of these alone: and what its user is
+-- bound to then.
 use Rattle.std.proofs.Common.{◌≡◌, ◌∙◌, ◌++◌, ◌&&◌, ℕ, Bool, true, false, List, [], ◌∷◌, Option, Some, None, Ok, Err, cond, ap, refl, subst}
 use Rattle.std.proofs.lemmas.Bool.{and_from, cond-true}
 use Rattle.registrar.specs.Bound.{Event, answer_after, bindings_after, bound, fold_from, names, or_as_before, step}

@@ -1,5 +1,5 @@
--- Each row of a request that begins a transaction, of an ACK, of a response and of a timer counts the event as done, and its changes are ready; and
--- but for a REGISTER's none changes the registrar.
+-- Each row of a request that begins a transaction, of an ACK, of a response and of a timer counts the event as done,
+-- and its changes are ready; and but for a REGISTER's none changes the registrar.
 use Rattle.std.proofs.Common.{◌≡◌, ◌++◌, ℕ, cond, List, [], ◌∷◌, Option, Some, None, Result, Ok, Err, is_some, map, refl}
 use Rattle.std.specs.Prelude.{option_map, slice_get}
 use Rattle.std.proofs.lemmas.Bool.{cond_both}

@@ -1,5 +1,5 @@
--- An event, as a list of cases: it counts as not come, for a reason; or it is done, and leaves the registrar; or it brings a REGISTER. The
--- changes of all of them are ready.
+-- An event, as a list of cases: it counts as not come, for a reason; or it is done, and leaves the registrar; or it
+-- brings a REGISTER. The changes of all of them are ready.
 use Rattle.std.proofs.Common.{◌≡◌, ℕ, true, false, nat_le, nat_lt, List, [], ◌∷◌, codes, length, Option, Some, None, Result, Ok, Err, inl, inr, is_some, refl, subst, sym}
 use Rattle.std.specs.Prelude.{◌||◌, ◌&&◌, ◌<◌, cond}
 use Rattle.std.proofs.lemmas.Bool.{and_parts, cond_both, false≢true, leb-false, leb-true, ltb-true}

@@ -1,4 +1,5 @@
--- What a first INVITE that is passed on has the server send: 100 to its sender, and an INVITE with what was offered to where the callee is bound.
+-- What a first INVITE that is passed on has the server send: 100 to its sender, and an INVITE with what was offered to
+-- where the callee is bound.
 use Rattle.std.proofs.Common.{◌≡◌, ◌∙◌, ℕ, ◌+◌, List, [], ◌∷◌, ◌++◌, map, codes, Option, Some, None, Ok, inl, refl, ap, sym}
 use Rattle.events.specs.declared.sent.Sent.{Sent}
 use Rattle.sip_uri.specs.Address.{address_of}

@@ -1,4 +1,5 @@
--- A 2xx that a call takes, with an answer that fits its open offer: the offerer gets that answer, and the 2xx to an INVITE its ACK.
+-- A 2xx that a call takes, with an answer that fits its open offer: the offerer gets that answer, and the 2xx to an
+-- INVITE its ACK.
 use Rattle.std.proofs.Common.{◌≡◌, ◌∙◌, ℕ, ◌+◌, not, List, [], ◌∷◌, Option, Some, None, inl, inr, refl, ap, subst}
 use Rattle.std.specs.Option.{option_copied}
 use Rattle.std.specs.Prelude.{IsTrue}

@@ -1,4 +1,5 @@
--- What the transaction of a request sends for its refusal: the ACK of an INVITE, and nothing of another request (RFC 3261 section 17.1).
+-- What the transaction of a request sends for its refusal: the ACK of an INVITE, and nothing of another request (RFC
+-- 3261 section 17.1).
 use Rattle.std.proofs.Common.{◌≡◌, ◌∙◌, ℕ, Bool, true, false, cond, codes, List, [], ◌∷◌, Option, Some, None, Result, Ok, Err, refl, ap, sym, subst}
 use Rattle.std.specs.Prelude.{option_map, unwrap_or}
 use Rattle.std.specs.List.{list_all}

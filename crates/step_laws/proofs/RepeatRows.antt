@@ -1,4 +1,5 @@
--- What a transaction sends for a message that it keeps for itself: what it sent last, or nothing (RFC 3261 section 17, RFC 6026).
+-- What a transaction sends for a message that it keeps for itself: what it sent last, or nothing (RFC 3261 section 17,
+-- RFC 6026).
 use Rattle.std.proofs.Common.{◌≡◌, ◌⊎◌, ℕ, Bool, true, false, cond, codes, Option, Some, None, inl, inr, position, refl, ap, sym, subst}
 use Rattle.std.specs.Prelude.{option_map}
 use Rattle.std.proofs.lemmas.Bool.{and_parts, false≢true}

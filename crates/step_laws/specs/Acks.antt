@@ -19,7 +19,8 @@ use Rattle.step_laws.specs.Dropping.{NoneTakes}
 use Rattle.step_laws.specs.Leaving.{bye}
 use Rattle.step_laws.specs.Sending.{Going, Sends, again}
 
--- an ACK that no transaction takes for itself, and for which the call at this place waits (RFC 3261 sections 13.3.1.4 and 17.2.1)
+-- an ACK that no transaction takes for itself, and for which the call at this place waits (RFC 3261 sections 13.3.1.4
+-- and 17.2.1)
 pub record IsAwaitedAck (s : Contents) (event : Event) (source : Addr) (bytes : List ℕ) (r : Request) (place : ℕ) : Type 0 where
   pub comes : Comes s event source bytes (Kinds.Request r)
   pub passes : NoneTakes (reception_of s.table (Kinds.Request r)).verdict

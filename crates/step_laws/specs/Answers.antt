@@ -30,8 +30,9 @@ use Rattle.step_laws.specs.Sending.{Going, Sends, asks}
 use Rattle.transactions.specs.Slots.{at}
 use Rattle.transactions.specs.declared.transaction.Transaction.{Transaction}
 
--- the response is one of a call that waits for it: it falls under this rule, and that call stands at this place and waits for an answer to its
--- open offer, which came in the request of this transaction (RFC 3261 sections 13.2.2 and 14.1, RFC 3311 section 5.1)
+-- the response is one of a call that waits for it: it falls under this rule, and that call stands at this place and
+-- waits for an answer to its open offer, which came in the request of this transaction (RFC 3261 sections 13.2.2 and
+-- 14.1, RFC 3311 section 5.1)
 pub record IsAwaited (s : Contents) (asked : Transaction) (r : SipResponse) (rule : ResponseRule) (place : ℕ) (c : StandingCall) (offered : Transaction) : Type 0 where
   pub rule_is : response_rule s.calls.calls asked.parts r ≡ rule
   pub there : slice_get s.calls.calls place ≡ Some c
@@ -51,7 +52,8 @@ pub record IsFitAnswer (c : StandingCall) (r : SipResponse) (answer : Descriptio
   pub described : described r.headers r.body ≡ Some answer
   pub fit : is_fit c.call c.call.media.offer (Some answer) ≡ true
 
--- an ACK to that of an INVITE, and a 200 to the offerer, whose description is alike (RFC 3261 section 13.2.2.4, RFC 3311 section 5)
+-- an ACK to that of an INVITE, and a 200 to the offerer, whose description is alike (RFC 3261 section 13.2.2.4, RFC
+-- 3311 section 5)
 pub record PassesAnswer (asked offered : Transaction) (answer : Description) (ms : List Message) : Type 0 where
   pub acks : List Message
   pub went : Message
@@ -88,12 +90,14 @@ pub record IsRefusedTo (status : ℕ) (offered : Transaction) (x : Effect) : Typ
 abbrev pub IsUnfit : StandingCall → SipResponse → Type 0
 IsUnfit c r = is_fit c.call c.call.media.offer (described r.headers r.body) ≡ false
 
--- the dialog, whose other side is reached where the 2xx says, if it says so (RFC 3261 section 12.2.1.2, RFC 3311 section 5.1)
+-- the dialog, whose other side is reached where the 2xx says, if it says so (RFC 3261 section 12.2.1.2, RFC 3311
+-- section 5.1)
 abbrev pub renewed : Option Uri → Dialog → Dialog
 renewed None d = d
 renewed (Some target) d = to_target target d
 
--- what goes in the dialog with the end that answered, which is that of before, renewed, and in the dialog with the offerer (section 12.2.1.1)
+-- what goes in the dialog with the end that answered, which is that of before, renewed, and in the dialog with the
+-- offerer (section 12.2.1.1)
 pub record SendsInside (goings : Dialog → Dialog → List Going) (c : StandingCall) (r : SipResponse) (offerer : End) (x : Effect) : Type 0 where
   pub across : Dialog
   pub own : Dialog

@@ -18,8 +18,8 @@ use Rattle.call_rules.specs.Reach.{is_unreachable}
 use Rattle.event_rows.specs.Rows.{only_counts, parts_of}
 use Rattle.event_rows.specs.State.{Contents}
 
--- a datagram of these bytes from this source, at a moment and with a token that count, which reads as this message, and whose branch begins as
--- it has to (RFC 3261 sections 7 and 8.1.1.7)
+-- a datagram of these bytes from this source, at a moment and with a token that count, which reads as this message, and
+-- whose branch begins as it has to (RFC 3261 sections 7 and 8.1.1.7)
 pub record Comes (s : Contents) (event : Event) (source : Addr) (bytes : List ℕ) (m : Message) : Type 0 where
   pub datagram : event.what ≡ whats.Datagram source bytes
   pub counts : only_counts s event ≡ None
@@ -32,8 +32,8 @@ pub record BeginsTransaction (s : Contents) (event : Event) (source : Addr) (byt
   pub new : (reception_of s.table (Kinds.Request r)).verdict ≡ verdicts.New id
   pub room : serving s.table.slots < max_served
 
--- a response to the request of the server's own in the transaction of this number, which hands it up (section 17.1.3); a 2xx says where its
--- sender is reached
+-- a response to the request of the server's own in the transaction of this number, which hands it up (section 17.1.3);
+-- a 2xx says where its sender is reached
 pub record GoesUp (s : Contents) (event : Event) (source : Addr) (bytes : List ℕ) (r : Response) (id : ℕ) (asked : Transaction) : Type 0 where
   pub comes : Comes s event source bytes (Kinds.Response r)
   pub reached : is_unreachable r ≡ false

@@ -60,8 +60,8 @@ pub record HasNoBranch (event : Event) : Type 0 where
   pub branch : has_fit_branch (parts_of message).vias ≡ false
   pub kind : IsUnansweredKind message
 
--- a response that replies to no request of the server's own whose transaction stands, or a 2xx that says no address to go on with (sections
--- 12.1.2 and 17.1.3)
+-- a response that replies to no request of the server's own whose transaction stands, or a 2xx that says no address to
+-- go on with (sections 12.1.2 and 17.1.3)
 pub record IsStray (s : Contents) (event : Event) : Type 0 where
   pub response : Response
   pub comes : IsBranched event (Kinds.Response response)

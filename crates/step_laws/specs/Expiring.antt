@@ -40,8 +40,8 @@ pub record CallTimerIsDue (s : Contents) (event : Event) (place : ℕ) (kind : C
 abbrev pub LimitIsReached : Contents → Event → ℕ → Type 0
 LimitIsReached s event place = CallTimerIsDue s event place timers.Limit
 
--- timer B or F of the request that was passed on for the open offer of the call at this place runs out (RFC 3261 sections 17.1.1.2 and 17.1.2.2); no
--- timer is due before this one
+-- timer B or F of the request that was passed on for the open offer of the call at this place runs out (RFC 3261
+-- sections 17.1.1.2 and 17.1.2.2); no timer is due before this one
 pub record RequestTimesOut (s : Contents) (event : Event) (place : ℕ) : Type 0 where
   pub due : event.what ≡ whats.Due
   pub counts : only_counts s event ≡ None

@@ -38,7 +38,8 @@ pub record IsOfDialog (request : Parts) (c : StandingCall) (end : End) : Type 0 
   pub ours : tag_text request.to.params ≡ dialog.id.ours
   pub theirs : tag_text request.from.params ≡ dialog.id.theirs
 
--- the INVITE that was passed on for the call's offer waits for its final response in this transaction, and went to an address (section 17.1.1)
+-- the INVITE that was passed on for the call's offer waits for its final response in this transaction, and went to an
+-- address (section 17.1.1)
 pub record IsGoingOn (s : Contents) (c : StandingCall) (went : Transaction) : Type 0 where
   pub id : ℕ
   pub waits : passed_id s.table c ≡ Some id

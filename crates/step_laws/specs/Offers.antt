@@ -47,8 +47,8 @@ pub record AsksAlike (came : Message) (offer : Description) (went : Message) : T
 
 -- ---- a first INVITE
 
--- one that no rule refuses, with this offer, which the relay carries, to a user who is bound at this target; fewer calls stand than may, and
--- enough pairs are free (RFC 3261 sections 8.2, 13.3.1 and 16.5)
+-- one that no rule refuses, with this offer, which the relay carries, to a user who is bound at this target; fewer
+-- calls stand than may, and enough pairs are free (RFC 3261 sections 8.2, 13.3.1 and 16.5)
 pub record IsFirstCall (s : Contents) (now : ℕ) (r : SipRequest) (to : Uri) (offer : Description) : Type 0 where
   pub rule : request_rule (office s) r now ≡ Call calls.Begins
   pub bound : target (office s) r now ≡ Some to
@@ -106,7 +106,8 @@ pub record IsServed (bytes : List ℕ) (r : SipRequest) (x : Effect) : Type 0 wh
 abbrev pub trying_first : SipRequest → Addr → List Going
 trying_first r source = if is_method (codes "INVITE") r then responds r.parts source 100 ∷ [] else []
 
--- it came in the dialog with an end of a call that stands, and goes, by its method, in the dialog with the other end of that call
+-- it came in the dialog with an end of a call that stands, and goes, by its method, in the dialog with the other end of
+-- that call
 pub record GoesAcross (calls : List StandingCall) (r : SipRequest) (source : Addr) (x : Effect) : Type 0 where
   pub place : ℕ
   pub call : StandingCall

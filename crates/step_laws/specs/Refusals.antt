@@ -14,7 +14,8 @@ use Rattle.step_laws.specs.Sending.{Going, acks}
 abbrev pub IsRefusal : Contents → Transaction → Response → ℕ → Type 0
 IsRefusal s asked r place = response_rule s.calls.calls asked.parts r ≡ rule.Refusal place r.status
 
--- the transaction of an INVITE sends the ACK to its refusal, and that of another request none (RFC 3261 sections 17.1.1.3 and 17.1.2)
+-- the transaction of an INVITE sends the ACK to its refusal, and that of another request none (RFC 3261 sections
+-- 17.1.1.3 and 17.1.2)
 abbrev pub acks_of : State → Transaction → Parts → List Going
 acks_of (InviteClient state) asked response = acks asked response ∷ []
 acks_of (InviteServer state) asked response = []

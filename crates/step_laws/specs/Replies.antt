@@ -9,7 +9,8 @@ use Rattle.plans.specs.Plan.{sent_response}
 use Rattle.plans.specs.declared.taken.Taken.TheVariants.{Done}
 use Rattle.responses.specs.Responding.{responds}
 
--- one response to the request of these parts, which goes back to where that came from, and nothing else (RFC 3261 sections 8.2.6 and 18.2.2)
+-- one response to the request of these parts, which goes back to where that came from, and nothing else (RFC 3261
+-- sections 8.2.6 and 18.2.2)
 pub record RespondsOnce (request : Parts) (source : Addr) (x : Effect) : Type 0 where
   pub taken : x.plan.taken ≡ Done
   pub status : ℕ

@@ -8,7 +8,8 @@ use Rattle.transactions.specs.declared.transaction.Transaction.{Transaction}
 use Rattle.step_laws.specs.Leaving.{to_offerer}
 use Rattle.step_laws.specs.Sending.{Going}
 
--- 101 to 199 go on to the offerer with their number; 100 is of one hop, and goes no further (RFC 3261 sections 8.2.6.1 and 13.3.1.1)
+-- 101 to 199 go on to the offerer with their number; 100 is of one hop, and goes no further (RFC 3261 sections 8.2.6.1
+-- and 13.3.1.1)
 abbrev pub provisional_to : StandingCall → Transaction → ℕ → List Going
 provisional_to c offered status = if status == 100 then [] else to_offerer c offered status ∷ []
 

@@ -1,4 +1,5 @@
--- What goes to whom: each datagram of a step, by the request to which it responds, the dialog in which it asks, or the INVITE that it cancels.
+-- What goes to whom: each datagram of a step, by the request to which it responds, the dialog in which it asks, or the
+-- INVITE that it cancels.
 use Rattle.std.specs.Prelude.{◌≡◌, ℕ, codes, List, [], ◌∷◌, Some}
 use Rattle.sip_uri.specs.Address.{address_of}
 use Rattle.sip_uri.specs.declared.uri.Addr.{Addr}
@@ -15,7 +16,8 @@ use Rattle.message_laws.specs.Seeing.{SeesLike}
 use Rattle.plans.specs.Effect.{Effect}
 use Rattle.plans.specs.declared.taken.Taken.TheVariants.{Done}
 
--- a response with this status to the request of these parts, which goes back to where that came from (RFC 3261 sections 8.2.6 and 18.2.2)
+-- a response with this status to the request of these parts, which goes back to where that came from (RFC 3261 sections
+-- 8.2.6 and 18.2.2)
 pub record RespondsTo (request : Parts) (source : Addr) (status : ℕ) (to : Addr) (m : Message) : Type 0 where
   pub address : to ≡ answer_address request.vias source
   pub kind : m.kind ≡ Response status
@@ -35,7 +37,8 @@ pub record CancelsThe (invite : Transaction) (to : Addr) (m : Message) : Type 0 
   pub address : address_of invite.uri ≡ Some to
   pub like : SeesLike invite.parts invite.parts.to (codes "CANCEL") m
 
--- the ACK to a refusal of this INVITE, with the tag of the refusal's To, which goes where the INVITE went (section 17.1.1.3)
+-- the ACK to a refusal of this INVITE, with the tag of the refusal's To, which goes where the INVITE went (section
+-- 17.1.1.3)
 pub record AcksRefusal (invite : Transaction) (response : Parts) (to : Addr) (m : Message) : Type 0 where
   pub address : to ≡ invite.place
   pub like : SeesLike invite.parts response.to (codes "ACK") m

@@ -28,7 +28,8 @@ use Rattle.plans.specs.Plan.{goes}
 use Rattle.step_laws.specs.Repeats.{ack_kept, last_of}
 use Rattle.step_laws.specs.Replies.{RespondsOnce}
 
--- what goes by itself: nothing; what the transaction of the message that came sends; what one sent last, again; or an ACK that is kept
+-- what goes by itself: nothing; what the transaction of the message that came sends; what one sent last, again; or an
+-- ACK that is kept
 pub data GoesByItself (s : Contents) (event : Event) (datagrams : List Sent) : Type 0 where
   nothing : datagrams ≡ [] → GoesByItself s event datagrams
   for_message : (source : Addr) (bytes : List ℕ) (m : Message) → event.what ≡ whats.Datagram source bytes → message_of bytes ≡ Ok m → datagrams ≡ goes (reception_of s.table m).send → GoesByItself s event datagrams
@@ -42,8 +43,8 @@ pub data AreOfALine (s : Contents) (actions : List Action) : Type 0 where
   fork : actions ≡ Ack Callee ∷ Bye Callee ∷ [] → AreOfALine s actions
   late : actions ≡ Ack Callee ∷ [] → AreOfALine s actions
 
--- one response to the request that came, of which all or only the parts that can be answered were read; what goes by itself; and behind that, the
--- messages of the actions of one line
+-- one response to the request that came, of which all or only the parts that can be answered were read; what goes by
+-- itself; and behind that, the messages of the actions of one line
 pub data HasReason (s : Contents) (event : Event) (x : Effect) : Type 0 where
   response : (source : Addr) (bytes : List ℕ) (r : Request) → event.what ≡ whats.Datagram source bytes → message_of bytes ≡ Ok (Kinds.Request r) → RespondsOnce r.parts source x → HasReason s event x
   unread : (source : Addr) (bytes : List ℕ) (parts : Parts) → event.what ≡ whats.Datagram source bytes → answerable_of bytes ≡ Some parts → RespondsOnce parts source x → HasReason s event x

@@ -16,10 +16,11 @@ ghost use Rattle.sip_message.specs.declared.message.Request.{Request};
 ghost use Rattle.sip_uri.specs.declared.uri.Addr.{Addr};
 ghost use Rattle.step_laws.specs.Registering.{AreRegistrations, ListsBound, Refuses, Registers, registration_at};
 
-/// After any events of a new agent its registrar has what the REGISTERs among them leave, in their order, and nothing else changes it (`stands`).
-/// Where a registrar stands so, a REGISTER that comes is answered by the fold over that list: where it is not refused, the one response is a 200
-/// that lists what its user is bound to at its moment, itself counted, each binding with the rest of its life (`lists`); where it is refused, the
-/// one response has the status of the refusal, and the registrar stays (`refused`). Whether an event brings a REGISTER can be decided, so there is
+/// After any events of a new agent its registrar has what the REGISTERs among them leave, in their order, and nothing
+/// else changes it (`stands`). Where a registrar stands so, a REGISTER that comes is answered by the fold over that
+/// list: where it is not refused, the one response is a 200 that lists what its user is bound to at its moment, itself
+/// counted, each binding with the rest of its life (`lists`); where it is refused, the one response has the status of
+/// the refusal, and the registrar stays (`refused`). Whether an event brings a REGISTER can be decided, so there is
 /// such a list of any events (`exact`).
 pub fn registers_are_counted()
     ensures stands { (config : Config) (s : Contents) (entries : List Entry) (history : List Registration) → IsNew config s → AreEntries s entries →

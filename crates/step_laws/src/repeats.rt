@@ -23,10 +23,10 @@ ghost use Rattle.transactions.specs.declared.transaction.Transaction.{Transactio
 ghost use Rattle.step_laws.specs.Coming.{GoesUp};
 ghost use Rattle.step_laws.specs.Repeats.{FiresAgain, Finds, GoesAgainOrNothing, RespondsAgain, SendsJust, TimerIsDue, ack_kept};
 
-/// What comes again: a request that is a repeat gets the bytes that its transaction sent last, at the address to which they went (`request`), or
-/// nothing (`absorbed`), as an ACK does. A response that its transaction keeps for itself gets what that sent last, which is the ACK of a refusal, or
-/// nothing (`response`). A 2xx that its call has had gets the ACK that is kept for it, byte by byte, to where that went (`success`). Nothing else is
-/// sent.
+/// What comes again: a request that is a repeat gets the bytes that its transaction sent last, at the address to which
+/// they went (`request`), or nothing (`absorbed`), as an ACK does. A response that its transaction keeps for itself
+/// gets what that sent last, which is the ACK of a refusal, or nothing (`response`). A 2xx that its call has had gets
+/// the ACK that is kept for it, byte by byte, to where that went (`success`). Nothing else is sent.
 pub fn repeats_get_what_went_before()
     ensures request { (s : Contents) (event : Event) (source : Addr) (bytes : List ℕ) (r : Request) → Finds s event source bytes (Kinds.Request r) verdicts.Repeat → RespondsAgain s r (row s event) }
     ensures absorbed { (s : Contents) (event : Event) (source : Addr) (bytes : List ℕ) (r : Request) → Finds s event source bytes (Kinds.Request r) verdicts.Swallowed → SendsJust [] (row s event) }
@@ -36,8 +36,9 @@ pub fn repeats_get_what_went_before()
         response_rule s.calls.calls asked.parts r ≡ rule.Again place → SendsJust (ack_kept s id) (row s event) }
 {}
 
-/// A timer of a transaction that is due sends what the transaction sent last, to the address to which that went (`fired`). Where the transaction ends,
-/// nothing is sent (`ended`); nor where no ACK came to its refusal (`unheard`), or no response to a request for which no call waits (`unclaimed`).
+/// A timer of a transaction that is due sends what the transaction sent last, to the address to which that went
+/// (`fired`). Where the transaction ends, nothing is sent (`ended`); nor where no ACK came to its refusal (`unheard`),
+/// or no response to a request for which no call waits (`unclaimed`).
 pub fn timers_send_what_went_before()
     ensures fired { (s : Contents) (event : Event) (timer : Timer TimerId) → TimerIsDue s event timer → (out : Outgoing) →
         fired_of (at s.table.slots timer.key.id) timer.key.kind ≡ Some (fires.Send out) → FiresAgain s timer (row s event) }

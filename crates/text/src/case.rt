@@ -10,8 +10,8 @@ fn same_letter(a: u8, b: u8) -> bool
     a == b || a.eq_ignore_ascii_case(&b)
 }
 
-/// Whether two texts are one but for the case of ASCII letters. Most names are written as they are looked for, so each byte is compared
-/// as it stands first. Takes no memory.
+/// Whether two texts are one but for the case of ASCII letters. Most names are written as they are looked for, so each
+/// byte is compared as it stands first. Takes no memory.
 pub fn same_without_case(a: &[u8], b: &[u8]) -> bool
     ensures { IsTrue result ↔ (str_to_ascii_lowercase a.now ≡ str_to_ascii_lowercase b.now) }
 {

@@ -92,8 +92,8 @@ pub fn cut_piece(text: &[u8], separator: u8) -> (&[u8], Option<&[u8]>)
     (text, None)
 }
 
-/// Puts the pieces between separators that stand in nothing behind those that are there: one piece or more. Where memory runs
-/// out, some of them may have been put.
+/// Puts the pieces between separators that stand in nothing behind those that are there: one piece or more. Where
+/// memory runs out, some of them may have been put.
 pub fn put_pieces<'a>(
     found: &mut Vec<&'a [u8]>,
     text: &'a [u8],

@@ -8,8 +8,8 @@ ghost use Rattle.std.specs.Fn.{ComputesKey};
 
 use std::collections::VecDeque;
 
-// How many items pass a test, where none passes behind one that fails. A ring lies in two slices, and the one with the place is
-// halved: each step of halving the ring itself asks which of them an item is in.
+// How many items pass a test, where none passes behind one that fails. A ring lies in two slices, and the one with the
+// place is halved: each step of halving the ring itself asks which of them an item is in.
 pub(crate) fn ring_partition_point<T, P: Fn(&T) -> bool + Copy>(
     list: &VecDeque<T>,
     test: P,

@@ -12,8 +12,8 @@ use std::alloc::{AllocError, Global};
 use std::collections::VecDeque;
 use std::marker::Model;
 
-/// The timers that are set, each key once. A timer stays until it is taken or cancelled, or its key is set anew: it fires
-/// once, and never before its moment (RFC 3261 section 17 says which timers a transaction has).
+/// The timers that are set, each key once. A timer stays until it is taken or cancelled, or its key is set anew: it
+/// fires once, and never before its moment (RFC 3261 section 17 says which timers a transaction has).
 ///
 /// They are seen in the order in which they are due: by moment, and at equal moments in the order of setting.
 #[derive(Drop)]

@@ -42,8 +42,9 @@ fn read(alloc: Global, bytes: &[u8]) -> Result<TraceMessage, MessageError>
     }
 }
 
-/// What a trace sees of a datagram with these bytes: its kind, the branch of the top Via, Call-ID, tags, number and method of
-/// CSeq, the description that its body is, if it is one, and the bytes. An absent branch or tag is the empty text.
+/// What a trace sees of a datagram with these bytes: its kind, the branch of the top Via, Call-ID, tags, number and
+/// method of CSeq, the description that its body is, if it is one, and the bytes. An absent branch or tag is the empty
+/// text.
 pub fn read_trace_message(alloc: Global, bytes: &[u8]) -> Result<TraceMessage, MessageError>
     // What is read is what the message that the bytes are shows, and they are within the limits.
     ensures found { IfOk result (λ m. Shows bytes.now m) }

@@ -32,7 +32,8 @@ invite_client_row (Calling interval abandoned) (Response Failure) = line (machin
 invite_client_row Proceeding (Response Failure) = line (machine.InviteClient Completed) Fresh Up stops.Every (One (timer D d_after))
 invite_client_row Completed (Response Failure) = line (machine.InviteClient Completed) Again Silent stops.NoTimer NoTimer
 invite_client_row Completed (Fires D) = ended Ended
--- the server's own: who abandons the INVITE waits for 64*T1 at most, and whichever of B and N comes first ends it silently
+-- the server's own: who abandons the INVITE waits for 64*T1 at most, and whichever of B and N comes first ends it
+-- silently
 invite_client_row (Calling interval abandoned) Abandon = line (machine.InviteClient (Calling interval true)) Nothing Silent stops.NoTimer (One (timer N timeout))
 invite_client_row Proceeding Abandon = line (machine.InviteClient Proceeding) Nothing Silent stops.NoTimer (One (timer N timeout))
 invite_client_row (Calling interval true) (Fires B) = ended Ended

@@ -59,8 +59,8 @@ starts_none starts.NoTimer = true
 starts_none (starts.One s) = false
 starts_none (starts.Two s t) = false
 
--- a server transaction stays one, each of its timers has a line, and it has sent something where it repeats by timers: with the
--- line, if something fresh is given, or before
+-- a server transaction stays one, each of its timers has a line, and it has sent something where it repeats by timers:
+-- with the line, if something fresh is given, or before
 abbrev pub follows_to : State → Bool → Step → Option State → Bool
 follows_to state given step None = stops_every step.stops && starts_none step.starts
 follows_to state given step (Some next) =

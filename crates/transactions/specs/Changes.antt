@@ -55,7 +55,8 @@ change_of table (Kinds.Response r) source = response_change table r (position (i
 unfoldable pub after_message : Contents → Message → Addr → ℕ → Contents
 after_message table message source now = entered now table (change_of table message source)
 
--- a request of the server's own, with its bytes. An ACK belongs to no transaction: it begins none (RFC 3261 section 17.1.1.3)
+-- a request of the server's own, with its bytes. An ACK belongs to no transaction: it begins none (RFC 3261 section
+-- 17.1.1.3)
 abbrev pub start_with : Request → Addr → List ℕ → Entry
 start_with r to bytes = if is_method (codes "ACK") r.parts then Leaves else Opens (asking r to bytes) (asking_timers r.parts)
 

@@ -37,8 +37,8 @@ use Rattle.transactions.specs.Slots.{at, free_number, is_asked, is_answered, is_
 use Rattle.transactions.specs.Timing.{same_timer, stopped_by, started}
 use Rattle.transactions.specs.Transactions.{went, sent, outgoing}
 
--- Place i of the slots has the transaction with the number i. The timers stand in the order in which they are due, each key once: that
--- is what `next`, `first_due` and `timer_count` say of every table.
+-- Place i of the slots has the transaction with the number i. The timers stand in the order in which they are due, each
+-- key once: that is what `next`, `first_due` and `timer_count` say of every table.
 pub record Contents : Type 0 where
   pub slots : List (Option Transaction)
   pub timers : List (Timer TimerId)
@@ -258,6 +258,7 @@ RefusesFire table timer now Full = ⊥
 
 -- ---- questions
 
--- another server transaction, in whichever state, has the tag of From, Call-ID, number and method of a request without tag in To
+-- another server transaction, in whichever state, has the tag of From, Call-ID, number and method of a request without
+-- tag in To
 abbrev pub merged : Contents → Parts → Bool
 merged table parts = not (is_some (tag_value parts.to.params)) && list_any (is_merged parts) table.slots

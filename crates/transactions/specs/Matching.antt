@@ -40,8 +40,8 @@ keeps_tag answer (Some tag) = same_text answer (Some tag)
 abbrev pub keeps_to_tag : Parts → Parts → Bool
 keeps_to_tag answer request = keeps_tag (tag_value answer.to.params) (tag_value request.to.params)
 
--- the answer is one to the request: by the branch, and by Call-ID, tags, number and method too (section 17.1.3; that more than branch
--- and method is compared is the server's own)
+-- the answer is one to the request: by the branch, and by Call-ID, tags, number and method too (section 17.1.3; that
+-- more than branch and method is compared is the server's own)
 unfoldable pub is_reply : Parts → Parts → Bool
 is_reply answer request =
     same_text (top_branch answer.vias) (top_branch request.vias) && is_same_call answer request && keeps_to_tag answer request

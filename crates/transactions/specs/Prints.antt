@@ -1,5 +1,5 @@
--- Numbers for what a transaction is looked up by. Equal texts have equal prints, so one with another print is passed by without a look
--- at its parts. No result depends on them, nor on their key.
+-- Numbers for what a transaction is looked up by. Equal texts have equal prints, so one with another print is passed by
+-- without a look at its parts. No result depends on them, nor on their key.
 use Rattle.std.specs.Prelude.{ℕ, List, Option, Some, None}
 use Rattle.index.specs.declared.print.PrintKey.{PrintKey}
 use Rattle.index.specs.PrintKeys.{print_of}

@@ -1,4 +1,5 @@
--- What a copy of a request gets, once its final response was given: the same bytes (RFC 3261 sections 17.2.1 and 17.2.2).
+-- What a copy of a request gets, once its final response was given: the same bytes (RFC 3261 sections 17.2.1 and
+-- 17.2.2).
 use Rattle.std.specs.Prelude.{◌≡◌, ℕ, Bool, true, false, List, codes, Option, Some, None, IfSome, position}
 use Rattle.sip_message.specs.declared.message.Message.TheVariants as Kinds
 use Rattle.sip_message.specs.declared.message.Request.{Request}

@@ -1,4 +1,5 @@
--- Requests with the branch of an INVITE that the server sent: its CANCEL (RFC 3261 section 9.1) and the ACK to a refusal (17.1.1.3).
+-- Requests with the branch of an INVITE that the server sent: its CANCEL (RFC 3261 section 9.1) and the ACK to a
+-- refusal (17.1.1.3).
 use Rattle.std.specs.Prelude.{◌≤◌, ℕ, List, [], ◌∷◌, ◌++◌, codes, Option, Some, None, IsTrue}
 use Rattle.sip_uri.specs.declared.uri.NameAddr.{NameAddr}
 use Rattle.sip_uri.specs.declared.uri.Uri.{Uri}

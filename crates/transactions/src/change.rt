@@ -78,8 +78,8 @@ impl Change {
         })
     }
 
-    /// A response of the core to the request of server transaction `id`, of this class and with these bytes. Where that takes none
-    /// (`may_answer`), the change changes nothing. Takes no memory.
+    /// A response of the core to the request of server transaction `id`, of this class and with these bytes. Where that
+    /// takes none (`may_answer`), the change changes nothing. Takes no memory.
     pub fn answers_with(id: usize, class: Class, bytes: Text<'static>) -> Change
         ensures { result ≡ Entry.Answers id class bytes.entry }
     {

@@ -71,8 +71,8 @@ impl Table {
         }
     }
 
-    /// What `fire` would answer, and the change that it would make: to enter that is to let the timer fire. A refusal is
-    /// X1 or for want of memory.
+    /// What `fire` would answer, and the change that it would make: to enter that is to let the timer fire. A refusal
+    /// is X1 or for want of memory.
     pub fn foresee_fire(&self, timer: TimerId, now: u64) -> Result<ForeseenFire, TableError>
         ensures fired { IfOk result (λ f. Some f.fired ≡ fired_of (at self.now.slots timer.id) timer.kind) }
         ensures change { IfOk result (λ f. f.change ≡ fire_of timer) }

@@ -23,8 +23,8 @@ ghost use Rattle.transactions.specs.Replies.{RepliesWhereTaken};
 ghost use Rattle.transactions.specs.Once.{stands, IsLeft, NewOnce};
 
 /// A request is new only where no server transaction of its key stands, and then one stands. A call takes a transaction
-/// away where its line ends it, and nowhere else; so over any list of calls a request is not new again, nor is a copy of
-/// it, while the transaction that it began lasts.
+/// away where its line ends it, and nowhere else; so over any list of calls a request is not new again, nor is a copy
+/// of it, while the transaction that it began lasts.
 pub fn once()
     ensures begins { (table : Contents) (request : Request) →
         IsNew (reception_of table (Kinds.Request request)).verdict → stands table request.parts ≡ false }
@@ -36,9 +36,9 @@ pub fn once()
         NewOnce table request source now calls }
 {}
 
-/// A response goes up or is swallowed only where a client transaction stands whose request it replies to: branch, Call-ID,
-/// tag of From, number and method agree, and the tag of To where the request has one. Its state before is told. What is
-/// written in response to a request replies to it.
+/// A response goes up or is swallowed only where a client transaction stands whose request it replies to: branch,
+/// Call-ID, tag of From, number and method agree, and the tag of To where the request has one. Its state before is
+/// told. What is written in response to a request replies to it.
 pub fn replies()
     ensures written { (answer request : Parts) (status : ℕ) (tag : List ℕ) → Replies answer request status tag → RepliesTo answer request }
     ensures reply { (answer : Parts) (request : Parts) → (is_reply answer request ≡ true) ↔ RepliesTo answer request }
@@ -47,8 +47,8 @@ pub fn replies()
 {}
 
 /// No two server transactions have one key (method, branch and sent-by), and there are no more than 4,096: of a table
-/// without transactions, and after any calls that were done, since none begins one at the limit; and after any change that
-/// may be entered, as what is foreseen of a message may, where that is entered before other messages come.
+/// without transactions, and after any calls that were done, since none begins one at the limit; and after any change
+/// that may be entered, as what is foreseen of a message may, where that is entered before other messages come.
 pub fn servers()
     ensures none { AreServers [] }
     ensures change { (now : ℕ) (table : Contents) (change : Entry) →
@@ -65,8 +65,9 @@ pub fn others_are_untouched()
     ensures { (table : Contents) (call : Call) → LeavesOthers table call }
 {}
 
-/// The final response of the core, but a 2xx to an INVITE, is kept over any calls while its transaction lasts; until the ACK
-/// comes, a copy of the request gets its bytes again, and timer G sends them again (RFC 3261 sections 17.2.1 and 17.2.2).
+/// The final response of the core, but a 2xx to an INVITE, is kept over any calls while its transaction lasts; until
+/// the ACK comes, a copy of the request gets its bytes again, and timer G sends them again (RFC 3261 sections 17.2.1
+/// and 17.2.2).
 pub fn answers_are_repeated()
     ensures kept { (table : Contents) (id : ℕ) (response : Response) (now : ℕ) → KeepsFinal table id response now }
     ensures left { (table : Contents) (call : Call) → LeavesAnswer table call }

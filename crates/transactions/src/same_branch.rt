@@ -1,5 +1,5 @@
-//! Requests with the branch of an INVITE that the server sent: its CANCEL (RFC 3261 section 9.1) and the ACK to a refusal
-//! (section 17.1.1.3).
+//! Requests with the branch of an INVITE that the server sent: its CANCEL (RFC 3261 section 9.1) and the ACK to a
+//! refusal (section 17.1.1.3).
 
 ghost use Rattle.std.specs.Prelude.{◌≡◌, [], IfOk, IfErr, IfSome, true, IsTrue, codes, option_map};
 ghost use Rattle.text.specs.Class.{is_run_of, is_token_byte};
@@ -67,8 +67,8 @@ fn ack_by(
     request_like(alloc, uri, via, invite, &to, b"ACK")
 }
 
-/// The ACK to a refusal of the INVITE of a client transaction: the INVITE's Request-URI, top Via, From, Call-ID and number,
-/// and the response's To (RFC 3261 section 17.1.1.3). None where the INVITE has no Via.
+/// The ACK to a refusal of the INVITE of a client transaction: the INVITE's Request-URI, top Via, From, Call-ID and
+/// number, and the response's To (RFC 3261 section 17.1.1.3). None where the INVITE has no Via.
 pub fn ack_of(
     alloc: Global,
     invite: &Transaction,
@@ -100,8 +100,8 @@ fn cancel_by(
     request_like(alloc, uri, via, invite, &invite.to, b"CANCEL")
 }
 
-/// The CANCEL of the INVITE of a client transaction: its Request-URI, top Via alone, From, To, Call-ID and number (RFC 3261
-/// section 9.1). None where the transaction is no client's of an INVITE, or the INVITE has no Via.
+/// The CANCEL of the INVITE of a client transaction: its Request-URI, top Via alone, From, To, Call-ID and number (RFC
+/// 3261 section 9.1). None where the transaction is no client's of an INVITE, or the INVITE has no Via.
 pub fn cancel_of(
     alloc: Global,
     invite: &Transaction,

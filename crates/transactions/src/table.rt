@@ -68,7 +68,8 @@ impl Model for Table {
 }
 
 impl Table {
-    /// A table without transactions, which are looked up by prints under this key. No result depends on the key. Takes no memory.
+    /// A table without transactions, which are looked up by prints under this key. No result depends on the key. Takes
+    /// no memory.
     pub fn new(alloc: Global, key: PrintKey) -> Self
         ensures slots { result.slots ≡ [] }
         ensures timers { result.timers ≡ [] }
@@ -255,8 +256,8 @@ impl Table {
         cancelled_place(&self.places, &request.parts)
     }
 
-    /// The INVITE of the server's own with this tag in From that has no final response: the one that `cancel_of` and `abandons` are
-    /// for. Takes no memory.
+    /// The INVITE of the server's own with this tag in From that has no final response: the one that `cancel_of` and
+    /// `abandons` are for. Takes no memory.
     pub fn waiting_invite(&self, tag: &Text<'_>) -> Option<usize>
         ensures { result ≡ waiting_invite self.now.slots tag.now }
     {

@@ -1,4 +1,5 @@
--- Each line of the table of a call that a trace lists, but those of an offer and of a fit answer, is a move of the trace's calls.
+-- Each line of the table of a call that a trace lists, but those of an offer and of a fit answer, is a move of the
+-- trace's calls.
 use Rattle.std.proofs.Common.{◌≡◌, ◌∙◌, ℕ, Bool, true, false, not, List, [], ◌++◌, Option, Some, None, refl, ap, sym, subst}
 use Rattle.std.specs.Prelude.{slice_get}
 use Rattle.std.proofs.lemmas.Bool.{false≢true}

@@ -1,4 +1,5 @@
--- The lines of a call's table, each as a move of the trace's calls (RFC 3261 sections 9, 13, 14 and 15, RFC 3311). x is the offerer, y the end across.
+-- The lines of a call's table, each as a move of the trace's calls (RFC 3261 sections 9, 13, 14 and 15, RFC 3311). x is
+-- the offerer, y the end across.
 use Rattle.std.proofs.Common.{◌≡◌, ◌∙◌, ℕ, ◌+◌, ◌≤◌, Bool, true, false, not, List, [], ◌∷◌, ◌++◌, Option, Some, refl, ap, sym, subst, inl, inr}
 use Rattle.std.specs.Prelude.{slice_get, slice_set, remove}
 use Rattle.call_media.specs.declared.end.End.{End}

@@ -1,4 +1,5 @@
--- What the transactions send where a message comes, or a timer is due: what a transaction sent last, or the ACK to a refusal.
+-- What the transactions send where a message comes, or a timer is due: what a transaction sent last, or the ACK to a
+-- refusal.
 use Rattle.std.proofs.Common.{◌≡◌, ◌∙◌, ℕ, Bool, true, false, cond, List, codes, length, Option, Some, None, option_map, position, refl, ap, sym, subst, inl, inr}
 use Rattle.std.specs.Prelude.{◌⊎◌}
 use Rattle.std.specs.List.{All}

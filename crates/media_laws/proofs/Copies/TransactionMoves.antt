@@ -1,4 +1,5 @@
--- What the transactions do by themselves moves no call of the trace: what goes again went before, and the ACK to a refusal is of an INVITE that went.
+-- What the transactions do by themselves moves no call of the trace: what goes again went before, and the ACK to a
+-- refusal is of an INVITE that went.
 use Rattle.std.proofs.Common.{◌≡◌, ◌∙◌, ℕ, ◌==◌, Bool, true, false, cond, find, ◌&&◌, not, List, [], ◌∷◌, Option, Some, None, Ok, refl, ap, sym, subst, inl, inr}
 use Rattle.std.specs.Prelude.{IsTrue}
 use Rattle.std.specs.List.{All}

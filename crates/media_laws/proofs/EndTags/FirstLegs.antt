@@ -1,4 +1,5 @@
--- The leg that the first 2xx of the callee makes is that of the INVITE, with the tag of this 2xx (RFC 3261 section 12.1.2).
+-- The leg that the first 2xx of the callee makes is that of the INVITE, with the tag of this 2xx (RFC 3261 section
+-- 12.1.2).
 use Rattle.std.proofs.Common.{◌≡◌, ◌∙◌, ℕ, List, Option, Some, None, refl, ap, sym}
 use Rattle.std.specs.Prelude.{slice_get}
 use Rattle.std.proofs.lemmas.Option.{none-some, same_Some}

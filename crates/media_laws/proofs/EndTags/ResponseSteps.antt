@@ -1,4 +1,5 @@
--- A response that a call takes, early or of a refusal: what it does is a move, and the trace's calls show the server's afterwards.
+-- A response that a call takes, early or of a refusal: what it does is a move, and the trace's calls show the server's
+-- afterwards.
 use Rattle.std.proofs.Common.{◌≡◌, ◌⊎◌, ◌∙◌, ℕ, Bool, true, false, List, ◌++◌, Option, Some, None, Ok, refl, sym, ap, subst, inl, inr, not, ◌&&◌}
 use Rattle.std.specs.Prelude.{IsTrue, nat_lt, slice_get}
 use Rattle.std.proofs.lemmas.Bool.{false≢true, ltb-false, ltb-true}

@@ -1,4 +1,5 @@
--- An answer that a call passes on settles the offer that is open in the trace: the first one, and later ones to an INVITE or to an UPDATE.
+-- An answer that a call passes on settles the offer that is open in the trace: the first one, and later ones to an
+-- INVITE or to an UPDATE.
 use Rattle.std.proofs.Common.{◌≡◌, ◌∙◌, ℕ, ◌+◌, ◌≤◌, ◌<◌, ◌^◌, Bool, true, false, ◌&&◌, is_some, not, List, Option, Some, None, Ok, option_map, refl, ap, sym, subst, arith}
 use Rattle.std.specs.Prelude.{IsTrue, slice_get, slice_set}
 use Rattle.std.specs.Option.{option_copied}

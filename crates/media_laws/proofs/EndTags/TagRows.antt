@@ -1,4 +1,5 @@
--- What each event sends: no 200 to a BYE but those that went before and the one to a BYE that comes in a dialog of a call.
+-- What each event sends: no 200 to a BYE but those that went before and the one to a BYE that comes in a dialog of a
+-- call.
 use Rattle.std.proofs.Common.{◌≡◌, ◌∙◌, ℕ, ◌==◌, ◌≤◌, ◌<◌, Bool, true, false, cond, List, [], ◌∷◌, ◌++◌, codes, find, nat_le, nat_lt, Option, Some, None, Ok, refl, ap, sym, subst, arith}
 use Rattle.std.specs.Prelude.{IsTrue, nat_eq, slice_get}
 use Rattle.std.specs.Cmp.Lexicographic.{bytes_decides, pointwise}

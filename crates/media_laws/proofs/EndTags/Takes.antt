@@ -1,4 +1,5 @@
--- Where a call that the trace lists takes an input that is a signal, the event is a move, and the trace's calls show the server's afterwards.
+-- Where a call that the trace lists takes an input that is a signal, the event is a move, and the trace's calls show
+-- the server's afterwards.
 use Rattle.std.proofs.Common.{◌≡◌, ◌⊎◌, ◌∙◌, ℕ, true, cond, is_some, List, [], ◌++◌, Option, Some, None, ap, sym, subst, refl, inl, inr}
 use Rattle.std.proofs.lemmas.Option.{none-some}
 use Rattle.std.specs.Prelude.{remove, slice_get, slice_set}

@@ -1,4 +1,5 @@
--- The cases of the agent's rows in which a call passes an offer on are those of the law, and the agent after such an event is as it asks.
+-- The cases of the agent's rows in which a call passes an offer on are those of the law, and the agent after such an
+-- event is as it asks.
 use Rattle.std.proofs.Common.{◌≡◌, ℕ, refl, ap}
 use Rattle.sip_message.specs.declared.message.Message.TheVariants as Kinds
 use Rattle.sip_message.specs.declared.message.Request.{Request}

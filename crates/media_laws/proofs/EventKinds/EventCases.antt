@@ -1,4 +1,5 @@
--- An event, as a list of cases: each row of the agent for it, as promise's lists have it, with what else tells whether a call takes it.
+-- An event, as a list of cases: each row of the agent for it, as promise's lists have it, with what else tells whether
+-- a call takes it.
 use Rattle.std.proofs.Common.{◌≡◌, ◌∙◌, ℕ, ◌≤◌, true, false, List, [], codes, Option, Some, None, Result, Ok, Err, position, refl, sym, subst, arith}
 use Rattle.std.specs.Prelude.{slice_get}
 use Rattle.std.proofs.lemmas.List.Quantifiers.{position-Some}

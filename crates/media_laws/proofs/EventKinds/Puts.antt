@@ -1,4 +1,5 @@
--- A dialog alone is put in place of one of a call's, by an event that moves no call: the trace's calls show the server's afterwards.
+-- A dialog alone is put in place of one of a call's, by an event that moves no call: the trace's calls show the
+-- server's afterwards.
 use Rattle.std.proofs.Common.{◌≡◌, ◌∙◌, ℕ, Bool, true, false, List, ◌++◌, Option, Some, None, ap, sym, subst, refl, inl}
 use Rattle.std.specs.Prelude.{slice_get, slice_set}
 use Rattle.transactions.specs.declared.transaction.Transaction.{Transaction}

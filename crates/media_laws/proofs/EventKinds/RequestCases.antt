@@ -1,4 +1,5 @@
--- A request, as a list of cases, with the statuses of what refuses it: each row of the agent for it, as promise's list has it.
+-- A request, as a list of cases, with the statuses of what refuses it: each row of the agent for it, as promise's list
+-- has it.
 use Rattle.std.proofs.Common.{◌≡◌, ℕ, ◌≤◌, ◌==◌, Bool, true, false, cond, not, ◌||◌, List, [], codes, Option, Some, None, is_some, refl, sym, arith}
 use Rattle.std.specs.Prelude.{slice_get}
 use Rattle.std.proofs.lemmas.Bool.{false≢true}

@@ -1,4 +1,5 @@
--- A call that the trace lists no more takes an input that is a signal: no call of the trace moves, and the trace's calls show the server's afterwards.
+-- A call that the trace lists no more takes an input that is a signal: no call of the trace moves, and the trace's
+-- calls show the server's afterwards.
 use Rattle.std.proofs.Common.{◌≡◌, ◌∙◌, ℕ, false, cond, is_some, List, [], ◌++◌, Option, Some, None, ap, sym, subst, refl}
 use Rattle.std.specs.Prelude.{remove, slice_get, slice_set}
 use Rattle.transactions.specs.declared.transaction.Transaction.{Transaction}

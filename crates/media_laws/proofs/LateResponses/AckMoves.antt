@@ -1,4 +1,5 @@
--- A 2xx to a later INVITE whose call is gone, and its ACK, move no call of the trace: the dialog has ended (RFC 3261 section 13.2.2.4).
+-- A 2xx to a later INVITE whose call is gone, and its ACK, move no call of the trace: the dialog has ended (RFC 3261
+-- section 13.2.2.4).
 use Rattle.std.proofs.Common.{◌≡◌, ℕ, true, false, List, [], ◌∷◌, Option, Some, None, Ok, refl, ap, sym, subst, inl, inr}
 use Rattle.std.proofs.lemmas.Bool.{and_parts, or_left}
 use Rattle.events.specs.declared.sent.Sent.{Sent}

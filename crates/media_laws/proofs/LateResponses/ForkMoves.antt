@@ -1,4 +1,5 @@
--- A 2xx that no call takes, and what is said in its dialog, moves no call of the trace: its dialog ends at once (RFC 3261 section 13.2.2.4).
+-- A 2xx that no call takes, and what is said in its dialog, moves no call of the trace: its dialog ends at once (RFC
+-- 3261 section 13.2.2.4).
 use Rattle.std.proofs.Common.{◌≡◌, ◌∙◌, ℕ, nat_lt, true, false, List, [], ◌∷◌, ◌++◌, is_some, Option, Some, None, Ok, refl, ap, sym, subst}
 use Rattle.std.proofs.lemmas.Bool.{and_parts, or_left}
 use Rattle.events.specs.declared.sent.Sent.{Sent}

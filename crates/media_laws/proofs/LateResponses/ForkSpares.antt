@@ -1,4 +1,5 @@
--- A BYE in the dialog of a 2xx that no call takes leaves each call of the trace alone: it is in no dialog of theirs (RFC 3261 section 13.2.2.4).
+-- A BYE in the dialog of a 2xx that no call takes leaves each call of the trace alone: it is in no dialog of theirs
+-- (RFC 3261 section 13.2.2.4).
 use Rattle.std.proofs.Common.{◌≡◌, ◌≢◌, ◌∙◌, ℕ, suc, ◌==◌, ◌&&◌, Bool, true, false, cond, List, [], ◌∷◌, Option, Some, None, refl, ap, sym, subst, inl, inr}
 use Rattle.std.specs.Prelude.{◌⊎◌, slice_get}
 use Rattle.std.specs.Cmp.Lexicographic.{bytes_decides}
@@ -42,7 +43,8 @@ use Rattle.media_laws.proofs.Copies.CallTags.{shown_tag}
 
 -- ---- which calls
 
--- the tag is that of its leg to the callee, in which it has another dialog than that of this 2xx, and it does not wait for the request
+-- the tag is that of its leg to the callee, in which it has another dialog than that of this 2xx, and it does not wait
+-- for the request
 pub record IsOtherDialog (asked : Parts) (r : Response) (c : StandingCall) : Type 0 where
   pub callee : tag_text asked.from.params ≡ c.callee_tag
   pub differ : c.call.caller.id.ours ≢ c.callee_tag

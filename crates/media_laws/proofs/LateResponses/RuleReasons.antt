@@ -1,5 +1,5 @@
--- Why a response has the rule that it has, where something is said in a dialog: a 2xx to a first INVITE, in another dialog than the call's, or
--- whose call is gone; and one to a later INVITE whose call is gone.
+-- Why a response has the rule that it has, where something is said in a dialog: a 2xx to a first INVITE, in another
+-- dialog than the call's, or whose call is gone; and one to a later INVITE whose call is gone.
 use Rattle.std.proofs.Common.{◌≡◌, ◌∙◌, ℕ, ◌==◌, Bool, true, false, cond, List, Option, Some, None, refl, ap, sym, subst}
 use Rattle.std.specs.Prelude.{slice_get}
 use Rattle.std.proofs.lemmas.Bool.{and_parts, eqb-true, false≢true}

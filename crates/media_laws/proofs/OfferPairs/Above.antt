@@ -1,4 +1,5 @@
--- An offer inside a call has a number above those that were taken in its dialog (RFC 3261 section 12.2.2), so that none of the answers of before is to it.
+-- An offer inside a call has a number above those that were taken in its dialog (RFC 3261 section 12.2.2), so that none
+-- of the answers of before is to it.
 use Rattle.std.proofs.Common.{◌≡◌, ◌∙◌, ℕ, Bool, true, false, cond, List, Option, Some, None, refl, sym, subst, arith}
 use Rattle.std.specs.Prelude.{slice_get}
 use Rattle.std.proofs.lemmas.Bool.{ltb-true}

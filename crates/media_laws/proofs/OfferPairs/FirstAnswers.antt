@@ -1,4 +1,5 @@
--- A 2xx, fit or not: the dialog that the first one makes, or that of the call whose other side it reaches (RFC 3261 sections 12.1.2 and 12.2.1.2).
+-- A 2xx, fit or not: the dialog that the first one makes, or that of the call whose other side it reaches (RFC 3261
+-- sections 12.1.2 and 12.2.1.2).
 use Rattle.std.proofs.Common.{◌≡◌, ◌∙◌, ℕ, Bool, true, false, List, Option, Some, None, Ok, not, refl, ap, subst}
 use Rattle.sdp.specs.declared.description.Description.{Description}
 use Rattle.sip_message.specs.Read.{message_of}

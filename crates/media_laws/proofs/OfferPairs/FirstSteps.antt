@@ -1,4 +1,5 @@
--- A first offer that is passed on, as the agent's row has it: the call that begins, what it says, and the transactions that begin.
+-- A first offer that is passed on, as the agent's row has it: the call that begins, what it says, and the transactions
+-- that begin.
 use Rattle.std.proofs.Common.{◌≡◌, ℕ, ◌+◌, Bool, true, false, cond, is_some, List, [], ◌∷◌, ◌++◌, codes, Option, Some, None, Ok, refl, sym, ap, subst}
 use Rattle.std.specs.Prelude.{IsTrue, nat_eq, unwrap_or}
 use Rattle.std.specs.List.{All}

@@ -1,4 +1,5 @@
--- The lines by which a call passes on an answer, and an offer inside it, as moves of the trace's calls (RFC 3261 sections 13.2.2.4 and 14, RFC 3311 section 5).
+-- The lines by which a call passes on an answer, and an offer inside it, as moves of the trace's calls (RFC 3261
+-- sections 13.2.2.4 and 14, RFC 3311 section 5).
 use Rattle.std.proofs.Common.{◌≡◌, ℕ, ◌+◌, ◌≤◌, ◌<◌, ◌^◌, Bool, not, List, [], ◌∷◌, Some, None, sym, subst}
 use Rattle.std.specs.Prelude.{IsTrue, slice_get, slice_set}
 use Rattle.std.specs.Option.{option_copied}

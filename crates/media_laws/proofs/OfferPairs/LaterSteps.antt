@@ -1,4 +1,5 @@
--- An offer inside a call that is passed on, as the agent's row has it: what the call does, how it stands then, and the transactions that begin.
+-- An offer inside a call that is passed on, as the agent's row has it: what the call does, how it stands then, and the
+-- transactions that begin.
 use Rattle.std.proofs.Common.{◌≡◌, ◌∙◌, ℕ, Bool, true, false, cond, ◌||◌, is_some, List, ◌++◌, codes, Option, Some, None, Ok, refl, sym, ap, subst}
 use Rattle.std.specs.Prelude.{nat_eq}
 use Rattle.std.specs.Cmp.Lexicographic.{bytes_decides, pointwise}

@@ -1,4 +1,5 @@
--- The request that carried the open offer of a call is that of the trace's offer, and its tag is one of the trace's call.
+-- The request that carried the open offer of a call is that of the trace's offer, and its tag is one of the trace's
+-- call.
 use Rattle.std.proofs.Common.{◌≡◌, ◌∙◌, ℕ, Bool, true, false, ◌||◌, List, Option, Some, None, refl, sym, ap, subst, inl, inr}
 use Rattle.std.specs.Cmp.Lexicographic.{bytes_decides}
 use Rattle.std.proofs.lemmas.Bool.{false≢true}

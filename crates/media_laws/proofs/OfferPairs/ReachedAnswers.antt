@@ -1,4 +1,5 @@
--- Where a 2xx to the open offer of a call reaches, whether or not a trace lists the call (RFC 3261 sections 12.1.2 and 12.2.1.2).
+-- Where a 2xx to the open offer of a call reaches, whether or not a trace lists the call (RFC 3261 sections 12.1.2 and
+-- 12.2.1.2).
 use Rattle.std.proofs.Common.{◌≡◌, ◌∙◌, ℕ, true, false, codes, List, [], ◌∷◌, Option, Some, None, Ok, is_some, nat_eq, slice_get, refl, sym, ap, subst}
 use Rattle.std.specs.Cmp.Lexicographic.{pointwise}
 use Rattle.std.proofs.lemmas.Bool.{false≢true}

@@ -1,4 +1,5 @@
--- The list of calls after an event: those that it left are shown as before, and the one that it changed as it shows itself.
+-- The list of calls after an event: those that it left are shown as before, and the one that it changed as it shows
+-- itself.
 use Rattle.std.proofs.Common.{◌≡◌, ℕ, suc, true, List, [], ◌∷◌, ◌++◌, Option, Some, subst, sym, refl, inl, inr}
 use Rattle.std.specs.Prelude.{slice_get}
 use Rattle.std.specs.List.{All}

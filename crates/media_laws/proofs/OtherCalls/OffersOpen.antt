@@ -1,5 +1,5 @@
--- An answer that replies to the open offer of a trace's call has the server's tag in the dialog of the call that stands, and a number that
--- was taken there.
+-- An answer that replies to the open offer of a trace's call has the server's tag in the dialog of the call that
+-- stands, and a number that was taken there.
 use Rattle.std.proofs.Common.{◌≡◌, ◌∙◌, ℕ, suc, zero, true, List, [], ◌∷◌, Option, Some, None, refl, ap, sym, subst, inl, inr}
 use Rattle.std.specs.Prelude.{slice_get}
 use Rattle.std.proofs.lemmas.Option.{none-some, same_Some}

@@ -1,4 +1,5 @@
--- What a step of a call makes of the calls that stand: their dialogs have taken what they had, and the number of each open offer.
+-- What a step of a call makes of the calls that stand: their dialogs have taken what they had, and the number of each
+-- open offer.
 use Rattle.std.proofs.Common.{◌≡◌, ◌∙◌, ℕ, ◌+◌, ◌<◌, ◌^◌, Bool, true, false, cond, get_or, List, [], ◌∷◌, ◌++◌, Option, Some, None, is_some, refl, ap, sym, subst, arith}
 use Rattle.std.specs.Prelude.{slice_get}
 use Rattle.std.specs.List.{All}

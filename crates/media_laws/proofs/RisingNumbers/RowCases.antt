@@ -1,4 +1,5 @@
--- A request that begins a transaction, as a list of cases: each row of the agent for it, with all that is known of why it is that one.
+-- A request that begins a transaction, as a list of cases: each row of the agent for it, with all that is known of why
+-- it is that one.
 use Rattle.std.proofs.Common.{◌≡◌, ℕ, ◌≤◌, true, cond, List, [], codes, Option, Some, None, is_some, refl, arith}
 use Rattle.std.specs.Prelude.{slice_get}
 use Rattle.sip_uri.specs.declared.uri.Uri.{Uri}

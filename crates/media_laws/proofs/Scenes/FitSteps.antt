@@ -1,4 +1,5 @@
--- A step of a call for a fit answer is the line of that signal, after which the session is that of the exchange, and both ends talk.
+-- A step of a call for a fit answer is the line of that signal, after which the session is that of the exchange, and
+-- both ends talk.
 use Rattle.std.proofs.Common.{◌≡◌, ℕ, true, cond, Option, Some, None, refl, ap, sym, subst}
 use Rattle.std.proofs.lemmas.Bool.{false≢true}
 use Rattle.port_pool.specs.Pool.{Contents}

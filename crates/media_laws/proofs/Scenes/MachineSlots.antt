@@ -1,4 +1,5 @@
--- A transaction keeps its machine: those of INVITEs are of INVITEs, after any changes of which each begins one that fits.
+-- A transaction keeps its machine: those of INVITEs are of INVITEs, after any changes of which each begins one that
+-- fits.
 use Rattle.std.proofs.Common.{◌≡◌, ◌∙◌, ℕ, Bool, true, false, cond, List, [], ◌∷◌, ◌++◌, length, nat_lt, Option, Some, None, option_map, refl, sym, subst, inl, inr}
 use Rattle.std.specs.Option.{IfSome}
 use Rattle.std.specs.Prelude.{slice_set}

@@ -1,4 +1,5 @@
--- What a call of the trace shows of the server's call goes on to be so where that call changes in nothing that it shows.
+-- What a call of the trace shows of the server's call goes on to be so where that call changes in nothing that it
+-- shows.
 use Rattle.std.proofs.Common.{◌≡◌, ◌∙◌, ℕ, true, List, ◌++◌, Option, Some, None, ap, sym, subst, inl, inr}
 use Rattle.dialogs.specs.declared.state.Dialog.{Dialog as LegDialog}
 use Rattle.transactions.specs.declared.transaction.Transaction.{Transaction}
@@ -43,7 +44,8 @@ legs_on c new d same h = record {
 
 -- ---- an open offer
 
--- what an event leaves of it: the transaction of its request stands, nothing was begun in its place, and nothing answered it
+-- what an event leaves of it: the transaction of its request stands, nothing was begun in its place, and nothing
+-- answered it
 pub record OfferOn (slots later : List (Option Transaction)) (begun more : List Transaction) (t longer : List Datagram) (c new : StandingCall) (d : Call) (p : Offer) : Type 0 where
   pub stands : Came slots c.asked.id p → Came later new.asked.id p
   pub older : (u : Transaction) → IsAmong more u → IsOffering u → has_tag (from_tag u) new ≡ true → is_open u.parts new ≡ true → IsAmong begun u × (has_tag (from_tag u) c ≡ true) × (is_open u.parts c ≡ true)

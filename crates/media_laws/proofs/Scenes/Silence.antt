@@ -1,4 +1,5 @@
--- A 2xx to a request of the server's own has its transaction send nothing (RFC 3261 section 17.1, RFC 6026 section 7.2).
+-- A 2xx to a request of the server's own has its transaction send nothing (RFC 3261 section 17.1, RFC 6026 section
+-- 7.2).
 use Rattle.std.proofs.Common.{◌≡◌, ℕ, true, false, List, Option, Some, None, position, refl, ap, sym, subst}
 use Rattle.std.proofs.lemmas.Bool.{false≢true}
 use Rattle.std.proofs.lemmas.List.Quantifiers.{position-Some}

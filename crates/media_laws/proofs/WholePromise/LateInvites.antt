@@ -1,5 +1,5 @@
--- After a move each INVITE and UPDATE that was sent is of a transaction that began; and of the later INVITEs that begin at its event, the dialog
--- is a leg of a call that was answered.
+-- After a move each INVITE and UPDATE that was sent is of a transaction that began; and of the later INVITEs that begin
+-- at its event, the dialog is a leg of a call that was answered.
 use Rattle.std.proofs.Common.{true≢false, ◌≡◌, ◌∙◌, ℕ, Bool, true, false, ◌==◌, ◌&&◌, List, [], ◌∷◌, ◌++◌, Option, Some, ap, refl, sym, subst, inl, inr, length, ◌⊎◌, arith}
 use Rattle.std.specs.Prelude.{slice_get}
 use Rattle.std.specs.List.{All, AllPairs}

@@ -25,7 +25,8 @@ use Rattle.media_laws.specs.Shows.{ShowsCall, ShowsOpen, ShowsSettled, ShowsStag
 use Rattle.message_laws.specs.Messages.{IsRequestOf}
 use Rattle.transactions.specs.declared.transaction.Transaction.{Transaction}
 
--- the call waits for the answer to the offer, whose request went so; before the first answer there is no dialog with the callee
+-- the call waits for the answer to the offer, whose request went so; before the first answer there is no dialog with
+-- the callee
 record AwaitsAnswer (begun : List Transaction) (c : StandingCall) (d : Call) (p : Offer) : Type 0 where
   standing : Standing
   stands : c.call.standing ≡ Some standing

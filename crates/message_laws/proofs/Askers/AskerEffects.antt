@@ -1,4 +1,5 @@
--- What an event sends is the server's own, and what is known of the requests that wait for its responses: of each kind of effect.
+-- What an event sends is the server's own, and what is known of the requests that wait for its responses: of each kind
+-- of effect.
 use Rattle.std.proofs.Common.{◌≡◌, ℕ, ◌<◌, ◌^◌, Bool, true, false, cond, List, [], ◌∷◌, find, Option, Some, None, option_map, refl, sym, subst, inl, inr}
 use Rattle.std.specs.Prelude.{slice_get, ◌==◌}
 use Rattle.std.specs.List.{All}

@@ -1,4 +1,5 @@
--- What an agent knows of the requests that wait for its responses after events, and that all it sends in them is its own.
+-- What an agent knows of the requests that wait for its responses after events, and that all it sends in them is its
+-- own.
 use Rattle.std.proofs.Common.{◌≡◌, ◌∙◌, ℕ, ◌<◌, ◌≤◌, ◌^◌, List, [], ◌∷◌, ◌++◌, codes, Option, Some, None, Result, Ok, Err, refl, ap, sym, subst, inl, arith}
 use Rattle.std.specs.List.{All}
 use Rattle.std.proofs.lemmas.List.{append-nil, append_assoc}

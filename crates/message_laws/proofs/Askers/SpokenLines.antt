@@ -1,4 +1,5 @@
--- The responses to its open offer that the lines of a call's table say: their statuses, and that a call that waits on says none that is final.
+-- The responses to its open offer that the lines of a call's table say: their statuses, and that a call that waits on
+-- says none that is final.
 use Rattle.std.proofs.Common.{◌≡◌, ◌∙◌, ℕ, ◌==◌, Bool, true, false, cond, ◌||◌, ◌&&◌, List, [], ◌∷◌, ◌++◌, nat_lt, Option, Some, None, refl, sym, subst, inl, inr, arith}
 use Rattle.std.specs.Prelude.{◌⊎◌}
 use Rattle.std.proofs.lemmas.Bool.{false≢true}

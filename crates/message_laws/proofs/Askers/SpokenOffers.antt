@@ -1,4 +1,5 @@
--- Offers that a call takes, calls that begin, and a 2xx that no call takes: their messages are the server's own, and offers are known still.
+-- Offers that a call takes, calls that begin, and a 2xx that no call takes: their messages are the server's own, and
+-- offers are known still.
 use Rattle.std.proofs.Common.{◌≡◌, ◌∙◌, ℕ, ◌+◌, Bool, true, false, cond, List, [], ◌∷◌, ◌++◌, is_some, Option, Some, None, option_map, refl, ap, sym, subst, arith}
 use Rattle.std.specs.Prelude.{slice_get}
 use Rattle.std.specs.List.{All}

@@ -1,4 +1,5 @@
--- Each call that waits for an answer goes on to wait for that to the same request, or waits for that to one that came now.
+-- Each call that waits for an answer goes on to wait for that to the same request, or waits for that to one that came
+-- now.
 use Rattle.std.proofs.Common.{◌≡◌, ◌∙◌, ℕ, ◌+◌, Bool, true, false, cond, List, [], ◌∷◌, ◌++◌, Option, Some, None, is_some, refl, sym, ap, subst, inl, inr}
 use Rattle.std.specs.Prelude.{slice_get}
 use Rattle.std.specs.List.{All}

@@ -1,4 +1,5 @@
--- In no leg a number is given twice: changes that begin one request with an offer at most, whose number is new in its leg, keep that.
+-- In no leg a number is given twice: changes that begin one request with an offer at most, whose number is new in its
+-- leg, keep that.
 use Rattle.std.proofs.Common.{◌≡◌, ◌∙◌, ℕ, true, false, List, [], ◌∷◌, ◌++◌, Option, Some, refl, ap, sym, subst, inl, inr}
 use Rattle.sip_message.specs.declared.message.Parts.{Parts}
 use Rattle.sip_message.specs.Words.{tag_text}

@@ -1,4 +1,5 @@
--- What a step of a call begins is of the server's own: so a server transaction that stands goes on to be of one request.
+-- What a step of a call begins is of the server's own: so a server transaction that stands goes on to be of one
+-- request.
 use Rattle.std.proofs.Common.{◌≡◌, ◌∙◌, ℕ, ◌+◌, ◌<◌, Bool, true, false, cond, List, [], ◌∷◌, ◌++◌, codes, find, length, nat_lt, Option, Some, None, sym, ap, subst, inl, inr, arith}
 use Rattle.std.specs.Option.{option_copied}
 use Rattle.std.proofs.lemmas.Bool.{false≢true}

@@ -1,4 +1,5 @@
--- An offer inside a call that is passed on: its request is the open offer of the call, with the number that follows in its leg.
+-- An offer inside a call that is passed on: its request is the open offer of the call, with the number that follows in
+-- its leg.
 use Rattle.std.proofs.Common.{◌≡◌, ◌∙◌, ℕ, ◌+◌, ◌≤◌, Bool, true, false, cond, List, Option, Some, None, option_map, refl, ap, sym, subst, inl, inr, arith}
 use Rattle.std.specs.Prelude.{◌⊎◌, slice_get}
 use Rattle.std.proofs.lemmas.Bool.{eq-eqb, eqb-true, false≢true}

@@ -1,4 +1,5 @@
--- The steps of calls: a request of the server's own that waits is the open offer of its call afterwards too, or of none.
+-- The steps of calls: a request of the server's own that waits is the open offer of its call afterwards too, or of
+-- none.
 use Rattle.std.proofs.Common.{◌≡◌, ◌∙◌, ℕ, ◌≤◌, Bool, true, false, List, Option, Some, None, is_some, refl, ap, sym, subst}
 use Rattle.std.specs.Prelude.{slice_get}
 use Rattle.std.proofs.lemmas.Bool.{false≢true}

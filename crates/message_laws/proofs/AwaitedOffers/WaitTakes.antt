@@ -1,4 +1,5 @@
--- A call that takes an input other than an offer: what waits afterwards, what was counted, and what its open offer carries.
+-- A call that takes an input other than an offer: what waits afterwards, what was counted, and what its open offer
+-- carries.
 use Rattle.std.proofs.Common.{◌≡◌, ◌∙◌, ℕ, Bool, true, false, cond, ◌||◌, List, Option, Some, None, is_some, refl, ap, sym}
 use Rattle.std.specs.Prelude.{slice_get}
 use Rattle.std.specs.List.{All}
@@ -103,7 +104,8 @@ pub record StepWaits (final : Bool) (place : ℕ) (calls : List StandingCall) (x
   pub keeps : (t : Transaction) → All (CarriesOpen t) calls → All (CarriesOpen t) x.outcome.standing.calls
   pub sent : AreSent x.dressed.changes x.dressed.sends
 
--- a dialog that comes with an input keeps the server's number, or counts the one that was asked, where a final response came
+-- a dialog that comes with an input keeps the server's number, or counts the one that was asked, where a final response
+-- came
 pub record LegFits (final : Bool) (made : ℕ) (leg : Option LegDialog) (c : StandingCall) : Type 0 where
   pub tags : FitsLeg made c leg
   pub grows : LegGrows c.call leg

@@ -47,7 +47,8 @@ use Rattle.responses.specs.Words.{has_header, is_declined_method, is_offered_met
 
 -- ---- why
 
--- an INVITE without To tag, whose Contact has an address, to a user who is bound there, with an offer that the relay carries and has pairs for
+-- an INVITE without To tag, whose Contact has an address, to a user who is bound there, with an offer that the relay
+-- carries and has pairs for
 pub record IsFirstInvite (s : Office) (now : ℕ) (r : Request) (to : Uri) (offer : Description) : Type 0 where
   pub invite : request_method (codes "INVITE") r ≡ true
   pub no_tag : tag_value r.parts.to.params ≡ None

@@ -1,4 +1,5 @@
--- A response to a request of the server's own, as a list of cases: each row of the agent for it, with why it is that one.
+-- A response to a request of the server's own, as a list of cases: each row of the agent for it, with why it is that
+-- one.
 use Rattle.std.proofs.Common.{◌≡◌, ◌∙◌, ℕ, Bool, true, false, cond, List, Option, Some, None, refl, ap, sym, subst}
 use Rattle.std.specs.Prelude.{slice_get}
 use Rattle.std.proofs.lemmas.List.Quantifiers.{position-Some}

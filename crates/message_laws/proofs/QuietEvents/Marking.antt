@@ -1,4 +1,5 @@
--- The parts of a response are those of its request: what is written into its top Via and its To changes no other parameter.
+-- The parts of a response are those of its request: what is written into its top Via and its To changes no other
+-- parameter.
 use Rattle.std.proofs.Common.{◌≡◌, ℕ, List, [], ◌∷◌, Option, refl, ap}
 use Rattle.std.specs.Prelude.{unwrap_or}
 use Rattle.sip_uri.specs.declared.uri.Addr.{Addr}

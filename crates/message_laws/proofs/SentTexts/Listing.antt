@@ -1,4 +1,5 @@
--- The 200 to a REGISTER, which lists the bindings of its user, is of the form that is written and read again (RFC 3261 section 10.3).
+-- The 200 to a REGISTER, which lists the bindings of its user, is of the form that is written and read again (RFC 3261
+-- section 10.3).
 use Rattle.std.proofs.Common.{◌≡◌, ◌∙◌, ℕ, ◌-◌, Bool, true, not, List, [], ◌∷◌, ◌++◌, codes, decimal, map, refl, ap, sym, subst, append_assoc}
 use Rattle.std.specs.Int.{div_ceil}
 use Rattle.std.specs.List.{All, list_all}

@@ -1,4 +1,5 @@
--- The steps of calls: what their requests are made of is sound, and so are the requests that they begin; and no dialog counts too far.
+-- The steps of calls: what their requests are made of is sound, and so are the requests that they begin; and no dialog
+-- counts too far.
 use Rattle.std.proofs.Common.{◌≡◌, ℕ, ◌+◌, true, List, [], ◌∷◌, Option, Some, None, Ok, is_some, position, refl, subst, sym, arith}
 use Rattle.std.specs.Prelude.{slice_get}
 use Rattle.std.specs.List.{All, list_all}

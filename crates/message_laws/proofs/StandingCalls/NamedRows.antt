@@ -1,4 +1,5 @@
--- Each port of a session's pairs is named by it, and where the table leads such a port, it has a row of the session there.
+-- Each port of a session's pairs is named by it, and where the table leads such a port, it has a row of the session
+-- there.
 use Rattle.std.proofs.Common.{◌≡◌, ◌∙◌, ◌==◌, ◌||◌, ◌+◌, ◌-◌, ◌%◌, ◌++◌, ◌⊎◌, inl, inr, ℕ, Bool, true, false, cond, List, [], ◌∷◌, Option, Some, None, refl, sym, ap, subst, arith}
 use Rattle.std.specs.List.{All, cons_option, filter_map}
 use Rattle.std.proofs.lemmas.Bool.{eqb-true, false≢true}

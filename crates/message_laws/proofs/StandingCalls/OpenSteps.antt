@@ -1,4 +1,5 @@
--- The steps of calls: each call that waits for a final response afterwards waits for that to a request that was begun, before or in the step.
+-- The steps of calls: each call that waits for a final response afterwards waits for that to a request that was begun,
+-- before or in the step.
 use Rattle.std.proofs.Common.{◌≡◌, ◌∙◌, ℕ, ◌+◌, Bool, true, false, List, [], ◌∷◌, Option, Some, None, is_some, refl, ap, sym, subst, inr}
 use Rattle.std.specs.Prelude.{slice_get}
 use Rattle.std.specs.List.{All}

@@ -32,8 +32,8 @@ use Rattle.call_rules.specs.Speaking.{is_invite, is_update, may_offer}
 use Rattle.message_laws.specs.Sound.{IsSoundLeg, IsTarget, IsTargetIf, SaysDialog}
 use Rattle.message_laws.proofs.StandingCalls.Texts.{all_of_run}
 
--- what is known of messages and dialogs: a message, and a name and an address, that is read is one by the grammar, the dialog of an INVITE
--- that was read is sound, and the URI of a Contact was read
+-- what is known of messages and dialogs: a message, and a name and an address, that is read is one by the grammar, the
+-- dialog of an INVITE that was read is sound, and the URI of a Contact was read
 pub record Reading : Type 0 where
   pub message : (text : List ℕ) (m : Message) → message_of text ≡ Ok m → ReadsMessage text m
   pub name : (text : List ℕ) (name : NameAddr) → name_addr_of text ≡ Ok name → ReadsNameAddr text name

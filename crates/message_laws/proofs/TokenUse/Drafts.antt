@@ -1,4 +1,5 @@
--- A request with the branch of an INVITE is of the form that is written and read again, and so is the Via of the server's own: by the words of the specs alone.
+-- A request with the branch of an INVITE is of the form that is written and read again, and so is the Via of the
+-- server's own: by the words of the specs alone.
 use Rattle.std.proofs.Common.{◌≡◌, ℕ, ◌≤◌, List, [], length, Ok, refl, subst, arith}
 use Rattle.std.specs.Prelude.{IsTrue, slice_index}
 use denote.Ref.{Bor}

@@ -1,4 +1,5 @@
--- The requests that a call says in a sound dialog, and those with the branch of an INVITE, are of the form that is written and read again.
+-- The requests that a call says in a sound dialog, and those with the branch of an INVITE, are of the form that is
+-- written and read again.
 use Rattle.std.proofs.Common.{◌≡◌, ℕ, ◌+◌, ◌-◌, ◌<◌, ◌≤◌, Bool, true, false, cond, List, [], ◌∷◌, codes, length, Some, None, refl, subst, arith}
 use Rattle.std.specs.Prelude.{IsTrue, nat_lt}
 use Rattle.std.proofs.lemmas.Bool.{ltb-true}

@@ -1,4 +1,5 @@
--- What the transactions do with what came, and when a timer fires: what they send, what they keep, and what they are told.
+-- What the transactions do with what came, and when a timer fires: what they send, what they keep, and what they are
+-- told.
 use Rattle.std.proofs.Common.{◌≡◌, ◌∙◌, ℕ, Bool, true, false, cond, List, [], ◌∷◌, ◌++◌, codes, Option, Some, None, option_map, position, Result, Ok, Err, refl, sym, ap, subst, inl, inr}
 use Rattle.std.proofs.lemmas.Bool.{false≢true}
 use Rattle.std.proofs.lemmas.List.Quantifiers.{position-Some}
