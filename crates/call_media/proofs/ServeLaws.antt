@@ -136,6 +136,7 @@ same_session own ip number pool after (Some s) same h =
       held = imply (is_held number pool) (is_held number after) (same_held number pool after same) ns h.held;
       distinct = h.distinct;
       listed = h.listed;
+      media = h.media;
       offers = h.offers;
       answers = h.answers;
       offer_sent = h.offer_sent;

@@ -43,6 +43,7 @@ serves_with_session own m pool after o p serves is fit left same =
         held = left_all_held m.number p.rows.pairs (pairs_of_session (session_planned o p)) (with_rows pool p) after left even fit.held;
         distinct = fit.distinct;
         listed = even;
+        media = fit.media;
         offers = passed.alike;
         answers = fit.alike;
         offer_sent = passed.at_server;

@@ -122,6 +122,7 @@ stands_over ip number pool after s same held h = record {
   held = held;
   distinct = h.distinct;
   listed = h.listed;
+  media = h.media;
   offers = h.offers;
   answers = h.answers;
   offer_sent = h.offer_sent;

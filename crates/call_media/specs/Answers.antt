@@ -1,5 +1,5 @@
 -- What passing an answer on takes, when it is refused, and the session that it makes.
-use Rattle.std.specs.Prelude.{◌≡◌, ℕ, List, Some, None, map, IsTrue}
+use Rattle.std.specs.Prelude.{◌≡◌, ℕ, List, Some, None, length, map, IsTrue}
 use Rattle.std.specs.FinMap.{get}
 use Rattle.port_pool.specs.declared.changes.Change.{Change}
 use Rattle.port_pool.specs.Changes.{LeadFrom}
@@ -57,11 +57,12 @@ pub record FitsRows (number : ℕ) (pool : Contents) (s : Session) (r : SessionR
   pub ports : (port : ℕ) → get (with_changes pool r.changes.items).rows port
       ≡ row_after pool number (session_lines s.offer_taken s.answer_sent s.offer_sent s.answer_taken) port
 
--- What is known of the planned answer to an open offer, on the values that it was planned with: the offerer gets the
--- answer but for addresses and ports, which are the server's; the session's pairs are the call's, and each serves one
--- medium and one end.
+-- What is known of the planned answer to an open offer, on the values that it was planned with: it has as many media as
+-- the offer (RFC 3264 section 6); the offerer gets the answer but for addresses and ports, which are the server's; the
+-- session's pairs are the call's, and each serves one medium and one end.
 pub record IsFit (m : CallMedia) (pool : Contents) (o : OpenOffer) (p : PlannedAnswer) : Type 0 where
   pub sent : p.sent ≡ answer_sent m o p.taken
+  pub media : length p.taken.media ≡ length o.offer_sent.media
   pub alike : Alike p.taken p.sent
   pub at_server : IsTrue (is_at_server m.range.ip p.sent)
   pub held : IsTrue (are_held m.number pool (pairs_of_session (session_over o p.sent p.taken)))

@@ -1,5 +1,5 @@
 -- What holds of the media of a call with the pool that serves it.
-use Rattle.std.specs.Prelude.{◌≡◌, ◌≢◌, ◌&&◌, ℕ, Bool, true, List, Option, Some, None, IsTrue}
+use Rattle.std.specs.Prelude.{◌≡◌, ◌≢◌, ◌&&◌, ℕ, Bool, true, List, length, Option, Some, None, IsTrue}
 use Rattle.std.specs.List.{list_all}
 use Rattle.std.specs.FinMap.{get}
 use Rattle.port_pool.specs.Pool.{Contents, AreBareBut, is_port_of}
@@ -22,12 +22,14 @@ is_held number pool even = is_even even && is_port_of pool number even
 abbrev pub are_held : ℕ → Contents → List ℕ → Bool
 are_held number pool pairs = list_all (is_held number pool) pairs
 
--- Each end was sent what the other said, but for addresses and ports, which are the server's; the pool has the
--- session's rows, over pairs of the call of which each serves one medium and one end.
+-- Each end was sent what the other said, but for addresses and ports, which are the server's; the answer has as many
+-- media as the offer (RFC 3264 section 6); the pool has the session's rows, over pairs of the call of which each serves
+-- one medium and one end.
 pub record Stands (ip : List ℕ) (number : ℕ) (pool : Contents) (s : Session) : Type 0 where
   pub held : IsTrue (are_held number pool (pairs_of_session s))
   pub distinct : IsTrue (are_distinct (pairs_of_session s))
   pub listed : evens s.pairs ≡ pairs_of_session s
+  pub media : length s.answer_taken.media ≡ length s.offer_sent.media
   pub offers : Alike s.offer_taken s.offer_sent
   pub answers : Alike s.answer_taken s.answer_sent
   pub offer_sent : IsTrue (is_at_server ip s.offer_sent)

@@ -184,6 +184,7 @@ impl CallMedia {
         requires alike { Alike answer.now sent }
         requires at_server { IsTrue (is_at_server self.now.range.ip sent) }
         requires told { map (λ m. m.port) sent.media ≡ told_ports (map port_to_offerer offer.now.seats) answer.now.media }
+        requires media { length answer.now.media ≡ length offer.now.offer_sent.media }
         ensures taken { IfOk result (λ p. p.taken ≡ answer.now) }
         ensures ready { IfOk result (IsFit self.now pool.now offer.now) }
     {

@@ -1,5 +1,5 @@
 -- The media promise, of a trace and a relay table.
-use Rattle.std.specs.Prelude.{◌≡◌, ℕ, List, Option, Some, ◌⊎◌, IsTrue}
+use Rattle.std.specs.Prelude.{◌≡◌, ℕ, List, length, Option, Some, ◌⊎◌, IsTrue}
 use Rattle.sip_uri.specs.declared.uri.Addr.{Addr}
 use Rattle.offer_answer.specs.Alike.{Alike}
 use Rattle.offer_answer.specs.Direct.{direct}
@@ -28,11 +28,13 @@ pub record AreSaid (x y : Exchange) (s : Session) : Type 0 where
   pub answer_taken : y.answered.message.description ≡ Some s.answer_taken
 
 -- Joined by the table, the two legs mean what the offer of the one end and the answer of the other mean directly; and
--- each end was asked what the other offered, and told what the other answered (RFC 3264 sections 5 to 8).
+-- each end was asked what the other offered, and told what the other answered; the answer has as many media as the offer
+-- (RFC 3264 sections 5 to 8).
 pub record IsDirect (server : List ℕ) (table : ℕ → Option Addr) (s : Session) : Type 0 where
   pub joined : joined server table s.offer_taken s.answer_sent s.offer_sent s.answer_taken ≡ direct s.offer_taken s.answer_taken
   pub offers : Alike s.offer_taken s.offer_sent
   pub answers : Alike s.answer_taken s.answer_sent
+  pub media : length s.answer_taken.media ≡ length s.offer_taken.media
 
 -- the promise for two dialogs, of which the first is the last offerer's
 abbrev pub Meets : List (List ℕ) → List ℕ → (ℕ → Option Addr) → List Datagram → Dialog → Dialog → Type 0
@@ -51,12 +53,14 @@ EachMeets methods server table t =
 
 -- ---- what gives it
 
--- each end was told what is alike to what the other said, with places at the server
+-- each end was told what is alike to what the other said, with places at the server, and the answer has as many media as
+-- the offer that its end got (RFC 3264 section 6)
 pub record IsReaddressed (server : List ℕ) (s : Session) : Type 0 where
   pub offers : Alike s.offer_taken s.offer_sent
   pub answers : Alike s.answer_taken s.answer_sent
   pub answer_place : IsTrue (is_at_server server s.answer_sent)
   pub offer_place : IsTrue (is_at_server server s.offer_sent)
+  pub media : length s.answer_taken.media ≡ length s.offer_sent.media
 
 -- and the table has the session's rows
 pub record IsRelayed (server : List ℕ) (table : ℕ → Option Addr) (s : Session) : Type 0 where

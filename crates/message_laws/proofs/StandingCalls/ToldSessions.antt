@@ -69,7 +69,7 @@ module _ (s : Office) (k : KnowsServing s) where
   pub are_told : AreTold s
   are_told =
       all_weaker Known (λ c. (x : Session) → IsSessionOf x c → IsReaddressed s.range.ip (trace_session x))
-      (λ c known x is. let h = session_stands c known x is in record { offers = h.offers; answers = h.answers; answer_place = h.answer_sent; offer_place = h.offer_sent }) s.calls.calls all_known
+      (λ c known x is. let h = session_stands c known x is in record { offers = h.offers; answers = h.answers; answer_place = h.answer_sent; offer_place = h.offer_sent; media = h.media }) s.calls.calls all_known
 
   pub are_led : AreLed s
   are_led = all_weaker Known (λ c. (x : Session) → IsSessionOf x c → LeadsSession (trace_table s.calls.pool) (trace_session x)) session_led s.calls.calls all_known

@@ -20,6 +20,7 @@ returns-clause-ready c =
     rw c.in_ok-planned.ensures
     (record {
       sent = c.requires.exact;
+      media = c.requires.media;
       alike = c.requires.alike;
       at_server = c.requires.at_server;
       held = holds_named m pool o c.args.sent c.args.answer.now c.requires.asked sends;
