@@ -6,7 +6,7 @@ use Rattle.sip_uri.specs.Address.{address_of}
 use Rattle.sip_message.specs.declared.message.Message.TheVariants as Kinds
 use Rattle.sip_message.specs.declared.message.Request.{Request}
 use Rattle.sip_message.specs.declared.message.Response.{Response}
-use Rattle.sip_writing.specs.Reply.{answer_address}
+use Rattle.sip_writing.specs.Reply.{response_address}
 use Rattle.sip_writing.specs.Writing.{message_text}
 use Rattle.transactions.specs.declared.change.Entry.{Entry}
 use Rattle.transactions.specs.Changes.{answer_of, start_of}
@@ -31,7 +31,7 @@ sent_request to request = record { to = to; bytes = message_text (Kinds.Request 
 abbrev pub responds_through : Asker → Response → Dressed
 responds_through a response = record {
   changes = answer_of a.id response ∷ [];
-  sends = sent_response (answer_address a.parts.now.vias a.source) response ∷ [];
+  sends = sent_response (response_address a.parts.now.vias a.source) response ∷ [];
   made = 0;
 }
 

@@ -4,7 +4,7 @@ ghost use Rattle.std.specs.Prelude.{◌≡◌, ◌<◌, ◌+◌, ◌^◌, ◌++�
 ghost use Rattle.sip_message.specs.declared.message.Message.TheVariants as Kinds;
 ghost use Rattle.sip_message.specs.declared.message.Request.{Request};
 ghost use Rattle.sip_message.specs.Words.{class_of, is_method};
-ghost use Rattle.sip_writing.specs.Reply.{answer_address};
+ghost use Rattle.sip_writing.specs.Reply.{response_address};
 ghost use Rattle.sip_writing.specs.Writing.{message_text};
 ghost use Rattle.transactions.specs.declared.change.Entry.TheVariants.{Answers};
 ghost use Rattle.transactions.specs.OwnRequests.{own_of};
@@ -70,7 +70,7 @@ impl Saying {
     ) -> Result<Saying, AllocError>
         ensures { IfOk result (λ d. d ≡ record {
           changes = Answers asker.now.id (class_of status) bytes.entry ∷ [];
-          sends = record { to = answer_address asker.now.parts.now.vias asker.now.source; bytes = bytes.entry } ∷ [];
+          sends = record { to = response_address asker.now.parts.now.vias asker.now.source; bytes = bytes.entry } ∷ [];
           made = 0;
         }) }
     {

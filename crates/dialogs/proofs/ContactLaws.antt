@@ -43,7 +43,7 @@ pub invite_names_contact : (text : List ℕ) (invite : Request) → ReadsMessage
 invite_names_contact text invite reads is =
     said (need_by_method invite.parts.cseq.method) reads.fields invite.headers reads.headers (rw is refl) reads.says.says_contact
 
-pub answer_names_contact : (text : List ℕ) (answer : Response) → ReadsMessage text (Kinds.Response answer) → IsTrue (is_invite answer.parts) → IsTrue (is_success answer.status)
-    → IsTrue (is_one_address (contacts_of answer.headers))
-answer_names_contact text answer reads is success =
-    said (cond (is_success answer.status) (need_by_method answer.parts.cseq.method) Unlooked) reads.fields answer.headers reads.headers (rw (is, success) refl) reads.says.says_contact
+pub answer_names_contact : (text : List ℕ) (response : Response) → ReadsMessage text (Kinds.Response response) → IsTrue (is_invite response.parts) → IsTrue (is_success response.status)
+    → IsTrue (is_one_address (contacts_of response.headers))
+answer_names_contact text response reads is success =
+    said (cond (is_success response.status) (need_by_method response.parts.cseq.method) Unlooked) reads.fields response.headers reads.headers (rw (is, success) refl) reads.says.says_contact

@@ -156,13 +156,13 @@ callees_is_sound text invite tag target reads token reached =
       target = uri;
     }
 
-pub callers_is_sound : (text answer_text : List ℕ) (invite : Request) (answer : Response) (target : Uri) → ReadsMessage text (Kinds.Request invite) → ReadsMessage answer_text (Kinds.Response answer)
-    → reached_at (contacts_of answer.headers) ≡ Some target → IsSound (callers_dialog invite.parts answer target)
-callers_is_sound text answer_text invite answer target reads answered reached =
+pub callers_is_sound : (text answer_text : List ℕ) (invite : Request) (response : Response) (target : Uri) → ReadsMessage text (Kinds.Request invite) → ReadsMessage answer_text (Kinds.Response response)
+    → reached_at (contacts_of response.headers) ≡ Some target → IsSound (callers_dialog invite.parts response target)
+callers_is_sound text answer_text invite response target reads answered reached =
     let says = reads.says.says_parts in
     let ends = request_ends text invite reads in
-    let answer_ends = response_ends answer_text answer answered in
-    let uri = target_of (contact_texts answer.headers) target reached in
+    let answer_ends = response_ends answer_text response answered in
+    let uri = target_of (contact_texts response.headers) target reached in
     record {
       call_id = says.call_id;
       call_id_value = ends.call_id;

@@ -10,8 +10,8 @@ abbrev pub id_of_request : Parts → DialogId
 id_of_request parts = record { call_id = parts.call_id; ours = tag_text parts.to.params; theirs = tag_text parts.from.params }
 
 -- in a response that was taken our tag stands in From
-abbrev pub id_of_answer : Parts → DialogId
-id_of_answer parts = record { call_id = parts.call_id; ours = tag_text parts.from.params; theirs = tag_text parts.to.params }
+abbrev pub id_of_response : Parts → DialogId
+id_of_response parts = record { call_id = parts.call_id; ours = tag_text parts.from.params; theirs = tag_text parts.to.params }
 
 -- the three texts agree, each byte for byte
 abbrev pub same_id : DialogId → DialogId → Bool

@@ -33,7 +33,7 @@ party_named name = record { display = name.display; uri = name.uri }
 abbrev pub own_tag : Request → List ℕ → List ℕ
 own_tag invite tag = if length (tag_text invite.parts.to.params) == 0 then tag else tag_text invite.parts.to.params
 
--- with the sender of an INVITE (section 12.1.1): To is ours and has our tag in the answer, From is theirs, and their
+-- with the sender of an INVITE (section 12.1.1): To is ours and has our tag in the response, From is theirs, and their
 -- number counts
 abbrev pub callees_dialog : Request → List ℕ → Uri → Dialog
 callees_dialog invite tag target = record {
@@ -45,11 +45,11 @@ callees_dialog invite tag target = record {
   remote_number = Some invite.parts.cseq.number;
 }
 
--- with the sender of a 2xx to our INVITE (section 12.1.2): From is ours, To is theirs and has their tag in the answer,
+-- with the sender of a 2xx to our INVITE (section 12.1.2): From is ours, To is theirs and has their tag in the response,
 -- and our number counts
 abbrev pub callers_dialog : Parts → Response → Uri → Dialog
-callers_dialog invite answer target = record {
-  id = record { call_id = invite.call_id; ours = tag_text invite.from.params; theirs = tag_text answer.parts.to.params };
+callers_dialog invite response target = record {
+  id = record { call_id = invite.call_id; ours = tag_text invite.from.params; theirs = tag_text response.parts.to.params };
   ours = party_named invite.from;
   theirs = party_named invite.to;
   target = target;

@@ -83,15 +83,15 @@ impl Dialog {
     pub fn as_caller(
         alloc: Global,
         invite: &Parts<'_>,
-        answer: &Response<'_>,
+        response: &Response<'_>,
         target: Uri<'static>,
     ) -> Result<Dialog, AllocError>
-        requires target { reached_at (contacts_of answer.now.headers) ≡ Some target }
-        ensures target { IfOk result (λ d. reached_at (contacts_of answer.now.headers) ≡ Some d.target) }
-        ensures dialog { IfOk result (λ d. d ≡ callers_dialog invite.now answer.now d.target) }
+        requires target { reached_at (contacts_of response.now.headers) ≡ Some target }
+        ensures target { IfOk result (λ d. reached_at (contacts_of response.now.headers) ≡ Some d.target) }
+        ensures dialog { IfOk result (λ d. d ≡ callers_dialog invite.now response.now d.target) }
     {
         let our_tag = tag_text(invite.from.params.as_slice());
-        let their_tag = tag_text(answer.parts.to.params.as_slice());
+        let their_tag = tag_text(response.parts.to.params.as_slice());
         let id = identifiers(alloc, &invite.call_id, our_tag, their_tag);
         let ends = both(
             party_named(alloc, &invite.from),

@@ -2,7 +2,7 @@
 
 ghost use Rattle.std.specs.Prelude.{◌≡◌, ◌↔◌, IsTrue, IfOk};
 ghost use Rattle.sip_message.specs.Words.{tag_text};
-ghost use Rattle.dialogs.specs.Identifiers.{id_of_request, id_of_answer, same_id};
+ghost use Rattle.dialogs.specs.Identifiers.{id_of_request, id_of_response, same_id};
 
 use sip_message::{Request, Response, tag_text};
 use sip_uri::Param;
@@ -36,12 +36,12 @@ impl DialogId {
     }
 
     /// Whether a response that was taken belongs to this dialog: our tag stands in From. Takes no memory.
-    pub fn is_of_answer(&self, answer: &Response<'_>) -> bool
-        ensures test { result ≡ same_id self.now (id_of_answer answer.now.parts) }
-        ensures belongs { IsTrue result ↔ (id_of_answer answer.now.parts ≡ self.now) }
+    pub fn is_of_response(&self, response: &Response<'_>) -> bool
+        ensures test { result ≡ same_id self.now (id_of_response response.now.parts) }
+        ensures belongs { IsTrue result ↔ (id_of_response response.now.parts ≡ self.now) }
     {
-        let ours = answer.parts.from.params.as_slice();
-        let theirs = answer.parts.to.params.as_slice();
-        self.names(&answer.parts.call_id, ours, theirs)
+        let ours = response.parts.from.params.as_slice();
+        let theirs = response.parts.to.params.as_slice();
+        self.names(&response.parts.call_id, ours, theirs)
     }
 }

@@ -20,8 +20,8 @@ ghost use Rattle.dialogs.specs.Sound.{IsReadUri, IsSound};
 pub fn invites_name_a_contact()
     ensures request { (text : List ℕ) (invite : Request) → ReadsMessage text (Kinds.Request invite) → IsTrue (is_invite invite.parts) →
         IsTrue (is_one_address (contacts_of invite.headers)) }
-    ensures answer { (text : List ℕ) (answer : Response) → ReadsMessage text (Kinds.Response answer) → IsTrue (is_invite answer.parts) →
-        IsTrue (is_success answer.status) → IsTrue (is_one_address (contacts_of answer.headers)) }
+    ensures answer { (text : List ℕ) (response : Response) → ReadsMessage text (Kinds.Response response) → IsTrue (is_invite response.parts) →
+        IsTrue (is_success response.status) → IsTrue (is_one_address (contacts_of response.headers)) }
 {}
 
 /// A dialog of messages that were read is sound, and stays so.
@@ -29,9 +29,9 @@ pub fn dialogs_are_sound()
     ensures callee { (text : List ℕ) (invite : Request) (tag : List ℕ) (target : Uri) →
         ReadsMessage text (Kinds.Request invite) → IsTrue (is_run_of is_token_byte tag) →
         reached_at (contacts_of invite.headers) ≡ Some target → IsSound (callees_dialog invite tag target) }
-    ensures caller { (sent taken : List ℕ) (invite : Request) (answer : Response) (target : Uri) →
-        ReadsMessage sent (Kinds.Request invite) → ReadsMessage taken (Kinds.Response answer) →
-        reached_at (contacts_of answer.headers) ≡ Some target → IsSound (callers_dialog invite.parts answer target) }
+    ensures caller { (sent taken : List ℕ) (invite : Request) (response : Response) (target : Uri) →
+        ReadsMessage sent (Kinds.Request invite) → ReadsMessage taken (Kinds.Response response) →
+        reached_at (contacts_of response.headers) ≡ Some target → IsSound (callers_dialog invite.parts response target) }
     ensures counted { (d : Dialog) (local_number remote_number : Option ℕ) → IsSound d →
         IsSound (record d { local_number = local_number; remote_number = remote_number }) }
     ensures refreshed { (d : Dialog) (target : Uri) → IsSound d → IsReadUri target → IsSound (record d { target = target }) }

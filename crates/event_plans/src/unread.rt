@@ -6,7 +6,7 @@ ghost use Rattle.std.specs.Option.{option_copied};
 ghost use Rattle.sip_message.specs.AnswerableParts.{answerable_of};
 ghost use Rattle.sip_message.specs.Faults.{Fails};
 ghost use Rattle.sip_message.specs.Read.{message_of};
-ghost use Rattle.sip_writing.specs.Reply.{answer_address};
+ghost use Rattle.sip_writing.specs.Reply.{response_address};
 ghost use Rattle.plans.specs.CallRows.{of_plan};
 ghost use Rattle.plans.specs.Plan.{replies};
 ghost use Rattle.responses.specs.Responding.{responds, stateless};
@@ -32,7 +32,7 @@ fn replies(
     parts: &Parts<'_>,
     status: u16,
 ) -> Result<Plan, AllocError>
-    ensures { IfOk result (λ p. p ≡ replies (answer_address parts.now.vias setting.source) (responds parts.now setting.source status stateless [])) }
+    ensures { IfOk result (λ p. p ≡ replies (response_address parts.now.vias setting.source) (responds parts.now setting.source status stateless [])) }
 {
     let bytes = response_with(alloc, parts, setting.source, status, stateless(), &[])?;
     Plan::replies(alloc, reply_address(parts, setting.source), bytes)

@@ -13,7 +13,7 @@ use Rattle.sip_message.specs.Lookup.{named}
 use Rattle.sip_message.specs.Party.{has_tag}
 use Rattle.sip_message.specs.Read.{max_datagram, message_of}
 use Rattle.sip_message.specs.Words.{tag_value}
-use Rattle.sip_writing.specs.Reply.{answer_address}
+use Rattle.sip_writing.specs.Reply.{response_address}
 use Rattle.registrar.specs.declared.binding.Binding.{Binding}
 use Rattle.registrar.specs.declared.refusal.Refusal.{Refusal}
 use Rattle.registrar.specs.Registrar.{answer_of, PlanContents, plan_of, rules_of}
@@ -104,7 +104,7 @@ received s e message =
 abbrev pub unfit_request : Setting → Request → Plan
 unfit_request e r =
     if is_method (codes "ACK") r then nothing (Dropped NoBranch)
-    else replies (answer_address r.parts.vias e.source) (responds r.parts e.source 400 stateless [])
+    else replies (response_address r.parts.vias e.source) (responds r.parts e.source 400 stateless [])
 
 abbrev pub unfit_branch : Setting → Message → Plan
 unfit_branch e (Kinds.Request r) = unfit_request e r
@@ -129,7 +129,7 @@ read_row s e message = if has_fit_branch (parts_of message).vias then fit_row s 
 
 abbrev pub unread_by : Setting → MessageError → ℕ → Option Parts → Plan
 unread_by e fault status None = nothing (Dropped (Unread fault))
-unread_by e fault status (Some parts) = replies (answer_address parts.vias e.source) (responds parts e.source status stateless [])
+unread_by e fault status (Some parts) = replies (response_address parts.vias e.source) (responds parts e.source status stateless [])
 
 -- 505 for another version, nothing for what is too long, and 400 for each other fault, where something can be answered
 unfoldable pub unread_row : Setting → List ℕ → MessageError → Plan

@@ -27,7 +27,7 @@ ghost use Rattle.sip_message.specs.Read.{message_of};
 ghost use Rattle.sip_message.specs.declared.message.Message.TheVariants as Kinds;
 ghost use Rattle.sip_message.specs.declared.message.Parts.{Parts};
 ghost use Rattle.sip_message.specs.declared.message.Request.{Request};
-ghost use Rattle.sip_writing.specs.Reply.{answer_address};
+ghost use Rattle.sip_writing.specs.Reply.{response_address};
 ghost use Rattle.message_laws.specs.Messages.{AreMessages, IsTakenOf};
 ghost use Rattle.transactions.specs.declared.change.Entry.{Entry};
 
@@ -41,11 +41,11 @@ use trace_reading::bytes_say_all;
 pub fn requests_move_none()
     ensures unreadable { (t : List Datagram) (ds : List Call) (taken : Option Message) (bytes : List ℕ) (ms : List Message) → IsTakenOf bytes taken →
         (s : Office) (e : Setting) → IsSource e.source → (parts : Parts) (status : ℕ) → answerable_of bytes ≡ Some parts → 300 ≤ status → status ≤ 699 →
-        AreMessages (plain_replies (answer_address parts.vias e.source) (responds parts e.source status stateless [])).sends ms →
+        AreMessages (plain_replies (response_address parts.vias e.source) (responds parts e.source status stateless [])).sends ms →
         Move offering t ds taken ms ds }
     ensures unfit_branched { (t : List Datagram) (ds : List Call) (taken : Option Message) (bytes : List ℕ) (ms : List Message) → IsTakenOf bytes taken →
         (s : Office) (e : Setting) → IsSource e.source → (q : Request) → message_of bytes ≡ Ok (Kinds.Request q) →
-        AreMessages (plain_replies (answer_address q.parts.vias e.source) (responds q.parts e.source 400 stateless [])).sends ms →
+        AreMessages (plain_replies (response_address q.parts.vias e.source) (responds q.parts e.source 400 stateless [])).sends ms →
         Move offering t ds taken ms ds }
     ensures replied { (t : List Datagram) (ds : List Call) (taken : Option Message) (bytes : List ℕ) (ms : List Message) → IsTakenOf bytes taken →
         (s : Office) (e : Setting) → IsSource e.source → (q : Request) → message_of bytes ≡ Ok (Kinds.Request q) → KnowsScenes s →

@@ -5,7 +5,7 @@ use Rattle.sip_uri.specs.declared.uri.Addr.{Addr}
 use Rattle.sip_uri.specs.declared.uri.Uri.{Uri}
 use Rattle.sip_message.specs.declared.message.Request.{Request}
 use Rattle.sip_message.specs.declared.message.Response.{Response}
-use Rattle.sip_writing.specs.Reply.{answer_address}
+use Rattle.sip_writing.specs.Reply.{response_address}
 use Rattle.registrar.specs.Bound.{target_of}
 use Rattle.registrar.specs.Registering.{user_of}
 use Rattle.registrar.specs.Registrar.{bindings_at, rules_of}

@@ -10,7 +10,7 @@ use Rattle.sip_message.specs.Lookup.{named}
 use Rattle.sip_message.specs.Party.{has_tag}
 use Rattle.sip_message.specs.Read.{message_of}
 use Rattle.sip_message.specs.Words.{tag_value}
-use Rattle.sip_writing.specs.Reply.{answer_address}
+use Rattle.sip_writing.specs.Reply.{response_address}
 use Rattle.registrar.specs.declared.binding.Binding.{Binding}
 use Rattle.registrar.specs.declared.refusal.Refusal.{Refusal}
 use Rattle.registrar.specs.Registrar.{answer_of, PlanContents, plan_of, rules_of}
@@ -40,7 +40,7 @@ tags_made r = if has_tag r.parts.to.params then 0 else 1
 -- a response to request r in transaction id, with its tag
 abbrev pub responds_in : Office → Setting → Request → List Entry → ℕ → ℕ → List Header → Option PlanContents → Plan
 responds_in s e r begun id status further registration =
-    answers begun id (answer_address r.parts.vias e.source)
+    answers begun id (response_address r.parts.vias e.source)
     (responds r.parts e.source status (fresh_tag s e) further) registration (tags_made r)
 
 -- the tag that the responses to a request have
@@ -68,7 +68,7 @@ response_tag_in s id = unwrap_or (option_and_then response_tag (at s.table.slots
 -- 200 to a CANCEL, with the tag of the responses to the request that it names (RFC 3261 section 9.2)
 abbrev pub cancels : Office → Setting → Request → List Entry → ℕ → ℕ → Plan
 cancels s e r begun id other =
-    answers begun id (answer_address r.parts.vias e.source)
+    answers begun id (response_address r.parts.vias e.source)
     (responds r.parts e.source 200 (response_tag_in s other) []) None 0
 
 -- what is taken in a body (sections 20.1 and 20.2)

@@ -3,7 +3,7 @@
 ghost use Rattle.std.specs.Prelude.{◌≡◌, ◌<◌, ◌^◌, ◌∷◌, [], ℕ, List, Option, Result, IfOk, None, Some, Ok, unwrap_or};
 ghost use Rattle.std.specs.Option.{option_copied};
 ghost use Rattle.sip_message.specs.Read.{message_of};
-ghost use Rattle.sip_writing.specs.Reply.{answer_address};
+ghost use Rattle.sip_writing.specs.Reply.{response_address};
 ghost use Rattle.registrar.specs.declared.binding.Binding.{Binding};
 ghost use Rattle.registrar.specs.Registering.{AllLast};
 ghost use Rattle.registrar.specs.Registrar.{Fails};
@@ -127,7 +127,7 @@ fn answers(
     further: &[Header<'_>],
     made: u8,
 ) -> Result<Plan, AllocError>
-    ensures { IfOk result (λ p. p ≡ answers begun.items id (answer_address request.now.parts.vias setting.source)
+    ensures { IfOk result (λ p. p ≡ answers begun.items id (response_address request.now.parts.vias setting.source)
         (responds request.now.parts setting.source status tag.now further.now) None made) }
 {
     let parts = &request.parts;

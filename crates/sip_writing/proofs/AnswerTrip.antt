@@ -1,4 +1,4 @@
--- What is written for an answer, with further header fields and a body, is read again as that answer.
+-- What is written for an response, with further header fields and a body, is read again as that response.
 use Rattle.std.proofs.Common.{◌≡◌, ℕ, ◌≤◌, Bool, true, false, not, ◌&&◌, cond, eqb, List, [], ◌∷◌, ◌++◌, length, map, Option, Some, Result, Ok, Err, refl, sym, ap, subst, ◌∙◌, append_assoc, codes}
 use Rattle.std.specs.Prelude.{filter, IsTrue, IfOk}
 use Rattle.std.specs.List.{list_all, flat_map, AllByRecursion}
@@ -132,8 +132,8 @@ reason_is_clean status = reason_clean reasons refl status
 -- ---- the whole
 
 module _ (parts : Parts) (source : Addr) (status : ℕ) (tag : List ℕ) (token : is_run_of is_token_byte tag ≡ true) (n : IsNumbered source) (h : CanBeRepeated parts) (from : 100 ≤ status) (upto : status ≤ 699) where
-  abbrev answer : Response
-  answer = reply_of parts source status tag
+  abbrev response : Response
+  response = reply_of parts source status tag
 
   abbrev vias : List Via
   vias = marked_top source parts.vias
@@ -157,11 +157,11 @@ module _ (parts : Parts) (source : Addr) (status : ℕ) (tag : List ℕ) (token 
   joined_headers : (vs : List Header) (a b c d : Header) (further : List Header) → (vs ++ a ∷ [] ++ b ∷ [] ++ c ∷ [] ++ d ∷ []) ++ further ≡ vs ++ (a ∷ b ∷ c ∷ d ∷ further)
   joined_headers vs a b c d further = simp append_assoc
 
-  fields_are : (further : List Header) → answer.headers ++ further ≡ fields further
+  fields_are : (further : List Header) → response.headers ++ further ≡ fields further
   unfolding reply_of replied reply_headers
   fields_are further = joined_headers (map via_header vias) (named (codes "From") parts.from_text) (named (codes "To") to_text) (named (codes "Call-ID") parts.call_id) (named (codes "CSeq") parts.cseq_text) further
 
-  module _ (further : List Header) (body : List ℕ) (m : MayFollow (start_of_response answer) answer.parts.cseq.method further) (small : length body ≤ max_content_length) where
+  module _ (further : List Header) (body : List ℕ) (m : MayFollow (start_of_response response) response.parts.cseq.method further) (small : length body ≤ max_content_length) where
     none : (name : List ℕ) → ((x : Header) → IsOther x → not (is_named name x) ≡ true) → values_named name further ≡ []
     none name is = none_named name further (all_imply repeats_nothing (λ x. not (is_named name x)) (λ x e. is x (other_is x e)) further m.repeat_nothing)
 
@@ -180,7 +180,7 @@ module _ (parts : Parts) (source : Addr) (status : ℕ) (tag : List ℕ) (token 
     cseq_values : values_named (codes "CSeq") (fields further) ≡ parts.cseq_text ∷ []
     cseq_values = vias_passed (codes "CSeq") refl vias (others further) ∙ ap (λ (vs : List (List ℕ)). parts.cseq_text ∷ vs) (none (codes "CSeq") (λ x o. o.cseq))
 
-    parts_said : SaysParts (start_of_response answer) (fields further) answer.parts
+    parts_said : SaysParts (start_of_response response) (fields further) response.parts
     unfolding reply_of replied
     parts_said = record {
       some_via = marked_some source parts.vias h.some_via;
@@ -213,28 +213,28 @@ module _ (parts : Parts) (source : Addr) (status : ℕ) (tag : List ℕ) (token 
     none_tells_length : list_all tells_no_length (fields further) ≡ true
     none_tells_length = list_all-append tells_no_length (map via_header vias) (others further) ∙ and_from _ _ (vias_without_length vias) m.no_length
 
-    rest_written : IsWrittenRest (start_of_response answer) (fields further) answer.parts m.hops body
+    rest_written : IsWrittenRest (start_of_response response) (fields further) response.parts m.hops body
     rest_written = record {
       written = all_written;
       no_length = none_tells_length;
       says_parts = parts_said;
-      says_contact = subst (λ (cs : List ContactValue). SaysContact (contact_need (start_of_response answer) answer.parts.cseq.method) cs) (sym contacts_same) m.says_contact;
+      says_contact = subst (λ (cs : List ContactValue). SaysContact (contact_need (start_of_response response) response.parts.cseq.method) cs) (sym contacts_same) m.says_contact;
       says_hops = subst (λ (vs : List (List ℕ)). SaysHops vs m.hops) (sym (vias_passed (codes "Max-Forwards") refl vias (others further))) m.says_hops;
       says_type = subst (λ (vs : List (List ℕ)). SaysType vs) (sym (vias_passed (codes "Content-Type") refl vias (others further))) m.says_type;
       small = small;
     }
 
-    response_written : IsWrittenResponse (with_further answer further body)
+    response_written : IsWrittenResponse (with_further response further body)
     unfolding reply_of
     response_written = record {
       three_digits = from;
       up_to_699 = upto;
       clean = reason_is_clean status;
       hops = m.hops;
-      rest = subst (λ (hs : List Header). IsWrittenRest (start_of_response answer) hs answer.parts m.hops body) (sym (fields_are further)) rest_written;
+      rest = subst (λ (hs : List Header). IsWrittenRest (start_of_response response) hs response.parts m.hops body) (sym (fields_are further)) rest_written;
     }
 
-  read_again : IsReadAgain answer
+  read_again : IsReadAgain response
   unfolding IsWrittenMessage
   read_again further body m small = response_written further body m small
 

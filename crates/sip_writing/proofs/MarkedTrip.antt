@@ -188,7 +188,7 @@ value_behind text tag h token =
 tag_joined : (text tag : List ℕ) → text ++ codes ";tag=" ++ tag ≡ text ++ 59 ∷ param_text (tag_param tag)
 tag_joined text tag = append_assoc text (codes ";tag=") tag
 
--- To of an answer
+-- To of an response
 pub record IsTo (to : NameAddr) (text : List ℕ) : Type 0 where
   pub value : IsValue text
   pub party : party_of text ≡ Some to

@@ -182,7 +182,7 @@ module _ (r : Request) (w : IsWrittenRequest r) where
     headers = headers_same (start_of_request r) r.headers r.parts r.max_forwards r.body w.rest;
   }
 
--- ---- an answer
+-- ---- an response
 
 status_joined : (digits reason rest : List ℕ) → (codes "SIP/2.0 " ++ digits ++ 32 ∷ [] ++ reason ++ codes "\r\n") ++ rest ≡ (codes "SIP/2.0" ++ 32 ∷ (digits ++ 32 ∷ reason)) ++ 13 ∷ 10 ∷ rest
 status_joined digits reason rest = simp append_assoc

@@ -29,11 +29,11 @@ pub record MayFollow (start : Start) (method : List ℕ) (further : List Header)
   pub says_type : SaysType (values_named (codes "Content-Type") further)
 
 abbrev pub with_further : Response → List Header → List ℕ → Response
-with_further answer further body = record answer { headers = answer.headers ++ further; body = body }
+with_further response further body = record response { headers = response.headers ++ further; body = body }
 
--- the answer is of the form that is written and read again, whatever may follow in its header fields and whatever its
+-- the response is of the form that is written and read again, whatever may follow in its header fields and whatever its
 -- body is
 abbrev pub IsReadAgain : Response → Type 0
-IsReadAgain answer =
-    (further : List Header) (body : List ℕ) → MayFollow (start_of_response answer) answer.parts.cseq.method further → length body ≤ max_content_length
-    → IsWrittenMessage (Kinds.Response (with_further answer further body))
+IsReadAgain response =
+    (further : List Header) (body : List ℕ) → MayFollow (start_of_response response) response.parts.cseq.method further → length body ≤ max_content_length
+    → IsWrittenMessage (Kinds.Response (with_further response further body))

@@ -21,9 +21,9 @@ answered_tag status (Some own) tag = Some own
 answered_tag status None tag = if status == 100 then None else Some (tag_param tag)
 
 -- a response of this status, with this tag of the server's, is one to the request
-pub record Replies (answer request : Parts) (status : ℕ) (tag : List ℕ) : Type 0 where
-  pub branch : top_branch answer.vias ≡ top_branch request.vias
-  pub call_id : answer.call_id ≡ request.call_id
-  pub from_tag : tag_of answer.from.params ≡ tag_of request.from.params
-  pub to_tag : tag_of answer.to.params ≡ answered_tag status (tag_of request.to.params) tag
-  pub cseq : answer.cseq ≡ request.cseq
+pub record Replies (response request : Parts) (status : ℕ) (tag : List ℕ) : Type 0 where
+  pub branch : top_branch response.vias ≡ top_branch request.vias
+  pub call_id : response.call_id ≡ request.call_id
+  pub from_tag : tag_of response.from.params ≡ tag_of request.from.params
+  pub to_tag : tag_of response.to.params ≡ answered_tag status (tag_of request.to.params) tag
+  pub cseq : response.cseq ≡ request.cseq

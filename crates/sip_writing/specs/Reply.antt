@@ -1,4 +1,4 @@
--- The answer to a request (RFC 3261 sections 8.2.6 and 18.2, RFC 3581 section 4).
+-- The response to a request (RFC 3261 sections 8.2.6 and 18.2, RFC 3581 section 4).
 use Rattle.std.specs.Prelude.{ℕ, Bool, false, not, ◌&&◌, ◌||◌, ◌==◌, nat_eq, List, [], ◌∷◌, ◌++◌, map, filter, codes, position, slice_index_or, slice_set, decimal, is_none, unwrap_or, Option, Some, None, if◌then◌else◌}
 use Rattle.std.specs.Str.{str_eq_ignore_ascii_case}
 use Rattle.std.specs.Cmp.Lexicographic.{pointwise}
@@ -119,18 +119,18 @@ reply_headers parts =
 
 unfoldable pub reply_of : Parts → Addr → ℕ → List ℕ → Response
 reply_of parts source status tag =
-    let answer = replied parts source status tag in
-    record { status = status; reason = reason_of status; parts = answer; headers = reply_headers answer; body = [] }
+    let response = replied parts source status tag in
+    record { status = status; reason = reason_of status; parts = response; headers = reply_headers response; body = [] }
 
 -- ---- where it goes
 
-abbrev pub answer_port : Via → Addr → ℕ
-answer_port via source = if asks_port via.params then source.port else unwrap_or via.port default_port
+abbrev pub response_port : Via → Addr → ℕ
+response_port via source = if asks_port via.params then source.port else unwrap_or via.port default_port
 
 -- to the source address, and there to the port that the top Via asks for
 abbrev pub port_asked : List Via → Addr → ℕ
 port_asked [] source = default_port
-port_asked (via ∷ vias) source = answer_port via source
+port_asked (via ∷ vias) source = response_port via source
 
-abbrev pub answer_address : List Via → Addr → Addr
-answer_address vias source = record { ip = source.ip; port = port_asked vias source }
+abbrev pub response_address : List Via → Addr → Addr
+response_address vias source = record { ip = source.ip; port = port_asked vias source }

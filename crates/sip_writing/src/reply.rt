@@ -8,7 +8,7 @@ ghost use Rattle.sip_message.specs.Lookup.{named};
 ghost use Rattle.sip_message.specs.Repeatable.{CanBeRepeated};
 ghost use Rattle.sip_writing.specs.Further.{IsReadAgain};
 ghost use Rattle.sip_writing.specs.Replies.{Replies};
-ghost use Rattle.sip_writing.specs.Reply.{marked_top, puts_tag, tagged_params, tagged_to, tagged_text, replied, via_text, reply_headers, reply_of, tag_param, via_headers, answer_port, answer_address};
+ghost use Rattle.sip_writing.specs.Reply.{marked_top, puts_tag, tagged_params, tagged_to, tagged_text, replied, via_text, reply_headers, reply_of, tag_param, via_headers, response_port, response_address};
 
 use crate::reasons::reason_of;
 use crate::received::{asks_port, mark_source, numbers_fit};
@@ -237,8 +237,8 @@ pub fn reply_to(
     reply(alloc, parts, source, status, tag)
 }
 
-fn answer_port(via: &Via, source: Addr) -> u16
-    ensures { result ≡ answer_port via.now source }
+fn response_port(via: &Via, source: Addr) -> u16
+    ensures { result ≡ response_port via.now source }
 {
     if asks_port(via.params.as_slice()) {
         source.port
@@ -250,12 +250,12 @@ fn answer_port(via: &Via, source: Addr) -> u16
 /// Where a response goes: to the source address, and there to the source port where the top `rport` was empty, else to
 /// the port of sent-by, else to 5060 (RFC 3261 section 18.2.2, RFC 3581 section 4). Takes no memory.
 pub fn reply_address(parts: &Parts, source: Addr) -> Addr
-    ensures address { result ≡ answer_address parts.now.vias source }
+    ensures address { result ≡ response_address parts.now.vias source }
 {
     let ip = source.ip;
     let port = match parts.vias.as_slice() {
         [] => port_or_default(None),
-        [via, ..] => answer_port(via, source),
+        [via, ..] => response_port(via, source),
     };
     Addr { ip, port }
 }

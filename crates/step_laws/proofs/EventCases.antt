@@ -14,7 +14,7 @@ use Rattle.sip_message.specs.declared.message.Message.TheVariants as Kinds
 use Rattle.sip_message.specs.declared.message.Parts.{Parts}
 use Rattle.sip_message.specs.declared.message.Request.{Request}
 use Rattle.sip_message.specs.declared.message.Response.{Response}
-use Rattle.sip_writing.specs.Reply.{answer_address}
+use Rattle.sip_writing.specs.Reply.{response_address}
 use Rattle.timers.specs.Queue.{first_due}
 use Rattle.timers.specs.declared.timers.Timer.{Timer}
 use Rattle.transactions.specs.declared.change.Entry.{Entry}
@@ -223,7 +223,7 @@ module _ (s : Contents) (event : Event) (source : Addr) (bytes : List ℕ) (data
 
   unfit_case : (m : Message) → message_of bytes ≡ Ok m → has_fit_branch (parts_of m).vias ≡ false → Case (of_plan (office s) (unfit_branch e m))
   unfit_case (Kinds.Request r) read unfit =
-      cond_both (request_method (codes "ACK") r) (nothing (Dropped NoBranch)) (plain_replies (answer_address r.parts.vias source) (responds r.parts source 400 stateless [])) (λ p. Case (of_plan (office s) p))
+      cond_both (request_method (codes "ACK") r) (nothing (Dropped NoBranch)) (plain_replies (response_address r.parts.vias source) (responds r.parts source 400 stateless [])) (λ p. Case (of_plan (office s) p))
       (λ ack. ignored (Dropped NoBranch) (record { message = Kinds.Request r; is_read = read_as (Kinds.Request r) read; branch = unfit; kind = ack }) refl)
       (λ other. went (record { taken = refl; registration = refl; changes = none_ready }))
   unfit_case (Kinds.Response r) read unfit =

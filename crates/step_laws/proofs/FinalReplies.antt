@@ -4,7 +4,7 @@ use Rattle.std.specs.Prelude.{IsTrue}
 use Rattle.std.proofs.lemmas.Bool.{false≢true, le-leb}
 use Rattle.events.specs.declared.sent.Sent.{Sent}
 use Rattle.sip_uri.specs.declared.uri.Addr.{Addr}
-use Rattle.sip_writing.specs.Reply.{answer_address}
+use Rattle.sip_writing.specs.Reply.{response_address}
 use Rattle.sip_message.specs.Read.{message_of}
 use Rattle.sip_message.specs.declared.headers.Header.{Header}
 use Rattle.sip_message.specs.declared.message.Message.TheVariants as Kinds
@@ -59,7 +59,7 @@ pub record IsFinalReply (parts : Parts) (source : Addr) (p : Plan) : Type 0 wher
   pub taken : p.taken ≡ Done
   pub datagram : Sent
   pub whole : p.sends ≡ datagram ∷ []
-  pub address : datagram.to ≡ answer_address parts.vias source
+  pub address : datagram.to ≡ response_address parts.vias source
   pub said : IsSaid (SeesFinal parts) datagram
 
 final_kind : (status : ℕ) → 200 ≤ status → nat_le 200 status ≡ true

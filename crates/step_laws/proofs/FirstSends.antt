@@ -9,7 +9,7 @@ use Rattle.sip_message.specs.Contact.{contacts_of}
 use Rattle.sip_message.specs.Read.{message_of}
 use Rattle.sip_message.specs.declared.message.Message.TheVariants as Kinds
 use Rattle.sip_message.specs.declared.message.Request.{Request}
-use Rattle.sip_writing.specs.Reply.{answer_address}
+use Rattle.sip_writing.specs.Reply.{response_address}
 use Rattle.sip_writing.specs.Requests.{server_via}
 use Rattle.sdp.specs.Writing.{description_text}
 use Rattle.sdp.specs.declared.description.Description.{Description}
@@ -93,10 +93,10 @@ module _ (names : ReadsNames) (describes : BodiesDescribe) (law : SentIsRead) (s
 
   -- ---- where they go
 
-  pub first_goes : (callee : Addr) → address_of to ≡ Some callee → map (λ (d : Sent). d.to) said.dressed.sends ≡ answer_address r.parts.vias e.source ∷ callee ∷ []
+  pub first_goes : (callee : Addr) → address_of to ≡ Some callee → map (λ (d : Sent). d.to) said.dressed.sends ≡ response_address r.parts.vias e.source ∷ callee ∷ []
   unfolding messages first_call_row dress_one request_in new_leg
   first_goes callee leads =
-      ap (λ (a : Option Addr). answer_address r.parts.vias e.source ∷ map (λ (d : Sent). d.to) ((asks_at a (request_in (first_leg o r to) (server_via s.server (branch scene (s.tokens + 3 + 0))) (method_text methods.Invite) 1 (words.one_hop_less r.max_forwards) (words.description_headers s.server) (description_text opens.offer_sent)) 1).sends ++ [])) leads
+      ap (λ (a : Option Addr). response_address r.parts.vias e.source ∷ map (λ (d : Sent). d.to) ((asks_at a (request_in (first_leg o r to) (server_via s.server (branch scene (s.tokens + 3 + 0))) (method_text methods.Invite) 1 (words.one_hop_less r.max_forwards) (words.description_headers s.server) (description_text opens.offer_sent)) 1).sends ++ [])) leads
 
   -- ---- what they say
 

@@ -28,7 +28,7 @@ use Rattle.plans.specs.declared.taken.Why.TheVariants.{NoBranch}
 use Rattle.responses.specs.Registering.{register_of}
 use Rattle.responses.specs.Responding.{responds, stateless}
 use Rattle.responses.specs.Words.{has_fit_branch, is_method}
-use Rattle.sip_writing.specs.Reply.{answer_address}
+use Rattle.sip_writing.specs.Reply.{response_address}
 use Rattle.event_rows.specs.Rows.{by_reading, datagram_row, fit_row, only_counts, read_row, row, row_by, rule_row, unfit_branch, unread_by, unread_row, what_row}
 use Rattle.event_rows.specs.Rules.{request_rule}
 use Rattle.event_rows.specs.State.{Contents, moment_at, office}
@@ -84,7 +84,7 @@ module _ (s : Contents) (event : Event) (source : Addr) (bytes : List ℕ) where
         (sym (came
         ∙ (ap (by_reading (office s) e bytes) read
         ∙ (ap (λ b. cond b (fit_row (office s) e (Kinds.Request r)) (of_plan (office s) (unfit_branch e (Kinds.Request r)))) branch
-        ∙ ap (λ b. of_plan (office s) (cond b (nothing (Dropped NoBranch)) (replies (answer_address r.parts.vias source) (responds r.parts source 400 stateless [])))) no_ack))))
+        ∙ ap (λ b. of_plan (office s) (cond b (nothing (Dropped NoBranch)) (replies (response_address r.parts.vias source) (responds r.parts source 400 stateless [])))) no_ack))))
         (record { taken = refl; status = 400; tag = stateless; further = []; sends = refl })
 
     unread_once : (fault : MessageError) (status : ℕ) (o : Option Parts) (parts : Parts) → o ≡ Some parts → RespondsOnce parts source (of_plan (office s) (unread_by e fault status o))

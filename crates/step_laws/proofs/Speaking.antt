@@ -12,7 +12,7 @@ use Rattle.dialogs.specs.Requests.{request_in}
 use Rattle.dialogs.specs.declared.method.Method.TheVariants as methods
 use Rattle.dialogs.specs.declared.state.Dialog.{Dialog}
 use Rattle.events.specs.declared.sent.Sent.{Sent}
-use Rattle.sip_writing.specs.Reply.{answer_address}
+use Rattle.sip_writing.specs.Reply.{response_address}
 use Rattle.sip_writing.specs.Requests.{server_via}
 use Rattle.transaction_machines.specs.declared.state.State.{State}
 use Rattle.transaction_machines.specs.declared.state.State.TheVariants.{InviteClient, InviteServer, OtherClient, OtherServer}
@@ -56,7 +56,7 @@ module _ (s : Scene) (P : Addr → Message → Type 0) (to_offer : (a : Asker) �
   abbrev Speaks : ℕ → Action → List Sent → Type 0
   Speaks tokens action sends = (sends ≡ []) ⊎ ((x : Sent) × (sends ≡ x ∷ []) × ((m : Message) → IsMessage x.bytes m → HearsAction s tokens action m → P x.to m))
 
-  by_offer : (tokens : ℕ) (action : Action) (status : ℕ) (body : Option Description) (x : Sent) (a : Asker) → s.offer ≡ Some a → ((m : Message) → HearsAction s tokens action m → SeesTo s.offer status body m) → x.to ≡ answer_address a.parts.now.vias a.source
+  by_offer : (tokens : ℕ) (action : Action) (status : ℕ) (body : Option Description) (x : Sent) (a : Asker) → s.offer ≡ Some a → ((m : Message) → HearsAction s tokens action m → SeesTo s.offer status body m) → x.to ≡ response_address a.parts.now.vias a.source
       → (m : Message) → IsMessage x.bytes m → HearsAction s tokens action m → P x.to m
   by_offer tokens action status body x a has sees there m is h = to_offer a has status x.to m (responds_seen a status body x.to m there (subst (λ (o : Option Asker). SeesTo o status body m) has (sees m h)))
 

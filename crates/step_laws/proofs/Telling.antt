@@ -5,7 +5,7 @@ use Rattle.std.proofs.lemmas.Bool.{false≢true}
 use Rattle.sip_uri.specs.Address.{address_of}
 use Rattle.sip_uri.specs.declared.uri.Addr.{Addr}
 use Rattle.sip_message.specs.declared.message.Request.{Request as SipRequest}
-use Rattle.sip_writing.specs.Reply.{answer_address}
+use Rattle.sip_writing.specs.Reply.{response_address}
 use Rattle.sip_writing.specs.Requests.{server_via}
 use Rattle.sdp.specs.declared.description.Description.{Description}
 use Rattle.dialogs.specs.Counting.{following, max_for, last_number, method_text}
@@ -81,7 +81,7 @@ tells_other s true one other is h = absurd (false≢true (sym is))
 
 -- ---- responses
 
-pub responds_seen : (a : Asker) (status : ℕ) (body : Option Description) (to : Addr) (m : Message) → to ≡ answer_address a.parts.now.vias a.source → SeesResponse a.parts.now status a.tag.now body m → RespondsTo a.parts.now a.source status to m
+pub responds_seen : (a : Asker) (status : ℕ) (body : Option Description) (to : Addr) (m : Message) → to ≡ response_address a.parts.now.vias a.source → SeesResponse a.parts.now status a.tag.now body m → RespondsTo a.parts.now a.source status to m
 responds_seen a status body to m there seen = record {
   address = there;
   kind = seen.kind;
@@ -90,7 +90,7 @@ responds_seen a status body to m there seen = record {
 
 module _ (s : Scene) (a : Asker) where
   abbrev To : Addr → Type 0
-  To to = to ≡ answer_address a.parts.now.vias a.source
+  To to = to ≡ response_address a.parts.now.vias a.source
 
   pub then_trying : {later : List Action} {what : List Going} (end : End) → s.offer ≡ Some a → Tells s later what → Tells s (Trying end ∷ later) (responds a.parts.now a.source 100 ∷ what)
   unfolding dress_one

@@ -6,7 +6,7 @@ use Rattle.sip_uri.specs.Address.{address_of}
 use Rattle.sip_message.specs.Words.{tag_value}
 use Rattle.sip_message.specs.declared.message.Message.TheVariants as Kinds
 use Rattle.sip_message.specs.declared.message.Request.{Request as SipRequest}
-use Rattle.sip_writing.specs.Reply.{answer_address}
+use Rattle.sip_writing.specs.Reply.{response_address}
 use Rattle.sdp.specs.declared.description.Description.{Description}
 use Rattle.offer_answer.specs.Alike.{Alike}
 use Rattle.offer_answer.specs.Checks.{offer_fault}
@@ -71,7 +71,7 @@ pub record BeginsCall (source : Addr) (bytes : List ℕ) (r : SipRequest) (to : 
   pub taken : x.plan.taken ≡ Done
   pub callee : Addr
   pub leads : address_of to ≡ Some callee
-  pub addresses : map (λ (d : Sent). d.to) x.plan.sends ≡ answer_address r.parts.vias source ∷ callee ∷ []
+  pub addresses : map (λ (d : Sent). d.to) x.plan.sends ≡ response_address r.parts.vias source ∷ callee ∷ []
   pub sends : (ms : List Message) → AreMessages x.plan.sends ms → CallsOut (trace_message bytes (Kinds.Request r)) offer ms
 
 -- ---- an INVITE or UPDATE inside a dialog

@@ -2,7 +2,7 @@
 use Rattle.std.specs.Prelude.{◌≡◌, ◌⊎◌, ℕ, map, List, [], ◌∷◌, ◌++◌, None}
 use Rattle.sip_uri.specs.declared.uri.Addr.{Addr}
 use Rattle.sip_message.specs.declared.message.Request.{Request}
-use Rattle.sip_writing.specs.Reply.{answer_address}
+use Rattle.sip_writing.specs.Reply.{response_address}
 use Rattle.registrar.specs.Bound.{Event as Registration, bound}
 use Rattle.registrar.specs.Registering.{Rules}
 use Rattle.registrar.specs.Registrar.{event as registration}
@@ -59,7 +59,7 @@ AreRegistrations rules s (x ∷ xs) hs =
 pub record Lists (source : Addr) (r : Request) (now : ℕ) (bindings : List Binding) (x : Effect) : Type 0 where
   pub taken : x.plan.taken ≡ Done
   pub tag : List ℕ
-  pub sends : x.plan.sends ≡ sent_response (answer_address r.parts.vias source) (responds r.parts source 200 tag (map (contact_header now) bindings)) ∷ []
+  pub sends : x.plan.sends ≡ sent_response (response_address r.parts.vias source) (responds r.parts source 200 tag (map (contact_header now) bindings)) ∷ []
 
 -- where it is not refused: what its user is bound to at its moment, this REGISTER counted
 pub record ListsBound (rules : Rules) (history : List Registration) (h : Registration) (source : Addr) (r : Request) (user : List ℕ) (x : Effect) : Type 0 where
@@ -69,5 +69,5 @@ pub record ListsBound (rules : Rules) (history : List Registration) (h : Registr
 pub record Refuses (source : Addr) (r : Request) (least : ℕ) (refusal : Refusal) (x : Effect) : Type 0 where
   pub taken : x.plan.taken ≡ Done
   pub tag : List ℕ
-  pub sends : x.plan.sends ≡ sent_response (answer_address r.parts.vias source) (responds r.parts source (status_of refusal) tag (refusal_headers least refusal)) ∷ []
+  pub sends : x.plan.sends ≡ sent_response (response_address r.parts.vias source) (responds r.parts source (status_of refusal) tag (refusal_headers least refusal)) ∷ []
   pub registration : x.plan.registration ≡ None

@@ -3,7 +3,7 @@ use Rattle.std.specs.Prelude.{◌≡◌, ℕ, List, [], ◌∷◌}
 use Rattle.sip_uri.specs.declared.uri.Addr.{Addr}
 use Rattle.sip_message.specs.declared.headers.Header.{Header}
 use Rattle.sip_message.specs.declared.message.Parts.{Parts}
-use Rattle.sip_writing.specs.Reply.{answer_address}
+use Rattle.sip_writing.specs.Reply.{response_address}
 use Rattle.plans.specs.Effect.{Effect}
 use Rattle.plans.specs.Plan.{sent_response}
 use Rattle.plans.specs.declared.taken.Taken.TheVariants.{Done}
@@ -16,4 +16,4 @@ pub record RespondsOnce (request : Parts) (source : Addr) (x : Effect) : Type 0 
   pub status : ℕ
   pub tag : List ℕ
   pub further : List Header
-  pub sends : x.plan.sends ≡ sent_response (answer_address request.vias source) (responds request source status tag further) ∷ []
+  pub sends : x.plan.sends ≡ sent_response (response_address request.vias source) (responds request source status tag further) ∷ []

@@ -4,7 +4,7 @@ use Rattle.std.specs.Prelude.{◌≡◌, ℕ, codes, List, [], ◌∷◌, Some}
 use Rattle.sip_uri.specs.Address.{address_of}
 use Rattle.sip_uri.specs.declared.uri.Addr.{Addr}
 use Rattle.sip_message.specs.declared.message.Parts.{Parts}
-use Rattle.sip_writing.specs.Reply.{answer_address}
+use Rattle.sip_writing.specs.Reply.{response_address}
 use Rattle.dialogs.specs.declared.state.Dialog.{Dialog}
 use Rattle.events.specs.declared.sent.Sent.{Sent}
 use Rattle.transactions.specs.declared.transaction.Transaction.{Transaction}
@@ -19,7 +19,7 @@ use Rattle.plans.specs.declared.taken.Taken.TheVariants.{Done}
 -- a response with this status to the request of these parts, which goes back to where that came from (RFC 3261 sections
 -- 8.2.6 and 18.2.2)
 pub record RespondsTo (request : Parts) (source : Addr) (status : ℕ) (to : Addr) (m : Message) : Type 0 where
-  pub address : to ≡ answer_address request.vias source
+  pub address : to ≡ response_address request.vias source
   pub kind : m.kind ≡ Response status
   pub replies : (came : Message) → IsRequestOf request came → Replies m came
 

@@ -15,7 +15,7 @@ use Rattle.sip_writing.specs.Requests.{tag_params}
 use Rattle.sip_writing.proofs.TagTrip.{not_empty}
 use Rattle.dialogs.specs.declared.identifiers.DialogId.{DialogId}
 use Rattle.dialogs.specs.declared.state.Dialog.{Dialog}
-use Rattle.dialogs.specs.Identifiers.{id_of_request, id_of_answer}
+use Rattle.dialogs.specs.Identifiers.{id_of_request, id_of_response}
 use Rattle.dialogs.specs.Requests.{parts_in, request_in}
 use Rattle.call_trace.specs.Dialogs.{dialog_of}
 use Rattle.call_trace.specs.Events.{taken_at, sent_at}
@@ -28,11 +28,11 @@ pub request_taken : (n : ℕ) (bytes : List ℕ) (request : Request) → dialog_
 unfolding trace_message
 request_taken n bytes request = refl
 
-pub response_taken : (n : ℕ) (bytes : List ℕ) (response : Response) → dialog_of (taken_at n (trace_message bytes (Kinds.Response response))) ≡ dialog_named (id_of_answer response.parts)
+pub response_taken : (n : ℕ) (bytes : List ℕ) (response : Response) → dialog_of (taken_at n (trace_message bytes (Kinds.Response response))) ≡ dialog_named (id_of_response response.parts)
 unfolding trace_message
 response_taken n bytes response = refl
 
-pub request_sent : (n : ℕ) (bytes : List ℕ) (request : Request) → dialog_of (sent_at n (trace_message bytes (Kinds.Request request))) ≡ dialog_named (id_of_answer request.parts)
+pub request_sent : (n : ℕ) (bytes : List ℕ) (request : Request) → dialog_of (sent_at n (trace_message bytes (Kinds.Request request))) ≡ dialog_named (id_of_response request.parts)
 unfolding trace_message
 request_sent n bytes request = refl
 
@@ -48,7 +48,7 @@ tag_put (b ∷ bs) = rw (not_empty b bs) refl
 abbrev named : List ℕ → List ℕ → List ℕ → DialogId
 named call_id ours theirs = record { call_id = call_id; ours = ours; theirs = theirs }
 
-made_id : (d : Dialog) (via : Via) (method : List ℕ) (number : ℕ) → id_of_answer (parts_in d via method number) ≡ d.id
+made_id : (d : Dialog) (via : Via) (method : List ℕ) (number : ℕ) → id_of_response (parts_in d via method number) ≡ d.id
 unfolding parts_in
 made_id d via method number = let ours : tag_text (tag_params d.id.ours) ≡ d.id.ours = tag_put d.id.ours in
     let theirs : tag_text (tag_params d.id.theirs) ≡ d.id.theirs = tag_put d.id.theirs in

@@ -10,7 +10,7 @@ ghost use Rattle.call_trace.specs.Runs.{AreRead};
 ghost use Rattle.dialogs.specs.declared.method.Method.TheVariants.{Invite, Update, Bye};
 ghost use Rattle.dialogs.specs.declared.state.Dialog.{Dialog};
 ghost use Rattle.dialogs.specs.Counting.{method_text};
-ghost use Rattle.dialogs.specs.Identifiers.{id_of_request, id_of_answer};
+ghost use Rattle.dialogs.specs.Identifiers.{id_of_request, id_of_response};
 ghost use Rattle.dialogs.specs.Requests.{ack_text, request_in};
 ghost use Rattle.sdp.specs.declared.description.Description.{Description};
 ghost use Rattle.sdp.specs.Grammar.{ReadsDescription};
@@ -49,9 +49,9 @@ pub fn dialogs_agree()
     ensures request_taken { (n : ℕ) (bytes : List ℕ) (request : Request) →
         dialog_of (taken_at n (trace_message bytes (Kinds.Request request))) ≡ dialog_named (id_of_request request.parts) }
     ensures response_taken { (n : ℕ) (bytes : List ℕ) (response : Response) →
-        dialog_of (taken_at n (trace_message bytes (Kinds.Response response))) ≡ dialog_named (id_of_answer response.parts) }
+        dialog_of (taken_at n (trace_message bytes (Kinds.Response response))) ≡ dialog_named (id_of_response response.parts) }
     ensures request_sent { (n : ℕ) (bytes : List ℕ) (request : Request) →
-        dialog_of (sent_at n (trace_message bytes (Kinds.Request request))) ≡ dialog_named (id_of_answer request.parts) }
+        dialog_of (sent_at n (trace_message bytes (Kinds.Request request))) ≡ dialog_named (id_of_response request.parts) }
     ensures response_sent { (n : ℕ) (bytes : List ℕ) (response : Response) →
         dialog_of (sent_at n (trace_message bytes (Kinds.Response response))) ≡ dialog_named (id_of_request response.parts) }
     ensures made { (n : ℕ) (bytes : List ℕ) (d : Dialog) (via : Via) (method : List ℕ) (number hops : ℕ) (further : List Header) (body : List ℕ) →

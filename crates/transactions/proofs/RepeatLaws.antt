@@ -1,4 +1,4 @@
--- A copy of a request gets the bytes of its final answer again.
+-- A copy of a request gets the bytes of its final response again.
 use Rattle.std.proofs.Common.{◌≡◌, ℕ, Bool, true, false, cond, List, [], ◌∷◌, Option, Some, None, option_map, option_and_then, codes, position, is_some, refl, ap, sym, subst, ◌∙◌, inl, inr}
 use Rattle.std.specs.Prelude.{IfSome, IsSome}
 use Rattle.std.proofs.lemmas.Bool.{false≢true, cases_eq}
@@ -40,7 +40,7 @@ use Rattle.transactions.specs.Once.{Lasts}
 use Rattle.transactions.specs.Repeats.{is_completed, has_final, KeepsAnswer, KeepsAt, KeepsIfThere, KeepsFinal, LeavesAnswer, KeepsOver, RepeatsAnswer, ResendsAnswer}
 use Rattle.transactions.proofs.LastingLaws.{within, other_left, placed_other}
 
--- ---- a line keeps the answer
+-- ---- a line keeps the response
 
 completed_is_final : (state : State) → is_completed state ≡ true → has_final state ≡ true
 completed_is_final (machine.InviteClient state) h = absurd (false≢true h)
@@ -84,7 +84,7 @@ line_keeps bytes t (machine.OtherClient state) input h last = absurd (false≢tr
 line_keeps bytes t (machine.InviteServer state) input h last = invite_keeps bytes t state input h last
 line_keeps bytes t (machine.OtherServer state) input h last = other_keeps bytes t state input h last
 
--- no further answer is taken, and no answer of another comes
+-- no further response is taken, and no response of another comes
 no_answer : (state : State) (class : Class) → has_final state ≡ true → row_of state (Answer class) ≡ None
 unfolding row_of invite_server_row other_server_row
 no_answer (machine.InviteClient state) class h = absurd (false≢true h)
@@ -184,7 +184,7 @@ over_by table (call ∷ more) id bytes (Some t) there h lasts =
 pub keeps_over : (table : Contents) (more : List Call) → KeepsOver table more
 keeps_over table more id t bytes there h lasts = over_by table more id bytes (Some t) there h lasts
 
--- ---- the answer is given
+-- ---- the response is given
 
 given_by : (table : Contents) (id : ℕ) (t : Transaction) (bytes : List ℕ) (now : ℕ) (step : Step) (next : State) → at table.slots id ≡ Some t → step.next ≡ Some next
     → is_completed next ≡ true → KeepsAt bytes (stepped_by table id t (Some bytes) now (Some step)) id

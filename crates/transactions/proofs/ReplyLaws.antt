@@ -1,4 +1,4 @@
--- An answer that is taken replies to a request.
+-- An response that is taken replies to a request.
 use Rattle.std.proofs.Common.{◌≡◌, ◌↔◌, ℕ, true, false, not, List, [], ◌∷◌, Option, Some, None, position, refl, ap, sym, subst, ◌∙◌}
 use Rattle.std.specs.Prelude.{IsSome}
 use Rattle.std.specs.Cmp.Lexicographic.{bytes_decides}
@@ -35,67 +35,67 @@ text_is (Some a) (Some b) h = ap Some ((bytes_decides a b).0 h)
 text_is None (Some b) h = absurd (false≢true h)
 text_is (Some a) None h = absurd (false≢true h)
 
-tag_is : (answer request : Option (List ℕ)) → keeps_tag answer request ≡ true → IsSome request → answer ≡ request
-tag_is answer None h some = absurd (false≢true some)
-tag_is answer (Some tag) h some = text_is answer (Some tag) h
+tag_is : (response request : Option (List ℕ)) → keeps_tag response request ≡ true → IsSome request → response ≡ request
+tag_is response None h some = absurd (false≢true some)
+tag_is response (Some tag) h some = text_is response (Some tag) h
 
-tag_kept : (answer request : Option (List ℕ)) → (IsSome request → answer ≡ request) → keeps_tag answer request ≡ true
-tag_kept answer None h = refl
-tag_kept answer (Some tag) h = subst (λ a. same_text a (Some tag) ≡ true) (sym (h refl)) (own_bytes tag)
+tag_kept : (response request : Option (List ℕ)) → (IsSome request → response ≡ request) → keeps_tag response request ≡ true
+tag_kept response None h = refl
+tag_kept response (Some tag) h = subst (λ a. same_text a (Some tag) ≡ true) (sym (h refl)) (own_bytes tag)
 
-reply_is : (answer request : Parts) → is_reply answer request ≡ true → RepliesTo answer request
+reply_is : (response request : Parts) → is_reply response request ≡ true → RepliesTo response request
 unfolding is_reply
-reply_is answer request h =
+reply_is response request h =
     let ends = and_parts _ _ h in
     let starts = and_parts _ _ ends.0 in
     let methods = and_parts _ _ starts.1 in
     let numbers = and_parts _ _ methods.0 in
     let calls = and_parts _ _ numbers.0 in
     record {
-      branch = text_is (top_branch answer.vias) (top_branch request.vias) starts.0;
-      call_id = (bytes_decides answer.call_id request.call_id).0 calls.0;
-      from_tag = text_is (tag_value answer.from.params) (tag_value request.from.params) calls.1;
-      number = eqb-true answer.cseq.number request.cseq.number numbers.1;
-      method = (bytes_decides answer.cseq.method request.cseq.method).0 methods.1;
-      to_tag = tag_is (tag_value answer.to.params) (tag_value request.to.params) ends.1;
+      branch = text_is (top_branch response.vias) (top_branch request.vias) starts.0;
+      call_id = (bytes_decides response.call_id request.call_id).0 calls.0;
+      from_tag = text_is (tag_value response.from.params) (tag_value request.from.params) calls.1;
+      number = eqb-true response.cseq.number request.cseq.number numbers.1;
+      method = (bytes_decides response.cseq.method request.cseq.method).0 methods.1;
+      to_tag = tag_is (tag_value response.to.params) (tag_value request.to.params) ends.1;
     }
 
 same_text_from : (a b : Option (List ℕ)) → a ≡ b → same_text a b ≡ true
 same_text_from a b e = subst (λ c. same_text a c ≡ true) e (own_text a)
 
-reply_from : (answer request : Parts) → RepliesTo answer request → is_reply answer request ≡ true
+reply_from : (response request : Parts) → RepliesTo response request → is_reply response request ≡ true
 unfolding is_reply
-reply_from answer request h =
+reply_from response request h =
     and_from _ _
-    (and_from _ _ (same_text_from (top_branch answer.vias) (top_branch request.vias) h.branch)
+    (and_from _ _ (same_text_from (top_branch response.vias) (top_branch request.vias) h.branch)
     (and_from _ _
     (and_from _ _
-    (and_from _ _ ((bytes_decides answer.call_id request.call_id).1 h.call_id) (same_text_from (tag_value answer.from.params) (tag_value request.from.params) h.from_tag))
-    (eq-eqb answer.cseq.number request.cseq.number h.number))
-    ((bytes_decides answer.cseq.method request.cseq.method).1 h.method)))
-    (tag_kept (tag_value answer.to.params) (tag_value request.to.params) h.to_tag)
+    (and_from _ _ ((bytes_decides response.call_id request.call_id).1 h.call_id) (same_text_from (tag_value response.from.params) (tag_value request.from.params) h.from_tag))
+    (eq-eqb response.cseq.number request.cseq.number h.number))
+    ((bytes_decides response.cseq.method request.cseq.method).1 h.method)))
+    (tag_kept (tag_value response.to.params) (tag_value request.to.params) h.to_tag)
 
-pub reply_decides : (answer request : Parts) → (is_reply answer request ≡ true) ↔ RepliesTo answer request
-reply_decides answer request = (reply_is answer request, reply_from answer request)
+pub reply_decides : (response request : Parts) → (is_reply response request ≡ true) ↔ RepliesTo response request
+reply_decides response request = (reply_is response request, reply_from response request)
 
--- ---- what is written in answer to a request replies to it
+-- ---- what is written in response to a request replies to it
 
 branch_value : (vias : List Via) → top_branch vias ≡ value_found (writing.top_branch vias)
 branch_value [] = refl
 branch_value (via ∷ vias) = refl
 
-to_value : (status : ℕ) (tag : List ℕ) (answer request : Option Param) → answer ≡ writing.answered_tag status request tag → IsSome (value_found request) → value_found answer ≡ value_found request
-to_value status tag answer None e some = absurd (false≢true some)
-to_value status tag answer (Some own) e some = ap value_found e
+to_value : (status : ℕ) (tag : List ℕ) (response request : Option Param) → response ≡ writing.answered_tag status request tag → IsSome (value_found request) → value_found response ≡ value_found request
+to_value status tag response None e some = absurd (false≢true some)
+to_value status tag response (Some own) e some = ap value_found e
 
-pub written_replies : (answer request : Parts) (status : ℕ) (tag : List ℕ) → writing.Replies answer request status tag → RepliesTo answer request
-written_replies answer request status tag h = record {
-  branch = branch_value answer.vias ∙ ap value_found h.branch ∙ sym (branch_value request.vias);
+pub written_replies : (response request : Parts) (status : ℕ) (tag : List ℕ) → writing.Replies response request status tag → RepliesTo response request
+written_replies response request status tag h = record {
+  branch = branch_value response.vias ∙ ap value_found h.branch ∙ sym (branch_value request.vias);
   call_id = h.call_id;
   from_tag = ap value_found h.from_tag;
   number = ap (λ c. c.number) h.cseq;
   method = ap (λ c. c.method) h.cseq;
-  to_tag = to_value status tag (writing.tag_of answer.to.params) (writing.tag_of request.to.params) h.to_tag;
+  to_tag = to_value status tag (writing.tag_of response.to.params) (writing.tag_of request.to.params) h.to_tag;
 }
 
 -- ---- who is taken
@@ -116,10 +116,10 @@ up_by : (id : ℕ) (t : Transaction) (class : Class) (ack : Option (List ℕ)) (
 up_by id t class ack None up e = absurd (cc)
 up_by id t class ack (Some step) up e = up_told id up class step.send step.told e
 
-answered_parts : (answer : Parts) (t : Transaction) → is_answered answer (Some t) ≡ true → (is_server t.state ≡ false) × (is_reply answer t.parts ≡ true)
+answered_parts : (response : Parts) (t : Transaction) → is_answered response (Some t) ≡ true → (is_server t.state ≡ false) × (is_reply response t.parts ≡ true)
 unfolding is_answered
-answered_parts answer t h =
-    let both = and_parts (not (is_server t.state)) (is_reply answer t.parts) h in
+answered_parts response t h =
+    let both = and_parts (not (is_server t.state)) (is_reply response t.parts) h in
     (not-true (is_server t.state) both.0, both.1)
 
 abbrev Finds : Contents → Response → Option ℕ → Type 0

@@ -91,7 +91,7 @@ opened table t starts now = record {
 
 -- ---- a message comes
 
--- a copy of a request that gets its answer again
+-- a copy of a request that gets its response again
 abbrev pub repeat_by : Input → Sending → Verdict
 repeat_by inputs.Repeat Again = verdicts.Repeat
 repeat_by input sending = verdicts.Swallowed

@@ -33,27 +33,27 @@ is_same_call a b =
     && a.cseq.number == b.cseq.number && pointwise nat_eq a.cseq.method b.cseq.method
 
 abbrev pub keeps_tag : Option (List ℕ) → Option (List ℕ) → Bool
-keeps_tag answer None = true
-keeps_tag answer (Some tag) = same_text answer (Some tag)
+keeps_tag response None = true
+keeps_tag response (Some tag) = same_text response (Some tag)
 
 -- the tag of To is the request's, where it has one
 abbrev pub keeps_to_tag : Parts → Parts → Bool
-keeps_to_tag answer request = keeps_tag (tag_value answer.to.params) (tag_value request.to.params)
+keeps_to_tag response request = keeps_tag (tag_value response.to.params) (tag_value request.to.params)
 
--- the answer is one to the request: by the branch, and by Call-ID, tags, number and method too (section 17.1.3; that
+-- the response is one to the request: by the branch, and by Call-ID, tags, number and method too (section 17.1.3; that
 -- more than branch and method is compared is the server's own)
 unfoldable pub is_reply : Parts → Parts → Bool
-is_reply answer request =
-    same_text (top_branch answer.vias) (top_branch request.vias) && is_same_call answer request && keeps_to_tag answer request
+is_reply response request =
+    same_text (top_branch response.vias) (top_branch request.vias) && is_same_call response request && keeps_to_tag response request
 
 -- the same, as equations: `replies` says that the two agree
-pub record RepliesTo (answer request : Parts) : Type 0 where
-  pub branch : top_branch answer.vias ≡ top_branch request.vias
-  pub call_id : answer.call_id ≡ request.call_id
-  pub from_tag : tag_value answer.from.params ≡ tag_value request.from.params
-  pub number : answer.cseq.number ≡ request.cseq.number
-  pub method : answer.cseq.method ≡ request.cseq.method
-  pub to_tag : IsSome (tag_value request.to.params) → tag_value answer.to.params ≡ tag_value request.to.params
+pub record RepliesTo (response request : Parts) : Type 0 where
+  pub branch : top_branch response.vias ≡ top_branch request.vias
+  pub call_id : response.call_id ≡ request.call_id
+  pub from_tag : tag_value response.from.params ≡ tag_value request.from.params
+  pub number : response.cseq.number ≡ request.cseq.number
+  pub method : response.cseq.method ≡ request.cseq.method
+  pub to_tag : IsSome (tag_value request.to.params) → tag_value response.to.params ≡ tag_value request.to.params
 
 -- the request came on another way before: the rest agrees, and it is not a copy (section 8.2.2.2)
 unfoldable pub is_merged_with : Parts → Parts → Bool

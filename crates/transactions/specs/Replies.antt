@@ -18,14 +18,14 @@ IsTaken verdicts.Swallowed = Unit {0}
 IsTaken (verdicts.Up id) = Unit {0}
 IsTaken verdicts.Stray = ⊥
 
--- t is the client transaction with the number id, the answer replies to its request, and it was in the state before
-pub record IsReplyTo (table : Contents) (answer : Parts) (reception : Reception) (id : ℕ) (t : Transaction) : Type 0 where
+-- t is the client transaction with the number id, the response replies to its request, and it was in the state before
+pub record IsReplyTo (table : Contents) (response : Parts) (reception : Reception) (id : ℕ) (t : Transaction) : Type 0 where
   pub stands : at table.slots id ≡ Some t
   pub client : is_server t.state ≡ false
-  pub request : RepliesTo answer t.parts
+  pub request : RepliesTo response t.parts
   pub before : reception.before ≡ Some t.state
   pub number : (up : ℕ) → reception.verdict ≡ verdicts.Up up → up ≡ id
 
 -- a response goes up or is swallowed only where a client transaction stands whose request it replies to
 abbrev pub RepliesWhereTaken : Contents → Parts → Reception → Type 0
-RepliesWhereTaken table answer reception = IsTaken reception.verdict → (id : ℕ) × (t : Transaction) × IsReplyTo table answer reception id t
+RepliesWhereTaken table response reception = IsTaken reception.verdict → (id : ℕ) × (t : Transaction) × IsReplyTo table response reception id t

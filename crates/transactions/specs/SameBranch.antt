@@ -51,12 +51,12 @@ ack_to to = name_with_tag to.display to.uri (tag_text to.params)
 
 -- a single Via, the top one of the INVITE, which each request that is sent has
 abbrev pub ack_with : Uri → Parts → Parts → List Via → Option Request
-ack_with uri invite answer [] = None
-ack_with uri invite answer (via ∷ vias) = Some (request_like uri via invite (ack_to answer.to) (codes "ACK"))
+ack_with uri invite response [] = None
+ack_with uri invite response (via ∷ vias) = Some (request_like uri via invite (ack_to response.to) (codes "ACK"))
 
--- the ACK to this answer to an INVITE with this Request-URI
+-- the ACK to this response to an INVITE with this Request-URI
 abbrev pub ack_of : Uri → Parts → Parts → Option Request
-ack_of uri invite answer = ack_with uri invite answer invite.vias
+ack_of uri invite response = ack_with uri invite response invite.vias
 
 -- ---- the CANCEL
 

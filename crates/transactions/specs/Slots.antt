@@ -24,7 +24,7 @@ unfoldable pub is_asked : Parts → Option Transaction → Bool
 is_asked parts None = false
 is_asked parts (Some t) = is_server t.state && is_copy parts t.parts
 
--- a client transaction whose request the answer is one to
+-- a client transaction whose request the response is one to
 unfoldable pub is_answered : Parts → Option Transaction → Bool
 is_answered parts None = false
 is_answered parts (Some t) = not (is_server t.state) && is_reply parts t.parts

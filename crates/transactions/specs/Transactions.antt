@@ -3,7 +3,7 @@ use Rattle.std.specs.Prelude.{ℕ, false, List, codes, Option, Some, None, optio
 use Rattle.sip_uri.specs.declared.uri.Addr.{Addr}
 use Rattle.sip_message.specs.declared.message.Parts.{Parts}
 use Rattle.sip_message.specs.declared.message.Request.{Request}
-use Rattle.sip_writing.specs.Reply.{answer_address}
+use Rattle.sip_writing.specs.Reply.{response_address}
 use Rattle.transaction_machines.specs.declared.input.TimerKind.TheVariants as letter
 use Rattle.transaction_machines.specs.declared.invite_client.InviteClient.TheVariants.{Calling}
 use Rattle.transaction_machines.specs.declared.invite_server.InviteServer.TheVariants as invite
@@ -27,7 +27,7 @@ served_state parts = if is_method (codes "INVITE") parts then machine.InviteServ
 
 -- its answers go where the answers to the first copy go
 abbrev pub served : Request → Addr → Transaction
-served r source = record { uri = r.uri; parts = r.parts; state = served_state r.parts; place = answer_address r.parts.vias source; last = None }
+served r source = record { uri = r.uri; parts = r.parts; state = served_state r.parts; place = response_address r.parts.vias source; last = None }
 
 -- ---- a request of the server's own
 

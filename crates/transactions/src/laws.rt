@@ -40,8 +40,8 @@ pub fn once()
 /// Call-ID, tag of From, number and method agree, and the tag of To where the request has one. Its state before is
 /// told. What is written in response to a request replies to it.
 pub fn replies()
-    ensures written { (answer request : Parts) (status : ℕ) (tag : List ℕ) → Replies answer request status tag → RepliesTo answer request }
-    ensures reply { (answer : Parts) (request : Parts) → (is_reply answer request ≡ true) ↔ RepliesTo answer request }
+    ensures written { (response request : Parts) (status : ℕ) (tag : List ℕ) → Replies response request status tag → RepliesTo response request }
+    ensures reply { (response : Parts) (request : Parts) → (is_reply response request ≡ true) ↔ RepliesTo response request }
     ensures taken { (table : Contents) (response : Response) →
         RepliesWhereTaken table response.parts (reception_of table (Kinds.Response response)) }
 {}

@@ -47,12 +47,12 @@ pub(crate) fn is_copy(request: &Parts, first: &Parts) -> bool
 }
 
 // The tag of To is the request's, where it has one.
-fn keeps_to_tag(answer: &Parts, request: &Parts) -> bool
-    ensures { result ≡ keeps_to_tag answer.now request.now }
+fn keeps_to_tag(response: &Parts, request: &Parts) -> bool
+    ensures { result ≡ keeps_to_tag response.now request.now }
 {
     match tag_value(request.to.params.as_slice()) {
         None => true,
-        Some(tag) => same_text(tag_value(answer.to.params.as_slice()), Some(tag)),
+        Some(tag) => same_text(tag_value(response.to.params.as_slice()), Some(tag)),
     }
 }
 
@@ -71,12 +71,12 @@ fn is_same_call(a: &Parts, b: &Parts) -> bool
 
 /// Whether a response is one to this request.
 #[tactic(auto, unfolding(crate::specs::Matching::is_reply))]
-pub(crate) fn is_reply(answer: &Parts, request: &Parts) -> bool
-    ensures { result ≡ is_reply answer.now request.now }
+pub(crate) fn is_reply(response: &Parts, request: &Parts) -> bool
+    ensures { result ≡ is_reply response.now request.now }
 {
-    same_text(top_branch(&answer.vias), top_branch(&request.vias))
-        && is_same_call(answer, request)
-        && keeps_to_tag(answer, request)
+    same_text(top_branch(&response.vias), top_branch(&request.vias))
+        && is_same_call(response, request)
+        && keeps_to_tag(response, request)
 }
 
 /// Whether a request is another one with the tag of From, Call-ID, number and method of this one.

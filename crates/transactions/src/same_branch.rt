@@ -72,17 +72,17 @@ fn ack_by(
 pub fn ack_of(
     alloc: Global,
     invite: &Transaction,
-    answer: &Response<'_>,
+    response: &Response<'_>,
 ) -> Result<Option<Request<'static>>, AllocError>
-    ensures ack { IfOk result (λ ack. ack ≡ ack_of invite.now.uri invite.now.parts answer.now.parts) }
+    ensures ack { IfOk result (λ ack. ack ≡ ack_of invite.now.uri invite.now.parts response.now.parts) }
     // What is written for it is read as it.
     ensures written { IfOk result (λ ack. IfSome ack (λ r. IsSoundInvite invite.now.uri invite.now.parts →
-        HasReadVia invite.now.parts.vias → IsEnd (ack_to answer.now.parts.to) → IsWrittenMessage (Kinds.Request r))) }
+        HasReadVia invite.now.parts.vias → IsEnd (ack_to response.now.parts.to) → IsWrittenMessage (Kinds.Request r))) }
 {
     let [via, ..] = invite.parts.vias.as_slice() else {
         return Ok(None);
     };
-    let ack = ack_by(alloc, &invite.uri, via, &invite.parts, &answer.parts.to)?;
+    let ack = ack_by(alloc, &invite.uri, via, &invite.parts, &response.parts.to)?;
     Ok(Some(ack))
 }
 
@@ -136,11 +136,11 @@ fn text_of(
 fn ack_text(
     alloc: Global,
     invite: &Transaction,
-    answer: &Response<'_>,
+    response: &Response<'_>,
 ) -> Result<Option<Text<'static>>, AllocError>
-    ensures { IfOk result (λ text. text ≡ option_map (λ r. message_text (Kinds.Request r)) (ack_of invite.now.uri invite.now.parts answer.now.parts)) }
+    ensures { IfOk result (λ text. text ≡ option_map (λ r. message_text (Kinds.Request r)) (ack_of invite.now.uri invite.now.parts response.now.parts)) }
 {
-    let ack = ack_of(alloc, invite, answer)?;
+    let ack = ack_of(alloc, invite, response)?;
     text_of(alloc, &ack)
 }
 

@@ -15,7 +15,7 @@ use Rattle.sip_message.specs.declared.error.MessageError.TheVariants as faults
 use Rattle.sip_message.specs.declared.message.Message.{Message as ReadMessage}
 use Rattle.sip_message.specs.declared.message.Message.TheVariants as Kinds
 use Rattle.sip_message.specs.declared.message.Parts.{Parts}
-use Rattle.sip_writing.specs.Reply.{answer_address}
+use Rattle.sip_writing.specs.Reply.{response_address}
 use Rattle.transactions.specs.Changes.{fire_of}
 use Rattle.transactions.specs.declared.transaction.Transaction.{Transaction}
 use Rattle.call_core.specs.declared.action.CallTimer.{CallTimer}
@@ -77,10 +77,10 @@ module _ (laws : Laws) (s : Office) (begun : List Transaction) (sent : List Sent
   -- ---- a datagram
 
   module _ (from : IsSource e.source) where
-    stateless_sent : (parts : Parts) (status : ℕ) → 300 ≤ status → status ≤ 699 → CanBeRepeated parts → P (of_plan s (plain_replies (answer_address parts.vias e.source) (responds parts e.source status stateless [])))
+    stateless_sent : (parts : Parts) (status : ℕ) → 300 ≤ status → status ≤ 699 → CanBeRepeated parts → P (of_plan s (plain_replies (response_address parts.vias e.source) (responds parts e.source status stateless [])))
     stateless_sent parts status low high repeats =
-        plain_sent laws s begun sent t ds k asked e (plain_replies (answer_address parts.vias e.source) (responds parts e.source status stateless [])).sends
-        (stateless_says parts (answer_address parts.vias e.source) e.source status from repeats low high)
+        plain_sent laws s begun sent t ds k asked e (plain_replies (response_address parts.vias e.source) (responds parts e.source status stateless [])).sends
+        (stateless_says parts (response_address parts.vias e.source) e.source status from repeats low high)
 
     message_sent : (text : List ℕ) (m : ReadMessage) → message_of text ≡ Ok m → P (received s e m)
     message_sent text (Kinds.Request r) read = request_received laws s begun sent t ds k asked e from text r read
@@ -88,7 +88,7 @@ module _ (laws : Laws) (s : Office) (begun : List Transaction) (sent : List Sent
 
     unfit_sent : (text : List ℕ) (m : ReadMessage) → message_of text ≡ Ok m → P (of_plan s (unfit_branch e m))
     unfit_sent text (Kinds.Request r) read =
-        by_if (λ p. P (of_plan s p)) (request_method (codes "ACK") r) (nothing (takens.Dropped whys.NoBranch)) (plain_replies (answer_address r.parts.vias e.source) (responds r.parts e.source 400 stateless [])) (λ b. nothing_sent)
+        by_if (λ p. P (of_plan s p)) (request_method (codes "ACK") r) (nothing (takens.Dropped whys.NoBranch)) (plain_replies (response_address r.parts.vias e.source) (responds r.parts e.source 400 stateless [])) (λ b. nothing_sent)
         (λ b. stateless_sent r.parts 400 (omega arith) (omega arith) (read_repeats text (Kinds.Request r) read))
     unfit_sent text (Kinds.Response r) read = nothing_sent
 

@@ -16,7 +16,7 @@ use Rattle.sip_message.specs.declared.words.Class.TheVariants.{Failure, Provisio
 use Rattle.sip_message.specs.AnswerableParts.{answerable_of}
 use Rattle.sip_message.specs.Read.{message_of}
 use Rattle.sip_message.specs.Words.{class_of, is_method}
-use Rattle.sip_writing.specs.Reply.{answer_address}
+use Rattle.sip_writing.specs.Reply.{response_address}
 use Rattle.transactions.specs.declared.change.Entry.{Entry}
 use Rattle.transactions.specs.declared.outcome.Outgoing.{Outgoing}
 use Rattle.transactions.specs.declared.outcome.Verdict.{Verdict}
@@ -195,15 +195,15 @@ received_case s e m =
 pub data DatagramCase (s : Office) (e : Setting) (bytes : List ℕ) (x : Effect) : Type 0 where
   ignored : (taken : Taken) → IsNotDone taken → x ≡ of_plan s (nothing taken) → DatagramCase s e bytes x
   unreadable : (fault : MessageError) (status : ℕ) (parts : Parts) → 300 ≤ status → status ≤ 699 → message_of bytes ≡ Err fault → answerable_of bytes ≡ Some parts
-      → x ≡ of_plan s (plain_replies (answer_address parts.vias e.source) (responds parts e.source status stateless [])) → DatagramCase s e bytes x
-  unfit_branched : (r : Request) → message_of bytes ≡ Ok (Kinds.Request r) → x ≡ of_plan s (plain_replies (answer_address r.parts.vias e.source) (responds r.parts e.source 400 stateless []))
+      → x ≡ of_plan s (plain_replies (response_address parts.vias e.source) (responds parts e.source status stateless [])) → DatagramCase s e bytes x
+  unfit_branched : (r : Request) → message_of bytes ≡ Ok (Kinds.Request r) → x ≡ of_plan s (plain_replies (response_address r.parts.vias e.source) (responds r.parts e.source 400 stateless []))
       → DatagramCase s e bytes x
   was_received : (m : Message) → message_of bytes ≡ Ok m → has_fit_branch (parts_of m).vias ≡ true → is_unreachable_message m ≡ false → ReceivedCase s e m x → DatagramCase s e bytes x
 
 unfit_case : (s : Office) (e : Setting) (bytes : List ℕ) (m : Message) → message_of bytes ≡ Ok m → DatagramCase s e bytes (of_plan s (unfit_branch e m))
 unfit_case s e bytes (Kinds.Request r) read =
     by_if (λ p. DatagramCase s e bytes (of_plan s p)) (request_method (codes "ACK") r) (nothing (takens.Dropped whys.NoBranch))
-    (plain_replies (answer_address r.parts.vias e.source) (responds r.parts e.source 400 stateless [])) (λ b. ignored (takens.Dropped whys.NoBranch) tt refl) (λ b. unfit_branched r read refl)
+    (plain_replies (response_address r.parts.vias e.source) (responds r.parts e.source 400 stateless [])) (λ b. ignored (takens.Dropped whys.NoBranch) tt refl) (λ b. unfit_branched r read refl)
 unfit_case s e bytes (Kinds.Response r) read = ignored (takens.Dropped whys.NoBranch) tt refl
 
 unread_by_case : (s : Office) (e : Setting) (bytes : List ℕ) (fault : MessageError) (status : ℕ) (parts : Option Parts) → 300 ≤ status → status ≤ 699 → message_of bytes ≡ Err fault → answerable_of bytes ≡ parts

@@ -7,7 +7,7 @@ use Rattle.sip_message.specs.declared.message.Message.TheVariants as Kinds
 use Rattle.sip_message.specs.declared.message.Parts.{Parts}
 use Rattle.sip_message.specs.declared.message.Request.{Request}
 use Rattle.sip_message.specs.Repeatable.{CanBeRepeated}
-use Rattle.sip_writing.specs.Reply.{answer_address, replied, reply_of}
+use Rattle.sip_writing.specs.Reply.{response_address, replied, reply_of}
 use Rattle.sip_writing.specs.Writing.{message_text}
 use Rattle.sip_writing.specs.WritingMessage.{IsWrittenMessage}
 use Rattle.registrar.specs.declared.binding.Binding.{Binding}
@@ -52,7 +52,7 @@ one_says to parts source status tag further from repeats token is follows quiet 
 in_says : (s : Office) (e : Setting) (r : Request) (begun : List Entry) (id status : ℕ) (further : List Header) (registration : Option PlanContents) → CanAnswer s e r → IsStatus status
     → FollowsIn status r.parts.cseq.method further → IsQuietStatus r.parts status → SaysPlain (responds_in s e r begun id status further registration).sends
 in_says s e r begun id status further registration can is follows quiet =
-    one_says (answer_address r.parts.vias e.source) r.parts e.source status (fresh_tag s e) further can.from can.repeats (fresh_token s e can.few) is follows quiet
+    one_says (response_address r.parts.vias e.source) r.parts e.source status (fresh_tag s e) further can.from can.repeats (fresh_token s e can.few) is follows quiet
 
 -- ---- refusals
 
@@ -100,7 +100,7 @@ pub reply_says : (s : Office) (e : Setting) (r : Request) (begun : List Entry) (
     → AreBound (answer_of s.registrar (register_of (rules_of s.registrar) r) e.now) → FitsReply r reply → IsQuietReply r reply → SaysPlain (reply_row s e r begun id reply).sends
 unfolding reply_row registers
 reply_says s e r begun id (replies.CancelOf other) can small bound fits quiet =
-    one_says (answer_address r.parts.vias e.source) r.parts e.source 200 (response_tag_in s other) [] can.from can.repeats (response_tag_token s other) okay_status
+    one_says (response_address r.parts.vias e.source) r.parts e.source 200 (response_tag_in s other) [] can.from can.repeats (response_tag_token s other) okay_status
     (none_follows 200 r.parts.cseq.method (method_needs_none s e r 200 (codes "CANCEL") can fits refl refl)) (inr quiet)
 reply_says s e r begun id (replies.Refusal status) can small bound fits quiet = refusal_says s e r begun id status can fits.0 fits.1
 reply_says s e r begun id replies.RetryLater can small bound fits quiet = plain_says s e r begun id 500 retry_after can (omega arith) (omega arith) retry_after_plain

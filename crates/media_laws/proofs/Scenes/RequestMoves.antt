@@ -6,7 +6,7 @@ use Rattle.sip_message.specs.Read.{message_of}
 use Rattle.sip_message.specs.declared.message.Message.TheVariants as Kinds
 use Rattle.sip_message.specs.declared.message.Parts.{Parts}
 use Rattle.sip_message.specs.declared.message.Request.{Request}
-use Rattle.sip_writing.specs.Reply.{answer_address}
+use Rattle.sip_writing.specs.Reply.{response_address}
 use Rattle.responses.specs.Responding.{responds, stateless}
 use Rattle.transactions.specs.declared.change.Entry.{Entry}
 use Rattle.call_media.specs.declared.end.End.{End}
@@ -68,16 +68,16 @@ refused_is_none status low = and_right (nat_le 200 status) (nat_lt status 300) (
 module _ (r : Reading) (t : List Datagram) (ds : List Call) (taken : Option Message) (bytes : List ℕ) (ms : List Message) (took : IsTakenOf bytes taken) (s : Office) (e : Setting) (from : IsSource e.source) where
   -- one that can't be read, and one with another branch
   pub unreadable_move : (parts : Parts) (status : ℕ) → answerable_of bytes ≡ Some parts → 300 ≤ status → status ≤ 699
-      → AreMessages (plain_replies (answer_address parts.vias e.source) (responds parts e.source status stateless [])).sends ms → Move offering t ds taken ms ds
+      → AreMessages (plain_replies (response_address parts.vias e.source) (responds parts e.source status stateless [])).sends ms → Move offering t ds taken ms ds
   unreadable_move parts status can low high are =
-      plain_move t ds taken r (plain_replies (answer_address parts.vias e.source) (responds parts e.source status stateless [])).sends ms (answerable_taken bytes parts taken can took)
-      (stateless_says parts (answer_address parts.vias e.source) e.source status from (answerable_repeats bytes parts can) low high) are
+      plain_move t ds taken r (plain_replies (response_address parts.vias e.source) (responds parts e.source status stateless [])).sends ms (answerable_taken bytes parts taken can took)
+      (stateless_says parts (response_address parts.vias e.source) e.source status from (answerable_repeats bytes parts can) low high) are
 
   module _ (q : Request) (read : message_of bytes ≡ Ok (Kinds.Request q)) where
-    pub unfit_branched_move : AreMessages (plain_replies (answer_address q.parts.vias e.source) (responds q.parts e.source 400 stateless [])).sends ms → Move offering t ds taken ms ds
+    pub unfit_branched_move : AreMessages (plain_replies (response_address q.parts.vias e.source) (responds q.parts e.source 400 stateless [])).sends ms → Move offering t ds taken ms ds
     unfit_branched_move are =
-        plain_move t ds taken r (plain_replies (answer_address q.parts.vias e.source) (responds q.parts e.source 400 stateless [])).sends ms (request_taken bytes q taken read took)
-        (stateless_says q.parts (answer_address q.parts.vias e.source) e.source 400 from (read_repeats bytes (Kinds.Request q) read) (omega arith) (omega arith)) are
+        plain_move t ds taken r (plain_replies (response_address q.parts.vias e.source) (responds q.parts e.source 400 stateless [])).sends ms (request_taken bytes q taken read took)
+        (stateless_says q.parts (response_address q.parts.vias e.source) e.source 400 from (read_repeats bytes (Kinds.Request q) read) (omega arith) (omega arith)) are
 
     module _ (k : KnowsScenes s) (begun : List Entry) (id : ℕ) where
       can : CanAnswer s e q

@@ -20,7 +20,7 @@ use Rattle.sip_message.specs.declared.message.Response.{Response}
 use Rattle.sip_message.specs.AnswerableParts.{answerable_of}
 use Rattle.sip_message.specs.Read.{message_of}
 use Rattle.sip_message.specs.Repeatable.{CanBeRepeated}
-use Rattle.sip_writing.specs.Reply.{answer_address}
+use Rattle.sip_writing.specs.Reply.{response_address}
 use Rattle.responses.specs.Responding.{responds, stateless}
 use Rattle.responses.specs.Words.{has_fit_branch, is_method as request_method}
 use Rattle.transactions.specs.declared.change.Entry.{Entry as TableEntry}
@@ -137,15 +137,15 @@ message_asks describes bytes s k e (Kinds.Response r) read from = response_recei
 
 -- a response that no transaction sends
 stateless_asks : (s : Office) → IsReady s → (e : Setting) (parts : Parts) (status : ℕ) → IsSource e.source → CanBeRepeated parts → 300 ≤ status → status ≤ 699
-    → AskedEffect s (of_plan s (plain_replies (answer_address parts.vias e.source) (responds parts e.source status stateless [])))
+    → AskedEffect s (of_plan s (plain_replies (response_address parts.vias e.source) (responds parts e.source status stateless [])))
 stateless_asks s k e parts status from repeats low high =
-    plan_asks s k (plain_replies (answer_address parts.vias e.source) (responds parts e.source status stateless []))
+    plan_asks s k (plain_replies (response_address parts.vias e.source) (responds parts e.source status stateless []))
     (one_own _ (inl (responds_read parts e.source status stateless [] from repeats stateless_token (record { low = omega (arith, low); high = high })
     (none_follows status parts.cseq.method (refusal_needs_none status parts.cseq.method low))))) tt (λ id a. tt)
 
 unfit_asks : (bytes : List ℕ) (s : Office) → IsReady s → (e : Setting) (m : Message) → message_of bytes ≡ Ok m → IsSource e.source → AskedEffect s (of_plan s (unfit_branch e m))
 unfit_asks bytes s k e (Kinds.Request r) read from =
-    by_if (λ p. AskedEffect s (of_plan s p)) (request_method (codes "ACK") r) (nothing (takens.Dropped whys.NoBranch)) (plain_replies (answer_address r.parts.vias e.source) (responds r.parts e.source 400 stateless []))
+    by_if (λ p. AskedEffect s (of_plan s p)) (request_method (codes "ACK") r) (nothing (takens.Dropped whys.NoBranch)) (plain_replies (response_address r.parts.vias e.source) (responds r.parts e.source 400 stateless []))
     (λ b. nothing_asks s k (takens.Dropped whys.NoBranch)) (λ b. stateless_asks s k e r.parts 400 from (read_repeats bytes (Kinds.Request r) read) (omega arith) (omega arith))
 unfit_asks bytes s k e (Kinds.Response r) read from = nothing_asks s k (takens.Dropped whys.NoBranch)
 

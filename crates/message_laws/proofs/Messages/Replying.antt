@@ -4,7 +4,7 @@ use Rattle.sip_uri.specs.declared.uri.Addr.{Addr}
 use Rattle.sip_message.specs.declared.headers.Header.{Header}
 use Rattle.sip_message.specs.declared.message.Request.{Request}
 use Rattle.sip_message.specs.declared.message.Response.{Response}
-use Rattle.sip_writing.specs.Reply.{answer_address}
+use Rattle.sip_writing.specs.Reply.{response_address}
 use Rattle.registrar.specs.declared.binding.Binding.{Binding}
 use Rattle.registrar.specs.declared.refusal.Refusal.{Refusal}
 use Rattle.registrar.specs.Registrar.{PlanContents, answer_of as answer_of_register, plan_of, rules_of}
@@ -30,7 +30,7 @@ pub record IsReply (begun : List Entry) (id : ℕ) (p : Plan) : Type 0 where
 pub responds_reply : (s : Office) (e : Setting) (r : Request) (begun : List Entry) (id status : ℕ) (further : List Header) (registration : Option PlanContents)
     → IsReply begun id (responds_in s e r begun id status further registration)
 responds_reply s e r begun id status further registration = record {
-  to = answer_address r.parts.vias e.source;
+  to = response_address r.parts.vias e.source;
   response = responds r.parts e.source status (fresh_tag s e) further;
   changes = refl;
   sends = refl;
@@ -49,7 +49,7 @@ registers_reply s e r begun id user (Err refusal) = responds_reply s e r begun i
 pub row_reply : (s : Office) (e : Setting) (r : Request) (begun : List Entry) (id : ℕ) (reply : Reply) → IsReply begun id (reply_row s e r begun id reply)
 unfolding reply_row registers
 row_reply s e r begun id (replies.CancelOf other) = record {
-  to = answer_address r.parts.vias e.source;
+  to = response_address r.parts.vias e.source;
   response = responds r.parts e.source 200 (response_tag_in s other) [];
   changes = refl;
   sends = refl;

@@ -37,7 +37,7 @@ use Rattle.plans.specs.Plan.{moves, nothing, replies as plain_replies}
 use Rattle.event_rows.specs.Rows.{by_reading, datagram_row, due_row, ends, fires_by, fit_row, is_unreachable_message, no_source, parts_of, read_row, received, setting, timer_row, unfit_branch, unread_by, unread_row, what_row}
 use Rattle.responses.specs.Responding.{responds, stateless}
 use Rattle.responses.specs.Words.{has_fit_branch, is_method as request_method}
-use Rattle.sip_writing.specs.Reply.{answer_address}
+use Rattle.sip_writing.specs.Reply.{response_address}
 use Rattle.message_laws.proofs.Messages.RequestViews.{by_if}
 use Rattle.message_laws.proofs.Messages.MessageViews.{ReceivedRow, received_view}
 
@@ -47,15 +47,15 @@ pub data DatagramRow (s : Office) (e : Setting) (bytes : List ℕ) (x : Effect) 
   -- what can't be read, or has another branch, gets nothing, or a response that no transaction sends
   ignored : (taken : Taken) → x ≡ of_plan s (nothing taken) → DatagramRow s e bytes x
   unreadable : (fault : MessageError) (status : ℕ) (parts : Parts) → message_of bytes ≡ Err fault → answerable_of bytes ≡ Some parts
-      → x ≡ of_plan s (plain_replies (answer_address parts.vias e.source) (responds parts e.source status stateless [])) → DatagramRow s e bytes x
-  unfit_branched : (r : Request) → message_of bytes ≡ Ok (Kinds.Request r) → x ≡ of_plan s (plain_replies (answer_address r.parts.vias e.source) (responds r.parts e.source 400 stateless []))
+      → x ≡ of_plan s (plain_replies (response_address parts.vias e.source) (responds parts e.source status stateless [])) → DatagramRow s e bytes x
+  unfit_branched : (r : Request) → message_of bytes ≡ Ok (Kinds.Request r) → x ≡ of_plan s (plain_replies (response_address r.parts.vias e.source) (responds r.parts e.source 400 stateless []))
       → DatagramRow s e bytes x
   was_received : (m : Message) → message_of bytes ≡ Ok m → has_fit_branch (parts_of m).vias ≡ true → is_unreachable_message m ≡ false → ReceivedRow s e m x → DatagramRow s e bytes x
 
 unfit_view : (s : Office) (e : Setting) (bytes : List ℕ) (m : Message) → message_of bytes ≡ Ok m → DatagramRow s e bytes (of_plan s (unfit_branch e m))
 unfit_view s e bytes (Kinds.Request r) read =
     by_if (λ p. DatagramRow s e bytes (of_plan s p)) (request_method (codes "ACK") r) (nothing (Dropped NoBranch))
-    (plain_replies (answer_address r.parts.vias e.source) (responds r.parts e.source 400 stateless [])) (λ b. ignored (Dropped NoBranch) refl) (λ b. unfit_branched r read refl)
+    (plain_replies (response_address r.parts.vias e.source) (responds r.parts e.source 400 stateless [])) (λ b. ignored (Dropped NoBranch) refl) (λ b. unfit_branched r read refl)
 unfit_view s e bytes (Kinds.Response r) read = ignored (Dropped NoBranch) refl
 
 unread_by_view : (s : Office) (e : Setting) (bytes : List ℕ) (fault : MessageError) (status : ℕ) (parts : Option Parts) → message_of bytes ≡ Err fault → answerable_of bytes ≡ parts

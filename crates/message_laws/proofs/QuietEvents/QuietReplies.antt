@@ -7,7 +7,7 @@ use Rattle.sip_message.specs.declared.headers.Header.{Header}
 use Rattle.sip_message.specs.declared.message.Message.TheVariants as Kinds
 use Rattle.sip_message.specs.declared.message.Parts.{Parts}
 use Rattle.sip_message.specs.declared.message.Request.{Request}
-use Rattle.sip_writing.specs.Reply.{answer_address}
+use Rattle.sip_writing.specs.Reply.{response_address}
 use Rattle.sip_writing.specs.Writing.{message_text}
 use Rattle.sdp.specs.declared.description.Description.{Description}
 use Rattle.registrar.specs.declared.binding.Binding.{Binding}
@@ -80,7 +80,7 @@ one_plain methods to parts source status tag further quiet =
 
 pub in_plain : (methods : List (List ℕ)) (s : Office) (e : Setting) (r : Request) (begun : List Entry) (id status : ℕ) (further : List Header) (registration : Option PlanContents) → IsQuietStatus r.parts status
     → SayPlain methods (responds_in s e r begun id status further registration).sends
-in_plain methods s e r begun id status further registration quiet = one_plain methods (answer_address r.parts.vias e.source) r.parts e.source status (fresh_tag s e) further quiet
+in_plain methods s e r begun id status further registration quiet = one_plain methods (response_address r.parts.vias e.source) r.parts e.source status (fresh_tag s e) further quiet
 
 -- the 200 to an UPDATE without an offer
 pub okay_plain : (methods : List (List ℕ)) (s : Office) (e : Setting) (r : Request) (begun : List Entry) (id : ℕ) → MovesNone r.parts → SayPlain methods (okay_plan s e r begun id).sends
@@ -106,7 +106,7 @@ pub reply_plain : (methods : List (List ℕ)) (s : Office) (e : Setting) (r : Re
     → SayPlain methods (reply_row s e r begun id reply).sends
 unfolding reply_row registers
 reply_plain methods s e r begun id (replies.CancelOf other) quiet =
-    one_plain methods (answer_address r.parts.vias e.source) r.parts e.source 200 (response_tag_in s other) [] (inr quiet)
+    one_plain methods (response_address r.parts.vias e.source) r.parts e.source 200 (response_tag_in s other) [] (inr quiet)
 reply_plain methods s e r begun id (replies.Refusal status) quiet = in_plain methods s e r begun id status [] None (inl quiet)
 reply_plain methods s e r begun id replies.RetryLater quiet = in_plain methods s e r begun id 500 (retry_after ∷ []) None (inl refl)
 reply_plain methods s e r begun id replies.MethodUnoffered quiet = in_plain methods s e r begun id 405 (allow ∷ []) None (inl refl)

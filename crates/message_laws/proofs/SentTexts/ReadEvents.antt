@@ -15,7 +15,7 @@ use Rattle.sip_message.specs.declared.message.Parts.{Parts}
 use Rattle.sip_message.specs.declared.message.Request.{Request}
 use Rattle.sip_message.specs.AnswerableParts.{answerable_of}
 use Rattle.sip_message.specs.Read.{message_of}
-use Rattle.sip_writing.specs.Reply.{answer_address}
+use Rattle.sip_writing.specs.Reply.{response_address}
 use Rattle.responses.specs.Responding.{responds, stateless}
 use Rattle.responses.specs.Words.{has_fit_branch, is_method as request_method}
 use Rattle.std.specs.Prelude.{Result, Err}
@@ -81,14 +81,14 @@ message_reads laws s e k text (Kinds.Response r) read from = response_received l
 
 unfit_reads : (s : Office) (e : Setting) (text : List ℕ) (m : Message) → message_of text ≡ Ok m → IsSource e.source → SendsRead (of_plan s (unfit_branch e m))
 unfit_reads s e text (Kinds.Request r) read from =
-    by_if (λ p. SendsRead (of_plan s p)) (request_method (codes "ACK") r) (nothing (takens.Dropped whys.NoBranch)) (plain_replies (answer_address r.parts.vias e.source) (responds r.parts e.source 400 stateless []))
-    (λ b. All-nil IsReadDatagram) (λ b. stateless_read r.parts e (answer_address r.parts.vias e.source) 400 from (read_repeats text (Kinds.Request r) read) (omega arith) (omega arith))
+    by_if (λ p. SendsRead (of_plan s p)) (request_method (codes "ACK") r) (nothing (takens.Dropped whys.NoBranch)) (plain_replies (response_address r.parts.vias e.source) (responds r.parts e.source 400 stateless []))
+    (λ b. All-nil IsReadDatagram) (λ b. stateless_read r.parts e (response_address r.parts.vias e.source) 400 from (read_repeats text (Kinds.Request r) read) (omega arith) (omega arith))
 unfit_reads s e text (Kinds.Response r) read from = All-nil IsReadDatagram
 
 unread_by_reads : (s : Office) (e : Setting) (text : List ℕ) (fault : MessageError) (status : ℕ) (parts : Option Parts) → answerable_of text ≡ parts → IsSource e.source → 300 ≤ status → status ≤ 699
     → SendsRead (of_plan s (unread_by e fault status parts))
 unread_by_reads s e text fault status None can from low high = All-nil IsReadDatagram
-unread_by_reads s e text fault status (Some parts) can from low high = stateless_read parts e (answer_address parts.vias e.source) status from (answerable_repeats text parts can) low high
+unread_by_reads s e text fault status (Some parts) can from low high = stateless_read parts e (response_address parts.vias e.source) status from (answerable_repeats text parts can) low high
 
 unread_reads : (s : Office) (e : Setting) (text : List ℕ) (fault : MessageError) → IsSource e.source → SendsRead (of_plan s (unread_row e text fault))
 unfolding unread_row

@@ -9,7 +9,7 @@ use Rattle.sip_message.specs.declared.message.Message.TheVariants as Kinds
 use Rattle.sip_message.specs.declared.message.Parts.{Parts}
 use Rattle.sip_message.specs.declared.message.Request.{Request}
 use Rattle.sip_message.specs.Repeatable.{CanBeRepeated}
-use Rattle.sip_writing.specs.Reply.{answer_address}
+use Rattle.sip_writing.specs.Reply.{response_address}
 use Rattle.sip_writing.specs.Writing.{message_text}
 use Rattle.registrar.specs.declared.binding.Binding.{Binding}
 use Rattle.registrar.specs.declared.refusal.Refusal.{Refusal}
@@ -43,7 +43,7 @@ response_read to bytes h = one_read (record { to = to; bytes = bytes }) (Kinds.R
 responds_in_read : (s : Office) (e : Setting) (r : Request) (begun : List Entry) (id status : ℕ) (further : List Header) (registration : Option PlanContents) → CanAnswer s e r → IsStatus status
     → FollowsIn status r.parts.cseq.method further → All IsReadDatagram (responds_in s e r begun id status further registration).sends
 responds_in_read s e r begun id status further registration can is follows =
-    response_read (answer_address r.parts.vias e.source) _ (responds_read r.parts e.source status (fresh_tag s e) further can.from can.repeats (fresh_token s e can.few) is follows)
+    response_read (response_address r.parts.vias e.source) _ (responds_read r.parts e.source status (fresh_tag s e) further can.from can.repeats (fresh_token s e can.few) is follows)
 
 -- a refusal without further header fields
 pub refuses_read : (s : Office) (e : Setting) (r : Request) (begun : List Entry) (id status : ℕ) → CanAnswer s e r → 300 ≤ status → status ≤ 699
@@ -83,7 +83,7 @@ pub reply_read : (s : Office) (e : Setting) (r : Request) (begun : List Entry) (
     → AreBound (answer_of s.registrar (register_of (rules_of s.registrar) r) e.now) → FitsReply r reply → All IsReadDatagram (reply_row s e r begun id reply).sends
 unfolding reply_row registers
 reply_read s e r begun id (replies.CancelOf other) can small bound fits =
-    response_read (answer_address r.parts.vias e.source) _ (responds_read r.parts e.source 200 (response_tag_in s other) [] can.from can.repeats (response_tag_token s other) okay_status
+    response_read (response_address r.parts.vias e.source) _ (responds_read r.parts e.source 200 (response_tag_in s other) [] can.from can.repeats (response_tag_token s other) okay_status
     (none_follows 200 r.parts.cseq.method (method_needs_none s e r 200 (codes "CANCEL") can fits refl refl)))
 reply_read s e r begun id (replies.Refusal status) can small bound fits = refuses_read s e r begun id status can fits.0 fits.1
 reply_read s e r begun id replies.RetryLater can small bound fits = plain_read s e r begun id 500 retry_after can (omega arith) (omega arith) retry_after_plain
