@@ -38,7 +38,7 @@ use Rattle.offer_answer.proofs.ReaddressLaws.{readdressed_alike, readdressed_at_
 use Rattle.call_media.proofs.SeatLaws.{each_seated, imply}
 use Rattle.call_media.proofs.HeldLaws.{among, holder_of_own, other_holder, own_holder}
 use Rattle.call_media.proofs.FreshLaws.{Suit, suit}
-use Rattle.call_media.proofs.AnswerLaws.{all_held, held_even, listed, no_hop}
+use Rattle.call_media.proofs.AnswerLaws.{all_held, as_many, held_even, listed, no_hop}
 use Rattle.call_media.proofs.SpareLaws.{Left, left_all_held, left_bare, left_spares, taken_bare, taken_fresh, taken_spares, taken_stands}
 use Rattle.call_media.proofs.ServeLaws.{Owns, Sent, answer_ports, answer_ports_there, differ_named, holds_named, offer_ports, offer_ports_there, open_offer, serves_without_offer}
 use Rattle.call_media.proofs.SessionLaws.{none_kept, serves_ended, spares_ended}
@@ -293,6 +293,7 @@ module _ (own : Owns) (once : Once) (have : HaveRows) (server : OwnRange) (m : C
               held = left_all_held m.number made.pairs (pairs_of_session made) rows left_pool left listed_same holds;
               distinct = differ;
               listed = listed_same;
+              media = (as_many m.range o.offer_sent answer fits).0;
               offers = opening.offer.alike;
               answers = sends.alike;
               offer_sent = opening.offer.at_server;
