@@ -19,7 +19,7 @@ pub trait Wire {
     ghost seen: { Self → WireState };
 
     /// Takes a datagram into the buffer, and gives where it came from and its length in bytes. None where there is none
-    /// now. What doesn't fit the buffer is cut off.
+    /// now, or where nobody knows of one: `wait` learns of it. What doesn't fit the buffer is cut off.
     fn receive(&mut self, buffer: &mut [u8]) -> Result<Option<(Addr, usize)>, WireFault>
         ensures fits { IfOk result (λ r. IfSome r (λ d. d.1 ≤ length buffer.new)) }
         ensures taken { MatchResult result
@@ -39,7 +39,7 @@ pub trait Wire {
         ensures waited { (seen self.new).waited ≡ (seen self.old).waited }
         ensures failed { (seen self.new).failed ≡ is_err result };
 
-    /// Waits until a datagram may be there, for so many milliseconds at most.
+    /// Waits until a datagram is there, for so many milliseconds at most.
     fn wait(&mut self, millis: u64) -> Result<(), WireFault>
         ensures waited { (seen self.new).waited ≡ (seen self.old).waited ++ millis ∷ [] }
         ensures taken { (seen self.new).taken ≡ (seen self.old).taken }

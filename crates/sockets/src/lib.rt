@@ -8,6 +8,7 @@ mod media;
 mod ports;
 mod ready;
 mod sip_socket;
+mod tries;
 mod workers;
 
 pub use media::MediaSockets;

@@ -7,14 +7,17 @@ ghost use Rattle.sockets.specs.Traffic.{no_traffic, relay_ports, worker_count};
 use crate::addresses::to_system;
 use crate::log::Log;
 use crate::sip_socket::SipSocket;
+use crate::tries::Tries;
 use configuration::Config;
+use libc::net::{EPOLL_CTL_ADD, EPOLLIN};
 use mio::net::UdpSocket;
-use mio::{Events, Interest, Poll, Token};
+use mio::{Events, Poll};
 use sip_uri::Addr;
 use std::alloc::Global;
 use std::io;
 use std::marker::Model;
 use std::net::Net;
+use std::os::fd::AsRawFd;
 use std::sync::Arc;
 
 /// All sockets of a configuration.
@@ -55,17 +58,28 @@ fn bind_at<R: Net>(rt: &R, ip: [u8; 4], port: u16) -> io::Result<UdpSocket> {
     UdpSocket::bind(rt, to_system(Addr { ip, port }))
 }
 
+/// Has the poll tell of the socket, by this number, for as long as a datagram is there. `mio` registers sockets of which
+/// it tells as one comes, and which have to be read until none is there.
+fn watch(poll: &Poll, socket: &UdpSocket, number: u64) -> io::Result<()> {
+    let (poll, socket) = (poll.as_raw_fd(), socket.as_raw_fd());
+    if os::epoll_ctl(poll, EPOLL_CTL_ADD, socket, EPOLLIN, number) == 0 {
+        Ok(())
+    } else {
+        Err(io::Error::from_raw_os_error(os::errno()))
+    }
+}
+
 fn bind_sip<R: Net>(rt: &R, alloc: Global, config: &Config) -> io::Result<SipSocket>
     ensures { IfOk result (λ s. s ≡ no_traffic) }
 {
-    let mut socket = bind_at(rt, config.ip, config.sip_port)?;
+    let socket = bind_at(rt, config.ip, config.sip_port)?;
     let poll = Poll::new(rt)?;
-    poll.registry()
-        .register(&mut socket, Token(0), Interest::READABLE)?;
+    watch(&poll, &socket, 0)?;
     Ok(SipSocket {
         socket,
         poll,
         events: Events::with_capacity(alloc, 1)?,
+        tries: Tries::new(),
         taken: Log::new(),
         asked: Log::new(),
         sent: Log::new(),
@@ -91,12 +105,10 @@ fn bind_relay<R: Net>(
     polls: &[Poll],
     place: u16,
 ) -> io::Result<UdpSocket> {
-    let mut socket = bind_at(rt, config.ip, config.relay_first.wrapping_add(place))?;
+    let socket = bind_at(rt, config.ip, config.relay_first.wrapping_add(place))?;
     let pair = usize::from(place / 2);
     if !polls.is_empty() {
-        polls[pair % polls.len()]
-            .registry()
-            .register(&mut socket, Token(usize::from(place)), Interest::READABLE)?;
+        watch(&polls[pair % polls.len()], &socket, u64::from(place))?;
     }
     Ok(socket)
 }

@@ -6,6 +6,7 @@ ghost use Rattle.sockets.specs.Traffic.{at_sip};
 
 use crate::addresses::{from_system, to_system};
 use crate::log::Log;
+use crate::tries::Tries;
 use mio::net::UdpSocket;
 use mio::{Events, Poll};
 use sip_uri::Addr;
@@ -21,6 +22,7 @@ pub struct SipSocket {
     pub(crate) socket: UdpSocket,
     pub(crate) poll: Poll,
     pub(crate) events: Events,
+    pub(crate) tries: Tries,
     pub(crate) taken: Log,
     pub(crate) asked: Log,
     pub(crate) sent: Log,
@@ -29,16 +31,29 @@ pub struct SipSocket {
     pub(crate) failed: bool,
 }
 
-/// A datagram that is there, with where it came from.
-fn receive_from(socket: &UdpSocket, buffer: &mut [u8]) -> io::Result<Option<(Addr, usize)>>
+/// A datagram, with where it came from, if one is there and one was to be tried for.
+fn receive_from(
+    socket: &UdpSocket,
+    tries: &mut Tries,
+    buffer: &mut [u8],
+) -> io::Result<Option<(Addr, usize)>>
     ensures { IfOk result (λ r. IfSome r (λ d. d.1 ≤ length buffer.new)) }
 {
+    if !tries.are_left() {
+        return Ok(None);
+    }
     match socket.recv_from(buffer) {
-        Ok((length, source)) => match from_system(source) {
-            Some(source) => Ok(Some((source, length))),
-            None => Ok(None),
-        },
-        Err(error) if error.kind() == ErrorKind::WouldBlock => Ok(None),
+        Ok((length, source)) => {
+            *tries = tries.behind_datagram();
+            match from_system(source) {
+                Some(source) => Ok(Some((source, length))),
+                None => Ok(None),
+            }
+        }
+        Err(error) if error.kind() == ErrorKind::WouldBlock => {
+            *tries = tries.behind_nothing();
+            Ok(None)
+        }
         Err(error) => Err(error),
     }
 }
@@ -63,7 +78,8 @@ impl Model for SipSocket {
 
 impl SipSocket {
     /// Takes a datagram into the buffer, and gives where it came from and its length in bytes. None where there is none
-    /// now, or where one came by IPv6. What doesn't fit the buffer is cut off. Err is the system's refusal.
+    /// now, where one came by IPv6, or where nobody knows of one: `wait` asks, and returns at once where one is there.
+    /// What doesn't fit the buffer is cut off. Err is the system's refusal.
     pub fn receive(&mut self, buffer: &mut [u8]) -> io::Result<Option<(Addr, usize)>>
         ensures fits { IfOk result (λ r. IfSome r (λ d. d.1 ≤ length buffer.new)) }
         ensures taken { MatchResult result (λ r. MatchOption r (self.new.taken ≡ self.old.taken) (λ d. self.new.taken ≡ self.old.taken ++ at_sip d.0 (take d.1 buffer.new) ∷ [])) (λ _. self.new.taken ≡ self.old.taken) }
@@ -73,7 +89,7 @@ impl SipSocket {
         ensures failed { self.new.failed ≡ is_err result }
     {
         self.room = buffer.len();
-        match receive_from(&self.socket, buffer) {
+        match receive_from(&self.socket, &mut self.tries, buffer) {
             Ok(Some((source, length))) => {
                 self.failed = false;
                 self.taken
@@ -113,7 +129,7 @@ impl SipSocket {
         }
     }
 
-    /// Waits until a datagram may be there, for so many milliseconds at most. Err is the system's refusal.
+    /// Waits until a datagram is there, for so many milliseconds at most. Err is the system's refusal.
     pub fn wait(&mut self, millis: u64) -> io::Result<()>
         ensures taken { self.new.taken ≡ self.old.taken }
         ensures asked { self.new.asked ≡ self.old.asked }
@@ -124,6 +140,8 @@ impl SipSocket {
         let limit = Duration::from_millis(millis);
         match self.poll.poll(&mut self.events, Some(limit)) {
             Ok(()) => {
+                let is_there = self.events.iter().next().is_some();
+                self.tries = self.tries.behind_question(is_there);
                 self.failed = false;
                 Ok(())
             }
