@@ -2,29 +2,36 @@
 use Rattle.std.specs.Prelude.{◌≡◌, ◌⊎◌, ℕ, ◌+◌, ◌-◌, ◌^◌, ◌<◌, ◌≤◌, Bool, true, false, min, List, [], ◌∷◌, ◌++◌, length, slice_index_or, Some}
 use Rattle.std.specs.FinMap.{get}
 use Rattle.port_pool.specs.declared.hop.Hop.{Hop}
+use Rattle.relay.specs.Counts.{Counted, one_more_of}
 use Rattle.relay.specs.Datagrams.{Taken, Forwarded, TakesOne, forwarded}
 use Rattle.relay.specs.Limits.{most_failures}
 use Rattle.relay.specs.Lists.{Lists, StartsWith, table_after}
 use Rattle.relay.specs.declared.serve.End.{End}
 use Rattle.relay.specs.declared.serve.End.TheVariants.{Stopped, Failed}
 
--- the lists that a worker knows of, what its socket took and sent, and whether the socket's last call failed
+-- the lists that a worker knows of, what its socket took and sent, what it counted, and whether the socket's last call
+-- failed
 pub record Media : Type 0 where
   pub lists : Lists
   pub taken : List Taken
   pub sent : List Forwarded
+  pub counted : Counted
   pub failed : Bool
 
--- nothing is sent, or what is taken goes on once, by a row of the table that is seen then
+-- nothing is sent or counted
+abbrev pub SendsNothing : Media → Media → Type 0
+SendsNothing a b = (b.sent ≡ a.sent) × (b.counted ≡ a.counted)
+
+-- nothing is sent, or what is taken goes on once, by a row of the table that is seen then, and is counted at its port
 abbrev pub SendsByRow : Media → Media → Type 0
 SendsByRow a b =
-    (b.sent ≡ a.sent)
-    ⊎ ((d : Taken) × (hop : Hop) × (b.taken ≡ a.taken ++ d ∷ []) × (get (table_after b.lists) d.port ≡ Some hop) × (b.sent ≡ a.sent ++ forwarded d hop ∷ []))
+    SendsNothing a b
+    ⊎ ((d : Taken) × (hop : Hop) × (b.taken ≡ a.taken ++ d ∷ []) × (get (table_after b.lists) d.port ≡ Some hop) × (b.sent ≡ a.sent ++ forwarded d hop ∷ []) × (b.counted ≡ one_more_of d.port a.counted))
 
 -- a round that succeeded took a datagram or waited; one that failed did nothing
 abbrev pub Leads : Media → Media → Bool → Type 0
 Leads a b true = StartsWith b.lists a.lists × SendsByRow a b × (TakesOne a.taken b.taken ⊎ (b.failed ≡ false))
-Leads a b false = StartsWith b.lists a.lists × (b.taken ≡ a.taken) × (b.sent ≡ a.sent) × (b.failed ≡ true)
+Leads a b false = StartsWith b.lists a.lists × (b.taken ≡ a.taken) × SendsNothing a b × (b.failed ≡ true)
 
 -- ---- rounds, the last of them first, each by whether it succeeded
 

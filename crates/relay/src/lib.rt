@@ -4,6 +4,7 @@
 
 mod board;
 mod changes;
+mod counts;
 mod hop_lookup;
 mod rule;
 mod serve;
@@ -14,6 +15,7 @@ mod worker;
 
 pub use board::{Board, Refused, Unopened};
 pub use changes::Changes;
+pub use counts::{Counter, EachPort, PortCounts, Ports};
 pub use hop_lookup::{Out, forward};
 pub use serve::serve_media;
 pub use socket::{MediaSocket, SocketFault};
