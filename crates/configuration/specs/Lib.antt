@@ -3,5 +3,8 @@ pub mod Domain
 pub mod Names
 pub mod Rules
 pub mod Files
+pub mod Flaws
 pub mod Reading
+pub mod Lines
+pub mod FaultOf
 pub mod Example

@@ -1,9 +1,9 @@
 //! The values of a configuration, as a table has them.
 
-ghost use Rattle.std.specs.Prelude.{◌≡◌};
+ghost use Rattle.std.specs.Prelude.{◌≡◌, option_and_then};
 ghost use Rattle.toml.specs.Data.{as_str};
 ghost use Rattle.toml.specs.View.{view, array_view, table_view};
-ghost use Rattle.configuration.specs.Files.{few, workers_in, workers_at, numbers_at, octets_of, ip_at, key_of, key_at, domain_at, texts_of, users_at, config_of};
+ghost use Rattle.configuration.specs.Files.{few, natural, workers_in, workers_at, numbers_at, octets_of, ip_at, key_of, key_at, domain_at, texts_of, users_at, config_of};
 ghost use Rattle.configuration.specs.Reading.{Gives};
 
 use crate::config::Config;
@@ -32,10 +32,17 @@ fn few(number: u8) -> Option<u8>
     }
 }
 
+/// A number of workers.
+pub(crate) fn workers_of(number: i64) -> Option<u8>
+    ensures { result ≡ option_and_then few (natural 255 number) }
+{
+    few(below_2_8(number)?)
+}
+
 fn workers_in(value: &Value) -> Option<u8>
     ensures { result ≡ workers_in (view value.now) }
 {
-    few(below_2_8(value.as_integer()?)?)
+    workers_of(value.as_integer()?)
 }
 
 fn workers_at(table: &Table) -> Option<u8>
@@ -78,7 +85,8 @@ fn ip_at(table: &Table) -> Option<[u8; 4]>
     Some(octets_of(text.as_bytes()))
 }
 
-fn key_of(text: &str) -> Option<[u8; 32]>
+/// 64 hexadecimal digits as bytes.
+pub(crate) fn key_of(text: &str) -> Option<[u8; 32]>
     ensures { result ≡ key_of text.now }
 {
     <[u8; 32] as FromHex>::from_hex(text).ok()

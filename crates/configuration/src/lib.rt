@@ -6,15 +6,24 @@
 mod config;
 mod error;
 mod example;
+mod fault;
 mod fields;
+mod flaw;
+mod flaws;
+mod key;
+mod lines;
 mod names;
 mod numbers;
 mod read;
 mod rules;
 mod tables;
+mod words;
 
 pub use config::Config;
 pub use error::ConfigError;
 pub use example::example_config;
+pub use fault::{ConfigFault, fault_of};
+pub use flaw::Flaw;
+pub use key::Key;
 pub use read::read_config;
 pub use rules::check;

@@ -24,7 +24,8 @@ fn all_name_bytes(text: &[u8]) -> bool
     text.iter().all(|b| is_name_byte(*b))
 }
 
-fn is_user(text: &[u8]) -> bool
+/// Whether it is 1 to 64 letters, digits, `-`, `_` or `.`.
+pub(crate) fn is_user(text: &[u8]) -> bool
     ensures { result ≡ is_user text.now }
 {
     1 <= text.len() && text.len() <= MAX_USER_BYTES && all_name_bytes(text)
@@ -37,7 +38,8 @@ pub(crate) fn are_users(users: &[Text<'static>]) -> bool
     users.iter().all(|user| is_user(user.as_bytes()))
 }
 
-fn is_among(user: &Text<'static>, others: &[Text<'static>]) -> bool
+/// Whether a user stands among others.
+pub(crate) fn is_among(user: &Text<'static>, others: &[Text<'static>]) -> bool
     ensures { result ≡ list_any (λ other. pointwise nat_eq other user.now) others.now }
 {
     others

@@ -27,7 +27,7 @@ fn error_of(error: &Error) -> ConfigError
 }
 
 /// The table of a text.
-fn table_of(alloc: Global, bytes: &[u8]) -> Result<Table, ConfigError>
+pub(crate) fn table_of(alloc: Global, bytes: &[u8]) -> Result<Table, ConfigError>
     ensures ok { IfOk result (λ table. IsTextOf bytes.now (table_view table)) }
     ensures refused { IfErr result (RefusesText bytes.now) }
 {

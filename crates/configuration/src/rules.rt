@@ -8,26 +8,28 @@ use crate::config::Config;
 use crate::error::ConfigError;
 use crate::names::{are_distinct, are_users, is_domain};
 
-const MIN_RELAY_PORT: u16 = 1024;
+pub(crate) const MIN_RELAY_PORT: u16 = 1024;
 
-const MAX_RELAY_PAIRS: u16 = 2048;
+pub(crate) const MAX_RELAY_PAIRS: u16 = 2048;
 
 /// How many ports there are, 0 included.
 const ALL_PORTS: u32 = 65536;
 
-const MAX_USERS: usize = 1000;
+pub(crate) const MAX_USERS: usize = 1000;
 
 /// The greatest number of seconds that may be the least lifetime of a binding.
 const MAX_MIN_EXPIRES: u32 = 3600;
 
-fn is_relay_port(config: &Config, port: u16) -> bool
+/// Whether the port is one of the relay's.
+pub(crate) fn is_relay_port(config: &Config, port: u16) -> bool
     ensures { result ≡ is_relay_port config.now port }
 {
     config.relay_first <= port
         && u32::from(port) < u32::from(config.relay_first) + 2 * u32::from(config.relay_pairs)
 }
 
-fn has_room_for_ports(config: &Config) -> bool
+/// Whether no relay port is above 65535.
+pub(crate) fn has_room_for_ports(config: &Config) -> bool
     ensures { result ≡ has_room_for_ports config.now }
 {
     u32::from(config.relay_first) + 2 * u32::from(config.relay_pairs) <= ALL_PORTS
@@ -51,7 +53,8 @@ fn is_zero(ip: &[u8]) -> bool
     ip.iter().all(|octet| *octet == 0)
 }
 
-fn is_server_address(ip: &[u8; 4]) -> bool
+/// Whether an address may be a server's.
+pub(crate) fn is_server_address(ip: &[u8; 4]) -> bool
     ensures { result ≡ is_server_address ip.now }
 {
     !is_zero(ip) && ip[0] < 224
@@ -73,14 +76,14 @@ fn has_users(config: &Config) -> bool
 }
 
 #[tactic(auto, unfolding(crate::specs::Rules::has_lifetime))]
-fn has_lifetime(config: &Config) -> bool
+pub(crate) fn has_lifetime(config: &Config) -> bool
     ensures { result ≡ has_lifetime config.now }
 {
     1 <= config.min_expires && config.min_expires <= MAX_MIN_EXPIRES
 }
 
 #[tactic(auto, unfolding(crate::specs::Rules::has_domain))]
-fn has_domain(config: &Config) -> bool
+pub(crate) fn has_domain(config: &Config) -> bool
     ensures { result ≡ has_domain config.now }
 {
     match &config.domain {

@@ -11,13 +11,15 @@ ghost use Rattle.configuration.specs.Files.{is_same, is_known_key, has_known_key
 use toml::value::Array;
 use toml::{Table, Value};
 
-fn is_same(text: &[u8], other: &[u8]) -> bool
+/// Whether two texts are the same.
+pub(crate) fn is_same(text: &[u8], other: &[u8]) -> bool
     ensures { result ≡ is_same text.now other.now }
 {
     text == other
 }
 
-fn is_known_key(key: &[u8]) -> bool
+/// Whether it is a key of a configuration.
+pub(crate) fn is_known_key(key: &[u8]) -> bool
     ensures { result ≡ is_known_key key.now }
 {
     is_same(key, b"relay_first")

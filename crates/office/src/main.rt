@@ -60,8 +60,14 @@ fn main(rt: HostRuntime) -> ExitCode {
         request: None,
     };
     let ending = ending(&rt, &mut telephony).unwrap_or_else(Ending::Refused);
+    if let Some(help) = ending.help() {
+        let _ = print!(rt; "{help}");
+    }
     if let Some(words) = ending.words() {
         let _ = eprintln!(rt; "{words}");
+    }
+    if let Some(reason) = ending.reason() {
+        let _ = eprintln!(rt; "{reason}");
     }
     ExitCode::from(ending.status())
 }

@@ -3,7 +3,7 @@
 ghost use Rattle.std.specs.Prelude.{IfOk};
 ghost use Rattle.live.specs.Turns.{HasTable};
 
-use crate::announcement::{Announcement, Announcer};
+use crate::announcement::{Announcement, Announcer, warn_of_zeros};
 use crate::shared::Shared;
 use crate::troubles::Troubles;
 use crate::watch::Watch;
@@ -195,6 +195,7 @@ impl<R: Net + Clock + Threads + Wait + Sync + Shared + Print + Eprint + AllocGlo
 
     fn serve(&mut self, config: &Config, turns: Option<u64>) -> Result<(), HostFault> {
         self.request = Some((Snapshot::of(config), turns));
+        warn_of_zeros(self.rt, config);
         let alloc = self.rt.alloc();
         let sockets = bind(self.rt, alloc, config).map_err(host_fault)?;
         let mut watch = Watch::new(self.rt).map_err(host_fault)?;

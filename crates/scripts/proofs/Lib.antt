@@ -1,3 +1,4 @@
 mod NumberLaws
 mod EntryLaws
 mod ScriptLaws
+mod PlaceLaws

@@ -1,5 +1,5 @@
 -- What a script is.
-use Rattle.std.specs.Prelude.{◌≡◌, ℕ, List, [], ◌∷◌, ◌++◌, length, codes, Some, ◌⊎◌}
+use Rattle.std.specs.Prelude.{◌≡◌, ℕ, List, [], ◌∷◌, ◌++◌, ◌+◌, ◌≢◌, length, codes, Some, ◌⊎◌}
 use Rattle.sip_uri.specs.Hosts.{ip4_of}
 use Rattle.events.specs.declared.event.Event.{Event}
 use Rattle.scripts.specs.declared.error.ScriptError.{ScriptError}
@@ -60,3 +60,17 @@ ReadsScript text (e ∷ es) = (rest : List ℕ) × Begins text e rest × ReadsSc
 abbrev pub Refuses : List ℕ → ScriptError → Type 0
 Refuses text OutOfMemory = Unit {0}
 Refuses text Malformed = (es : List Event) → ¬ (ReadsScript text es)
+
+-- these events stand at the head of the text, one behind the other, and the rest behind them
+abbrev pub LeadsTo : List ℕ → List Event → List ℕ → Type 0
+LeadsTo text [] rest = text ≡ rest
+LeadsTo text (e ∷ es) rest = (behind : List ℕ) × Begins text e behind × LeadsTo behind es rest
+
+-- behind these events something stands at this place that none begins
+pub record IsMalformedAt (text : List ℕ) (at : ℕ) : Type 0 where
+  pub events : List Event
+  pub rest : List ℕ
+  pub leads : LeadsTo text events rest
+  pub place : at + length rest ≡ length text
+  pub more : rest ≢ []
+  pub none : (e : Event) (behind : List ℕ) → ¬ (Begins rest e behind)

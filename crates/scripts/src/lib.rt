@@ -13,5 +13,5 @@ mod write;
 
 pub use error::ScriptError;
 pub use number::number_of;
-pub use read::read_script;
+pub use read::{malformed_at, read_script};
 pub use write::{put_call, put_hop, put_sent};

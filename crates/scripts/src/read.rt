@@ -1,9 +1,9 @@
 //! Reading of scripts.
 
-ghost use Rattle.std.specs.Prelude.{◌≡◌, List, IfOk, IfErr, MatchResult};
+ghost use Rattle.std.specs.Prelude.{◌≡◌, List, IfOk, IfErr, IfNone, IfSome, MatchResult};
 ghost use Rattle.events.specs.declared.event.Event.{Event};
 ghost use Rattle.scripts.specs.declared.error.ScriptError.TheVariants.{OutOfMemory};
-ghost use Rattle.scripts.specs.Grammar.{ReadsScript, Refuses};
+ghost use Rattle.scripts.specs.Grammar.{IsMalformedAt, ReadsScript, Refuses};
 
 use crate::entry::next_of;
 use crate::error::ScriptError;
@@ -37,4 +37,22 @@ pub fn read_script(alloc: Global, text: &[u8]) -> Result<Vec<Event>, ScriptError
     ensures refused { IfErr result (λ e. Refuses text.now e) }
 {
     read(alloc, text)
+}
+
+/// Where the first line stands that begins no event, as a count of the bytes before it; none where the text is a
+/// script. Takes no memory.
+pub fn malformed_at(text: &[u8]) -> Option<usize>
+    // Events stand before it, and none begins there.
+    ensures some { IfSome result (IsMalformedAt text.now) }
+    // The text is a script.
+    ensures none { IfNone result ((es : List Event) × ReadsScript text.now es) }
+{
+    let mut rest = text;
+    while !rest.is_empty() {
+        let Some(entry) = next_of(rest) else {
+            return Some(text.len() - rest.len());
+        };
+        rest = entry.rest();
+    }
+    None
 }

@@ -6,7 +6,7 @@ use Rattle.std.specs.Io.KnownBytes.{Consumes, Appends, IsAtEnd, Keeps}
 use Rattle.server.specs.declared.fault.Fault.{Fault}
 use Rattle.events.specs.declared.sent.Sent.{Sent}
 use Rattle.server.specs.Input.{max_kept, Takes, Reads}
-use Rattle.server.specs.Replay.{HasText}
+use Rattle.server.specs.Texts.{HasText}
 use Rattle.server.specs.Once.{Answers, SendsFor, bytes_of}
 
 -- all of a short list is taken

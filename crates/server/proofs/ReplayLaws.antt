@@ -16,9 +16,9 @@ use Rattle.scripts.specs.Writing.{sent_text}
 use Rattle.event_rows.specs.Rows.{after, row}
 use Rattle.event_rows.specs.State.{Contents, RefusesConfig}
 use Rattle.server.specs.declared.fault.Fault.{Fault}
-use Rattle.server.specs.declared.fault.Fault.TheVariants.{Input, Config as ConfigFault, Output, Socket, OutOfMemory}
+use Rattle.server.specs.declared.fault.Fault.TheVariants.{Input, Script, Config as Wrong, Output, Socket, OutOfMemory}
 use Rattle.server.specs.Faults.{config_fault}
-use Rattle.server.specs.Leaves.{Leaves, IsOfConfig, IsOfOffice, IsOfReading}
+use Rattle.server.specs.Leaves.{Leaves, IsOfConfig, IsOfOffice, IsOfReading, IsOfScript}
 use Rattle.server.specs.Replay.{after_all, day_text, run_text, sends_of, text_of, Day, EventLeaves, IsOffice, IsScript, Replays, ReplayLeaves, RunLeaves, WritesFirst}
 use Rattle.server.specs.State.{state_text}
 use Rattle.server.proofs.InputLaws.{appends_kept, appends_more, keeps_same}
@@ -40,18 +40,12 @@ only_memory c refusals.MinExpires kept h = let bad = sym kept ∙ h in cc
 only_memory c refusals.Domain kept h = let bad = sym kept ∙ h in cc
 only_memory c refusals.File kept h = absurd h
 
-pub of_config : (e : ConfigError) → IsOfConfig (config_fault e)
-of_config refusals.OutOfMemory = tt
-of_config refusals.RelayPorts = tt
-of_config refusals.Address = tt
-of_config refusals.Users = tt
-of_config refusals.MinExpires = tt
-of_config refusals.Domain = tt
-of_config refusals.File = tt
-
-pub of_office : (file : Option (List ℕ)) (e : Fault) → IsOfConfig e → IsOfOffice (Some file) e
+pub of_office : (file : Option (List ℕ)) (e : Fault) → IsOfConfig file e → IsOfOffice (Some file) e
 of_office file Input h = absurd h
-of_office file ConfigFault h = λ none. cc
+of_office file (Script at) h = absurd h
+of_office file (Wrong fault) h = (there, h) where
+  there : Some file ≢ None
+  there none = cc
 of_office file Output h = absurd h
 of_office file Socket h = absurd h
 of_office file OutOfMemory h = tt
@@ -74,7 +68,8 @@ after_more agent (x ∷ es) e = after_more (after agent x) es e
 stopped : (agent : Contents) (done rest : List Event) (e : Fault) (held now held_after : Option (List ℕ))
     → Appends held now (run_text agent done) → EventLeaves e now held_after → RunLeaves agent (done ++ rest) e held held_after
 stopped agent done rest Input held now held_after h k = absurd k
-stopped agent done rest ConfigFault held now held_after h k = absurd k
+stopped agent done rest (Script at) held now held_after h k = absurd k
+stopped agent done rest (Wrong fault) held now held_after h k = absurd k
 stopped agent done rest Output held now held_after h k = tt
 stopped agent done rest Socket held now held_after h k = absurd k
 stopped agent done rest OutOfMemory held now held_after h k = (done, rest, refl, appends_kept held now held_after _ h k)
@@ -124,7 +119,8 @@ replayed_as r config files script file held held_after config_is script_is h =
 run_leaves : (config : Option (Option (List ℕ))) (script held held_after : Option (List ℕ)) (day : Day config script) (e : Fault)
     → RunLeaves day.agent day.events e held held_after → ReplayLeaves config script e held held_after
 run_leaves config script held held_after day Input h = absurd h
-run_leaves config script held held_after day ConfigFault h = absurd h
+run_leaves config script held held_after day (Script at) h = absurd h
+run_leaves config script held held_after day (Wrong fault) h = absurd h
 run_leaves config script held held_after day Output h = day
 run_leaves config script held held_after day Socket h = absurd h
 run_leaves config script held held_after day OutOfMemory h = inr (day, h)
@@ -137,16 +133,18 @@ not_replayed (Err e) config script held held_after day h = run_leaves config scr
 -- a fault of the office, before anything was written
 pub office_leaves : (config : Option (Option (List ℕ))) (script held : Option (List ℕ)) (e : Fault) → IsOfOffice config e → ReplayLeaves config script e held held
 office_leaves config script held Input h = absurd h
-office_leaves config script held ConfigFault h = (h, keeps_same held)
+office_leaves config script held (Script at) h = absurd h
+office_leaves config script held (Wrong fault) h = (h.0, h.1, keeps_same held)
 office_leaves config script held Output h = absurd h
 office_leaves config script held Socket h = absurd h
 office_leaves config script held OutOfMemory h = inl (keeps_same held)
 
 -- a fault of the script, behind an office
 pub script_leaves : (config : Option (Option (List ℕ))) (script held : Option (List ℕ)) (office : Config) (e : Fault)
-    → IsOffice config office → IsOfReading e → ReplayLeaves config script e held held
+    → IsOffice config office → IsOfScript script e → ReplayLeaves config script e held held
 script_leaves config script held office Input is h = (office, is, keeps_same held)
-script_leaves config script held office ConfigFault is h = absurd h
+script_leaves config script held office (Script at) is h = (office, is, h, keeps_same held)
+script_leaves config script held office (Wrong fault) is h = absurd h
 script_leaves config script held office Output is h = absurd h
 script_leaves config script held office Socket is h = absurd h
 script_leaves config script held office OutOfMemory is h = inl (keeps_same held)
@@ -157,7 +155,8 @@ memory_leaves config script held e is = subst (λ (x : Fault). ReplayLeaves conf
 -- of `once`
 reading_leaves : (held : Option (List ℕ)) (e : Fault) → IsOfReading e → Leaves e held held
 reading_leaves held Input h = keeps_same held
-reading_leaves held ConfigFault h = absurd h
+reading_leaves held (Script at) h = absurd h
+reading_leaves held (Wrong fault) h = absurd h
 reading_leaves held Output h = absurd h
 reading_leaves held Socket h = absurd h
 reading_leaves held OutOfMemory h = keeps_same held

@@ -10,7 +10,7 @@ use Rattle.server.specs.Leaves.{Leaves}
 use Rattle.server.specs.Once.{Answers}
 use Rattle.server.specs.Replay.{Replays, ReplayLeaves}
 use Rattle.server.specs.Serve.{Request, Serves, ServeLeaves}
-use Rattle.server.specs.Statuses.{status_of, fault_words_of, command_status_of, command_words_of}
+use Rattle.server.specs.Statuses.{status_of, fault_words_of, reason_of, command_status_of, command_words_of, command_help_of}
 use Rattle.server.specs.Words.{Asks, RefusesWords}
 
 abbrev pub ending_status_of : Ending → ℕ
@@ -22,6 +22,16 @@ abbrev pub ending_words_of : Ending → Option (List ℕ)
 ending_words_of Done = None
 ending_words_of (Refused error) = Some (command_words_of error)
 ending_words_of (Broken fault) = Some (fault_words_of fault)
+
+abbrev pub ending_reason_of : Ending → Option Fault
+ending_reason_of Done = None
+ending_reason_of (Refused error) = None
+ending_reason_of (Broken fault) = reason_of fault
+
+abbrev pub ending_help_of : Ending → Option (List ℕ)
+ending_help_of Done = None
+ending_help_of (Refused error) = command_help_of error
+ending_help_of (Broken fault) = None
 
 -- the bytes of the file of a path, where they are known
 abbrev pub Files : Type 0

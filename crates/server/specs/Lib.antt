@@ -1,10 +1,11 @@
 pub mod Input
+pub mod Texts
+pub mod Leaves
 pub mod Once
 pub mod State
 pub mod Replay
 pub mod Serve
 pub mod Turns
-pub mod Leaves
 pub mod Faults
 pub mod Statuses
 pub mod Words

@@ -13,8 +13,10 @@ use Rattle.scripts.specs.Writing.{sent_text}
 use Rattle.event_rows.specs.Rows.{after, row}
 use Rattle.event_rows.specs.State.{Contents, IsNew}
 use Rattle.server.specs.State.{state_text}
+use Rattle.server.specs.Texts.{HasText}
+use Rattle.server.specs.Leaves.{IsMalformed, IsWrongFile}
 use Rattle.server.specs.declared.fault.Fault.{Fault}
-use Rattle.server.specs.declared.fault.Fault.TheVariants.{Input, Config as ConfigFault, Output, Socket, OutOfMemory}
+use Rattle.server.specs.declared.fault.Fault.TheVariants.{Input, Script, Config as Wrong, Output, Socket, OutOfMemory}
 
 -- ---- a run
 
@@ -39,11 +41,6 @@ abbrev pub day_text : Contents → List Event → List ℕ
 day_text agent events = run_text agent events ++ state_text (after_all agent events)
 
 -- ---- what is read
-
--- a file with these bytes, where that is known, reads as this text
-abbrev pub HasText : Option (List ℕ) → List ℕ → Type 0
-HasText None text = Unit {0}
-HasText (Some bytes) text = bytes ≡ text
 
 -- the office: the example, or what the file of a configuration says
 abbrev pub IsOffice : Option (Option (List ℕ)) → Config → Type 0
@@ -78,7 +75,8 @@ WritesFirst agent events held held_after =
 -- what an event leaves that could not be taken or whose text could not be written
 abbrev pub EventLeaves : Fault → Option (List ℕ) → Option (List ℕ) → Type 0
 EventLeaves Input held held_after = ⊥
-EventLeaves ConfigFault held held_after = ⊥
+EventLeaves (Script at) held held_after = ⊥
+EventLeaves (Wrong fault) held held_after = ⊥
 EventLeaves Output held held_after = Unit {0}
 EventLeaves Socket held held_after = ⊥
 EventLeaves OutOfMemory held held_after = Keeps held held_after
@@ -86,7 +84,8 @@ EventLeaves OutOfMemory held held_after = Keeps held held_after
 -- what events leave of which one was not taken, or its text not written
 abbrev pub RunLeaves : Contents → List Event → Fault → Option (List ℕ) → Option (List ℕ) → Type 0
 RunLeaves agent events Input held held_after = ⊥
-RunLeaves agent events ConfigFault held held_after = ⊥
+RunLeaves agent events (Script at) held held_after = ⊥
+RunLeaves agent events (Wrong fault) held held_after = ⊥
 RunLeaves agent events Output held held_after = Unit {0}
 RunLeaves agent events Socket held held_after = ⊥
 RunLeaves agent events OutOfMemory held held_after = WritesFirst agent events held held_after
@@ -95,7 +94,8 @@ RunLeaves agent events OutOfMemory held held_after = WritesFirst agent events he
 -- it, and one of the script only where there is an office
 abbrev pub ReplayLeaves : Option (Option (List ℕ)) → Option (List ℕ) → Fault → Option (List ℕ) → Option (List ℕ) → Type 0
 ReplayLeaves config script Input held held_after = (office : Config) × IsOffice config office × Keeps held held_after
-ReplayLeaves config script ConfigFault held held_after = (config ≢ None) × Keeps held held_after
+ReplayLeaves config script (Script at) held held_after = (office : Config) × IsOffice config office × IsMalformed script at × Keeps held held_after
+ReplayLeaves config script (Wrong fault) held held_after = (config ≢ None) × IsWrongFile config fault × Keeps held held_after
 ReplayLeaves config script Output held held_after = Day config script
 ReplayLeaves config script Socket held held_after = ⊥
 ReplayLeaves config script OutOfMemory held held_after =

@@ -8,10 +8,13 @@ use Rattle.server.specs.declared.words.Asked.{Asked}
 use Rattle.server.specs.declared.words.Asked.TheVariants.{Once, Replay, Serve}
 use Rattle.server.specs.Turns.{turns_of}
 use Rattle.server.specs.declared.words.CommandError.{CommandError}
-use Rattle.server.specs.declared.words.CommandError.TheVariants.{Words, OutOfMemory}
+use Rattle.server.specs.declared.words.CommandError.TheVariants.{Words, Help, OutOfMemory}
 
 abbrev pub requiring : Shape → Shape
 requiring s = record s { subcommand_required = true }
+
+abbrev pub versioned : Shape → Shape
+versioned s = record s { has_version = true }
 
 -- `--config FILE`
 abbrev pub config_rule : Rule
@@ -41,7 +44,7 @@ serve_app = with_rule (with_rule (new_app (codes "serve")) office_rule) turns_ru
 -- `office once`, `office replay [--config FILE] SCRIPT`, and `office serve --config FILE [--turns N]`
 abbrev pub office_app : App
 office_app =
-    with_subcommand (with_subcommand (with_subcommand (on_top requiring (new_app (codes "office"))) once_app.top) replay_app.top) serve_app.top
+    with_subcommand (with_subcommand (with_subcommand (on_top requiring (on_top versioned (new_app (codes "office")))) once_app.top) replay_app.top) serve_app.top
 
 -- the subcommand that the words name, and what they give its arguments
 unfoldable pub entered_by : List (List ℕ) → Option (List ℕ × List Row)
@@ -103,4 +106,5 @@ Asks words asked = AsksIn (entered_by words) asked
 -- words are refused only where the parser doesn't take them, or what it makes of them asks nothing
 abbrev pub RefusesWords : List (List ℕ) → CommandError → Type 0
 RefusesWords words Words = (is_taken words ≡ true → ⊥) ⊎ ((asked : Asked) → Asks words asked → ⊥)
+RefusesWords words (Help text) = is_taken words ≡ true → ⊥
 RefusesWords words OutOfMemory = Unit {0}

@@ -17,7 +17,7 @@ pub(crate) fn config_fault(error: ConfigError) -> Fault
 {
     match error {
         ConfigError::OutOfMemory => Fault::OutOfMemory,
-        _ => Fault::Config,
+        _ => Fault::Config(None),
     }
 }
 

@@ -4,20 +4,20 @@ ghost use Rattle.std.specs.Prelude.{◌≡◌, None, Some, IfErr, IfOk, OnOk, op
 ghost use Rattle.std.specs.Io.KnownBytes.{Appends};
 ghost use Rattle.configuration.specs.Rules.{first_broken};
 ghost use Rattle.event_rows.specs.Rows.{after, row};
-ghost use Rattle.server.specs.Faults.{script_fault, unread_config};
-ghost use Rattle.server.specs.Leaves.{IsOfConfig, IsOfOffice, IsOfReading};
+ghost use Rattle.server.specs.Faults.{unread_config};
+ghost use Rattle.server.specs.Leaves.{IsOfConfig, IsOfOffice, IsOfScript, IsRefusalOf, IsScriptFault};
 ghost use Rattle.server.specs.State.{state_text};
 ghost use Rattle.server.specs.Replay.{after_all, day_text, run_text, text_of, EventLeaves, IsOffice, IsScript, Replays, ReplayLeaves, RunLeaves};
 
-use crate::agents::{agent_of, config_fault};
+use crate::agents::agent_of;
 use crate::fault::Fault;
 use crate::input::read_whole;
 use crate::output::write_out;
 use crate::state::put_state;
 use agent::Agent;
-use configuration::{Config, example_config, read_config};
+use configuration::{Config, ConfigError, example_config, fault_of, read_config};
 use events::{Event, Sent};
-use scripts::{ScriptError, put_sent, read_script};
+use scripts::{ScriptError, malformed_at, put_sent, read_script};
 use std::alloc::{AllocError, Global};
 use std::io::{Read, Write};
 
@@ -27,7 +27,17 @@ fn unread_config(fault: Fault) -> Fault
 {
     match fault {
         Fault::OutOfMemory => Fault::OutOfMemory,
-        _ => Fault::Config,
+        _ => Fault::Config(None),
+    }
+}
+
+/// Why a text is refused as a configuration.
+fn refusal(alloc: Global, text: &[u8]) -> Fault
+    ensures { IsRefusalOf text.now result }
+{
+    match fault_of(alloc, text) {
+        Ok(fault) => Fault::Config(fault),
+        Err(_) => Fault::OutOfMemory,
     }
 }
 
@@ -35,7 +45,7 @@ fn unread_config(fault: Fault) -> Fault
 pub(crate) fn config_of<C: Read + Drop>(alloc: Global, mut file: C) -> Result<Config, Fault>
     ensures read { IfOk result (λ config. IsOffice (Some (C.remaining file)) config) }
     ensures kept { IfOk result (λ config. first_broken config ≡ None) }
-    ensures refused { IfErr result IsOfConfig }
+    ensures refused { IfErr result (IsOfConfig (C.remaining file)) }
 {
     let text = match read_whole(alloc, &mut file) {
         Ok(text) => text,
@@ -43,7 +53,8 @@ pub(crate) fn config_of<C: Read + Drop>(alloc: Global, mut file: C) -> Result<Co
     };
     match read_config(alloc, &text) {
         Ok(config) => Ok(config),
-        Err(error) => Err(config_fault(error)),
+        Err(ConfigError::OutOfMemory) => Err(Fault::OutOfMemory),
+        Err(_) => Err(refusal(alloc, &text)),
     }
 }
 
@@ -59,24 +70,26 @@ fn office_of<C: Read + Drop>(alloc: Global, file: Option<C>) -> Result<Config, F
     }
 }
 
-fn script_fault(error: ScriptError) -> Fault
-    ensures { result ≡ script_fault error }
+/// Why a text is refused as a script.
+fn script_fault(error: ScriptError, text: &[u8]) -> Fault
+    ensures { IsScriptFault text.now error result }
 {
-    match error {
-        ScriptError::OutOfMemory => Fault::OutOfMemory,
-        ScriptError::Malformed => Fault::Input,
+    match (error, malformed_at(text)) {
+        (ScriptError::Malformed, Some(at)) => Fault::Script(at),
+        (ScriptError::Malformed, None) => Fault::Input,
+        (ScriptError::OutOfMemory, _) => Fault::OutOfMemory,
     }
 }
 
 /// The events of a script, all of them.
 fn events_of<S: Read + Drop>(alloc: Global, mut file: S) -> Result<Vec<Event>, Fault>
     ensures read { IfOk result (λ events. IsScript (S.remaining file) events.items) }
-    ensures refused { IfErr result IsOfReading }
+    ensures refused { IfErr result (IsOfScript (S.remaining file)) }
 {
     let text = read_whole(alloc, &mut file)?;
     match read_script(alloc, &text) {
         Ok(events) => Ok(events),
-        Err(error) => Err(script_fault(error)),
+        Err(error) => Err(script_fault(error, &text)),
     }
 }
 

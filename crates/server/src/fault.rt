@@ -1,16 +1,20 @@
 //! Why the program ends before its work is done.
 
+use crate::reason::Reason;
+use configuration::ConfigFault;
 use std::alloc::{AllocError, AllocFailed};
 use std::fmt;
 use thiserror::Error;
 
 /// Why `once`, `replay` or `serve` gave up.
-#[derive(Clone, Copy, Debug, Error)]
+#[derive(Debug, Drop, Error)]
 pub enum Fault {
-    /// The input or the script failed, never ended, or is no script. Nothing was written.
+    /// The input or the script failed, or never ended. Nothing was written.
     Input,
-    /// The file of the configuration failed, never ended, or says none that keeps the rules. Nothing was written.
-    Config,
+    /// At this place of the script, in bytes, no event begins. Nothing was written.
+    Script(usize),
+    /// The file of the configuration failed or never ended, or has this fault. Nothing was written.
+    Config(Option<ConfigFault>),
     /// The output failed. How much was written is open.
     Output,
     /// A socket could not be opened, or failed too often in a row.
@@ -20,30 +24,40 @@ pub enum Fault {
 }
 
 impl Fault {
-    ghost use Rattle.std.specs.Prelude.{◌≡◌};
-    ghost use Rattle.server.specs.Statuses.{status_of, fault_words_of};
+    ghost use Rattle.std.specs.Prelude.{◌≡◌, option_map};
+    ghost use Rattle.server.specs.Statuses.{status_of, fault_words_of, reason_of};
 
     /// The exit status.
-    pub fn status(self) -> u8
-        ensures { result ≡ status_of self }
+    pub fn status(&self) -> u8
+        ensures { result ≡ status_of self.now }
     {
         match self {
-            Fault::Config => 3,
-            Fault::Input | Fault::Output => 4,
+            Fault::Config(_) => 3,
+            Fault::Input | Fault::Script(_) | Fault::Output => 4,
             Fault::Socket => 5,
             Fault::OutOfMemory => 6,
         }
     }
 
     /// The words for standard error, without a line end.
-    pub fn words(self) -> &'static str
-        ensures { result.now ≡ fault_words_of self }
+    pub fn words(&self) -> &'static str
+        ensures { result.now ≡ fault_words_of self.now }
     {
         match self {
-            Fault::Config => "office: config",
-            Fault::Input | Fault::Output => "office: script",
+            Fault::Config(_) => "office: config",
+            Fault::Input | Fault::Script(_) | Fault::Output => "office: script",
             Fault::Socket => "office: socket",
             Fault::OutOfMemory => "office: memory",
+        }
+    }
+
+    /// What stands behind these words on a line of its own, where more is known.
+    pub fn reason(&self) -> Option<Reason<'_>>
+        ensures { option_map (λ reason. reason.fault.now) result ≡ reason_of self.now }
+    {
+        match self {
+            Fault::Script(_) | Fault::Config(_) => Some(Reason { fault: self }),
+            Fault::Input | Fault::Output | Fault::Socket | Fault::OutOfMemory => None,
         }
     }
 }

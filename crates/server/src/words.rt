@@ -7,6 +7,7 @@ ghost use Rattle.clap.specs.Words.{AddsSubcommand, app_of, first_value, found_of
 ghost use Rattle.server.specs.Words.{given_turns, office_app, passes, serve_app, turns_in, Asks, AsksIn, IsReplay, IsServe, LacksServe, RefusesWords};
 
 use crate::turns::turns_of;
+use crate::version::VERSION;
 use clap::error::ErrorKind;
 use clap::{Arg, ArgMatches, Command};
 use std::alloc::{AllocError, AllocFailed, Global};
@@ -32,35 +33,47 @@ pub enum Asked<'a> {
 }
 
 /// Why a command line is refused.
-#[derive(Clone, Copy, Debug, Error)]
+#[derive(Debug, Drop, Error)]
 pub enum CommandError {
     /// The words ask for nothing that the program does.
     Words,
+    /// They ask for help, which is this.
+    Help(String),
     /// Memory ran out before the words were read.
     OutOfMemory,
 }
 
 impl CommandError {
-    ghost use Rattle.std.specs.Prelude.{◌≡◌};
-    ghost use Rattle.server.specs.Statuses.{command_status_of, command_words_of};
+    ghost use Rattle.std.specs.Prelude.{◌≡◌, option_map};
+    ghost use Rattle.server.specs.Statuses.{command_help_of, command_status_of, command_words_of};
 
     /// The exit status.
-    pub fn status(self) -> u8
-        ensures { result ≡ command_status_of self }
+    pub fn status(&self) -> u8
+        ensures { result ≡ command_status_of self.now }
     {
         match self {
-            CommandError::Words => 2,
+            CommandError::Words | CommandError::Help(_) => 2,
             CommandError::OutOfMemory => 6,
         }
     }
 
     /// The words for standard error, without a line end.
-    pub fn words(self) -> &'static str
-        ensures { result.now ≡ command_words_of self }
+    pub fn words(&self) -> &'static str
+        ensures { result.now ≡ command_words_of self.now }
     {
         match self {
-            CommandError::Words => "office: command line",
+            CommandError::Words | CommandError::Help(_) => "office: command line",
             CommandError::OutOfMemory => "office: memory",
+        }
+    }
+
+    /// The help that was asked for.
+    pub fn help(&self) -> Option<&str>
+        ensures { option_map (λ text. text.now) result ≡ command_help_of self.now }
+    {
+        match self {
+            CommandError::Help(text) => Some(text.as_str()),
+            CommandError::Words | CommandError::OutOfMemory => None,
         }
     }
 }
@@ -104,18 +117,27 @@ fn serve_words<'a>(alloc: Global) -> Result<Command<'a>, AllocError>
 {
     let config = Arg::new(alloc, "config").long("config").required(true);
     let turns = Arg::new(alloc, "turns").long("turns");
-    Command::new(alloc, "serve").arg(config)?.arg(turns)
+    Command::new(alloc, "serve")
+        .about("Serves telephones on the sockets of a configuration")
+        .arg(config)?
+        .arg(turns)
 }
 
 /// The words that the program takes.
 fn office<'a>(alloc: Global) -> Result<Command<'a>, AllocError>
     ensures { IfOk result (λ c. app_of c ≡ office_app) }
 {
-    let once = Command::new(alloc, "once");
+    let once = Command::new(alloc, "once").about("Answers one datagram of standard input");
     let config = Arg::new(alloc, "config").long("config");
     let script = Arg::new(alloc, "script").required(true);
-    let replay = Command::new(alloc, "replay").arg(config)?.arg(script)?;
-    let office = Command::new(alloc, "office").subcommand_required(true);
+    let replay = Command::new(alloc, "replay")
+        .about("Writes what is sent at the events of a script")
+        .arg(config)?
+        .arg(script)?;
+    let office = Command::new(alloc, "office")
+        .about("The call server of an office")
+        .version(VERSION)
+        .subcommand_required(true);
     office
         .subcommand(once)?
         .subcommand(replay)?
@@ -181,7 +203,7 @@ fn asked_by<'a>(matches: &ArgMatches<'a>) -> Option<Asked<'a>>
 }
 
 /// Reads a command line, of which the first word is the program's own. A call for help is refused like any other word
-/// that asks for nothing.
+/// that asks for nothing, and its text handed out.
 #[tactic(auto, unfolding(crate::specs::Words::entered_by, crate::specs::Words::is_taken, crate::specs::Words::passes))]
 pub fn command<'a>(alloc: Global, words: &'a [&'a str]) -> Result<Asked<'a>, CommandError>
     // What the words ask.
@@ -196,8 +218,10 @@ pub fn command<'a>(alloc: Global, words: &'a [&'a str]) -> Result<Asked<'a>, Com
         Err(error) => {
             if error.kind() == ErrorKind::OutOfMemory {
                 Err(CommandError::OutOfMemory)
-            } else {
+            } else if error.use_stderr() {
                 Err(CommandError::Words)
+            } else {
+                Err(CommandError::Help(format!(in alloc; "{error}")?))
             }
         }
     }

@@ -8,11 +8,17 @@ use Rattle.server.specs.Words.{entered_by, is_taken, passes}
 use Rattle.server.proofs.WordLaws.{office_is_free, office_is_simple, on_ok, refused_by}
 use Rattle.server.proofs.words.command.Goals as goal
 
-pub returns-clause-refused : goal.returns-clause-refused
+pub returns-then-use_stderr-clause-refused : goal.returns-then-use_stderr-clause-refused
 unfolding is_taken
-returns-clause-refused c = inl (λ t.
+returns-then-use_stderr-clause-refused c = inl (λ t.
     let is = c.in-Err.ensures.passes (subst (λ (a : App). takes a (map (λ w. w.now) c.args.words.now) ≡ true) (sym c.in_ok-office.ensures) t) in
     true≢false (sym (rw (c.kind.ensures ∙ is) at c.if-eq.ensures)))
+
+pub returns-clause-refused : goal.returns-clause-refused
+unfolding is_taken
+returns-clause-refused c = λ t.
+    let is = c.in-Err.ensures.passes (subst (λ (a : App). takes a (map (λ w. w.now) c.args.words.now) ≡ true) (sym c.in_ok-office.ensures) t) in
+    true≢false (sym (rw (c.kind.ensures ∙ is) at c.if-eq.ensures))
 
 pub returns-in-Ok-clause-passes : goal.returns-in-Ok-clause-passes
 unfolding passes

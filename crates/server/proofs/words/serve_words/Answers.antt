@@ -1,14 +1,15 @@
-use Rattle.std.proofs.Common.{rules, ap, ap₂, ◌≡◌, ◌∙◌}
+use Rattle.std.proofs.Common.{rules, ap, ap₂, codes, ◌≡◌, ◌∙◌}
 use Rattle.std.proofs.lemmas.Result.{IfOk-weaker}
-use Rattle.clap.specs.Words.{App, app_of, rule_of, with_rule, with_subcommand}
+use Rattle.clap.specs.Words.{App, app_of, new_app, rule_of, with_rule, with_subcommand}
 use Rattle.server.specs.Words.{office_rule, turns_rule, serve_app}
 use Rattle.server.proofs.words.serve_words.Goals as goal
 
 pub returns : goal.returns
 returns c =
     let config_is : rule_of c.required-config.result ≡ office_rule = search rules in
+    let below_is : app_of c.about.result ≡ new_app (codes "serve") = search rules in
     let turns_is : rule_of c.long-turns.result ≡ turns_rule = search rules in
     IfOk-weaker c.arg-2.result _ _ (λ m h old new adds.
     let serve_is : app_of m ≡ serve_app = h.shape (search rules)
-    ∙ ap₂ with_rule (c.in_ok-arg.ensures.shape (search rules) ∙ ap₂ with_rule c.new-3.ensures.app config_is) turns_is in
+    ∙ ap₂ with_rule (c.in_ok-arg.ensures.shape (search rules) ∙ ap₂ with_rule below_is config_is) turns_is in
     adds.shape (search rules) ∙ ap (λ (a : App). with_subcommand (app_of old) a.top) serve_is) c.arg-2.ensures

@@ -1,0 +1,284 @@
+-- A table has a flaw exactly where it is refused, and by the flaw's rule.
+use Rattle.std.proofs.Common.{◌≡◌, ℕ, ℤ, Bool, true, false, not, ◌&&◌, cond, nat_eq, List, [], ◌∷◌, Option, Some, None, option_map, unwrap_or, inl, inr, refl, sym, ap, ap₂, subst, ◌∙◌}
+use Rattle.std.specs.Prelude.{codes, ◌⊎◌, is_some, option_and_then, nat_le, ◌==◌, ◌%◌, length}
+use Rattle.std.specs.Option.{option_or}
+use Rattle.std.specs.List.{list_all, list_any}
+use Rattle.std.specs.Cmp.Lexicographic.{pointwise}
+use Rattle.toml.specs.Data.{Data, Items, no_items, item, Members, no_members, member, as_integer, as_str, as_array, get_member}
+use Rattle.registrar.specs.Registering.{are_distinct}
+use Rattle.registrar.specs.Limits.{max_users}
+use Rattle.configuration.specs.Limits.{min_relay_port, max_relay_pairs, usual_workers}
+use Rattle.configuration.specs.Names.{is_user}
+use Rattle.configuration.specs.declared.config.Config.{Config}
+use Rattle.configuration.specs.declared.numbers.Numbers.{Numbers}
+use Rattle.configuration.specs.declared.error.ConfigError.{ConfigError}
+use Rattle.configuration.specs.declared.error.ConfigError.TheVariants as rules
+use Rattle.configuration.specs.declared.key.Key.{Key}
+use Rattle.configuration.specs.declared.key.Key.TheVariants as keys
+use Rattle.configuration.specs.declared.flaw.Flaw.{Flaw}
+use Rattle.configuration.specs.declared.flaw.Flaw.TheVariants.{UnknownKey, Missing, OtherType, OutOfRange, Odd, PastLastPort, RelayPort, Malformed, RandomKey, UserCount, UserTwice}
+use Rattle.configuration.specs.Rules.{has_room_for_ports, is_relay_port, is_server_address, has_relay_ports, has_address, has_users, has_lifetime, has_domain, first_broken}
+use Rattle.configuration.specs.Files.{is_known_key, has_known_keys, few, natural, workers_in, workers_of, workers_at, number_at, numbers_at, text_at, octets_of, ip_at, key_of, key_at, domain_of, domain_at, texts_of, users_at, config_from, config_of, port_of, seconds_of}
+use Rattle.configuration.specs.Flaws.{rule_of, unknown_key, unknown_flaw, unless, number_flaw, count_flaw, workers_flaw, text_flaw, digits_flaw, random_key_flaw, domain_type_flaw, are_texts, list_flaw, users_type_flaw, said_flaw, said_number, relay_flaw, address_flaw, malformed_user, user_twice, users_flaw, lifetime_flaw, domain_flaw, rules_flaw, flaw_behind, flaw_in}
+
+-- ---- what is read
+
+-- a flaw of a file where there is no value, and none where there is one
+abbrev pub Judges : {X : Type 0} → Option Flaw → Option X → Type 0
+Judges None None = ⊥
+Judges None (Some x) = Unit {0}
+Judges (Some flaw) None = rule_of flaw ≡ rules.File
+Judges (Some flaw) (Some x) = ⊥
+
+judges_then : {X Y : Type 0} (f g : Option Flaw) (v : Option X) (k : X → Option Y) → Judges f v → ((x : X) → Judges g (k x)) → Judges (option_or f g) (option_and_then k v)
+judges_then None g None k h next = absurd h
+judges_then None g (Some x) k h next = next x
+judges_then (Some f) g None k h next = h
+judges_then (Some f) g (Some x) k h next = absurd h
+
+judges_last : {X Y : Type 0} (f : Option Flaw) (v : Option X) (k : X → Y) → Judges f v → Judges f (option_and_then (λ x. Some (k x)) v)
+judges_last None None k h = absurd h
+judges_last None (Some x) k h = tt
+judges_last (Some f) None k h = h
+judges_last (Some f) (Some x) k h = absurd h
+
+judges_map : {X Y : Type 0} (f : Option Flaw) (v : Option X) (k : X → Y) → Judges f v → Judges f (option_map k v)
+judges_map None None k h = absurd h
+judges_map None (Some x) k h = tt
+judges_map (Some f) None k h = h
+judges_map (Some f) (Some x) k h = absurd h
+
+judges_unless : {X : Type 0} (v : Option X) (flaw : Flaw) → rule_of flaw ≡ rules.File → Judges (unless v flaw) v
+judges_unless None flaw h = h
+judges_unless (Some x) flaw h = tt
+
+unknown : {Y : Type 0} (ms : Members) (g : Option Flaw) (v : Option Y) → Judges g v → Judges (option_or (unknown_flaw (unknown_key ms)) g) (cond (has_known_keys ms) v None)
+unknown no_members g v h = h
+unknown (member key value rest) g v h = step (is_known_key key) (unknown rest g v h) where
+  step : (b : Bool) → Judges (option_or (unknown_flaw (unknown_key rest)) g) (cond (has_known_keys rest) v None)
+      → Judges (option_or (unknown_flaw (cond b (unknown_key rest) (Some key))) g) (cond (b && has_known_keys rest) v None)
+  step true below = below
+  step false below = refl
+
+number : (key : Key) (o : Option Data) → Judges (number_flaw key o) (option_and_then as_integer o)
+number key None = refl
+number key (Some value) = judges_unless (as_integer value) (OtherType key) refl
+
+workers : (o : Option Data) → Judges (workers_flaw o) (workers_of o)
+workers None = tt
+workers (Some value) = count (as_integer value) where
+  count : (z : Option ℤ) → Judges (count_flaw z) (option_and_then few (option_and_then (natural 255) z))
+  count None = refl
+  count (Some z) = judges_unless (option_and_then few (natural 255 z)) (OutOfRange keys.Workers z) refl
+
+text : (key : Key) (o : Option Data) → Judges (text_flaw key o) (option_and_then as_str o)
+text key None = refl
+text key (Some value) = judges_unless (as_str value) (OtherType key) refl
+
+random_key : (o : Option Data) → Judges (random_key_flaw o) (option_and_then key_of (option_and_then as_str o))
+random_key None = refl
+random_key (Some value) = digits (as_str value) where
+  digits : (t : Option (List ℕ)) → Judges (digits_flaw t) (option_and_then key_of t)
+  digits None = refl
+  digits (Some t) = judges_unless (key_of t) (RandomKey (length t)) refl
+
+domain_type : (o : Option Data) → Judges (domain_type_flaw o) (domain_of o)
+domain_type None = tt
+domain_type (Some value) =
+    judges_map (unless (as_str value) (OtherType keys.Domain)) (as_str value) (λ t. Some t) (judges_unless (as_str value) (OtherType keys.Domain) refl)
+
+texts : (items : Items) → Judges (list_flaw (Some items)) (texts_of items)
+texts no_items = tt
+texts (item value rest) = step (as_str value) (texts rest) where
+  step : (t : Option (List ℕ)) → Judges (list_flaw (Some rest)) (texts_of rest)
+      → Judges (cond (is_some t && are_texts rest) None (Some (OtherType keys.Users))) (option_and_then (λ s. option_map (λ ss. s ∷ ss) (texts_of rest)) t)
+  step None below = refl
+  step (Some s) below = judges_map (list_flaw (Some rest)) (texts_of rest) (λ ss. s ∷ ss) below
+
+users_type : (o : Option Data) → Judges (users_type_flaw o) (option_and_then texts_of (option_and_then as_array o))
+users_type None = refl
+users_type (Some value) = list (as_array value) where
+  list : (items : Option Items) → Judges (list_flaw items) (option_and_then texts_of items)
+  list None = refl
+  list (Some items) = texts items
+
+regrouped : (a b c d e rest : Option Flaw) → option_or (option_or a (option_or b (option_or c (option_or d e)))) rest
+    ≡ option_or a (option_or b (option_or c (option_or d (option_or e rest))))
+regrouped (Some x) b c d e rest = refl
+regrouped None (Some x) c d e rest = refl
+regrouped None None (Some x) d e rest = refl
+regrouped None None None (Some x) e rest = refl
+regrouped None None None None e rest = refl
+
+abbrev at : (Option Data → Option Flaw) → List ℕ → Members → Option Flaw
+at flaw key ms = flaw (get_member key ms)
+
+abbrev numbers_flaw : Members → Option Flaw
+numbers_flaw ms =
+    option_or (at (number_flaw keys.RelayFirst) (codes "relay_first") ms) (option_or (at (number_flaw keys.RelayPairs) (codes "relay_pairs") ms)
+    (option_or (at (number_flaw keys.SipPort) (codes "sip_port") ms) (option_or (at (number_flaw keys.MinExpires) (codes "min_expires") ms) (at workers_flaw (codes "workers") ms))))
+
+abbrev texts_flaw : Members → Option Flaw
+texts_flaw ms =
+    option_or (at (text_flaw keys.Ip) (codes "ip") ms) (option_or (at random_key_flaw (codes "random_key") ms)
+    (option_or (at domain_type_flaw (codes "domain") ms) (at users_type_flaw (codes "users") ms)))
+
+numbers : (ms : Members) → Judges (numbers_flaw ms) (numbers_at ms)
+unfolding numbers_at
+numbers ms =
+    judges_then _ _ (number_at (codes "relay_first") ms) _ (number keys.RelayFirst (get_member (codes "relay_first") ms)) (λ first.
+    judges_then _ _ (number_at (codes "relay_pairs") ms) _ (number keys.RelayPairs (get_member (codes "relay_pairs") ms)) (λ pairs.
+    judges_then _ _ (number_at (codes "sip_port") ms) _ (number keys.SipPort (get_member (codes "sip_port") ms)) (λ port.
+    judges_then _ _ (number_at (codes "min_expires") ms) _ (number keys.MinExpires (get_member (codes "min_expires") ms)) (λ expires.
+    judges_last _ (workers_at ms) _ (workers (get_member (codes "workers") ms))))))
+
+-- the configuration with these numbers
+abbrev with_numbers : Members → Numbers → Option Config
+with_numbers ms n =
+    option_and_then (λ ip.
+    option_and_then (λ key.
+    option_and_then (λ domain.
+    option_and_then (λ us. Some (config_from n ip key domain us))
+    (users_at ms)) (domain_at ms)) (key_at ms)) (ip_at ms)
+
+rest : (ms : Members) (n : Numbers) → Judges (texts_flaw ms) (with_numbers ms n)
+rest ms n =
+    judges_then _ _ (ip_at ms) _ (judges_map _ (text_at (codes "ip") ms) octets_of (text keys.Ip (get_member (codes "ip") ms))) (λ ip.
+    judges_then _ _ (key_at ms) _ (random_key (get_member (codes "random_key") ms)) (λ key.
+    judges_then _ _ (domain_at ms) _ (domain_type (get_member (codes "domain") ms)) (λ domain.
+    judges_last _ (users_at ms) (λ us. config_from n ip key domain us) (users_type (get_member (codes "users") ms)))))
+
+table : (ms : Members) → Judges (option_or (numbers_flaw ms) (texts_flaw ms)) (option_and_then (with_numbers ms) (numbers_at ms))
+table ms = judges_then (numbers_flaw ms) (texts_flaw ms) (numbers_at ms) (with_numbers ms) (numbers ms) (rest ms)
+
+pub said : (ms : Members) → Judges (said_flaw ms) (config_of ms)
+unfolding said_flaw config_of
+said ms =
+    let same = regrouped (at (number_flaw keys.RelayFirst) (codes "relay_first") ms) (at (number_flaw keys.RelayPairs) (codes "relay_pairs") ms)
+    (at (number_flaw keys.SipPort) (codes "sip_port") ms) (at (number_flaw keys.MinExpires) (codes "min_expires") ms) (at workers_flaw (codes "workers") ms) (texts_flaw ms) in
+    let known = subst (λ (f : Option Flaw). Judges f (option_and_then (with_numbers ms) (numbers_at ms))) same (table ms) in
+    unknown ms _ (option_and_then (with_numbers ms) (numbers_at ms)) known
+
+-- ---- the rules
+
+map_or : (f g : Option Flaw) → option_map rule_of (option_or f g) ≡ option_or (option_map rule_of f) (option_map rule_of g)
+map_or None g = refl
+map_or (Some f) g = refl
+
+-- no rule is broken where this holds
+abbrev broken_unless : Bool → ConfigError → Option ConfigError
+broken_unless b e = cond b None (Some e)
+
+relay : (ms : Members) (c : Config) → option_map rule_of (relay_flaw ms c) ≡ broken_unless (has_relay_ports c) rules.RelayPorts
+unfolding relay_flaw has_relay_ports
+relay ms c = parts (c.relay_first % 2 == 0) (nat_le min_relay_port c.relay_first) (nat_le 1 c.relay_pairs) (nat_le c.relay_pairs max_relay_pairs) (has_room_for_ports c) (is_relay_port c c.sip_port) where
+  parts : (a b d e f g : Bool)
+      → option_map rule_of (cond a (cond b (cond (d && e) (cond f (cond g (Some (RelayPort (said_number ms keys.SipPort))) None) (Some (PastLastPort (said_number ms keys.RelayPairs))))
+      (Some (OutOfRange keys.RelayPairs (said_number ms keys.RelayPairs)))) (Some (OutOfRange keys.RelayFirst (said_number ms keys.RelayFirst)))) (Some (Odd (said_number ms keys.RelayFirst))))
+      ≡ broken_unless (a && b && d && e && f && not g) rules.RelayPorts
+  parts true true true true true true = refl
+  parts true true true true true false = refl
+  parts true true true true false g = refl
+  parts true true true false f g = refl
+  parts true true false e f g = refl
+  parts true false d e f g = refl
+  parts false b d e f g = refl
+
+address : (ms : Members) (c : Config) → option_map rule_of (address_flaw ms c) ≡ broken_unless (has_address c) rules.Address
+unfolding address_flaw has_address
+address ms c = parts (is_server_address c.ip) (c.sip_port == 0) where
+  parts : (a b : Bool)
+      → option_map rule_of (cond a (cond b (Some (OutOfRange keys.SipPort (said_number ms keys.SipPort))) None) (Some (Malformed keys.Ip (unwrap_or (text_at (codes "ip") ms) []))))
+      ≡ broken_unless (a && not b) rules.Address
+  parts true true = refl
+  parts true false = refl
+  parts false b = refl
+
+formed : (us : List (List ℕ)) → option_map rule_of (malformed_user us) ≡ broken_unless (list_all is_user us) rules.Users
+formed [] = refl
+formed (u ∷ us) = step (is_user u) (formed us) where
+  step : (b : Bool) → option_map rule_of (malformed_user us) ≡ broken_unless (list_all is_user us) rules.Users
+      → option_map rule_of (cond b (malformed_user us) (Some (Malformed keys.Users u))) ≡ broken_unless (b && list_all is_user us) rules.Users
+  step true below = below
+  step false below = refl
+
+once : (us : List (List ℕ)) → option_map rule_of (user_twice us) ≡ broken_unless (are_distinct us) rules.Users
+once [] = refl
+once (u ∷ us) = step (list_any (λ v. pointwise nat_eq v u) us) (once us) where
+  step : (b : Bool) → option_map rule_of (user_twice us) ≡ broken_unless (are_distinct us) rules.Users
+      → option_map rule_of (cond b (Some (UserTwice u)) (user_twice us)) ≡ broken_unless (not b && are_distinct us) rules.Users
+  step true below = refl
+  step false below = below
+
+users : (c : Config) → option_map rule_of (users_flaw c) ≡ broken_unless (has_users c) rules.Users
+unfolding users_flaw has_users
+users c = parts (nat_le 1 (length c.users)) (nat_le (length c.users) max_users) where
+  both : (a b : Bool) → option_or (broken_unless a rules.Users) (broken_unless b rules.Users) ≡ broken_unless (a && b) rules.Users
+  both true b = refl
+  both false b = refl
+
+  parts : (a b : Bool)
+      → option_map rule_of (cond (a && b) (option_or (malformed_user c.users) (user_twice c.users)) (Some (UserCount (length c.users))))
+      ≡ broken_unless (a && b && list_all is_user c.users && are_distinct c.users) rules.Users
+  parts true true = map_or (malformed_user c.users) (user_twice c.users) ∙ ap₂ option_or (formed c.users) (once c.users) ∙ both (list_all is_user c.users) (are_distinct c.users)
+  parts true false = refl
+  parts false b = refl
+
+lifetime : (ms : Members) (c : Config) → option_map rule_of (lifetime_flaw ms c) ≡ broken_unless (has_lifetime c) rules.MinExpires
+unfolding lifetime_flaw
+lifetime ms c = parts (has_lifetime c) where
+  parts : (a : Bool) → option_map rule_of (cond a None (Some (OutOfRange keys.MinExpires (said_number ms keys.MinExpires)))) ≡ broken_unless a rules.MinExpires
+  parts true = refl
+  parts false = refl
+
+domain : (c : Config) → option_map rule_of (domain_flaw c) ≡ broken_unless (has_domain c) rules.Domain
+unfolding domain_flaw
+domain c = parts (has_domain c) where
+  parts : (a : Bool) → option_map rule_of (cond a None (Some (Malformed keys.Domain (unwrap_or c.domain [])))) ≡ broken_unless a rules.Domain
+  parts true = refl
+  parts false = refl
+
+pub rules_agree : (ms : Members) (c : Config) → option_map rule_of (rules_flaw ms c) ≡ first_broken c
+unfolding rules_flaw first_broken
+rules_agree ms c =
+    map_or (relay_flaw ms c) _ ∙ ap₂ option_or (relay ms c)
+    (map_or (address_flaw ms c) _ ∙ ap₂ option_or (address ms c)
+    (map_or (users_flaw c) _ ∙ ap₂ option_or (users c)
+    (map_or (lifetime_flaw ms c) (domain_flaw c) ∙ ap₂ option_or (lifetime ms c) (domain c))))
+    ∙ first (has_relay_ports c) (has_address c) (has_users c) (has_lifetime c) (has_domain c) where
+      first : (a b d e f : Bool)
+          → option_or (broken_unless a rules.RelayPorts) (option_or (broken_unless b rules.Address) (option_or (broken_unless d rules.Users) (option_or (broken_unless e rules.MinExpires) (broken_unless f rules.Domain))))
+          ≡ cond a (cond b (cond d (cond e (cond f None (Some rules.Domain)) (Some rules.MinExpires)) (Some rules.Users)) (Some rules.Address)) (Some rules.RelayPorts)
+      first true true true true true = refl
+      first true true true true false = refl
+      first true true true false f = refl
+      first true true false e f = refl
+      first true false d e f = refl
+      first false b d e f = refl
+
+-- ---- both
+
+some_is : {X : Type 0} (x y : X) → Some x ≡ Some y → x ≡ y
+some_is x y h = cc
+
+-- a table without a flaw says a configuration that keeps the rules
+pub flawless : (ms : Members) → flaw_in ms ≡ None → (c : Config) × (config_of ms ≡ Some c) × (first_broken c ≡ None)
+flawless ms h = step (said_flaw ms) (config_of ms) refl (said ms) h where
+  step : (f : Option Flaw) (o : Option Config) → config_of ms ≡ o → Judges f o → option_or f (flaw_behind ms o) ≡ None
+      → (c : Config) × (config_of ms ≡ Some c) × (first_broken c ≡ None)
+  step None None is judged none = absurd judged
+  step None (Some c) is judged none = (c, is, sym (rules_agree ms c) ∙ ap (option_map rule_of) none)
+  step (Some f) o is judged none = absurd (never none) where
+    never : Some f ≡ None → ⊥
+    never e = cc
+
+-- a table with a flaw says no configuration, or one that breaks the flaw's rule first
+pub flawed : (ms : Members) (flaw : Flaw) → flaw_in ms ≡ Some flaw
+    → ((config_of ms ≡ None) × (rule_of flaw ≡ rules.File)) ⊎ ((c : Config) × (config_of ms ≡ Some c) × (first_broken c ≡ Some (rule_of flaw)))
+flawed ms flaw h = step (said_flaw ms) (config_of ms) refl (said ms) h where
+  step : (f : Option Flaw) (o : Option Config) → config_of ms ≡ o → Judges f o → option_or f (flaw_behind ms o) ≡ Some flaw
+      → ((config_of ms ≡ None) × (rule_of flaw ≡ rules.File)) ⊎ ((c : Config) × (config_of ms ≡ Some c) × (first_broken c ≡ Some (rule_of flaw)))
+  step None None is judged found = absurd judged
+  step None (Some c) is judged found = inr (c, is, sym (rules_agree ms c) ∙ ap (option_map rule_of) found)
+  step (Some f) None is judged found = inl (is, ap rule_of (sym (some_is f flaw found)) ∙ judged)
+  step (Some f) (Some c) is judged found = absurd judged

@@ -1,0 +1,310 @@
+//! The first flaw of a table.
+
+ghost use Rattle.std.specs.Prelude.{◌≡◌, ◌<◌, ◌+◌, nat_eq, [], length, drop, slice_index_or, codes, IfOk};
+ghost use Rattle.std.specs.List.{list_any};
+ghost use Rattle.std.specs.Cmp.Lexicographic.{pointwise};
+ghost use Rattle.std.specs.Option.{option_copied};
+ghost use Rattle.toml.specs.Data.{get_member};
+ghost use Rattle.toml.specs.View.{table_view, array_view};
+ghost use Rattle.configuration.specs.Flaws.{key_name, unknown_key, unknown_flaw, number_flaw, count_flaw, workers_flaw, text_flaw, digits_flaw, random_key_flaw, domain_type_flaw, users_type_flaw, said_flaw, said_number, relay_flaw, address_flaw, are_texts, malformed_user, user_twice, users_flaw, lifetime_flaw, domain_flaw, rules_flaw, flaw_in};
+
+use crate::config::Config;
+use crate::error::ConfigError;
+use crate::fields::{config_of, key_of, workers_of};
+use crate::flaw::Flaw;
+use crate::key::Key;
+use crate::names::{is_among, is_user};
+use crate::rules::{
+    MAX_RELAY_PAIRS, MAX_USERS, MIN_RELAY_PORT, has_domain, has_lifetime, has_room_for_ports,
+    is_relay_port, is_server_address,
+};
+use crate::tables::{is_known_key, number_at, text_at, value_at};
+use std::alloc::{AllocError, Global};
+use text::Text;
+use toml::Table;
+use toml::value::Array;
+
+/// The first key of a table that is none of a configuration.
+fn unknown_key(table: &Table) -> Option<&str>
+    ensures { option_copied result ≡ unknown_key (table_view table.now) }
+{
+    for key in table.keys() {
+        if !is_known_key(key.as_bytes()) {
+            return Some(key.as_str());
+        }
+    }
+    None
+}
+
+fn unknown_flaw(table: &Table) -> Option<Flaw<'_>>
+    ensures { result ≡ unknown_flaw (unknown_key (table_view table.now)) }
+{
+    match unknown_key(table) {
+        Some(key) => Some(Flaw::UnknownKey(Text::lent(key.as_bytes()))),
+        None => None,
+    }
+}
+
+fn number_flaw(table: &Table, key: Key) -> Option<Flaw<'_>>
+    ensures { result ≡ number_flaw key (get_member (key_name key) (table_view table.now)) }
+{
+    match value_at(table, key.name()) {
+        Some(value) => match value.as_integer() {
+            Some(_) => None,
+            None => Some(Flaw::OtherType(key)),
+        },
+        None => Some(Flaw::Missing(key)),
+    }
+}
+
+fn count_flaw<'t>(number: Option<i64>) -> Option<Flaw<'t>>
+    ensures { result ≡ count_flaw number }
+{
+    let Some(number) = number else {
+        return Some(Flaw::OtherType(Key::Workers));
+    };
+    match workers_of(number) {
+        Some(_) => None,
+        None => Some(Flaw::OutOfRange(Key::Workers, number)),
+    }
+}
+
+fn workers_flaw(table: &Table) -> Option<Flaw<'_>>
+    ensures { result ≡ workers_flaw (get_member (codes "workers") (table_view table.now)) }
+{
+    match value_at(table, "workers") {
+        Some(value) => count_flaw(value.as_integer()),
+        None => None,
+    }
+}
+
+fn text_flaw(table: &Table, key: Key) -> Option<Flaw<'_>>
+    ensures { result ≡ text_flaw key (get_member (key_name key) (table_view table.now)) }
+{
+    match value_at(table, key.name()) {
+        Some(value) => match value.as_str() {
+            Some(_) => None,
+            None => Some(Flaw::OtherType(key)),
+        },
+        None => Some(Flaw::Missing(key)),
+    }
+}
+
+fn digits_flaw<'t>(text: Option<&'t str>) -> Option<Flaw<'t>>
+    ensures { result ≡ digits_flaw (option_copied text.entry) }
+{
+    let Some(text) = text else {
+        return Some(Flaw::OtherType(Key::RandomKey));
+    };
+    match key_of(text) {
+        Some(_) => None,
+        None => Some(Flaw::RandomKey(text.len())),
+    }
+}
+
+fn random_key_flaw(table: &Table) -> Option<Flaw<'_>>
+    ensures { result ≡ random_key_flaw (get_member (codes "random_key") (table_view table.now)) }
+{
+    match value_at(table, "random_key") {
+        Some(value) => digits_flaw(value.as_str()),
+        None => Some(Flaw::Missing(Key::RandomKey)),
+    }
+}
+
+fn domain_type_flaw(table: &Table) -> Option<Flaw<'_>>
+    ensures { result ≡ domain_type_flaw (get_member (codes "domain") (table_view table.now)) }
+{
+    match value_at(table, "domain") {
+        Some(value) => match value.as_str() {
+            Some(_) => None,
+            None => Some(Flaw::OtherType(Key::Domain)),
+        },
+        None => None,
+    }
+}
+
+fn are_all_texts(array: &Array) -> bool
+    ensures { result ≡ are_texts (array_view array.now) }
+{
+    for value in array {
+        if value.as_str().is_none() {
+            return false;
+        }
+    }
+    true
+}
+
+fn users_type_flaw(table: &Table) -> Option<Flaw<'_>>
+    ensures { result ≡ users_type_flaw (get_member (codes "users") (table_view table.now)) }
+{
+    let Some(value) = value_at(table, "users") else {
+        return Some(Flaw::Missing(Key::Users));
+    };
+    match value.as_array() {
+        Some(array) if are_all_texts(array) => None,
+        _ => Some(Flaw::OtherType(Key::Users)),
+    }
+}
+
+/// The first flaw for which a table says no configuration.
+#[tactic(auto, unfolding(crate::specs::Flaws::said_flaw))]
+fn said_flaw(table: &Table) -> Option<Flaw<'_>>
+    ensures { result ≡ said_flaw (table_view table.now) }
+{
+    unknown_flaw(table)
+        .or(number_flaw(table, Key::RelayFirst))
+        .or(number_flaw(table, Key::RelayPairs))
+        .or(number_flaw(table, Key::SipPort))
+        .or(number_flaw(table, Key::MinExpires))
+        .or(workers_flaw(table))
+        .or(text_flaw(table, Key::Ip))
+        .or(random_key_flaw(table))
+        .or(domain_type_flaw(table))
+        .or(users_type_flaw(table))
+}
+
+/// The number that a table says, which its field may have no room for.
+fn said_number(table: &Table, key: Key) -> i64
+    ensures { result ≡ said_number (table_view table.now) key }
+{
+    number_at(table, key.name()).unwrap_or(0)
+}
+
+#[tactic(auto, unfolding(crate::specs::Flaws::relay_flaw))]
+fn relay_flaw<'t>(table: &'t Table, config: &Config) -> Option<Flaw<'t>>
+    ensures { result ≡ relay_flaw (table_view table.now) config.now }
+{
+    if config.relay_first % 2 != 0 {
+        return Some(Flaw::Odd(said_number(table, Key::RelayFirst)));
+    }
+    if config.relay_first < MIN_RELAY_PORT {
+        return Some(Flaw::OutOfRange(Key::RelayFirst, said_number(table, Key::RelayFirst)));
+    }
+    if config.relay_pairs < 1 || config.relay_pairs > MAX_RELAY_PAIRS {
+        return Some(Flaw::OutOfRange(Key::RelayPairs, said_number(table, Key::RelayPairs)));
+    }
+    if !has_room_for_ports(config) {
+        return Some(Flaw::PastLastPort(said_number(table, Key::RelayPairs)));
+    }
+    if is_relay_port(config, config.sip_port) {
+        return Some(Flaw::RelayPort(said_number(table, Key::SipPort)));
+    }
+    None
+}
+
+#[tactic(auto, unfolding(crate::specs::Flaws::address_flaw))]
+fn address_flaw<'t>(table: &'t Table, config: &Config) -> Option<Flaw<'t>>
+    ensures { result ≡ address_flaw (table_view table.now) config.now }
+{
+    if !is_server_address(&config.ip) {
+        let text = text_at(table, "ip").unwrap_or("");
+        return Some(Flaw::Malformed(Key::Ip, Text::lent(text.as_bytes())));
+    }
+    if config.sip_port == 0 {
+        return Some(Flaw::OutOfRange(Key::SipPort, said_number(table, Key::SipPort)));
+    }
+    None
+}
+
+fn malformed_user<'c>(users: &'c [Text<'static>]) -> Option<Flaw<'c>>
+    ensures { result ≡ malformed_user users.now }
+{
+    for user in users {
+        if !is_user(user.as_bytes()) {
+            return Some(Flaw::Malformed(Key::Users, Text::lent(user.as_bytes())));
+        }
+    }
+    None
+}
+
+/// Whether the user at a place stands again behind.
+fn stands_again(users: &[Text<'static>], at: usize) -> bool
+    requires { at < length users.now }
+    ensures { result ≡ list_any (λ other. pointwise nat_eq other (slice_index_or users.now at [])) (drop (at + 1) users.now) }
+{
+    is_among(&users[at], &users[at + 1..])
+}
+
+fn user_twice<'c>(users: &'c [Text<'static>]) -> Option<Flaw<'c>>
+    ensures { result ≡ user_twice users.now }
+{
+    for at in 0..users.len() {
+        if stands_again(users, at) {
+            return Some(Flaw::UserTwice(Text::lent(users[at].as_bytes())));
+        }
+    }
+    None
+}
+
+#[tactic(auto, unfolding(crate::specs::Flaws::users_flaw))]
+fn users_flaw(config: &Config) -> Option<Flaw<'_>>
+    ensures { result ≡ users_flaw config.now }
+{
+    let users = config.users.as_slice();
+    if 1 <= users.len() && users.len() <= MAX_USERS {
+        malformed_user(users).or(user_twice(users))
+    } else {
+        Some(Flaw::UserCount(users.len()))
+    }
+}
+
+#[tactic(auto, unfolding(crate::specs::Flaws::lifetime_flaw))]
+fn lifetime_flaw<'t>(table: &'t Table, config: &Config) -> Option<Flaw<'t>>
+    ensures { result ≡ lifetime_flaw (table_view table.now) config.now }
+{
+    if has_lifetime(config) {
+        None
+    } else {
+        Some(Flaw::OutOfRange(Key::MinExpires, said_number(table, Key::MinExpires)))
+    }
+}
+
+#[tactic(auto, unfolding(crate::specs::Flaws::domain_flaw))]
+fn domain_flaw(config: &Config) -> Option<Flaw<'_>>
+    ensures { result ≡ domain_flaw config.now }
+{
+    if has_domain(config) {
+        return None;
+    }
+    let name = match &config.domain {
+        Some(name) => name.as_bytes(),
+        None => &[],
+    };
+    Some(Flaw::Malformed(Key::Domain, Text::lent(name)))
+}
+
+/// The first flaw for which a configuration that a table says breaks a rule.
+#[tactic(auto, unfolding(crate::specs::Flaws::rules_flaw))]
+fn rules_flaw<'c>(table: &'c Table, config: &'c Config) -> Option<Flaw<'c>>
+    ensures { result ≡ rules_flaw (table_view table.now) config.now }
+{
+    relay_flaw(table, config)
+        .or(address_flaw(table, config))
+        .or(users_flaw(config))
+        .or(lifetime_flaw(table, config))
+        .or(domain_flaw(config))
+}
+
+/// A flaw that borrows nothing, if there is one.
+fn kept(alloc: Global, flaw: Option<Flaw<'_>>) -> Result<Option<Flaw<'static>>, AllocError>
+    ensures { IfOk result (λ f. f ≡ flaw.entry) }
+{
+    match flaw {
+        Some(flaw) => Ok(Some(flaw.keep(alloc)?)),
+        None => Ok(None),
+    }
+}
+
+/// The first flaw of a table; none where it says a configuration that keeps the rules.
+pub(crate) fn flaw_in(alloc: Global, table: &Table) -> Result<Option<Flaw<'static>>, AllocError>
+    ensures { IfOk result (λ flaw. flaw ≡ flaw_in (table_view table.now)) }
+{
+    if let Some(flaw) = said_flaw(table) {
+        return Ok(Some(flaw.keep(alloc)?));
+    }
+    match config_of(alloc, table) {
+        Ok(config) => kept(alloc, rules_flaw(table, &config)),
+        Err(ConfigError::OutOfMemory) => Err(AllocError),
+        Err(_) => Ok(None),
+    }
+}

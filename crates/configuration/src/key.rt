@@ -1,0 +1,54 @@
+//! The keys of a configuration's file.
+
+/// A key of a configuration's file.
+#[derive(Clone, Copy, Debug)]
+pub enum Key {
+    RelayFirst,
+    RelayPairs,
+    Ip,
+    SipPort,
+    Users,
+    MinExpires,
+    Domain,
+    Workers,
+    RandomKey,
+}
+
+impl Key {
+    ghost use Rattle.std.specs.Prelude.{◌≡◌};
+    ghost use Rattle.configuration.specs.Flaws.{key_name};
+
+    /// How a file spells it.
+    pub fn name(self) -> &'static str
+        ensures { result.now ≡ key_name self }
+    {
+        match self {
+            Key::RelayFirst => "relay_first",
+            Key::RelayPairs => "relay_pairs",
+            Key::Ip => "ip",
+            Key::SipPort => "sip_port",
+            Key::Users => "users",
+            Key::MinExpires => "min_expires",
+            Key::Domain => "domain",
+            Key::Workers => "workers",
+            Key::RandomKey => "random_key",
+        }
+    }
+
+    /// What is asked of its value, in words.
+    pub fn asked(self) -> &'static str {
+        match self {
+            Key::RelayFirst => "an even port from 1024 to 65534",
+            Key::RelayPairs => "a number from 1 to 2048 with no port above 65535",
+            Key::Ip => "an IPv4 address in dotted form, not 0.0.0.0 and below 224.0.0.0",
+            Key::SipPort => "a port from 1 to 65535 that is no relay port",
+            Key::Users => {
+                "a list of 1 to 1000 names, none twice, each of 1 to 64 letters, digits, '-', '_' or '.'"
+            }
+            Key::MinExpires => "a number of seconds from 1 to 3600",
+            Key::Domain => "a host name",
+            Key::Workers => "a number from 1 to 8",
+            Key::RandomKey => "a text of 64 hexadecimal digits",
+        }
+    }
+}
