@@ -4,7 +4,7 @@ ghost use Rattle.std.specs.Prelude.{◌≡◌, map, codes, Some, None, option_ma
 ghost use Rattle.clap.specs.declared.builder.command.Command.{Command};
 ghost use Rattle.clap.specs.Simple.{with_subcommand};
 ghost use Rattle.clap.specs.Words.{AddsSubcommand, app_of, first_value, found_of, subcommand_rows_of};
-ghost use Rattle.server.specs.Words.{given_turns, office_app, passes, serve_app, turns_in, Asks, AsksIn, IsReplay, IsServe, LacksServe, RefusesWords};
+ghost use Rattle.server.specs.Words.{given_turns, office_app, once_app, passes, serve_app, turns_in, Asks, AsksIn, IsReplay, IsServe, LacksServe, RefusesWords};
 
 use crate::turns::turns_of;
 use crate::version::VERSION;
@@ -123,11 +123,18 @@ fn serve_words<'a>(alloc: Global) -> Result<Command<'a>, AllocError>
         .arg(turns)
 }
 
+/// The words of `once`.
+fn once_words<'a>(alloc: Global) -> Command<'a>
+    ensures { (old new : Command) → AddsSubcommand old result new → app_of new ≡ with_subcommand (app_of old) once_app.top }
+{
+    Command::new(alloc, "once").about("Answers one datagram of standard input")
+}
+
 /// The words that the program takes.
 fn office<'a>(alloc: Global) -> Result<Command<'a>, AllocError>
     ensures { IfOk result (λ c. app_of c ≡ office_app) }
 {
-    let once = Command::new(alloc, "once").about("Answers one datagram of standard input");
+    let once = once_words(alloc);
     let config = Arg::new(alloc, "config").long("config");
     let script = Arg::new(alloc, "script").required(true);
     let replay = Command::new(alloc, "replay")
