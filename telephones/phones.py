@@ -25,12 +25,14 @@ class Phone:
     def __init__(self, user, address, tone, folder, **wishes):
         self.user, self.address, self.tone, self.wishes = user, address, tone, wishes
         self.folder = pathlib.Path(folder) / f"{self.kind}-{user}"
-        shutil.rmtree(self.folder, ignore_errors=True)
-        self.folder.mkdir(parents=True)
         self.process = None
 
     def __str__(self):
         return self.kind
+
+    def clear(self):
+        shutil.rmtree(self.folder, ignore_errors=True)
+        self.folder.mkdir(parents=True)
 
     def spawn(self, words, **how):
         log = open(self.folder / "log", "wb")
@@ -56,6 +58,7 @@ class Baresip(Phone):
     port = 4444
 
     def start(self):
+        self.clear()
         self.write_tone()
         codecs = self.wishes.get("codecs", "PCMA,PCMU")
         secure = ";mediaenc=srtp-mand" if self.wishes.get("srtp") else ""
@@ -109,6 +112,7 @@ class Linphone(Phone):
     has = frozenset(("Opus", "SRTP"))
 
     def start(self):
+        self.clear()
         self.write_tone()
         (self.folder / ".local/share/linphone").mkdir(parents=True)
         secure = "srtp" if self.wishes.get("srtp") else "none"
@@ -160,6 +164,7 @@ class Twinkle(Phone):
     is_mute = True
 
     def start(self):
+        self.clear()
         self.write_tone()
         home = self.folder / ".twinkle"
         home.mkdir()

@@ -58,12 +58,15 @@ class Plain:
 
     def start(self):
         self.sip, self.rtp, self.video = sockets_within(self.user, (5060, 20000, 20002))
+        # A socket that is closed while somebody waits at it stays open.
+        self.sip.settimeout(0.2)
         threading.Thread(target=self.listen, daemon=True).start()
         threading.Thread(target=self.speak, daemon=True).start()
         self.register(600)
 
     def end(self):
         self.runs = False
+        time.sleep(0.3)
         for it in (self.sip, self.rtp, self.video):
             it.close()
 
@@ -71,6 +74,8 @@ class Plain:
         while self.runs:
             try:
                 data, _ = self.sip.recvfrom(65535)
+            except TimeoutError:
+                continue
             except OSError:
                 return
             if self.answers_nobody:
@@ -136,10 +141,13 @@ class Plain:
 
     def learn(self, description):
         """Where the other end's audio is heard."""
-        address = re.search(r"c=IN IP4 (\S+)", description)
-        port = re.search(r"m=audio (\d+)", description)
+        head, *media = re.split(r"(?m)^(?=m=)", description)
+        audio = next((it for it in media if it.startswith("m=audio")), "")
+        address = re.search(r"c=IN IP4 (\S+)", audio) or re.search(r"c=IN IP4 (\S+)", head)
+        port = re.search(r"m=audio (\d+)", audio)
         if address and port:
-            silent = address[1] == "0.0.0.0" or re.search(r"a=(sendonly|inactive)", description)
+            way = re.search(r"a=(sendrecv|sendonly|recvonly|inactive)", audio) or re.search(r"a=(sendrecv|sendonly|recvonly|inactive)", head)
+            silent = address[1] == "0.0.0.0" or (way and way[1] in ("sendonly", "inactive"))
             self.hop = None if silent or port[1] == "0" else (address[1], int(port[1]))
 
     def take(self, text):
@@ -193,7 +201,7 @@ class Plain:
         self.invite = self.request("INVITE", self.uri, to, self.call_id, self.tag, self.number, self.description(media), self.branch)
         self.send(self.invite)
         final = self.wait(start, r"SIP/2\.0 [2-6]\d\d (?s:.*)CSeq: \d+ INVITE", 60)
-        if not final:
+        if not final or not self.runs:
             return
         to = self.header(final, "To")
         if final.startswith("SIP/2.0 2"):

@@ -58,8 +58,14 @@ class Stage:
     # ---- steps
 
     def register(self):
+        """Both register. One that doesn't, as twinkle at some starts, is started again."""
         for phone in (self.caller, self.callee):
-            self.sip(0, "SIP/2.0 200", target=phone, method="REGISTER")
+            try:
+                self.sip(0, "SIP/2.0 200", target=phone, method="REGISTER")
+            except Failed:
+                phone.end()
+                phone.start()
+                self.sip(0, "SIP/2.0 200", target=phone, method="REGISTER", seconds=20)
 
     def ring(self):
         start = self.watch.here()
