@@ -47,7 +47,6 @@ class Plain:
         self.user, self.address, self.tone, self.wishes = user, address, tone, wishes
         self.number, self.version, self.hop = 0, 1, None
         self.dialog = None
-        self.answers_nobody = wishes.get("silent", False)
         self.messages, self.news = [], threading.Condition()
         self.runs = True
 
@@ -78,8 +77,6 @@ class Plain:
                 continue
             except OSError:
                 return
-            if self.answers_nobody:
-                continue
             text = data.decode("utf-8", "replace")
             self.take(text)
             with self.news:
