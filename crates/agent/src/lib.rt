@@ -10,6 +10,6 @@ mod new_agent;
 mod run;
 
 pub use agent::Agent;
-pub use event_rows::{Rule, Tally};
+pub use event_rows::Tally;
 pub use plans::{CallRule, KeptAck, Reply, Taken, Why};
 pub use run::{Entry, Trace};

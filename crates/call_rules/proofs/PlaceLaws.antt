@@ -2,62 +2,16 @@
 use Rattle.std.proofs.Common.{◌≡◌, ℕ, Bool, true, false, cond, is_some, List, Option, Some, None, refl, ap}
 use Rattle.std.specs.Prelude.{slice_get}
 use Rattle.sip_message.specs.declared.message.Parts.{Parts}
-use Rattle.sip_message.specs.declared.message.Request.{Request}
 use Rattle.sip_message.specs.declared.message.Response.{Response}
 use Rattle.sip_message.specs.declared.words.Class.{Class}
 use Rattle.sip_message.specs.declared.words.Class.TheVariants as classes
 use Rattle.sip_message.specs.Words.{class_of}
-use Rattle.dialogs.specs.Counting.{is_above}
-use Rattle.dialogs.specs.declared.state.Dialog.{Dialog}
-use Rattle.call_media.specs.declared.end.End.{End}
-use Rattle.call_media.specs.declared.end.End.TheVariants.{Caller, Callee}
-use Rattle.call_core.specs.Calls.{dialog_of}
 use Rattle.calls.specs.declared.standing_call.StandingCall.{StandingCall}
-use Rattle.calls.specs.Finding.{place_by_end}
-use Rattle.call_rules.specs.declared.requests.DialogRule.TheVariants.{OldNumber, Leaves, Offers, Plain, NoDialog}
 use Rattle.call_rules.specs.declared.responses.ResponseRule.TheVariants.{Silent, Again, Fork, AckAlone}
 use Rattle.call_rules.specs.Places.{StandsAt, StandsIfAny}
-use Rattle.call_rules.specs.Requests as requests
-use Rattle.call_rules.specs.Requests.{counted_rule, has_left, in_dialog, of_callee, of_caller}
 use Rattle.call_rules.specs.Responses as responses
 use Rattle.call_rules.specs.Responses.{asked_end, at_place, callless_rule, further_rule, is_first, is_of_known_dialog, is_open, late_rule, open_at, open_rule, place_if_open}
-use Rattle.call_rules.specs.Speaking.{is_acknowledged, is_bye, is_offer, may_offer}
-
--- ---- requests
-
-counted_there : (standing : List StandingCall) (place : ℕ) (end : End) → StandsAt standing place → (bye offer : Bool)
-    → requests.NamesCall standing (cond bye (Leaves place end) (cond offer (Offers place end) (Plain place end)))
-counted_there standing place end there true offer = there
-counted_there standing place end there false true = there
-counted_there standing place end there false false = there
-
-in_dialog_there : (standing : List StandingCall) (r : Request) (place : ℕ) (end : End) → StandsAt standing place → (d : Option Dialog)
-    → requests.NamesCall standing (in_dialog r place end d)
-in_dialog_there standing r place end there None = tt
-in_dialog_there standing r place end there (Some d) = step (is_above d.remote_number r.parts.cseq.number) where
-  step : (b : Bool) → requests.NamesCall standing (cond b (counted_rule r place end) (OldNumber place end))
-  step true = counted_there standing place end there (is_bye r.parts) (is_offer r)
-  step false = there
-
-request_there : (standing : List StandingCall) (r : Request) (place : ℕ) (end : End) (c : Option StandingCall) → slice_get standing place ≡ c
-    → requests.NamesCall standing (requests.in_call r place end c)
-request_there standing r place end None is = tt
-request_there standing r place end (Some c) is = step (has_left c.call.standing end) where
-  step : (b : Bool) → requests.NamesCall standing (cond b NoDialog (in_dialog r place end (dialog_of end c.call)))
-  step true = tt
-  step false = in_dialog_there standing r place end (ap is_some is) (dialog_of end c.call)
-
-callee_there : (standing : List StandingCall) (r : Request) (place : Option ℕ) → requests.NamesCall standing (of_callee standing r place)
-callee_there standing r None = tt
-callee_there standing r (Some place) = request_there standing r place Callee (slice_get standing place) refl
-
-caller_there : (standing : List StandingCall) (r : Request) (place : Option ℕ) → requests.NamesCall standing (of_caller standing r place)
-caller_there standing r None = callee_there standing r (place_by_end Callee r.parts standing)
-caller_there standing r (Some place) = request_there standing r place Caller (slice_get standing place) refl
-
-pub dialog_there : (standing : List StandingCall) (r : Request) → requests.NamesCall standing (requests.dialog_rule standing r)
-unfolding requests.dialog_rule
-dialog_there standing r = caller_there standing r (place_by_end Caller r.parts standing)
+use Rattle.call_rules.specs.Speaking.{is_acknowledged, may_offer}
 
 -- ---- responses
 

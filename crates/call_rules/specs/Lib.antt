@@ -1,5 +1,6 @@
 pub mod Speaking
 pub mod Places
+pub mod DialogRule
 pub mod Requests
 pub mod Responses
 pub mod Content

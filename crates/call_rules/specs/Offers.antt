@@ -1,6 +1,6 @@
 -- What an offer inside a call meets, and an UPDATE without one, before the call takes it (RFC 3261 sections 8.2.3, 14.2
 -- and 16.3, RFC 3311 section 5.2). The first line that applies decides.
-use Rattle.std.specs.Prelude.{ℕ, ◌==◌, Bool, true, false, List, slice_get, Option, Some, None, option_map, if◌then◌else◌}
+use Rattle.std.specs.Prelude.{ℕ, ◌==◌, Bool, true, false, Option, Some, None, option_map, if◌then◌else◌}
 use Rattle.sip_message.specs.declared.message.Request.{Request}
 use Rattle.sip_message.specs.Contact.{contacts_of}
 use Rattle.call_media.specs.declared.end.End.{End}
@@ -9,7 +9,6 @@ use Rattle.call_core.specs.declared.clash.Clash.{Clash}
 use Rattle.call_core.specs.declared.stage.Stage.{Stage}
 use Rattle.call_core.specs.declared.stage.Stage.TheVariants.{Asked, Cancelling, Answered, Settled, Reasked, Reanswered, Updating, Ending}
 use Rattle.call_core.specs.Calls.{clash_in, clash_without_offer_in, holds_in}
-use Rattle.calls.specs.declared.standing_call.StandingCall.{StandingCall}
 use Rattle.call_rules.specs.declared.offers.OfferRule.{OfferRule}
 use Rattle.call_rules.specs.declared.offers.OfferRule.TheVariants.{NoDialog, Crosses, NoHops, Unreached, Content, Passes}
 use Rattle.call_rules.specs.Content.{content_rule}
@@ -60,25 +59,11 @@ content_line r = option_map Content (content_rule r.headers)
 
 -- ---- an offer
 
-unfoldable pub offer_in : Request → End → Call → OfferRule
-offer_in r end c = otherwise (clash_line c end) (otherwise (hops_line r) (otherwise (reach_line r) (otherwise (content_line r) Passes)))
-
-abbrev pub offer_by : Request → End → Option StandingCall → OfferRule
-offer_by r end None = NoDialog
-offer_by r end (Some c) = offer_in r end c.call
-
--- of this end of the call at this place
-unfoldable pub offer_rule : List StandingCall → Request → ℕ → End → OfferRule
-offer_rule standing r place end = offer_by r end (slice_get standing place)
+-- of this end of the call
+unfoldable pub offer_rule : Request → End → Call → OfferRule
+offer_rule r end c = otherwise (clash_line c end) (otherwise (hops_line r) (otherwise (reach_line r) (otherwise (content_line r) Passes)))
 
 -- ---- an UPDATE without an offer
 
-unfoldable pub plain_in : Request → End → Call → OfferRule
-plain_in r end c = otherwise (plain_clash_line c end) (otherwise (hops_line r) (otherwise (reach_line r) Passes))
-
-abbrev pub plain_by : Request → End → Option StandingCall → OfferRule
-plain_by r end None = NoDialog
-plain_by r end (Some c) = plain_in r end c.call
-
-unfoldable pub plain_rule : List StandingCall → Request → ℕ → End → OfferRule
-plain_rule standing r place end = plain_by r end (slice_get standing place)
+unfoldable pub plain_rule : Request → End → Call → OfferRule
+plain_rule r end c = otherwise (plain_clash_line c end) (otherwise (hops_line r) (otherwise (reach_line r) Passes))

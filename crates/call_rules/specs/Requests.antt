@@ -12,9 +12,7 @@ use Rattle.dialogs.specs.Counting.{is_above}
 use Rattle.dialogs.specs.declared.state.Dialog.{Dialog}
 use Rattle.calls.specs.declared.standing_call.StandingCall.{StandingCall}
 use Rattle.calls.specs.Finding.{place_by_end}
-use Rattle.call_rules.specs.declared.requests.DialogRule.{DialogRule}
-use Rattle.call_rules.specs.declared.requests.DialogRule.TheVariants.{NoDialog, OldNumber, Leaves, Offers, Plain}
-use Rattle.call_rules.specs.Places.{StandsAt}
+use Rattle.call_rules.specs.DialogRule.{DialogRule, NoDialog, OldNumber, Leaves, Offers, Plain}
 use Rattle.call_rules.specs.Speaking.{is_bye, is_offer}
 
 -- ---- an end whose dialog is over: it sent a BYE or was sent one, or its first INVITE was refused (sections 12.3 and 15)
@@ -58,14 +56,6 @@ of_caller standing r (Some place) = in_call r place Caller (slice_get standing p
 
 unfoldable pub dialog_rule : List StandingCall → Request → DialogRule
 dialog_rule standing r = of_caller standing r (place_by_end Caller r.parts standing)
-
--- a call stands at the place that the rule names
-abbrev pub NamesCall : List StandingCall → DialogRule → Type 0
-NamesCall standing NoDialog = Unit {0}
-NamesCall standing (OldNumber place end) = StandsAt standing place
-NamesCall standing (Leaves place end) = StandsAt standing place
-NamesCall standing (Offers place end) = StandsAt standing place
-NamesCall standing (Plain place end) = StandsAt standing place
 
 -- ---- the dialog once it took a request of this number (section 12.2.2)
 

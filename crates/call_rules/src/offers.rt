@@ -1,14 +1,12 @@
 //! What an offer inside a call meets, and an UPDATE without one, before the call takes it.
 
 ghost use Rattle.std.specs.Prelude.{◌≡◌, IfOk};
-ghost use Rattle.std.specs.Option.{option_copied};
 ghost use Rattle.call_core.specs.Calls.{holds_in};
-ghost use Rattle.call_rules.specs.Offers.{clash_by, clash_line, content_line, hops_line, is_settled, offer_by, offer_in, offer_rule, plain_by, plain_clash_line, plain_in, plain_rule, reach_line};
+ghost use Rattle.call_rules.specs.Offers.{clash_by, clash_line, content_line, hops_line, is_settled, offer_rule, plain_clash_line, plain_rule, reach_line};
 
 use crate::content::{ContentRule, content_rule};
 use crate::reach::leaves_unreached;
 use call_core::{Call, Clash, End, Stage};
-use calls::{Calls, StandingCall};
 use sip_message::{Request, contact_values};
 use std::alloc::{AllocError, Global};
 
@@ -109,14 +107,15 @@ fn content_line(alloc: Global, request: &Request<'_>) -> Result<Option<OfferRule
 
 // ---- an offer
 
-#[tactic(auto, unfolding(crate::specs::Offers::offer_in))]
-fn offer_in(
+/// What an offer of this end of the call meets, in the order K2 and K1, hops, Contact, body.
+#[tactic(auto, unfolding(crate::specs::Offers::offer_rule))]
+pub fn offer_rule(
     alloc: Global,
     request: &Request<'_>,
     end: End,
     call: &Call,
 ) -> Result<OfferRule, AllocError>
-    ensures { IfOk result (λ rule. rule ≡ offer_in request.now end call.now) }
+    ensures { IfOk result (λ rule. rule ≡ offer_rule request.now end call.now) }
 {
     if let Some(rule) = clash_line(call, end) {
         return Ok(rule);
@@ -133,44 +132,17 @@ fn offer_in(
     }
 }
 
-fn offer_by(
-    alloc: Global,
-    request: &Request<'_>,
-    end: End,
-    call: Option<&StandingCall>,
-) -> Result<OfferRule, AllocError>
-    ensures { IfOk result (λ rule. rule ≡ offer_by request.now end (option_copied call.entry)) }
-{
-    match call {
-        None => Ok(OfferRule::NoDialog),
-        Some(call) => offer_in(alloc, request, end, &call.call),
-    }
-}
-
-/// What an offer of this end of the call at this place meets, in the order K2 and K1, hops, Contact, body.
-#[tactic(auto, unfolding(crate::specs::Offers::offer_rule))]
-pub fn offer_rule(
-    alloc: Global,
-    calls: &Calls,
-    request: &Request<'_>,
-    place: usize,
-    end: End,
-) -> Result<OfferRule, AllocError>
-    ensures { IfOk result (λ rule. rule ≡ offer_rule calls.now.calls request.now place end) }
-{
-    offer_by(alloc, request, end, calls.get(place))
-}
-
 // ---- an UPDATE without an offer
 
-#[tactic(auto, unfolding(crate::specs::Offers::plain_in))]
-fn plain_in(
+/// What an UPDATE without an offer meets, which this end of the call sent: K2, hops, Contact.
+#[tactic(auto, unfolding(crate::specs::Offers::plain_rule))]
+pub fn plain_rule(
     alloc: Global,
     request: &Request<'_>,
     end: End,
     call: &Call,
 ) -> Result<OfferRule, AllocError>
-    ensures { IfOk result (λ rule. rule ≡ plain_in request.now end call.now) }
+    ensures { IfOk result (λ rule. rule ≡ plain_rule request.now end call.now) }
 {
     if let Some(rule) = plain_clash_line(call, end) {
         return Ok(rule);
@@ -182,32 +154,4 @@ fn plain_in(
         Some(rule) => Ok(rule),
         None => Ok(OfferRule::Passes),
     }
-}
-
-fn plain_by(
-    alloc: Global,
-    request: &Request<'_>,
-    end: End,
-    call: Option<&StandingCall>,
-) -> Result<OfferRule, AllocError>
-    ensures { IfOk result (λ rule. rule ≡ plain_by request.now end (option_copied call.entry)) }
-{
-    match call {
-        None => Ok(OfferRule::NoDialog),
-        Some(call) => plain_in(alloc, request, end, &call.call),
-    }
-}
-
-/// What an UPDATE without an offer meets, which this end of the call at this place sent: K2, hops, Contact.
-#[tactic(auto, unfolding(crate::specs::Offers::plain_rule))]
-pub fn plain_rule(
-    alloc: Global,
-    calls: &Calls,
-    request: &Request<'_>,
-    place: usize,
-    end: End,
-) -> Result<OfferRule, AllocError>
-    ensures { IfOk result (λ rule. rule ≡ plain_rule calls.now.calls request.now place end) }
-{
-    plain_by(alloc, request, end, calls.get(place))
 }

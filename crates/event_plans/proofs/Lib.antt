@@ -1,2 +1,1 @@
 mod RoomLaws
-mod UnreadLaws

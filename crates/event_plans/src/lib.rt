@@ -4,6 +4,7 @@
 
 mod due;
 mod rows;
+mod rule;
 mod rules;
 mod unread;
 

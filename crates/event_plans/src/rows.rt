@@ -1,17 +1,19 @@
 //! What a datagram comes to, up to the rules: whether it can be read, its branch, and what the transactions say of it.
 
 ghost use Rattle.std.specs.Prelude.{◌≡◌, ◌<◌, ◌^◌, ◌∷◌, [], IfOk};
+ghost use Rattle.event_rows.specs.Rule.{HandsOn};
 ghost use Rattle.event_rows.specs.Rules.{request_rule};
 ghost use Rattle.plans.specs.Plan.{moves, nothing};
 ghost use Rattle.plans.specs.Effect.{Fits, effect};
 ghost use Rattle.plans.specs.CallRows.{of_plan};
+ghost use Rattle.event_plans.specs.RuleValue.{rule_value};
 ghost use Rattle.event_rows.specs.Rows.{datagram_row, fit_row, is_unreachable_message, parts_of, read_row, received, received_by, request_by, response_by, rule_row, what_row};
 
 use crate::due::due_row;
+use crate::rule::Rule;
 use crate::rules::request_rule;
 use crate::unread::{unfit_branch, unread_row};
 use call_rules::is_unreachable;
-use event_rows::Rule;
 use events::What;
 use plans::{Doing, Office, Setting, Taken, Why, one_change};
 use responses::has_fit_branch;
@@ -52,11 +54,12 @@ fn rule_row(
     request: &Request<'_>,
     begun: Vec<Change>,
     id: usize,
-    rule: Rule,
+    rule: Rule<'_>,
 ) -> Result<Doing, AllocError>
     requires early { setting.now < 2 ^ 60 }
     requires few { office.now.tokens < 2 ^ 63 }
-    ensures row { IfOk result (λ d. effect office.now.calls office.now.acks setting.now d ≡ rule_row office.now setting request.now begun.items id rule) }
+    requires there { HandsOn office.now.calls.calls (rule_value rule) }
+    ensures row { IfOk result (λ d. effect office.now.calls office.now.acks setting.now d ≡ rule_row office.now setting request.now begun.items id (rule_value rule.entry)) }
     ensures fits { IfOk result (Fits office.now.calls setting.now) }
 {
     match rule {
@@ -67,7 +70,6 @@ fn rule_row(
     }
 }
 
-#[tactic(auto, using(crate::proofs::UnreadLaws::request_alike))]
 #[inline(never)]
 fn ruled_row(
     office: &Office<'_>,

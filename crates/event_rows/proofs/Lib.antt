@@ -1,1 +1,2 @@
 pub mod AckRequests
+pub mod RuleLaws

@@ -36,8 +36,8 @@ use Rattle.events.specs.declared.event.Event.{Event}
 use Rattle.events.specs.declared.event.What.{What}
 use Rattle.events.specs.declared.event.What.TheVariants as whats
 use Rattle.plans.specs.declared.setting.Setting.{Setting}
-use Rattle.event_rows.specs.declared.rule.Rule.{Rule}
-use Rattle.event_rows.specs.declared.rule.Rule.TheVariants as rules
+use Rattle.event_rows.specs.Rule as rules
+use Rattle.event_rows.specs.Rule.{Rule}
 use Rattle.plans.specs.declared.taken.Taken.{Taken}
 use Rattle.plans.specs.declared.taken.Taken.TheVariants.{Dropped, Shed, Idle}
 use Rattle.plans.specs.declared.taken.Why.TheVariants.{Unread, Stray, Ack, NoBranch, Clock, Spent}

@@ -1,5 +1,5 @@
 -- Which rule a request falls under that begins a transaction: the order of checks. The first line that applies decides.
-use Rattle.std.specs.Prelude.{ℕ, ◌==◌, ◌||◌, Bool, true, false, not, List, [], ◌∷◌, codes, Option, Some, None, is_some}
+use Rattle.std.specs.Prelude.{ℕ, ◌==◌, ◌||◌, Bool, true, false, not, List, [], ◌∷◌, codes, slice_get, Option, Some, None, is_some}
 use Rattle.sip_uri.specs.declared.uri.Uri.{Uri}
 use Rattle.sip_message.specs.declared.message.Request.{Request}
 use Rattle.sip_message.specs.Contact.{contacts_of}
@@ -9,19 +9,18 @@ use Rattle.registrar.specs.Registering.{user_of, is_known}
 use Rattle.registrar.specs.Registrar.{rules_of, bindings_at}
 use Rattle.transactions.specs.Contents.{merged}
 use Rattle.transactions.specs.Slots.{named}
-use Rattle.event_rows.specs.declared.rule.Rule.{Rule}
-use Rattle.event_rows.specs.declared.rule.Rule.TheVariants.{Alone, Call}
+use Rattle.event_rows.specs.Rule.{Rule, Alone, Call}
 use Rattle.plans.specs.declared.rule.Reply.TheVariants.{CancelOf, Refusal, MethodUnoffered, TypeRefused, EncodingRefused, ExtensionRefused, MethodsListed, Registration}
-use Rattle.plans.specs.declared.rule.CallRule.TheVariants as calls
-use Rattle.sdp.specs.declared.description.Description.{Description}
+use Rattle.plans.specs.CallRule as calls
+use Rattle.plans.specs.CallRule.{CallRule}
 use Rattle.calls.specs.declared.standing_call.StandingCall.{StandingCall}
 use Rattle.calls.specs.Finding.{place_by_offer}
-use Rattle.call_rules.specs.declared.requests.DialogRule.{DialogRule}
-use Rattle.call_rules.specs.declared.requests.DialogRule.TheVariants as dialog
+use Rattle.call_rules.specs.DialogRule.{DialogRule}
+use Rattle.call_rules.specs.DialogRule as dialog
 use Rattle.call_rules.specs.declared.content.ContentRule.{ContentRule}
 use Rattle.call_rules.specs.declared.content.ContentRule.TheVariants as content
 use Rattle.call_rules.specs.Requests.{dialog_rule}
-use Rattle.call_rules.specs.Content.{content_rule, described}
+use Rattle.call_rules.specs.Content.{content_rule}
 use Rattle.call_rules.specs.Reach.{contact_address}
 use Rattle.plans.specs.Office.{Office}
 use Rattle.responses.specs.Words.{is_method, has_header, is_declined_method, is_offered_method}
@@ -81,17 +80,22 @@ register_line r = when (is_method (codes "REGISTER") r) (Alone Registration)
 
 -- ---- dialogs (section 12.2.2)
 
-abbrev pub of_dialog : DialogRule → Rule
-of_dialog dialog.NoDialog = refused 481
-of_dialog (dialog.OldNumber place end) = refused 500
-of_dialog (dialog.Leaves place end) = Call (calls.Leaves place end)
-of_dialog (dialog.Offers place end) = Call (calls.Offers place end)
-of_dialog (dialog.Plain place end) = Call (calls.Refreshes place end)
+-- the call that stands at the place takes it
+abbrev pub with_call : (StandingCall → CallRule) → Option StandingCall → Rule
+with_call rule None = refused 481
+with_call rule (Some call) = Call (rule call)
+
+abbrev pub of_dialog : List StandingCall → DialogRule → Rule
+of_dialog standing dialog.NoDialog = refused 481
+of_dialog standing (dialog.OldNumber place end) = refused 500
+of_dialog standing (dialog.Leaves place end) = Call (calls.Leaves place end)
+of_dialog standing (dialog.Offers place end) = with_call (calls.Offers place end) (slice_get standing place)
+of_dialog standing (dialog.Plain place end) = with_call (calls.Refreshes place end) (slice_get standing place)
 
 -- a request that is no INVITE, or whose To has a tag, stands in a dialog
 abbrev pub dialog_line : Office → Request → Option Rule
 dialog_line s r =
-    when (not (is_method (codes "INVITE") r) || is_some (tag_value r.parts.to.params)) (of_dialog (dialog_rule s.calls.calls r))
+    when (not (is_method (codes "INVITE") r) || is_some (tag_value r.parts.to.params)) (of_dialog s.calls.calls (dialog_rule s.calls.calls r))
 
 -- ---- a first call
 
@@ -102,58 +106,61 @@ hops_line r = when (r.max_forwards == 0) (refused 483)
 abbrev pub contact_line : Request → Option Rule
 contact_line r = when (not (is_some (contact_address (contacts_of r.headers)))) (refused 400)
 
--- what can be read of an offer (section 8.2.3)
-abbrev pub described_rule : Option ContentRule → Option Description → Rule
-described_rule (Some content.Type) offer = Alone TypeRefused
-described_rule (Some content.Encoding) offer = Alone EncodingRefused
-described_rule None None = refused 488
-described_rule None (Some offer) = Call calls.Begins
+-- the Request-URI names a user of the office
+abbrev pub is_user : Office → Option (List ℕ) → Bool
+is_user s None = false
+is_user s (Some user) = is_known (rules_of s.registrar) user
 
-abbrev pub offer_rule : Request → Rule
-offer_rule r = described_rule (content_rule r.headers) (described r.headers r.body)
+abbrev pub user_line_by : Office → Option (List ℕ) → Option Rule
+user_line_by s user = when (not (is_user s user)) (refused 404)
 
--- what a first call comes to whose callee is bound
-abbrev pub target_by : Rule → Option Uri → Rule
-target_by last None = refused 480
-target_by last (Some target) = last
+abbrev pub user_line : Office → Request → Option Rule
+user_line s r = user_line_by s (user_of (rules_of s.registrar) r.uri)
 
-abbrev pub known_by : Rule → Office → List ℕ → ℕ → Bool → Rule
-known_by last s user now false = refused 404
-known_by last s user now true = target_by last (target_of (bindings_at s.registrar user now))
+-- where that user is bound (section 16.5)
+abbrev pub target_by : Office → ℕ → Option (List ℕ) → Option Uri
+target_by s now None = None
+target_by s now (Some user) = target_of (bindings_at s.registrar user now)
 
-abbrev pub user_by : Rule → Office → ℕ → Option (List ℕ) → Rule
-user_by last s now None = refused 404
-user_by last s now (Some user) = known_by last s user now (is_known (rules_of s.registrar) user)
+abbrev pub target : Office → Request → ℕ → Option Uri
+target s r now = target_by s now (user_of (rules_of s.registrar) r.uri)
 
--- the user whom the Request-URI names, and where that is (section 16.5)
-abbrev pub callee_by : Rule → Office → Request → ℕ → Rule
-callee_by last s r now = user_by last s now (user_of (rules_of s.registrar) r.uri)
+-- whether its body is taken (section 8.2.3)
+abbrev pub taken_rule : Uri → Option ContentRule → Rule
+taken_rule to (Some content.Type) = Alone TypeRefused
+taken_rule to (Some content.Encoding) = Alone EncodingRefused
+taken_rule to None = Call (calls.Begins to)
 
-abbrev pub first_call_by : Rule → Office → Request → ℕ → Rule
-first_call_by last s r now = otherwise (hops_line r) (otherwise (contact_line r) (callee_by last s r now))
+abbrev pub bound_rule : Request → Option Uri → Rule
+bound_rule r None = refused 480
+bound_rule r (Some to) = taken_rule to (content_rule r.headers)
+
+abbrev pub callee_by : Office → Request → ℕ → Option (List ℕ) → Rule
+callee_by s r now user = otherwise (user_line_by s user) (bound_rule r (target_by s now user))
+
+abbrev pub callee_rule : Office → Request → ℕ → Rule
+callee_rule s r now = callee_by s r now (user_of (rules_of s.registrar) r.uri)
+
+abbrev pub first_call_rule : Office → Request → ℕ → Rule
+first_call_rule s r now = otherwise (hops_line r) (otherwise (contact_line r) (callee_rule s r now))
 
 -- ---- all, in their order
 
-unfoldable pub invite_by : Rule → Office → Request → ℕ → Rule
-invite_by last s r now = otherwise (dialog_line s r) (first_call_by last s r now)
+unfoldable pub invite_rule : Office → Request → ℕ → Rule
+invite_rule s r now = otherwise (dialog_line s r) (first_call_rule s r now)
 
-unfoldable pub offered_by : Rule → Office → Request → ℕ → Rule
-offered_by last s r now =
+unfoldable pub offered_rule : Office → Request → ℕ → Rule
+offered_rule s r now =
     otherwise (extension_line r)
     (otherwise (route_line r)
     (otherwise (options_line r)
     (otherwise (register_line r)
-    (invite_by last s r now))))
+    (invite_rule s r now))))
 
--- whatever the last line gives, where no line before it applies
-unfoldable pub rule_by : Rule → Office → Request → ℕ → Rule
-rule_by last s r now =
+unfoldable pub request_rule : Office → Request → ℕ → Rule
+request_rule s r now =
     otherwise (cancel_line s r)
     (otherwise (merged_line s r)
     (otherwise (declined_line r)
     (otherwise (unknown_line r)
-    (offered_by last s r now))))
-
--- the last line is what can be read of the offer
-unfoldable pub request_rule : Office → Request → ℕ → Rule
-request_rule s r now = rule_by (offer_rule r) s r now
+    (offered_rule s r now))))

@@ -2,8 +2,6 @@
 //! as definitions over the plans; how many events were answered how. Nothing here knows of sockets, clocks or threads.
 #![tactic(auto)]
 
-mod rule;
 mod tally;
 
-pub use rule::Rule;
 pub use tally::Tally;

@@ -4,7 +4,7 @@ ghost use Rattle.std.specs.Prelude.{◌≡◌, ℕ, List, None, Ok, Some, [], co
 ghost use Rattle.call_media.specs.declared.end.End.{End};
 ghost use Rattle.call_rules.specs.Content.{described};
 ghost use Rattle.call_rules.specs.Requests.{dialog_rule};
-ghost use Rattle.call_rules.specs.declared.requests.DialogRule.TheVariants as rules;
+ghost use Rattle.call_rules.specs.DialogRule as rules;
 ghost use Rattle.call_trace.specs.Stands.{leg};
 ghost use Rattle.call_trace.specs.declared.call.Call.{Call};
 ghost use Rattle.calls.specs.declared.standing_call.StandingCall.{StandingCall};

@@ -2,11 +2,11 @@
 
 ghost use Rattle.std.specs.Prelude.{◌≡◌, ◌≤◌, [], ℕ, List, None, Ok, Option, Some};
 ghost use Rattle.event_rows.specs.Rules.{request_rule};
-ghost use Rattle.event_rows.specs.declared.rule.Rule.TheVariants as rules;
+ghost use Rattle.event_rows.specs.Rule as rules;
 ghost use Rattle.call_media.specs.declared.end.End.{End};
 ghost use Rattle.call_rules.specs.Requests.{dialog_rule};
 ghost use Rattle.call_rules.specs.declared.offers.OfferRule.{OfferRule};
-ghost use Rattle.call_rules.specs.declared.requests.DialogRule.TheVariants as dialog_rules;
+ghost use Rattle.call_rules.specs.DialogRule as dialog_rules;
 ghost use Rattle.call_trace.specs.declared.call.Call.{Call};
 ghost use Rattle.call_trace.specs.declared.datagram.Datagram.{Datagram};
 ghost use Rattle.call_trace.specs.declared.datagram.Message.{Message};

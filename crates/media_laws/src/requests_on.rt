@@ -25,7 +25,7 @@ ghost use Rattle.transactions.specs.declared.transaction.Transaction.{Transactio
 ghost use Rattle.call_media.specs.declared.end.End.{End};
 ghost use Rattle.call_rules.specs.Requests.{dialog_rule};
 ghost use Rattle.call_rules.specs.Speaking.{is_bye};
-ghost use Rattle.call_rules.specs.declared.requests.DialogRule.TheVariants.{Leaves};
+ghost use Rattle.call_rules.specs.DialogRule.{Leaves};
 ghost use Rattle.call_steps.specs.Rows.{counts};
 ghost use Rattle.message_laws.specs.Addresses.{IsSource};
 ghost use Rattle.message_laws.specs.Sending.{KnowsSent};

@@ -6,7 +6,7 @@ ghost use Rattle.call_core.specs.declared.stage.Standing.{Standing};
 ghost use Rattle.call_media.specs.declared.end.End.{End};
 ghost use Rattle.call_media.specs.declared.session.OpenOffer.{OpenOffer};
 ghost use Rattle.call_rules.specs.Requests.{dialog_rule};
-ghost use Rattle.call_rules.specs.declared.requests.DialogRule.TheVariants.{Leaves};
+ghost use Rattle.call_rules.specs.DialogRule.{Leaves};
 ghost use Rattle.call_steps.specs.Values.{ComingValue};
 ghost use Rattle.call_trace.specs.Messages.{offering};
 ghost use Rattle.call_trace.specs.Stands.{CallStands, HasTags, leg};

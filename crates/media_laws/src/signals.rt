@@ -6,7 +6,7 @@ ghost use Rattle.call_core.specs.declared.signal.Signal.TheVariants as signals;
 ghost use Rattle.call_core.specs.declared.stage.Standing.{Standing};
 ghost use Rattle.call_media.specs.declared.end.End.{End};
 ghost use Rattle.call_rules.specs.Requests.{dialog_rule};
-ghost use Rattle.call_rules.specs.declared.requests.DialogRule.TheVariants.{Leaves};
+ghost use Rattle.call_rules.specs.DialogRule.{Leaves};
 ghost use Rattle.call_steps.specs.Rows.{counts};
 ghost use Rattle.call_steps.specs.Values.{without_offer};
 ghost use Rattle.call_trace.specs.declared.call.Call.{Call};

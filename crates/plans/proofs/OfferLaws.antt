@@ -1,6 +1,5 @@
 -- Which response an offer inside a call gets, by why it is refused or that it may pass.
 use Rattle.std.proofs.Common.{◌≡◌, ◌∙◌, ℕ, ◌<◌, ◌≤◌, Bool, true, false, cond, is_some, length, List, Option, Some, None, refl, ap, sym, subst}
-use Rattle.std.specs.Prelude.{slice_get}
 use Rattle.std.proofs.lemmas.Bool.{lt-leb, le-leb}
 use Rattle.port_pool.specs.Holdings.{free_pairs}
 use Rattle.sip_message.specs.declared.message.Request.{Request}
@@ -30,10 +29,9 @@ use Rattle.call_core.specs.Settled.{settled_row}
 use Rattle.call_core.specs.Table.{row_in, row_of}
 use Rattle.call_core.specs.Plans.{IfLine}
 use Rattle.port_pool.specs.Pool as pools
-use Rattle.calls.specs.declared.standing_call.StandingCall.{StandingCall}
 use Rattle.call_rules.specs.declared.offers.OfferRule.{OfferRule}
 use Rattle.call_rules.specs.declared.offers.OfferRule.TheVariants as asked
-use Rattle.call_rules.specs.Offers.{clash_by, content_line, hops_line, is_settled, offer_in, offer_rule, otherwise, reach_line}
+use Rattle.call_rules.specs.Offers.{clash_by, content_line, hops_line, is_settled, offer_rule, otherwise, reach_line}
 use Rattle.plans.specs.declared.rule.Reply.{Reply}
 use Rattle.plans.specs.declared.rule.Reply.TheVariants.{Refusal}
 use Rattle.plans.specs.declared.setting.Setting.{Setting}
@@ -59,15 +57,10 @@ clear_by c None next h = step (holds_in is_settled c.standing) h where
   step true is = (refl, refl)
   step false is = absurd cc
 
-clear_in : (r : Request) (end : End) (c : Call) → offer_in r end c ≡ asked.Passes → (clash_in c.standing end ≡ None) × (holds_in is_settled c.standing ≡ true)
-unfolding offer_in
-clear_in r end c h =
-    clear_by c (clash_in c.standing end) (otherwise (hops_line r) (otherwise (reach_line r) (otherwise (content_line r) asked.Passes))) h
-
-pub clear : (calls : List StandingCall) (r : Request) (place : ℕ) (end : End) (c : StandingCall) → offer_rule calls r place end ≡ asked.Passes
-    → slice_get calls place ≡ Some c → (clash_in c.call.standing end ≡ None) × (holds_in is_settled c.call.standing ≡ true)
+pub clear : (r : Request) (end : End) (c : Call) → offer_rule r end c ≡ asked.Passes → (clash_in c.standing end ≡ None) × (holds_in is_settled c.standing ≡ true)
 unfolding offer_rule
-clear calls r place end c h at = clear_in r end c.call (rw at at h)
+clear r end c h =
+    clear_by c (clash_in c.standing end) (otherwise (hops_line r) (otherwise (reach_line r) (otherwise (content_line r) asked.Passes))) h
 
 -- ---- why the call refuses it
 

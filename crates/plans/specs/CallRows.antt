@@ -6,9 +6,6 @@ use Rattle.sip_uri.specs.declared.uri.Uri.{Uri}
 use Rattle.sip_message.specs.declared.message.Request.{Request}
 use Rattle.sip_message.specs.declared.message.Response.{Response}
 use Rattle.sip_writing.specs.Reply.{response_address}
-use Rattle.registrar.specs.Bound.{target_of}
-use Rattle.registrar.specs.Registering.{user_of}
-use Rattle.registrar.specs.Registrar.{bindings_at, rules_of}
 use Rattle.sdp.specs.declared.description.Description.{Description}
 use Rattle.port_pool.specs.Holdings.{free_pairs}
 use Rattle.offer_answer.specs.Checks.{offer_fault}
@@ -61,8 +58,8 @@ use Rattle.call_steps.specs.Rows.{answers_leg, counts, first_row, fork_row, late
 use Rattle.call_steps.specs.Scenes.{offerer_tag}
 use Rattle.call_steps.specs.Values.{AskerValue}
 use Rattle.plans.specs.declared.acks.KeptAck.{KeptAck}
-use Rattle.plans.specs.declared.rule.CallRule.{CallRule}
-use Rattle.plans.specs.declared.rule.CallRule.TheVariants as calls
+use Rattle.plans.specs.CallRule as calls
+use Rattle.plans.specs.CallRule.{CallRule}
 use Rattle.plans.specs.declared.setting.Setting.{Setting}
 use Rattle.plans.specs.declared.taken.Taken.TheVariants.{Done, Dropped}
 use Rattle.plans.specs.declared.taken.Why.TheVariants.{Ack}
@@ -146,21 +143,10 @@ first_by s e r begun id target offer =
     then unless_full s e r begun id (first_row s.calls (occasion s e) r id e.source target offer)
     else of_plan s (responds_in s e r begun id 503 [] None))
 
--- the callee, where it is bound
-abbrev pub target_by : Office → ℕ → Option (List ℕ) → Option Uri
-target_by s now None = None
-target_by s now (Some user) = target_of (bindings_at s.registrar user now)
-
-abbrev pub target : Office → Request → ℕ → Option Uri
-target s r now = target_by s now (user_of (rules_of s.registrar) r.uri)
-
-abbrev pub begins_by : Office → Setting → Request → List Entry → ℕ → Option Uri → Option Description → Effect
-begins_by s e r begun id None offer = of_plan s (responds_in s e r begun id 480 [] None)
-begins_by s e r begun id (Some target) None = of_plan s (responds_in s e r begun id 488 [] None)
-begins_by s e r begun id (Some target) (Some offer) = first_by s e r begun id target offer
-
-abbrev pub begins : Office → Setting → Request → List Entry → ℕ → Effect
-begins s e r begun id = begins_by s e r begun id (target s r e.now) (described r.headers r.body)
+-- an offer that can't be read: 488
+abbrev pub begins : Office → Setting → Request → List Entry → ℕ → Uri → Option Description → Effect
+begins s e r begun id to None = of_plan s (responds_in s e r begun id 488 [] None)
+begins s e r begun id to (Some offer) = first_by s e r begun id to offer
 
 -- ---- a request in a dialog
 
@@ -241,16 +227,12 @@ abbrev pub passes_in : Office → Setting → Request → List Entry → ℕ →
 passes_in s e r begun id place end c None = refuses s e r begun id place end (Refusal 488)
 passes_in s e r begun id place end c (Some offer) = passes_if s e r begun id place end c offer
 
-abbrev pub passes_at : Office → Setting → Request → List Entry → ℕ → ℕ → End → Option StandingCall → Effect
-passes_at s e r begun id place end None = refuses s e r begun id place end (Refusal 481)
-passes_at s e r begun id place end (Some c) = passes_in s e r begun id place end c.call (described r.headers r.body)
+abbrev pub offers_by : Office → Setting → Request → List Entry → ℕ → ℕ → End → Call → Option Reply → Effect
+offers_by s e r begun id place end c (Some reply) = refuses s e r begun id place end reply
+offers_by s e r begun id place end c None = passes_in s e r begun id place end c (described r.headers r.body)
 
-abbrev pub offers_by : Office → Setting → Request → List Entry → ℕ → ℕ → End → Option Reply → Effect
-offers_by s e r begun id place end (Some reply) = refuses s e r begun id place end reply
-offers_by s e r begun id place end None = passes_at s e r begun id place end (slice_get s.calls.calls place)
-
-unfoldable pub offers : Office → Setting → Request → List Entry → ℕ → ℕ → End → Effect
-offers s e r begun id place end = offers_by s e r begun id place end (offer_reply (offer_rule s.calls.calls r place end))
+unfoldable pub offers : Office → Setting → Request → List Entry → ℕ → ℕ → End → Call → Effect
+offers s e r begun id place end c = offers_by s e r begun id place end c (offer_reply (offer_rule r end c))
 
 -- ---- an UPDATE without an offer: 200, which says where the server is reached (RFC 3311 section 5.2)
 
@@ -265,18 +247,18 @@ refreshes_by s e r begun id place end None = record {
   acks = s.acks;
 }
 
-unfoldable pub refreshes_at : Office → Setting → Request → List Entry → ℕ → ℕ → End → Effect
-refreshes_at s e r begun id place end = refreshes_by s e r begun id place end (offer_reply (plain_rule s.calls.calls r place end))
+unfoldable pub refreshes_at : Office → Setting → Request → List Entry → ℕ → ℕ → End → Call → Effect
+refreshes_at s e r begun id place end c = refreshes_by s e r begun id place end (offer_reply (plain_rule r end c))
 
 -- ---- a request that a call has to do with. BYE: section 15.1.2
 unfoldable pub call_row : Office → Setting → Request → List Entry → ℕ → CallRule → Effect
-call_row s e r begun id calls.Begins = begins s e r begun id
+call_row s e r begun id (calls.Begins to) = begins s e r begun id to (described r.headers r.body)
 call_row s e r begun id (calls.Cancels place) =
     takes_request s e r begun id place inputs.Cancel None (tag_at (slice_get s.calls.calls place))
 call_row s e r begun id (calls.Leaves place end) =
     takes_request s e r begun id place (inputs.Bye end) (counts s.calls.calls place end r.parts.cseq.number) stateless
-call_row s e r begun id (calls.Offers place end) = offers s e r begun id place end
-call_row s e r begun id (calls.Refreshes place end) = refreshes_at s e r begun id place end
+call_row s e r begun id (calls.Offers place end c) = offers s e r begun id place end c.call
+call_row s e r begun id (calls.Refreshes place end c) = refreshes_at s e r begun id place end c.call
 
 -- ---- ACK (section 13.3.1.4)
 

@@ -2,4 +2,5 @@ pub mod Office
 pub mod Plan
 pub mod Effect
 pub mod Replies
+pub mod CallRule
 pub mod CallRows

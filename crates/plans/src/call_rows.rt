@@ -2,7 +2,6 @@
 
 ghost use Rattle.std.specs.Prelude.{◌≡◌, ◌<◌, ◌^◌, ◌∷◌, [], ℕ, IfOk, List, None, Some, Option, option_map, slice_get};
 ghost use Rattle.std.specs.Option.{option_copied};
-ghost use Rattle.sip_uri.specs.declared.uri.Uri.{Uri};
 ghost use Rattle.timers.specs.declared.timers.Timer.{Timer};
 ghost use Rattle.calls.specs.declared.timer_id.CallTimerId.{CallTimerId};
 ghost use Rattle.call_rules.specs.Content.{described};
@@ -10,9 +9,10 @@ ghost use Rattle.call_steps.specs.Effects as steps;
 ghost use Rattle.call_steps.specs.Effects.{with_timers};
 ghost use Rattle.call_steps.specs.Rows.{takes_row};
 ghost use Rattle.call_steps.specs.Values.{asker_value};
-ghost use Rattle.plans.specs.CallRows.{are_full, asker, begins, begins_by, call_row, counted, first_by, occasion, of_plan, tag_at, takes, takes_request, target, target_by, unless_full};
+ghost use Rattle.plans.specs.CallRows.{are_full, asker, begins, call_row, counted, first_by, occasion, of_plan, tag_at, takes, takes_request, unless_full};
 ghost use Rattle.plans.specs.Effect.{CanEnter, Fits, effect};
-ghost use Rattle.plans.specs.declared.rule.CallRule.TheVariants as rules;
+ghost use Rattle.plans.specs.CallRule as rules;
+ghost use Rattle.plans.specs.CallRule.{StandsThere, call_rule};
 ghost use Rattle.plans.specs.Replies.{responds_in};
 
 use crate::effects_of_events::{Before, Doing};
@@ -30,7 +30,6 @@ use sdp::Description;
 use sip_message::Request;
 use sip_uri::Uri;
 use std::alloc::AllocError;
-use text::Text;
 use transactions::Change;
 
 /// As many calls stand as may.
@@ -164,19 +163,6 @@ impl<'o> Office<'o> {
         Ok(Doing::alone(self.responds_in(setting, request, begun, id, status, further)?))
     }
 
-    fn target_by(&self, user: Option<&Text<'_>>, now: u64) -> Option<&Uri<'static>>
-        ensures { option_copied result ≡ target_by self.now now (option_copied user.entry) }
-    {
-        self.registrar.target(user?, now)
-    }
-
-    /// The callee, where it is bound.
-    fn target(&self, request: &Request<'_>, now: u64) -> Option<&Uri<'static>>
-        ensures { option_copied result ≡ target self.now request.now now }
-    {
-        self.target_by(self.registrar.user_of(&request.uri), now)
-    }
-
     fn are_full(&self) -> bool
         ensures { result ≡ are_full self.now }
     {
@@ -241,7 +227,7 @@ impl<'o> Office<'o> {
     }
 
     #[inline(never)]
-    fn begins_with(
+    fn begins(
         &self,
         setting: Setting,
         request: &Request<'_>,
@@ -250,38 +236,16 @@ impl<'o> Office<'o> {
         target: &Uri<'_>,
     ) -> Result<Doing, AllocError>
         requires few { self.now.tokens < 2 ^ 63 }
-        ensures row { IfOk result (λ d. effect self.now.calls self.now.acks setting.now d ≡ begins_by self.now setting request.now begun.items id (Some target.now) (described request.now.headers request.now.body)) }
+        ensures row { IfOk result (λ d. effect self.now.calls self.now.acks setting.now d ≡ begins self.now setting request.now begun.items id target.now (described request.now.headers request.now.body)) }
         ensures fits { IfOk result (Fits self.now.calls setting.now) }
     {
-        let offer = body_description(
-            self.alloc,
-            request.headers.as_slice(),
-            request.body.as_bytes(),
-        )?;
-        let Some(offer) = offer else {
+        let headers = request.headers.as_slice();
+        let Some(offer) = body_description(self.alloc, headers, request.body.as_bytes())? else {
             return self.refuses(setting, request, begun, id, 488);
         };
         let doing = self.first_by(setting, request, begun, id, target, &offer);
         drop(offer);
         doing
-    }
-
-    #[inline(never)]
-    fn begins(
-        &self,
-        setting: Setting,
-        request: &Request<'_>,
-        begun: Vec<Change>,
-        id: usize,
-    ) -> Result<Doing, AllocError>
-        requires few { self.now.tokens < 2 ^ 63 }
-        ensures row { IfOk result (λ d. effect self.now.calls self.now.acks setting.now d ≡ begins self.now setting request.now begun.items id) }
-        ensures fits { IfOk result (Fits self.now.calls setting.now) }
-    {
-        match self.target(request, setting.now) {
-            None => self.refuses(setting, request, begun, id, 480),
-            Some(target) => self.begins_with(setting, request, begun, id, target),
-        }
     }
 
     // ---- a request in a dialog
@@ -372,21 +336,25 @@ impl<'o> Office<'o> {
         request: &Request<'_>,
         begun: Vec<Change>,
         id: usize,
-        rule: CallRule,
+        rule: CallRule<'_>,
     ) -> Result<Doing, AllocError>
         requires few { self.now.tokens < 2 ^ 63 }
         requires moment { setting.now < 2 ^ 60 }
-        ensures row { IfOk result (λ d. effect self.now.calls self.now.acks setting.now d ≡ call_row self.now setting request.now begun.items id rule) }
+        // The call that the rule hands on is the one at its place.
+        requires there { StandsThere self.now.calls.calls (call_rule rule) }
+        ensures row { IfOk result (λ d. effect self.now.calls self.now.acks setting.now d ≡ call_row self.now setting request.now begun.items id (call_rule rule.entry)) }
         ensures fits { IfOk result (Fits self.now.calls setting.now) }
     {
         match rule {
-            CallRule::Begins => self.begins(setting, request, begun, id),
+            CallRule::Begins(target) => self.begins(setting, request, begun, id, target),
             CallRule::Cancels(place) => self.cancels_offer(setting, request, begun, id, place),
             CallRule::Leaves(place, end) => self.leaves(setting, request, begun, id, place, end),
-            CallRule::Offers(place, end) => self.offers(setting, request, begun, id, place, end),
-            CallRule::Refreshes(place, end) => self.refreshes_at(
-                setting, request, begun, id, place, end,
-            ),
+            CallRule::Offers(place, end, call) => {
+                self.offers(setting, request, begun, id, place, end, call)
+            }
+            CallRule::Refreshes(place, end, call) => {
+                self.refreshes_at(setting, request, begun, id, place, end, &call.call)
+            }
         }
     }
 }

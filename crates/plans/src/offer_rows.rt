@@ -10,7 +10,7 @@ ghost use Rattle.call_steps.specs.Effects as steps;
 ghost use Rattle.call_steps.specs.Effects.{with_timers};
 ghost use Rattle.call_steps.specs.Refusals.{MayTakeThere, RefusesTaken};
 ghost use Rattle.call_steps.specs.Rows.{offers_row};
-ghost use Rattle.plans.specs.CallRows.{clash_reply, content_reply, occasion, offer_method, offer_reply, offers, okay_plan, passes_at, passes_if, passes_in, refreshes_at, refreshes_by, refusal_reply, refuses};
+ghost use Rattle.plans.specs.CallRows.{clash_reply, content_reply, occasion, offer_method, offer_reply, offers, okay_plan, passes_if, passes_in, refreshes_at, refreshes_by, refusal_reply, refuses};
 ghost use Rattle.plans.specs.Effect.{CanEnter, Fits, effect};
 
 use crate::effects_of_events::{Before, Doing};
@@ -18,7 +18,7 @@ use crate::office::Office;
 use crate::plan::Plan;
 use crate::rule::Reply;
 use crate::setting::Setting;
-use call_core::{CallRefusal, Clash, End, Input, OfferMethod};
+use call_core::{Call, CallRefusal, Clash, End, Input, OfferMethod};
 use call_messages::contact_header;
 use call_rules::{ContentRule, OfferRule, body_description, offer_rule, plain_rule};
 use call_steps::{CallStep, refreshes};
@@ -170,7 +170,7 @@ impl<'o> Office<'o> {
         requires few { self.now.tokens < 2 ^ 63 }
         requires moment { setting.now < 2 ^ 60 }
         requires there { slice_get self.now.calls.calls place ≡ Some call.now }
-        requires free { offer_rule self.now.calls.calls request.now place end ≡ Passes }
+        requires free { offer_rule request.now end call.now.call ≡ Passes }
         ensures row { IfOk result (λ d. effect self.now.calls self.now.acks setting.now d ≡ passes_if self.now setting request.now begun.items id place end call.now.call offer.entry) }
         ensures fits { IfOk result (Fits self.now.calls setting.now) }
     {
@@ -200,7 +200,7 @@ impl<'o> Office<'o> {
         requires few { self.now.tokens < 2 ^ 63 }
         requires moment { setting.now < 2 ^ 60 }
         requires there { slice_get self.now.calls.calls place ≡ Some call.now }
-        requires free { offer_rule self.now.calls.calls request.now place end ≡ Passes }
+        requires free { offer_rule request.now end call.now.call ≡ Passes }
         ensures row { IfOk result (λ d. effect self.now.calls self.now.acks setting.now d
             ≡ passes_in self.now setting request.now begun.items id place end call.now.call (described request.now.headers request.now.body)) }
         ensures fits { IfOk result (Fits self.now.calls setting.now) }
@@ -212,30 +212,7 @@ impl<'o> Office<'o> {
         }
     }
 
-    #[inline(never)]
-    fn passes_at(
-        &self,
-        setting: Setting,
-        request: &Request<'_>,
-        begun: Vec<Change>,
-        id: usize,
-        place: usize,
-        end: End,
-    ) -> Result<Doing, AllocError>
-        requires few { self.now.tokens < 2 ^ 63 }
-        requires moment { setting.now < 2 ^ 60 }
-        requires free { offer_rule self.now.calls.calls request.now place end ≡ Passes }
-        ensures row { IfOk result (λ d. effect self.now.calls self.now.acks setting.now d
-            ≡ passes_at self.now setting request.now begun.items id place end (slice_get self.now.calls.calls place)) }
-        ensures fits { IfOk result (Fits self.now.calls setting.now) }
-    {
-        match self.calls.get(place) {
-            None => self.refuses_in(setting, request, begun, id, place, end, Reply::Refusal(481)),
-            Some(call) => self.passes_in(setting, request, begun, id, place, end, call),
-        }
-    }
-
-    /// What an offer of this end inside the call at this place comes to.
+    /// What an offer of this end inside this call, which stands at this place, comes to.
     #[tactic(auto, unfolding(crate::specs::CallRows::offers), using(crate::proofs::OfferLaws::only_passes))]
     #[inline(never)]
     pub(crate) fn offers(
@@ -246,16 +223,18 @@ impl<'o> Office<'o> {
         id: usize,
         place: usize,
         end: End,
+        call: &StandingCall,
     ) -> Result<Doing, AllocError>
         requires few { self.now.tokens < 2 ^ 63 }
         requires moment { setting.now < 2 ^ 60 }
-        ensures row { IfOk result (λ d. effect self.now.calls self.now.acks setting.now d ≡ offers self.now setting request.now begun.items id place end) }
+        requires there { slice_get self.now.calls.calls place ≡ Some call.now }
+        ensures row { IfOk result (λ d. effect self.now.calls self.now.acks setting.now d ≡ offers self.now setting request.now begun.items id place end call.now.call) }
         ensures fits { IfOk result (Fits self.now.calls setting.now) }
     {
-        let rule = offer_rule(self.alloc, self.calls, request, place, end)?;
+        let rule = offer_rule(self.alloc, request, end, &call.call)?;
         match offer_reply(rule) {
             Some(reply) => self.refuses_in(setting, request, begun, id, place, end, reply),
-            None => self.passes_at(setting, request, begun, id, place, end),
+            None => self.passes_in(setting, request, begun, id, place, end, call),
         }
     }
 
@@ -294,7 +273,7 @@ impl<'o> Office<'o> {
         Ok(Doing::puts(plan, place, leg))
     }
 
-    /// What an UPDATE of this end without an offer comes to.
+    /// What an UPDATE of this end of this call without an offer comes to.
     #[tactic(auto, unfolding(crate::specs::CallRows::refreshes_at))]
     #[inline(never)]
     pub(crate) fn refreshes_at(
@@ -305,12 +284,13 @@ impl<'o> Office<'o> {
         id: usize,
         place: usize,
         end: End,
+        call: &Call,
     ) -> Result<Doing, AllocError>
         requires moment { setting.now < 2 ^ 60 }
-        ensures row { IfOk result (λ d. effect self.now.calls self.now.acks setting.now d ≡ refreshes_at self.now setting request.now begun.items id place end) }
+        ensures row { IfOk result (λ d. effect self.now.calls self.now.acks setting.now d ≡ refreshes_at self.now setting request.now begun.items id place end call.now) }
         ensures fits { IfOk result (Fits self.now.calls setting.now) }
     {
-        let rule = plain_rule(self.alloc, self.calls, request, place, end)?;
+        let rule = plain_rule(self.alloc, request, end, call)?;
         match offer_reply(rule) {
             Some(reply) => self.refuses_in(setting, request, begun, id, place, end, reply),
             None => self.okays(setting, request, begun, id, place, end),

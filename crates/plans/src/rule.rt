@@ -1,6 +1,8 @@
 //! What is asked of a plan for a request that began a transaction.
 
 use call_core::End;
+use calls::StandingCall;
+use sip_uri::Uri;
 
 /// A final response to a request that no call has to do with.
 #[derive(Clone, Copy)]
@@ -25,17 +27,17 @@ pub enum Reply {
     Registration,
 }
 
-/// What a call does for a request. A place is that of the call on the list.
+/// What a call does for a request, with what was found for it. A place is that of the call on the list.
 #[derive(Clone, Copy)]
-pub enum CallRule {
-    /// A first INVITE: the callee is asked.
-    Begins,
+pub enum CallRule<'r> {
+    /// A first INVITE: the callee is asked where it is bound.
+    Begins(&'r Uri<'static>),
     /// A CANCEL of the call's offer.
     Cancels(usize),
     /// A BYE of this end.
     Leaves(usize, End),
-    /// An offer of this end inside the call.
-    Offers(usize, End),
-    /// An UPDATE of this end without an offer.
-    Refreshes(usize, End),
+    /// An offer of this end inside this call.
+    Offers(usize, End, &'r StandingCall),
+    /// An UPDATE of this end of this call without an offer.
+    Refreshes(usize, End, &'r StandingCall),
 }

@@ -20,7 +20,7 @@ use Rattle.call_core.specs.declared.stage.Stage.{Stage}
 use Rattle.call_core.specs.declared.stage.Stage.TheVariants as stages
 use Rattle.call_core.specs.declared.stage.Standing.{Standing}
 use Rattle.call_rules.specs.Requests.{dialog_rule}
-use Rattle.call_rules.specs.declared.requests.DialogRule.TheVariants as dialogrules
+use Rattle.call_rules.specs.DialogRule as dialogrules
 use Rattle.call_messages.specs.declared.scene.Scene.{Scene}
 use Rattle.call_steps.specs.Rows.{counts, takes_row}
 use Rattle.call_steps.specs.Values.{AskerValue, ComingValue, lent_asker, without_offer}

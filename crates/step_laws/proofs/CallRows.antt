@@ -42,13 +42,13 @@ use Rattle.call_rules.specs.declared.offers.OfferRule.{OfferRule}
 use Rattle.call_rules.specs.declared.offers.OfferRule.TheVariants as asked
 use Rattle.call_rules.specs.declared.responses.ResponseRule.{ResponseRule}
 use Rattle.call_rules.specs.declared.responses.ResponseRule.TheVariants as rule
-use Rattle.plans.specs.CallRows.{are_full, asker, begins_by, call_row, call_timer_at, call_timer_row, first_by, has_pairs, has_pairs_for, is_unfit, occasion, of_plan, offer_method, offer_reply, offers, offers_by, passes, passes_at, passes_if, passes_in, refreshes_at, refreshes_by, refuses, response_by_asked, response_row, responds_by, tag_at, takes, takes_request, target, timed_out, timed_out_at, timeout_row, timer_input, times_responses, with_step, without_call_timer}
+use Rattle.plans.specs.CallRows.{are_full, asker, begins, call_row, call_timer_at, call_timer_row, first_by, has_pairs, has_pairs_for, is_unfit, occasion, of_plan, offer_method, offer_reply, offers, offers_by, passes, passes_if, passes_in, refreshes_at, refreshes_by, refuses, response_by_asked, response_row, responds_by, tag_at, takes, takes_request, timed_out, timed_out_at, timeout_row, timer_input, times_responses, with_step, without_call_timer}
 use Rattle.plans.specs.Effect.{Effect}
 use Rattle.plans.specs.Office.{Office}
 use Rattle.plans.specs.Plan.{Plan, moves}
 use Rattle.plans.specs.Replies.{accept, accept_encoding, fresh_tag, registers, registers_by, reply_row, responds_in, response_tag_in, unsupported}
-use Rattle.plans.specs.declared.rule.CallRule.{CallRule}
-use Rattle.plans.specs.declared.rule.CallRule.TheVariants as callrules
+use Rattle.plans.specs.CallRule.{CallRule}
+use Rattle.plans.specs.CallRule as callrules
 use Rattle.plans.specs.declared.rule.Reply.{Reply}
 use Rattle.plans.specs.declared.rule.Reply.TheVariants as replies
 use Rattle.plans.specs.declared.setting.Setting.{Setting}
@@ -160,10 +160,9 @@ module _ (s : Office) (e : Setting) (r : Request) (begun : List Entry) (id : ℕ
       (λ paired. cond_both (are_full s) (refusal 503) asks IsDoneBy (λ full. refusal_done 503)
       (λ room. step_done s.acks begun None None step ready (first_ready s.calls (occasion s e) r id e.source to offer))) (λ unpaired. refusal_done 503))
 
-  begins_done : (to : Option Uri) (offer : Option Description) → IsDoneBy (begins_by s e r begun id to offer)
-  begins_done None offer = refusal_done 480
-  begins_done (Some to) None = refusal_done 488
-  begins_done (Some to) (Some offer) = first_done to offer
+  begins_done : (to : Uri) (offer : Option Description) → IsDoneBy (begins s e r begun id to offer)
+  begins_done to None = refusal_done 488
+  begins_done to (Some offer) = first_done to offer
 
   -- ---- an offer inside a call. The effect of a refusal in a dialog has the plan of its reply
 
@@ -188,17 +187,13 @@ module _ (s : Office) (e : Setting) (r : Request) (begun : List Entry) (id : ℕ
   passes_in_done place end c None = own_refusal_done 488
   passes_in_done place end c (Some offer) = passes_if_done place end c offer
 
-  passes_at_done : (place : ℕ) (end : End) (c : Option StandingCall) → IsDoneBy (passes_at s e r begun id place end c)
-  passes_at_done place end None = own_refusal_done 481
-  passes_at_done place end (Some c) = passes_in_done place end c.call (described r.headers r.body)
+  offers_by_done : (place : ℕ) (end : End) (c : Call) (reply : Option Reply) → IsNoneOrOther reply → IsDoneBy (offers_by s e r begun id place end c reply)
+  offers_by_done place end c None fits = passes_in_done place end c (described r.headers r.body)
+  offers_by_done place end c (Some reply) fits = reply_done reply fits
 
-  offers_by_done : (place : ℕ) (end : End) (reply : Option Reply) → IsNoneOrOther reply → IsDoneBy (offers_by s e r begun id place end reply)
-  offers_by_done place end None fits = passes_at_done place end (slice_get s.calls.calls place)
-  offers_by_done place end (Some reply) fits = reply_done reply fits
-
-  offers_done : (place : ℕ) (end : End) → IsDoneBy (offers s e r begun id place end)
+  offers_done : (place : ℕ) (end : End) (c : Call) → IsDoneBy (offers s e r begun id place end c)
   unfolding offers
-  offers_done place end = offers_by_done place end (offer_reply (offer_rule s.calls.calls r place end)) (offer_replies (offer_rule s.calls.calls r place end))
+  offers_done place end c = offers_by_done place end c (offer_reply (offer_rule r end c)) (offer_replies (offer_rule r end c))
 
   -- ---- an UPDATE without an offer
 
@@ -206,9 +201,9 @@ module _ (s : Office) (e : Setting) (r : Request) (begun : List Entry) (id : ℕ
   refreshes_by_done place end None fits = responds_done 200 (contact s.server ∷ [])
   refreshes_by_done place end (Some reply) fits = reply_done reply fits
 
-  refreshes_done : (place : ℕ) (end : End) → IsDoneBy (refreshes_at s e r begun id place end)
+  refreshes_done : (place : ℕ) (end : End) (c : Call) → IsDoneBy (refreshes_at s e r begun id place end c)
   unfolding refreshes_at
-  refreshes_done place end = refreshes_by_done place end (offer_reply (plain_rule s.calls.calls r place end)) (offer_replies (plain_rule s.calls.calls r place end))
+  refreshes_done place end c = refreshes_by_done place end (offer_reply (plain_rule r end c)) (offer_replies (plain_rule r end c))
 
   -- ---- by its rule
 
@@ -219,11 +214,11 @@ module _ (s : Office) (e : Setting) (r : Request) (begun : List Entry) (id : ℕ
 
   pub call_done : (rule : CallRule) → IsDoneBy (call_row s e r begun id rule)
   unfolding call_row
-  call_done callrules.Begins = begins_done (target s r e.now) (described r.headers r.body)
+  call_done (callrules.Begins to) = begins_done to (described r.headers r.body)
   call_done (callrules.Cancels place) = request_done place inputs.Cancel None (tag_at (slice_get s.calls.calls place))
   call_done (callrules.Leaves place end) = request_done place (inputs.Bye end) (counts s.calls.calls place end r.parts.cseq.number) stateless
-  call_done (callrules.Offers place end) = offers_done place end
-  call_done (callrules.Refreshes place end) = refreshes_done place end
+  call_done (callrules.Offers place end c) = offers_done place end c.call
+  call_done (callrules.Refreshes place end c) = refreshes_done place end c.call
 
 -- ---- what no request waits for
 

@@ -26,8 +26,8 @@ use Rattle.event_rows.specs.Rows.{only_counts}
 use Rattle.event_rows.specs.Rules.{request_rule}
 use Rattle.event_rows.specs.State.{Contents, moment_at, office}
 use Rattle.event_rows.specs.Trace.{Entry, after_entry}
-use Rattle.event_rows.specs.declared.rule.Rule.{Rule}
-use Rattle.event_rows.specs.declared.rule.Rule.TheVariants as rules
+use Rattle.event_rows.specs.Rule.{Rule}
+use Rattle.event_rows.specs.Rule as rules
 use Rattle.step_laws.specs.Registering.{AreRegistrations, IsNoRegister, IsRegistration, Registers, registration_at}
 
 pub record Brought (s : Contents) (event : Event) : Type 0 where

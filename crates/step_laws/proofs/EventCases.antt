@@ -50,8 +50,8 @@ use Rattle.plans.specs.declared.taken.Why.TheVariants.{Ack, Clock, NoBranch, Spe
 use Rattle.event_rows.specs.Rows.{begins, by_reading, datagram_row, due_row, fires_by, fit_row, is_full, no_source, only_counts, parts_of, read_row, received, received_by, request_by, response_by, row, row_by, rule_row, setting, timer_row, unfit_branch, unread_by, unread_row, what_counts, what_row}
 use Rattle.event_rows.specs.Rules.{request_rule}
 use Rattle.event_rows.specs.State.{Contents, moment_at, moments_end, max_tokens, office}
-use Rattle.event_rows.specs.declared.rule.Rule.{Rule}
-use Rattle.event_rows.specs.declared.rule.Rule.TheVariants as rules
+use Rattle.event_rows.specs.Rule.{Rule}
+use Rattle.event_rows.specs.Rule as rules
 use Rattle.step_laws.specs.Dropping.{NoneTakes, IsAnsweredFor, IsBranched, IsRead}
 use Rattle.step_laws.specs.Registering.{Registers}
 use Rattle.step_laws.proofs.CallRows.{IsDoneBy, IsNoRegistration, call_done, call_timer_done, fire_ready, moves_done, reply_done, response_done, takes_done, timeout_done}

@@ -14,10 +14,9 @@ use Rattle.offer_answer.specs.Alike.{Alike}
 use Rattle.offer_answer.specs.declared.fault.OfferFault.{OfferFault}
 use Rattle.dialogs.specs.Making.{reached_at}
 use Rattle.call_core.specs.CallRows.{first_call_row}
-use Rattle.call_rules.specs.Content.{described}
 use Rattle.call_steps.specs.Rows.{begins_as, first_row}
 use Rattle.calls.specs.declared.standing_call.StandingCall.{StandingCall}
-use Rattle.plans.specs.CallRows.{begins_by, call_row, first_by, has_pairs, max_calls, occasion, of_plan, unless_full, with_step}
+use Rattle.plans.specs.CallRows.{begins, call_row, first_by, has_pairs, max_calls, occasion, of_plan, unless_full, with_step}
 use Rattle.plans.specs.Effect.{Effect}
 use Rattle.plans.specs.Replies.{responds_in}
 use Rattle.plans.specs.declared.setting.Setting.{Setting}
@@ -47,6 +46,7 @@ use Rattle.step_laws.specs.Coming.{BeginsTransaction}
 use Rattle.step_laws.specs.Offers.{BeginsCall, IsFirstCall}
 use Rattle.step_laws.proofs.AlikeOffers.{Serves, offer_alike}
 use Rattle.step_laws.proofs.ComingRows.{begun_row, setting_of}
+use Rattle.step_laws.proofs.FirstTargets.{first_found}
 use Rattle.step_laws.proofs.FirstSends.{calls_out, first_goes, opens}
 use Rattle.step_laws.proofs.Known.{tied_of}
 
@@ -67,12 +67,12 @@ module _ (s : Contents) (e : Setting) (r : Request) (begun : List Entry) (id : �
   unfolding call_row
   first_step_row =
       ap (rule_row (office s) e r begun id) h.rule
-      ∙ (ap (λ x. begins_by (office s) e r begun id x (described r.headers r.body)) h.bound ∙ (ap (begins_by (office s) e r begun id (Some to)) h.described ∙ fit_row))
+      ∙ (ap (begins (office s) e r begun id to) h.described ∙ fit_row)
 
   is_first_offer : IsFirstOffer (office s) e.now r to offer
   is_first_offer =
       let first = subst (Fits (office s) r) h.rule (request_fits (office s) r e.now) in
-      record { invite = first.0; no_tag = first.1; bound = h.bound; described = h.described }
+      record { invite = first.0; no_tag = first.1; bound = first_found s e.now r to offer h; described = h.described }
 
 -- ---- what it does
 
@@ -121,7 +121,7 @@ module _ (reads : Reading) (names : ReadsNames) (describes : BodiesDescribe) (la
 
   pub begins_call : BeginsCall source bytes r to offer (row s event)
   begins_call =
-      let callee = leads_there (address_of to) (callee_target (office s) tied.scenes.dialogs r e.now to h.bound).leads in
+      let callee = leads_there (address_of to) (callee_target (office s) tied.scenes.dialogs r e.now to p.bound).leads in
       record {
         taken = ap (λ (y : Effect). y.plan.taken) is_row;
         callee = callee.0;

@@ -1,5 +1,5 @@
 -- Where a first INVITE goes: what its callee is bound to, by the REGISTERs that came.
-use Rattle.std.proofs.Common.{◌≡◌, ◌∙◌, ℕ, List, Option, Some, None, ap, refl, sym}
+use Rattle.std.proofs.Common.{◌≡◌, ◌∙◌, ℕ, List, Option, Some, None, ap, refl, subst, sym}
 use Rattle.std.proofs.lemmas.Option.{none-some}
 use Rattle.sip_uri.specs.declared.uri.Uri.{Uri}
 use Rattle.sip_message.specs.declared.message.Request.{Request}
@@ -8,13 +8,18 @@ use Rattle.configuration.specs.declared.config.Config.{Config}
 use Rattle.events.specs.declared.event.Event.{Event}
 use Rattle.event_rows.specs.State.{Contents, IsNew, moment_at, office, rules_by}
 use Rattle.event_rows.specs.Trace.{AreEntries, Entry, after_entries}
-use Rattle.plans.specs.CallRows.{target_by}
+use Rattle.event_rows.specs.Rules.{target, target_by}
+use Rattle.event_rows.proofs.RuleLaws.{WasFound, request_found}
 use Rattle.registrar.specs.Bound.{Event as Registration, bound, target_of}
 use Rattle.registrar.specs.Registering.{Rules, present, user_of}
 use Rattle.registrar.specs.Registrar.{StandsAfter, bindings_at}
 use Rattle.step_laws.specs.Offers.{IsBoundTo, IsFirstCall}
 use Rattle.step_laws.specs.Registering.{AreRegistrations}
 use Rattle.step_laws.proofs.Counting.{registers_stand}
+
+-- the rule by which its call begins says where the callee is bound
+pub first_found : (s : Contents) (now : ℕ) (r : Request) (to : Uri) (offer : Description) → IsFirstCall s now r to offer → target (office s) r now ≡ Some to
+first_found s now r to offer h = subst (WasFound (office s) r now) h.rule (request_found (office s) r now)
 
 module _ (s : Contents) (rules : Rules) (history : List Registration) (stands : StandsAfter s.registrar rules history) where
   same_bindings : (user : List ℕ) (now : ℕ) → bindings_at s.registrar user now ≡ bound rules user history now
@@ -27,7 +32,7 @@ module _ (s : Contents) (rules : Rules) (history : List Registration) (stands : 
 
   pub first_bound : (event : Event) (r : Request) (to : Uri) (offer : Description) → IsFirstCall s (moment_at s event.now) r to offer → IsBoundTo rules history r (moment_at s event.now) to
   first_bound event r to offer h =
-      bound_by r (moment_at s event.now) to (user_of rules r.uri) refl (ap (λ rs. target_by (office s) (moment_at s event.now) (user_of rs r.uri)) (sym stands.rules_are) ∙ h.bound)
+      bound_by r (moment_at s event.now) to (user_of rules r.uri) refl (ap (λ rs. target_by (office s) (moment_at s event.now) (user_of rs r.uri)) (sym stands.rules_are) ∙ first_found s (moment_at s event.now) r to offer h)
 
 pub agents_bound : (config : Config) (s : Contents) (entries : List Entry) (history : List Registration) → IsNew config s → AreEntries s entries → AreRegistrations (rules_by config) s entries history → (event : Event) (r : Request) (to : Uri) (offer : Description)
     → IsFirstCall (after_entries s entries) (moment_at (after_entries s entries) event.now) r to offer → IsBoundTo (rules_by config) history r (moment_at (after_entries s entries) event.now) to

@@ -12,7 +12,7 @@ use Rattle.events.specs.declared.sent.Sent.{Sent}
 use Rattle.call_media.specs.declared.end.End.{End}
 use Rattle.call_rules.specs.Content.{described}
 use Rattle.call_rules.specs.Requests.{dialog_rule}
-use Rattle.call_rules.specs.declared.requests.DialogRule.TheVariants as dialogrules
+use Rattle.call_rules.specs.DialogRule as dialogrules
 use Rattle.calls.specs.declared.standing_call.StandingCall.{StandingCall}
 use Rattle.plans.specs.CallRows.{passes}
 use Rattle.plans.specs.Effect.{Effect}

@@ -32,7 +32,7 @@ use Rattle.sip_writing.specs.Reply.{response_address}
 use Rattle.event_rows.specs.Rows.{by_reading, datagram_row, fit_row, only_counts, read_row, row, row_by, rule_row, unfit_branch, unread_by, unread_row, what_row}
 use Rattle.event_rows.specs.Rules.{request_rule}
 use Rattle.event_rows.specs.State.{Contents, moment_at, office}
-use Rattle.event_rows.specs.declared.rule.Rule.TheVariants.{Alone}
+use Rattle.event_rows.specs.Rule.{Alone}
 use Rattle.step_laws.specs.Coming.{BeginsTransaction}
 use Rattle.step_laws.specs.Replies.{RespondsOnce}
 use Rattle.step_laws.proofs.CallRows.{registers_taken}

@@ -14,10 +14,10 @@ use Rattle.call_steps.specs.Scenes.{passed_id}
 use Rattle.calls.specs.declared.standing_call.StandingCall.{StandingCall}
 use Rattle.event_rows.specs.Rules.{request_rule}
 use Rattle.event_rows.specs.State.{Contents, moment_at, office}
-use Rattle.event_rows.specs.declared.rule.Rule.TheVariants.{Call}
+use Rattle.event_rows.specs.Rule.{Call}
 use Rattle.events.specs.declared.event.Event.{Event}
 use Rattle.plans.specs.Effect.{Effect}
-use Rattle.plans.specs.declared.rule.CallRule.TheVariants as calls
+use Rattle.plans.specs.CallRule as calls
 use Rattle.transactions.specs.Slots.{at}
 use Rattle.transactions.specs.declared.transaction.Transaction.{Transaction}
 use Rattle.responses.specs.Words.{is_method}

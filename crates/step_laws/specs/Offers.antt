@@ -27,13 +27,13 @@ use Rattle.call_trace.specs.declared.datagram.Message.{Message}
 use Rattle.call_trace.specs.Listed.{AnyOf}
 use Rattle.call_trace.specs.Messages.{Replies, is_final}
 use Rattle.call_rules.specs.Speaking.{may_offer}
-use Rattle.plans.specs.CallRows.{has_pairs, max_calls, target}
+use Rattle.plans.specs.CallRows.{has_pairs, max_calls}
 use Rattle.plans.specs.Effect.{Effect}
-use Rattle.plans.specs.declared.rule.CallRule.TheVariants as calls
+use Rattle.plans.specs.CallRule as calls
 use Rattle.plans.specs.declared.taken.Taken.TheVariants.{Done}
 use Rattle.event_rows.specs.Rules.{request_rule}
 use Rattle.event_rows.specs.State.{Contents, office}
-use Rattle.event_rows.specs.declared.rule.Rule.TheVariants.{Call}
+use Rattle.event_rows.specs.Rule.{Call}
 use Rattle.trace_reading.specs.Message.{trace_message}
 use Rattle.message_laws.specs.Messages.{AreMessages}
 
@@ -47,11 +47,10 @@ pub record AsksAlike (came : Message) (offer : Description) (went : Message) : T
 
 -- ---- a first INVITE
 
--- one that no rule refuses, with this offer, which the relay carries, to a user who is bound at this target; fewer
--- calls stand than may, and enough pairs are free (RFC 3261 sections 8.2, 13.3.1 and 16.5)
+-- one by whose rule a call begins to this target, with this offer, which the relay carries; fewer calls stand than may,
+-- and enough pairs are free (RFC 3261 sections 8.2, 13.3.1 and 16.5)
 pub record IsFirstCall (s : Contents) (now : ℕ) (r : SipRequest) (to : Uri) (offer : Description) : Type 0 where
-  pub rule : request_rule (office s) r now ≡ Call calls.Begins
-  pub bound : target (office s) r now ≡ Some to
+  pub rule : request_rule (office s) r now ≡ Call (calls.Begins to)
   pub described : described r.headers r.body ≡ Some offer
   pub fit : offer_fault s.range offer None ≡ None
   pub few : length s.calls.calls < max_calls

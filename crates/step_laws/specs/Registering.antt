@@ -19,7 +19,7 @@ use Rattle.event_rows.specs.Rules.{request_rule}
 use Rattle.event_rows.specs.State.{Contents, moment_at, office}
 use Rattle.step_laws.specs.Coming.{BeginsTransaction}
 use Rattle.event_rows.specs.Trace.{Entry, after_entry}
-use Rattle.event_rows.specs.declared.rule.Rule.TheVariants.{Alone}
+use Rattle.event_rows.specs.Rule.{Alone}
 
 -- The event brings this request to the registrar: it is no repeat, there is room for its transaction, and no rule
 -- before refuses it.

@@ -12,7 +12,7 @@ ghost use Rattle.sip_uri.specs.declared.uri.Addr.{Addr};
 ghost use Rattle.event_rows.specs.Rows.{only_counts, row};
 ghost use Rattle.event_rows.specs.Rules.{request_rule};
 ghost use Rattle.event_rows.specs.State.{Contents, moment_at, office};
-ghost use Rattle.event_rows.specs.declared.rule.Rule.TheVariants.{Alone};
+ghost use Rattle.event_rows.specs.Rule.{Alone};
 ghost use Rattle.events.specs.declared.event.Event.{Event};
 ghost use Rattle.events.specs.declared.event.What.TheVariants as whats;
 ghost use Rattle.plans.specs.declared.rule.Reply.{Reply};

@@ -62,7 +62,7 @@ use Rattle.message_laws.specs.Sending.{KnowsSent}
 use Rattle.message_laws.specs.Sound.{HasSoundLegs}
 use Rattle.message_laws.proofs.AwaitedOffers.Awaiting.{all_at}
 use Rattle.message_laws.specs.KnownTrace.{KnowsTrace}
-use Rattle.call_rules.specs.declared.requests.DialogRule.TheVariants.{Leaves}
+use Rattle.call_rules.specs.DialogRule.{Leaves}
 
 unlisted : (a b : Bool) → b ≡ false → IsTrue (not (a && b))
 unlisted true b e = ap not e

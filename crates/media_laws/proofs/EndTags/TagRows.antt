@@ -28,7 +28,7 @@ use Rattle.call_steps.specs.Values.{without_offer}
 use Rattle.calls.specs.Finding.{place_by_ack}
 use Rattle.calls.specs.declared.change.LegDialog.{LegDialog}
 use Rattle.plans.specs.CallRows as rows
-use Rattle.plans.specs.CallRows.{are_full, asker, begins_by, call_row, first_by, has_pairs, has_pairs_for, is_unfit, occasion, of_plan, offer_method, offer_reply, offers, offers_by, okay_plan, passes, passes_at, passes_if, passes_in, refreshes_at, refreshes_by, refuses, tag_at, takes, takes_request, target, timer_input, unless_full, with_step, without_call_timer}
+use Rattle.plans.specs.CallRows.{are_full, asker, call_row, first_by, has_pairs, has_pairs_for, is_unfit, occasion, of_plan, offer_method, offer_reply, offers, offers_by, okay_plan, passes, passes_if, passes_in, refreshes_at, refreshes_by, refuses, tag_at, takes, takes_request, timer_input, unless_full, with_step, without_call_timer}
 use Rattle.plans.specs.Effect.{Effect}
 use Rattle.plans.specs.Office.{Office}
 use Rattle.plans.specs.Plan.{goes, nothing}

@@ -30,14 +30,15 @@ use Rattle.call_core.specs.declared.signal.OfferMethod.{OfferMethod}
 use Rattle.call_rules.specs.Content.{described}
 use Rattle.call_rules.specs.Requests.{dialog_rule}
 use Rattle.call_rules.specs.Speaking.{is_bye}
-use Rattle.call_rules.specs.declared.requests.DialogRule.TheVariants as dialogrules
+use Rattle.call_rules.specs.DialogRule as dialogrules
 use Rattle.call_steps.specs.Rows.{begins_by, counts, first_asker, first_leg, first_messages, first_row, first_standing, fork_by, fork_row, late_by, late_row, later_dialog, messages_of, offer_coming, offers_by, offers_row, takes_by, takes_row}
 use Rattle.call_steps.specs.Messages.{messages}
 use Rattle.call_steps.specs.Scenes.{asker_by, asker_in, first_scene, fork_scene, scene, tag_to}
 use Rattle.call_steps.specs.Values.{AskerValue, ComingValue, lent, lent_asker, lent_scene, without_offer}
 use Rattle.calls.specs.declared.change.LegDialog.{LegDialog}
 use Rattle.calls.specs.declared.standing_call.StandingCall.{StandingCall}
-use Rattle.plans.specs.CallRows.{asker, occasion, target}
+use Rattle.plans.specs.CallRows.{asker, occasion}
+use Rattle.event_rows.specs.Rules.{target}
 use Rattle.plans.specs.Office.{Office}
 use Rattle.plans.specs.declared.setting.Setting.{Setting}
 use Rattle.responses.specs.Responding.{stateless}

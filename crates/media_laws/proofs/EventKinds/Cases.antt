@@ -11,7 +11,7 @@ use Rattle.transactions.specs.Contents.{reception_of}
 use Rattle.transactions.specs.declared.outcome.Verdict.TheVariants as verdicts
 use Rattle.call_media.specs.declared.end.End.{End}
 use Rattle.call_rules.specs.Requests.{dialog_rule}
-use Rattle.call_rules.specs.declared.requests.DialogRule.TheVariants.{Offers}
+use Rattle.call_rules.specs.DialogRule.{Offers}
 use Rattle.calls.specs.declared.standing_call.StandingCall.{StandingCall}
 use Rattle.plans.specs.Effect.{Effect}
 use Rattle.plans.specs.Office.{Office}

@@ -35,7 +35,7 @@ use Rattle.message_laws.specs.Addresses.{IsSource}
 use Rattle.media_laws.proofs.Scenes.Fitting.{counts_fits}
 use Rattle.message_laws.specs.Sound.{HasSoundLegs, IsTargetIf}
 use Rattle.message_laws.proofs.AwaitedOffers.Awaiting.{all_at}
-use Rattle.call_rules.specs.declared.requests.DialogRule.TheVariants.{Leaves}
+use Rattle.call_rules.specs.DialogRule.{Leaves}
 use Rattle.sdp.specs.declared.description.Description.{Description}
 use Rattle.trace_reading.specs.Message.{trace_message}
 use Rattle.media_laws.proofs.EventKinds.RequestCases.{RequestCase}
@@ -50,7 +50,7 @@ use Rattle.call_trace.specs.Moves.{quiet}
 use Rattle.sip_uri.specs.declared.uri.Uri.{Uri}
 use Rattle.dialogs.specs.Making.{reached_at}
 use Rattle.sip_message.specs.Contact.{contacts_of}
-use Rattle.call_rules.specs.declared.requests.DialogRule.TheVariants as rules
+use Rattle.call_rules.specs.DialogRule as rules
 use Rattle.call_steps.specs.Rows.{first_row, refreshes}
 use Rattle.plans.specs.CallRows.{passes, puts_if}
 use Rattle.plans.specs.declared.taken.Taken.TheVariants.{Done}
@@ -126,7 +126,7 @@ module _ (laws : Laws) (s after : Office) (begun more : List Transaction) (sent 
 
   refreshed_goes : (place : ℕ) (end : End) → IsRefresh s r place end → Move offering t old taken ms old → after.calls.calls ≡ (puts_if s.calls place (refreshes s.calls.calls place end r)).calls → Goes
   refreshed_goes place end why move put =
-      let target : IsTargetIf (reached_at (contacts_of r.headers)) = reached_target laws.names r.parts r.headers (plain_may_offer bytes s.calls.calls r place end (laws.names.message bytes (Kinds.Request r) read) why.rule why.inside) (plain_reached s.calls.calls r place end why.passes) in
+      let target : IsTargetIf (reached_at (contacts_of r.headers)) = reached_target laws.names r.parts r.headers (plain_may_offer bytes s.calls.calls r place end (laws.names.message bytes (Kinds.Request r) read) why.rule why.inside) (plain_reached r end why.call.call why.passes) in
       put_goes_on laws.keep s after begun more t old k shows later taken ms move place (refreshes s.calls.calls place end r) (λ c there. refreshes_fits s.calls.calls place end r c there (sound_at place c there) target) put
 
   -- ---- all

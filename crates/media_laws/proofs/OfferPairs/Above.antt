@@ -11,8 +11,8 @@ use Rattle.call_media.specs.declared.end.End.TheVariants.{Callee, Caller}
 use Rattle.call_rules.specs.Requests as requests
 use Rattle.call_rules.specs.Requests.{counted_rule, dialog_rule, has_left}
 use Rattle.call_rules.specs.Speaking.{is_bye, is_offer}
-use Rattle.call_rules.specs.declared.requests.DialogRule.{DialogRule}
-use Rattle.call_rules.specs.declared.requests.DialogRule.TheVariants as rules
+use Rattle.call_rules.specs.DialogRule.{DialogRule}
+use Rattle.call_rules.specs.DialogRule as rules
 use Rattle.calls.specs.Finding.{place_by_end}
 use Rattle.calls.specs.declared.standing_call.StandingCall.{StandingCall}
 use Rattle.dialogs.specs.Counting.{IsAbove, IsOld, is_above}

@@ -125,7 +125,7 @@ module _ (names : Reading) (describes : BodiesDescribe) (s : Office) (begun : Li
   later_call = put_as coming later_said later_step.call c
 
   pub later_settled : holds_in is_settled c.call.standing ≡ true
-  later_settled = passes_settled s.calls.calls r place end c p.there p.passes
+  later_settled = passes_settled r end c.call p.passes
 
   pub later_line : IsOfferStep c.call end (offer_method r) offer s.calls.pool e.now later_step
   later_line = offer_row c.call end (offer_method r) offer s.calls.pool e.now later_settled

@@ -7,8 +7,8 @@ use Rattle.call_media.specs.declared.end.End.TheVariants.{Callee, Caller}
 use Rattle.call_core.specs.Calls.{dialog_of}
 use Rattle.call_rules.specs.Requests.{counted_rule, dialog_rule, has_left, in_call, in_dialog, of_callee, of_caller}
 use Rattle.call_rules.specs.Speaking.{is_bye, is_offer}
-use Rattle.call_rules.specs.declared.requests.DialogRule.{DialogRule}
-use Rattle.call_rules.specs.declared.requests.DialogRule.TheVariants.{NoDialog, OldNumber, Leaves, Offers, Plain}
+use Rattle.call_rules.specs.DialogRule.{DialogRule}
+use Rattle.call_rules.specs.DialogRule.{NoDialog, OldNumber, Leaves, Offers, Plain}
 use Rattle.calls.specs.Finding.{place_by_end}
 use Rattle.calls.specs.declared.standing_call.StandingCall.{StandingCall}
 use Rattle.dialogs.specs.Counting.{is_above}

@@ -30,7 +30,7 @@ use Rattle.call_core.specs.declared.input.Input.{Input}
 use Rattle.call_core.specs.declared.input.Input.TheVariants as inputs
 use Rattle.call_rules.specs.Content.{described}
 use Rattle.call_rules.specs.Responses.{is_open}
-use Rattle.call_rules.specs.declared.requests.DialogRule.TheVariants as dialogrules
+use Rattle.call_rules.specs.DialogRule as dialogrules
 use Rattle.call_steps.specs.Rows.{answers_leg, counts, refreshes}
 use Rattle.calls.specs.Finding.{place_by_ack}
 use Rattle.calls.specs.declared.change.LegDialog.{LegDialog}
@@ -118,7 +118,7 @@ module _ (s : Office) (k : IsReady s) (e : Setting) where
   case_rises r begun id x (refused_in place end status h low high is) = subst P (sym is) (counted_rises place end r.parts.cseq.number h)
   case_rises r begun id x (passed_on place end c offer why is) =
       subst P (sym is)
-      (offers_go s.tokens s.calls s.table (occasion s e) place end (offer_method r) offer r id e.source c k.tokens.calls k.taken why.there (passes_settled s.calls.calls r place end c why.there why.passes)
+      (offers_go s.tokens s.calls s.table (occasion s e) place end (offer_method r) offer r id e.source c k.tokens.calls k.taken why.there (passes_settled r end c.call why.passes)
       (counts_by_rule s.calls.calls r (dialogrules.Offers place end) why.rule))
   case_rises r begun id x (refreshed place end rule is) =
       let h = counts_by_rule s.calls.calls r (dialogrules.Plain place end) rule in

@@ -14,7 +14,7 @@ use Rattle.call_core.specs.declared.stage.Stage.{Stage}
 use Rattle.call_core.specs.declared.stage.Standing.{Standing}
 use Rattle.calls.specs.declared.standing_call.StandingCall.{StandingCall}
 use Rattle.call_rules.specs.Requests.{dialog_rule}
-use Rattle.call_rules.specs.declared.requests.DialogRule.TheVariants as rules
+use Rattle.call_rules.specs.DialogRule as rules
 use Rattle.call_steps.specs.Rows.{counts}
 use Rattle.call_steps.specs.Values.{ComingValue, without_offer}
 use Rattle.call_messages.specs.declared.scene.Scene.{Scene}

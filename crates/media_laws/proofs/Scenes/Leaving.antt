@@ -20,8 +20,8 @@ use Rattle.calls.specs.declared.standing_call.StandingCall.{StandingCall}
 use Rattle.call_rules.specs.Requests as requests
 use Rattle.call_rules.specs.Requests.{dialog_rule}
 use Rattle.call_rules.specs.Speaking.{is_bye, is_offer}
-use Rattle.call_rules.specs.declared.requests.DialogRule.{DialogRule}
-use Rattle.call_rules.specs.declared.requests.DialogRule.TheVariants as rules
+use Rattle.call_rules.specs.DialogRule.{DialogRule}
+use Rattle.call_rules.specs.DialogRule as rules
 use Rattle.call_steps.specs.Values.{ComingValue, lent_asker}
 use Rattle.responses.specs.Words.{is_method}
 use Rattle.plans.specs.CallRows.{asker}

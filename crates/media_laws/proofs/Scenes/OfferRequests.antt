@@ -16,7 +16,7 @@ use Rattle.calls.specs.declared.standing_call.StandingCall.{StandingCall}
 use Rattle.call_rules.specs.Content.{described}
 use Rattle.call_rules.specs.Requests.{dialog_rule}
 use Rattle.call_rules.specs.Speaking.{is_invite, is_update, may_offer}
-use Rattle.call_rules.specs.declared.requests.DialogRule.TheVariants as rules
+use Rattle.call_rules.specs.DialogRule as rules
 use Rattle.responses.specs.Words.{is_method}
 use Rattle.call_trace.specs.declared.call.Call.{Call}
 use Rattle.call_trace.specs.Messages.{invite, is_listed, offering, update}

@@ -12,7 +12,7 @@ use Rattle.transactions.specs.declared.change.Entry.{Entry}
 use Rattle.call_media.specs.declared.end.End.{End}
 use Rattle.call_rules.specs.Requests.{dialog_rule}
 use Rattle.call_rules.specs.declared.offers.OfferRule.{OfferRule}
-use Rattle.call_rules.specs.declared.requests.DialogRule.TheVariants as dialogrules
+use Rattle.call_rules.specs.DialogRule as dialogrules
 use Rattle.plans.specs.Office.{Office}
 use Rattle.plans.specs.CallRows.{offer_reply, okay_plan, refuses}
 use Rattle.plans.specs.Plan.{replies as plain_replies}
@@ -20,7 +20,7 @@ use Rattle.plans.specs.Replies.{reply_row, responds_in, unsupported}
 use Rattle.plans.specs.declared.rule.Reply.{Reply}
 use Rattle.plans.specs.declared.rule.Reply.TheVariants as replies
 use Rattle.plans.specs.declared.setting.Setting.{Setting}
-use Rattle.event_rows.specs.declared.rule.Rule.TheVariants as rules
+use Rattle.event_rows.specs.Rule as rules
 use Rattle.event_rows.specs.Rules.{request_rule}
 use Rattle.call_trace.specs.declared.call.Call.{Call}
 use Rattle.call_trace.specs.declared.datagram.Datagram.{Datagram}

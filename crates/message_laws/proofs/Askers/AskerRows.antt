@@ -29,13 +29,13 @@ use Rattle.call_steps.specs.Rows.{answers_leg, counts, first_row, refreshes}
 use Rattle.plans.specs.Office.{Office}
 use Rattle.plans.specs.declared.rule.Reply.{Reply}
 use Rattle.plans.specs.declared.rule.Reply.TheVariants as replies
-use Rattle.plans.specs.declared.rule.CallRule.TheVariants as callrules
+use Rattle.plans.specs.CallRule as callrules
 use Rattle.plans.specs.declared.setting.Setting.{Setting}
-use Rattle.plans.specs.CallRows.{are_full, begins_by, call_row, first_by, has_pairs, has_pairs_for, is_unfit, occasion, of_plan, offer_method, offer_reply, offers, offers_by, passes, passes_at, passes_if, passes_in, refreshes_at, refreshes_by, refuses, tag_at, takes_request, target, unless_full, with_step}
+use Rattle.plans.specs.CallRows.{are_full, begins, call_row, first_by, has_pairs, has_pairs_for, is_unfit, occasion, of_plan, offer_method, offer_reply, offers, offers_by, passes, passes_if, passes_in, refreshes_at, refreshes_by, refuses, tag_at, takes_request, unless_full, with_step}
 use Rattle.plans.specs.Effect.{Effect}
 use Rattle.plans.specs.Replies.{reply_row, responds_in}
-use Rattle.event_rows.specs.declared.rule.Rule.{Rule}
-use Rattle.event_rows.specs.declared.rule.Rule.TheVariants as rules
+use Rattle.event_rows.specs.Rule.{Rule}
+use Rattle.event_rows.specs.Rule as rules
 use Rattle.event_rows.specs.Rules.{request_rule}
 use Rattle.event_rows.specs.Rows.{rule_row}
 use Rattle.message_laws.specs.Bodies.{WasRead, WasReadIf}
@@ -82,10 +82,9 @@ first_asks s k e r begun id to offer n read =
     (first_speaks s.table begun s.calls (occasion s e) r id e.source to offer (occasion_known s e k) n.begins n.opens n.can.from n.can.repeats s.range.ip k.media.address refl k.media.calls read)))
     (λ b. refuses_ask s k e r begun id 503 n (omega arith) (omega arith)))
 
-begins_ask : (s : Office) → IsReady s → (e : Setting) (r : Request) (begun : List Entry) (id : ℕ) (to : Option Uri) (offer : Option Description) → IsNewRequest s e r begun id → described r.headers r.body ≡ offer → AskedEffect s (begins_by s e r begun id to offer)
-begins_ask s k e r begun id None offer n said = refuses_ask s k e r begun id 480 n (omega arith) (omega arith)
-begins_ask s k e r begun id (Some to) None n said = refuses_ask s k e r begun id 488 n (omega arith) (omega arith)
-begins_ask s k e r begun id (Some to) (Some offer) n said = first_asks s k e r begun id to offer n (n.read offer said)
+begins_ask : (s : Office) → IsReady s → (e : Setting) (r : Request) (begun : List Entry) (id : ℕ) (to : Uri) (offer : Option Description) → IsNewRequest s e r begun id → described r.headers r.body ≡ offer → AskedEffect s (begins s e r begun id to offer)
+begins_ask s k e r begun id to None n said = refuses_ask s k e r begun id 488 n (omega arith) (omega arith)
+begins_ask s k e r begun id to (Some offer) n said = first_asks s k e r begun id to offer n (n.read offer said)
 
 -- ---- a request in a dialog
 
@@ -116,18 +115,14 @@ passes_in_ask : (s : Office) → IsReady s → (e : Setting) (r : Request) (begu
 passes_in_ask s k e r begun id place end c None n said = counted_asks s k e r begun id place end (replies.Refusal 488) n (omega arith, omega arith)
 passes_in_ask s k e r begun id place end c (Some offer) n said = passes_if_ask s k e r begun id place end c offer n (n.read offer said)
 
-passes_at_ask : (s : Office) → IsReady s → (e : Setting) (r : Request) (begun : List Entry) (id place : ℕ) (end : End) (c : Option StandingCall) → IsNewRequest s e r begun id → AskedEffect s (passes_at s e r begun id place end c)
-passes_at_ask s k e r begun id place end None n = counted_asks s k e r begun id place end (replies.Refusal 481) n (omega arith, omega arith)
-passes_at_ask s k e r begun id place end (Some c) n = passes_in_ask s k e r begun id place end c.call (described r.headers r.body) n refl
+offers_by_ask : (s : Office) → IsReady s → (e : Setting) (r : Request) (begun : List Entry) (id place : ℕ) (end : End) (c : Call) (reply : Option Reply) → IsNewRequest s e r begun id → FitsReplyIf r reply
+    → AskedEffect s (offers_by s e r begun id place end c reply)
+offers_by_ask s k e r begun id place end c (Some reply) n fits = counted_asks s k e r begun id place end reply n fits
+offers_by_ask s k e r begun id place end c None n fits = passes_in_ask s k e r begun id place end c (described r.headers r.body) n refl
 
-offers_by_ask : (s : Office) → IsReady s → (e : Setting) (r : Request) (begun : List Entry) (id place : ℕ) (end : End) (reply : Option Reply) → IsNewRequest s e r begun id → FitsReplyIf r reply
-    → AskedEffect s (offers_by s e r begun id place end reply)
-offers_by_ask s k e r begun id place end (Some reply) n fits = counted_asks s k e r begun id place end reply n fits
-offers_by_ask s k e r begun id place end None n fits = passes_at_ask s k e r begun id place end (slice_get s.calls.calls place) n
-
-offers_ask : (s : Office) → IsReady s → (e : Setting) (r : Request) (begun : List Entry) (id place : ℕ) (end : End) → IsNewRequest s e r begun id → AskedEffect s (offers s e r begun id place end)
+offers_ask : (s : Office) → IsReady s → (e : Setting) (r : Request) (begun : List Entry) (id place : ℕ) (end : End) (c : Call) → IsNewRequest s e r begun id → AskedEffect s (offers s e r begun id place end c)
 unfolding offers
-offers_ask s k e r begun id place end n = offers_by_ask s k e r begun id place end (offer_reply (offer_rule s.calls.calls r place end)) n (offer_reply_fits r (offer_rule s.calls.calls r place end))
+offers_ask s k e r begun id place end c n = offers_by_ask s k e r begun id place end c (offer_reply (offer_rule r end c)) n (offer_reply_fits r (offer_rule r end c))
 
 refreshes_by_ask : (s : Office) → IsReady s → (e : Setting) (r : Request) (begun : List Entry) (id place : ℕ) (end : End) (reply : Option Reply) → IsNewRequest s e r begun id → FitsReplyIf r reply
     → AskedEffect s (refreshes_by s e r begun id place end reply)
@@ -135,9 +130,9 @@ refreshes_by_ask s k e r begun id place end (Some reply) n fits = counted_asks s
 refreshes_by_ask s k e r begun id place end None n fits =
     put_asks s k begun id place (refreshes s.calls.calls place end r) _ (okay_reply s e r begun id) n.begins n.opens.free (okay_own s e r begun id n.can k.askers.server)
 
-refreshes_ask : (s : Office) → IsReady s → (e : Setting) (r : Request) (begun : List Entry) (id place : ℕ) (end : End) → IsNewRequest s e r begun id → AskedEffect s (refreshes_at s e r begun id place end)
+refreshes_ask : (s : Office) → IsReady s → (e : Setting) (r : Request) (begun : List Entry) (id place : ℕ) (end : End) (c : Call) → IsNewRequest s e r begun id → AskedEffect s (refreshes_at s e r begun id place end c)
 unfolding refreshes_at
-refreshes_ask s k e r begun id place end n = refreshes_by_ask s k e r begun id place end (offer_reply (plain_rule s.calls.calls r place end)) n (offer_reply_fits r (plain_rule s.calls.calls r place end))
+refreshes_ask s k e r begun id place end c n = refreshes_by_ask s k e r begun id place end (offer_reply (plain_rule r end c)) n (offer_reply_fits r (plain_rule r end c))
 
 -- ---- CANCEL and BYE
 
@@ -164,11 +159,11 @@ leaves_ask s k e r begun id place end n is =
 rule_asks : (s : Office) → IsReady s → (e : Setting) (r : Request) (begun : List Entry) (id : ℕ) (rule : Rule) → IsNewRequest s e r begun id → FitsAlone r rule → AskedEffect s (rule_row s e r begun id rule)
 unfolding call_row
 rule_asks s k e r begun id (rules.Alone reply) n fits = replies_ask s k e r begun id reply n fits
-rule_asks s k e r begun id (rules.Call callrules.Begins) n fits = begins_ask s k e r begun id (target s r e.now) (described r.headers r.body) n refl
+rule_asks s k e r begun id (rules.Call (callrules.Begins to)) n fits = begins_ask s k e r begun id to (described r.headers r.body) n refl
 rule_asks s k e r begun id (rules.Call (callrules.Cancels place)) n fits = cancels_ask s k e r begun id place n fits
 rule_asks s k e r begun id (rules.Call (callrules.Leaves place end)) n fits = leaves_ask s k e r begun id place end n fits
-rule_asks s k e r begun id (rules.Call (callrules.Offers place end)) n fits = offers_ask s k e r begun id place end n
-rule_asks s k e r begun id (rules.Call (callrules.Refreshes place end)) n fits = refreshes_ask s k e r begun id place end n
+rule_asks s k e r begun id (rules.Call (callrules.Offers place end c)) n fits = offers_ask s k e r begun id place end c.call n
+rule_asks s k e r begun id (rules.Call (callrules.Refreshes place end c)) n fits = refreshes_ask s k e r begun id place end c.call n
 
 pub new_asks : (s : Office) → IsReady s → (e : Setting) (r : Request) (begun : List Entry) (id : ℕ) → IsNewRequest s e r begun id → AskedEffect s (rule_row s e r begun id (request_rule s r e.now))
 new_asks s k e r begun id n = rule_asks s k e r begun id (request_rule s r e.now) n (request_fits s r e.now)

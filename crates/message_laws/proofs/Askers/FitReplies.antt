@@ -5,7 +5,6 @@ use Rattle.std.proofs.lemmas.Slice.Eq.{bytes_eq-Decides}
 use Rattle.sip_uri.specs.declared.uri.Uri.{Uri}
 use Rattle.sip_message.specs.declared.message.Request.{Request}
 use Rattle.sip_message.specs.Words.{tag_value}
-use Rattle.sdp.specs.declared.description.Description.{Description}
 use Rattle.transactions.specs.Contents.{merged}
 use Rattle.transactions.specs.Slots.{named}
 use Rattle.dialogs.specs.declared.state.Dialog.{Dialog}
@@ -14,7 +13,6 @@ use Rattle.call_media.specs.declared.end.End.TheVariants.{Callee, Caller}
 use Rattle.call_core.specs.Calls.{dialog_of}
 use Rattle.calls.specs.declared.standing_call.StandingCall.{StandingCall}
 use Rattle.calls.specs.Finding.{place_by_offer}
-use Rattle.call_rules.specs.Content.{described}
 use Rattle.call_rules.specs.Requests.{counted_rule, dialog_rule, has_left, in_call, in_dialog, of_callee, of_caller}
 use Rattle.call_rules.specs.Speaking.{is_bye, is_offer}
 use Rattle.dialogs.specs.Counting.{is_above}
@@ -22,16 +20,17 @@ use Rattle.call_rules.specs.declared.content.ContentRule.{ContentRule}
 use Rattle.call_rules.specs.declared.content.ContentRule.TheVariants as content
 use Rattle.call_rules.specs.declared.offers.OfferRule.{OfferRule}
 use Rattle.call_rules.specs.declared.offers.OfferRule.TheVariants as asked
-use Rattle.call_rules.specs.declared.requests.DialogRule.{DialogRule}
-use Rattle.call_rules.specs.declared.requests.DialogRule.TheVariants as dialogrules
+use Rattle.call_rules.specs.DialogRule.{DialogRule}
+use Rattle.call_rules.specs.DialogRule as dialogrules
 use Rattle.call_core.specs.declared.clash.Clash.TheVariants.{Glare, SecondOffer}
 use Rattle.plans.specs.Office.{Office}
 use Rattle.plans.specs.CallRows.{offer_reply}
-use Rattle.plans.specs.declared.rule.CallRule.TheVariants as callrules
+use Rattle.plans.specs.CallRule as callrules
+use Rattle.plans.specs.CallRule.{CallRule}
 use Rattle.plans.specs.declared.rule.Reply.{Reply}
 use Rattle.plans.specs.declared.rule.Reply.TheVariants as replies
-use Rattle.event_rows.specs.declared.rule.Rule.{Rule}
-use Rattle.event_rows.specs.declared.rule.Rule.TheVariants as rules
+use Rattle.event_rows.specs.Rule.{Rule}
+use Rattle.event_rows.specs.Rule as rules
 use Rattle.event_rows.specs.Rules as checks
 use Rattle.event_rows.specs.Rules.{request_rule}
 use Rattle.responses.specs.Words.{has_header, is_declined_method, is_offered_method, is_method as request_method}
@@ -105,46 +104,45 @@ rule_leaves : (calls : List StandingCall) (r : Request) → LeavesByBye r (dialo
 unfolding dialog_rule
 rule_leaves calls r = caller_leaves calls r _
 
-dialog_fits : (r : Request) (rule : DialogRule) → LeavesByBye r rule → FitsAlone r (checks.of_dialog rule)
-dialog_fits r dialogrules.NoDialog h = (omega arith, omega arith)
-dialog_fits r (dialogrules.OldNumber place end) h = (omega arith, omega arith)
-dialog_fits r (dialogrules.Leaves place end) h = h
-dialog_fits r (dialogrules.Offers place end) h = tt
-dialog_fits r (dialogrules.Plain place end) h = tt
+called_fits : (r : Request) (rule : StandingCall → CallRule) (c : Option StandingCall) → ((x : StandingCall) → FitsAlone r (rules.Call (rule x))) → FitsAlone r (checks.with_call rule c)
+called_fits r rule None h = (omega arith, omega arith)
+called_fits r rule (Some c) h = h c
 
-described_fits : (r : Request) (rule : Option ContentRule) (offer : Option Description) → FitsAlone r (checks.described_rule rule offer)
-described_fits r (Some content.Type) offer = tt
-described_fits r (Some content.Encoding) offer = tt
-described_fits r None None = (omega arith, omega arith)
-described_fits r None (Some offer) = tt
+dialog_fits : (calls : List StandingCall) (r : Request) (rule : DialogRule) → LeavesByBye r rule → FitsAlone r (checks.of_dialog calls rule)
+dialog_fits calls r dialogrules.NoDialog h = (omega arith, omega arith)
+dialog_fits calls r (dialogrules.OldNumber place end) h = (omega arith, omega arith)
+dialog_fits calls r (dialogrules.Leaves place end) h = h
+dialog_fits calls r (dialogrules.Offers place end) h = called_fits r (callrules.Offers place end) (slice_get calls place) (λ c. tt)
+dialog_fits calls r (dialogrules.Plain place end) h = called_fits r (callrules.Refreshes place end) (slice_get calls place) (λ c. tt)
 
-target_fits : (r : Request) (to : Option Uri) → FitsAlone r (checks.target_by (checks.offer_rule r) to)
-target_fits r None = (omega arith, omega arith)
-target_fits r (Some to) = described_fits r _ (described r.headers r.body)
+taken_fits : (r : Request) (to : Uri) (rule : Option ContentRule) → FitsAlone r (checks.taken_rule to rule)
+taken_fits r to (Some content.Type) = tt
+taken_fits r to (Some content.Encoding) = tt
+taken_fits r to None = tt
 
-known_fits : (s : Office) (r : Request) (user : List ℕ) (now : ℕ) (b : Bool) → FitsAlone r (checks.known_by (checks.offer_rule r) s user now b)
-known_fits s r user now false = (omega arith, omega arith)
-known_fits s r user now true = target_fits r _
+bound_fits : (r : Request) (to : Option Uri) → FitsAlone r (checks.bound_rule r to)
+bound_fits r None = (omega arith, omega arith)
+bound_fits r (Some to) = taken_fits r to _
 
-user_fits : (s : Office) (r : Request) (now : ℕ) (user : Option (List ℕ)) → FitsAlone r (checks.user_by (checks.offer_rule r) s now user)
-user_fits s r now None = (omega arith, omega arith)
-user_fits s r now (Some user) = known_fits s r user now _
+callee_fits : (s : Office) (r : Request) (now : ℕ) → FitsAlone r (checks.callee_rule s r now)
+callee_fits s r now =
+    line_fits r (checks.user_line s r) (checks.bound_rule r (checks.target s r now)) (when_fits r _ (checks.refused 404) (λ e. (omega arith, omega arith))) (bound_fits r (checks.target s r now))
 
-first_fits : (s : Office) (r : Request) (now : ℕ) → FitsAlone r (checks.first_call_by (checks.offer_rule r) s r now)
+first_fits : (s : Office) (r : Request) (now : ℕ) → FitsAlone r (checks.first_call_rule s r now)
 first_fits s r now =
-    line_fits r (checks.hops_line r) (checks.otherwise (checks.contact_line r) (checks.callee_by (checks.offer_rule r) s r now)) (when_fits r (r.max_forwards == 0) (checks.refused 483) (λ e. (omega arith, omega arith)))
-    (line_fits r (checks.contact_line r) (checks.callee_by (checks.offer_rule r) s r now) (when_fits r _ (checks.refused 400) (λ e. (omega arith, omega arith))) (user_fits s r now _))
+    line_fits r (checks.hops_line r) (checks.otherwise (checks.contact_line r) (checks.callee_rule s r now)) (when_fits r (r.max_forwards == 0) (checks.refused 483) (λ e. (omega arith, omega arith)))
+    (line_fits r (checks.contact_line r) (checks.callee_rule s r now) (when_fits r _ (checks.refused 400) (λ e. (omega arith, omega arith))) (callee_fits s r now))
 
-invite_fits : (s : Office) (r : Request) (now : ℕ) → FitsAlone r (checks.invite_by (checks.offer_rule r) s r now)
-unfolding checks.invite_by
+invite_fits : (s : Office) (r : Request) (now : ℕ) → FitsAlone r (checks.invite_rule s r now)
+unfolding checks.invite_rule
 invite_fits s r now =
-    line_fits r (checks.dialog_line s r) (checks.first_call_by (checks.offer_rule r) s r now)
-    (when_fits r (not (request_method (codes "INVITE") r) || is_some (tag_value r.parts.to.params)) (checks.of_dialog (dialog_rule s.calls.calls r)) (λ e. dialog_fits r (dialog_rule s.calls.calls r) (rule_leaves s.calls.calls r))) (first_fits s r now)
+    line_fits r (checks.dialog_line s r) (checks.first_call_rule s r now)
+    (when_fits r (not (request_method (codes "INVITE") r) || is_some (tag_value r.parts.to.params)) (checks.of_dialog s.calls.calls (dialog_rule s.calls.calls r)) (λ e. dialog_fits s.calls.calls r (dialog_rule s.calls.calls r) (rule_leaves s.calls.calls r))) (first_fits s r now)
 
-offered_fits : (s : Office) (r : Request) (now : ℕ) → FitsAlone r (checks.offered_by (checks.offer_rule r) s r now)
-unfolding checks.offered_by
+offered_fits : (s : Office) (r : Request) (now : ℕ) → FitsAlone r (checks.offered_rule s r now)
+unfolding checks.offered_rule
 offered_fits s r now =
-    let invite = checks.invite_by (checks.offer_rule r) s r now in
+    let invite = checks.invite_rule s r now in
     let register = checks.otherwise (checks.register_line r) invite in
     let options = checks.otherwise (checks.options_line r) register in
     let route = checks.otherwise (checks.route_line r) options in
@@ -154,9 +152,9 @@ offered_fits s r now =
     (line_fits r (checks.register_line r) invite (when_fits r (request_method (codes "REGISTER") r) (rules.Alone replies.Registration) (λ e. is_the_method r (codes "REGISTER") e)) (invite_fits s r now))))
 
 pub request_fits : (s : Office) (r : Request) (now : ℕ) → FitsAlone r (request_rule s r now)
-unfolding request_rule checks.rule_by
+unfolding request_rule
 request_fits s r now =
-    let offered = checks.offered_by (checks.offer_rule r) s r now in
+    let offered = checks.offered_rule s r now in
     let known = checks.otherwise (checks.unknown_line r) offered in
     let declined = checks.otherwise (checks.declined_line r) known in
     let once = checks.otherwise (checks.merged_line s r) declined in

@@ -30,7 +30,7 @@ use Rattle.call_core.specs.Calls.{after, clash_in, dialog_of, holds_in, number_t
 use Rattle.call_core.specs.Plans.{Step}
 use Rattle.call_core.specs.Settled.{settled_row}
 use Rattle.call_core.specs.Table.{row_in, row_of}
-use Rattle.call_rules.specs.Offers.{clash_by, content_line, hops_line, is_settled, offer_by, offer_in, offer_rule, otherwise, reach_line}
+use Rattle.call_rules.specs.Offers.{clash_by, content_line, hops_line, is_settled, offer_rule, otherwise, reach_line}
 use Rattle.call_rules.specs.declared.offers.OfferRule.{OfferRule}
 use Rattle.call_rules.specs.declared.offers.OfferRule.TheVariants.{NoDialog}
 use Rattle.call_rules.specs.Responses.{awaits_final, is_last_in, is_open}
@@ -54,18 +54,9 @@ settled_by : (c : Call) (clash : Option Clash) (later : OfferRule) → offer_rep
 settled_by c None later e = settled_if (holds_in is_settled c.standing) later e
 settled_by c (Some clash) later e = absurd (none-some (clash_reply clash) (sym e))
 
-settled_in : (r : Request) (end : End) (c : Call) → offer_reply (offer_in r end c) ≡ None → holds_in is_settled c.standing ≡ true
-unfolding offer_in
-settled_in r end c e = settled_by c (clash_in c.standing end) (otherwise (hops_line r) (otherwise (reach_line r) (otherwise (content_line r) _))) e
-
-settled_at : (r : Request) (end : End) (c : Option StandingCall) (d : StandingCall) → c ≡ Some d → offer_reply (offer_by r end c) ≡ None → holds_in is_settled d.call.standing ≡ true
-settled_at r end None d is e = absurd (none-some d is)
-settled_at r end (Some c) d is e = subst (λ (x : StandingCall). holds_in is_settled x.call.standing ≡ true) (same_Some c d is) (settled_in r end c.call e)
-
-pub passes_settled : (calls : List StandingCall) (r : Request) (place : ℕ) (end : End) (c : StandingCall) → slice_get calls place ≡ Some c → offer_reply (offer_rule calls r place end) ≡ None
-    → holds_in is_settled c.call.standing ≡ true
+pub passes_settled : (r : Request) (end : End) (c : Call) → offer_reply (offer_rule r end c) ≡ None → holds_in is_settled c.standing ≡ true
 unfolding offer_rule
-passes_settled calls r place end c there e = settled_at r end (slice_get calls place) c there e
+passes_settled r end c e = settled_by c (clash_in c.standing end) (otherwise (hops_line r) (otherwise (reach_line r) (otherwise (content_line r) _))) e
 
 pub settled_stage : (stage : Stage) → is_settled stage ≡ true → stage ≡ stages.Settled
 settled_stage (stages.Asked rung) e = absurd (false≢true e)

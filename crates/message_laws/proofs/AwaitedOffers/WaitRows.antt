@@ -143,7 +143,7 @@ request_waits s tokens k few e r begun id x none (counted_alone place end reply 
 request_waits s tokens k few e r begun id x none (passed_on place end c offer rule_is why is) =
     subst (Waits s) (sym is) (
     offer_step s tokens k begun _ none
-    (offers_begins s.calls s.table (occasion s e) place end _ offer r id e.source c why.there (passes_settled s.calls.calls r place end c why.there why.passes) tokens.calls)
+    (offers_begins s.calls s.table (occasion s e) place end _ offer r id e.source c why.there (passes_settled r end c.call why.passes) tokens.calls)
     )
 request_waits s tokens k few e r begun id x none (refreshed place end rule_is is) =
     subst (Waits s) (sym is) (

@@ -1,5 +1,5 @@
 -- A request, as a list of cases: each row of the agent for it, with why it is that one.
-use Rattle.std.proofs.Common.{◌≡◌, ℕ, ◌≤◌, ◌==◌, Bool, true, false, cond, not, ◌||◌, List, [], codes, Option, Some, None, is_some, refl, sym, arith}
+use Rattle.std.proofs.Common.{◌≡◌, ℕ, ◌≤◌, ◌==◌, Bool, true, false, cond, not, ◌||◌, List, [], codes, Option, Some, None, is_some, refl, subst, sym, arith}
 use Rattle.std.specs.Prelude.{slice_get}
 use Rattle.std.proofs.lemmas.Bool.{false≢true}
 use Rattle.sip_uri.specs.declared.uri.Uri.{Uri}
@@ -25,23 +25,24 @@ use Rattle.call_rules.specs.Requests.{dialog_rule}
 use Rattle.call_rules.specs.Responses.{at_place}
 use Rattle.call_steps.specs.Rows.{counts, first_row, refreshes}
 use Rattle.plans.specs.Office.{Office}
-use Rattle.plans.specs.declared.rule.CallRule.TheVariants as callrules
+use Rattle.plans.specs.CallRule as callrules
 use Rattle.plans.specs.declared.rule.Reply.{Reply}
 use Rattle.plans.specs.declared.rule.Reply.TheVariants as replies
-use Rattle.event_rows.specs.declared.rule.Rule.{Rule}
-use Rattle.event_rows.specs.declared.rule.Rule.TheVariants as rules
+use Rattle.event_rows.specs.Rule.{Rule}
+use Rattle.event_rows.specs.Rule as rules
 use Rattle.plans.specs.declared.setting.Setting.{Setting}
-use Rattle.plans.specs.CallRows.{are_full, begins_by, call_row, first_by, has_pairs, has_pairs_for, is_unfit, occasion, of_plan, offer_reply, offers, offers_by, okay_plan, passes, passes_at, passes_if, passes_in, puts_if, refreshes_at, refreshes_by, refuses, tag_at, takes_request, target, unless_full, with_step}
+use Rattle.plans.specs.CallRows.{are_full, begins, call_row, first_by, has_pairs, has_pairs_for, is_unfit, occasion, of_plan, offer_reply, offers, offers_by, okay_plan, passes, passes_if, passes_in, puts_if, refreshes_at, refreshes_by, refuses, tag_at, takes_request, unless_full, with_step}
 use Rattle.plans.specs.Effect.{Effect}
 use Rattle.plans.specs.Replies.{reply_row, responds_in}
 use Rattle.event_rows.specs.Rows.{rule_row}
 use Rattle.event_rows.specs.Rules as checks
-use Rattle.event_rows.specs.Rules.{request_rule}
+use Rattle.event_rows.specs.Rules.{request_rule, target}
+use Rattle.event_rows.proofs.RuleLaws.{WasFound, request_found}
 use Rattle.call_rules.specs.declared.content.ContentRule.{ContentRule}
 use Rattle.call_rules.specs.declared.content.ContentRule.TheVariants as content
 use Rattle.call_rules.specs.declared.offers.OfferRule.{OfferRule}
-use Rattle.call_rules.specs.declared.requests.DialogRule.{DialogRule}
-use Rattle.call_rules.specs.declared.requests.DialogRule.TheVariants as dialogrules
+use Rattle.call_rules.specs.DialogRule.{DialogRule}
+use Rattle.call_rules.specs.DialogRule as dialogrules
 use Rattle.responses.specs.Responding.{stateless}
 use Rattle.responses.specs.Words.{has_header, is_declined_method, is_offered_method, is_method as request_method}
 
@@ -61,7 +62,7 @@ pub record IsFirstInvite (s : Office) (now : ℕ) (r : Request) (to : Uri) (offe
 -- an offer that the end may make there, and that the relay carries and has pairs for
 pub record IsPassedOffer (s : Office) (now : ℕ) (r : Request) (place : ℕ) (end : End) (c : StandingCall) (offer : Description) : Type 0 where
   pub there : slice_get s.calls.calls place ≡ Some c
-  pub passes : offer_reply (offer_rule s.calls.calls r place end) ≡ None
+  pub passes : offer_reply (offer_rule r end c.call) ≡ None
   pub described : described r.headers r.body ≡ Some offer
   pub fit : is_unfit c.call end offer ≡ false
   pub paired : has_pairs_for s now c.call end offer ≡ true
@@ -81,7 +82,8 @@ pub record IsCancel (s : Office) (r : Request) (other : ℕ) : Type 0 where
 -- one without an offer, which the end may send there
 pub record IsRefresh (s : Office) (r : Request) (place : ℕ) (end : End) : Type 0 where
   pub rule : dialog_rule s.calls.calls r ≡ dialogrules.Plain place end
-  pub passes : offer_reply (plain_rule s.calls.calls r place end) ≡ None
+  pub call : StandingCall
+  pub passes : offer_reply (plain_rule r end call.call) ≡ None
   pub inside : IsInside r
 
 -- a reply of the server's own to a request in a dialog: what the rules of offers give, or a refusal
@@ -131,15 +133,13 @@ first_view s e r begun id to offer invite no_tag reached bound said =
     (λ f. asks_callee to offer (record { invite = invite; no_tag = no_tag; reached = reached; bound = bound; described = said; fit = fit; paired = b }) refl))
     (λ b. unfit 503 (omega arith) refl))
 
-begins_view : (s : Office) (e : Setting) (r : Request) (begun : List Entry) (id : ℕ) (to : Option Uri) (offer : Option Description) → request_method (codes "INVITE") r ≡ true
-    → tag_value r.parts.to.params ≡ None → is_some (contact_address (contacts_of r.headers)) ≡ true → target s r e.now ≡ to → described r.headers r.body ≡ offer
-    → RequestRow s e r begun id (begins_by s e r begun id to offer)
-begins_view s e r begun id None offer invite no_tag reached bound said = unfit 480 (omega arith) refl
-begins_view s e r begun id (Some to) None invite no_tag reached bound said = unfit 488 (omega arith) refl
-begins_view s e r begun id (Some to) (Some offer) invite no_tag reached bound said = first_view s e r begun id to offer invite no_tag reached bound said
+begins_view : (s : Office) (e : Setting) (r : Request) (begun : List Entry) (id : ℕ) (to : Uri) (offer : Option Description) → request_method (codes "INVITE") r ≡ true → tag_value r.parts.to.params ≡ None
+    → is_some (contact_address (contacts_of r.headers)) ≡ true → target s r e.now ≡ Some to → described r.headers r.body ≡ offer → RequestRow s e r begun id (begins s e r begun id to offer)
+begins_view s e r begun id to None invite no_tag reached bound said = unfit 488 (omega arith) refl
+begins_view s e r begun id to (Some offer) invite no_tag reached bound said = first_view s e r begun id to offer invite no_tag reached bound said
 
 passes_if_view : (s : Office) (e : Setting) (r : Request) (begun : List Entry) (id place : ℕ) (end : End) (c : StandingCall) (offer : Description) → dialog_rule s.calls.calls r ≡ dialogrules.Offers place end
-    → slice_get s.calls.calls place ≡ Some c → offer_reply (offer_rule s.calls.calls r place end) ≡ None → described r.headers r.body ≡ Some offer
+    → slice_get s.calls.calls place ≡ Some c → offer_reply (offer_rule r end c.call) ≡ None → described r.headers r.body ≡ Some offer
     → RequestRow s e r begun id (passes_if s e r begun id place end c.call offer)
 passes_if_view s e r begun id place end c offer rule_is there passing said =
     let P : Effect → Type 0 = RequestRow s e r begun id in
@@ -152,55 +152,51 @@ passes_if_view s e r begun id place end c offer rule_is there passing said =
     (λ left. passed_on place end c offer rule_is (record { there = there; passes = passing; described = said; fit = fit; paired = b; numbered = left }) refl) (λ f. refused_view 500 (omega arith))) (λ b. refused_view 503 (omega arith)))
 
 passes_in_view : (s : Office) (e : Setting) (r : Request) (begun : List Entry) (id place : ℕ) (end : End) (c : StandingCall) (offer : Option Description)
-    → dialog_rule s.calls.calls r ≡ dialogrules.Offers place end → slice_get s.calls.calls place ≡ Some c → offer_reply (offer_rule s.calls.calls r place end) ≡ None
+    → dialog_rule s.calls.calls r ≡ dialogrules.Offers place end → slice_get s.calls.calls place ≡ Some c → offer_reply (offer_rule r end c.call) ≡ None
     → described r.headers r.body ≡ offer → RequestRow s e r begun id (passes_in s e r begun id place end c.call offer)
 passes_in_view s e r begun id place end c None rule_is there passing said = counted_alone place end (replies.Refusal 488) (by_status 488 (omega arith) refl) refl
 passes_in_view s e r begun id place end c (Some offer) rule_is there passing said = passes_if_view s e r begun id place end c offer rule_is there passing said
 
-passes_at_view : (s : Office) (e : Setting) (r : Request) (begun : List Entry) (id place : ℕ) (end : End) (c : Option StandingCall) → dialog_rule s.calls.calls r ≡ dialogrules.Offers place end
-    → slice_get s.calls.calls place ≡ c → offer_reply (offer_rule s.calls.calls r place end) ≡ None → RequestRow s e r begun id (passes_at s e r begun id place end c)
-passes_at_view s e r begun id place end None rule_is there passing = counted_alone place end (replies.Refusal 481) (by_status 481 (omega arith) refl) refl
-passes_at_view s e r begun id place end (Some c) rule_is there passing = passes_in_view s e r begun id place end c (described r.headers r.body) rule_is there passing refl
+offers_by_view : (s : Office) (e : Setting) (r : Request) (begun : List Entry) (id place : ℕ) (end : End) (c : StandingCall) (reply : Option Reply) → dialog_rule s.calls.calls r ≡ dialogrules.Offers place end
+    → slice_get s.calls.calls place ≡ Some c → offer_reply (offer_rule r end c.call) ≡ reply → RequestRow s e r begun id (offers_by s e r begun id place end c.call reply)
+offers_by_view s e r begun id place end c (Some reply) rule_is there passing = counted_alone place end reply (by_rule (offer_rule r end c.call) passing) refl
+offers_by_view s e r begun id place end c None rule_is there passing = passes_in_view s e r begun id place end c (described r.headers r.body) rule_is there passing refl
 
-offers_by_view : (s : Office) (e : Setting) (r : Request) (begun : List Entry) (id place : ℕ) (end : End) (reply : Option Reply) → dialog_rule s.calls.calls r ≡ dialogrules.Offers place end
-    → offer_reply (offer_rule s.calls.calls r place end) ≡ reply → RequestRow s e r begun id (offers_by s e r begun id place end reply)
-offers_by_view s e r begun id place end (Some reply) rule_is passing = counted_alone place end reply (by_rule (offer_rule s.calls.calls r place end) passing) refl
-offers_by_view s e r begun id place end None rule_is passing = passes_at_view s e r begun id place end (slice_get s.calls.calls place) rule_is refl passing
-
-offers_view : (s : Office) (e : Setting) (r : Request) (begun : List Entry) (id place : ℕ) (end : End) → dialog_rule s.calls.calls r ≡ dialogrules.Offers place end
-    → RequestRow s e r begun id (offers s e r begun id place end)
+offers_view : (s : Office) (e : Setting) (r : Request) (begun : List Entry) (id place : ℕ) (end : End) (c : StandingCall) → dialog_rule s.calls.calls r ≡ dialogrules.Offers place end
+    → slice_get s.calls.calls place ≡ Some c → RequestRow s e r begun id (offers s e r begun id place end c.call)
 unfolding offers
-offers_view s e r begun id place end rule_is = offers_by_view s e r begun id place end (offer_reply (offer_rule s.calls.calls r place end)) rule_is refl
+offers_view s e r begun id place end c rule_is there = offers_by_view s e r begun id place end c (offer_reply (offer_rule r end c.call)) rule_is there refl
 
-refreshes_by_view : (s : Office) (e : Setting) (r : Request) (begun : List Entry) (id place : ℕ) (end : End) (reply : Option Reply) → dialog_rule s.calls.calls r ≡ dialogrules.Plain place end
-    → offer_reply (plain_rule s.calls.calls r place end) ≡ reply → IsInside r → RequestRow s e r begun id (refreshes_by s e r begun id place end reply)
-refreshes_by_view s e r begun id place end (Some reply) rule_is passing inside = counted_alone place end reply (by_rule (plain_rule s.calls.calls r place end) passing) refl
-refreshes_by_view s e r begun id place end None rule_is passing inside = refreshed place end (record { rule = rule_is; passes = passing; inside = inside }) refl
+refreshes_by_view : (s : Office) (e : Setting) (r : Request) (begun : List Entry) (id place : ℕ) (end : End) (c : StandingCall) (reply : Option Reply) → dialog_rule s.calls.calls r ≡ dialogrules.Plain place end
+    → offer_reply (plain_rule r end c.call) ≡ reply → IsInside r → RequestRow s e r begun id (refreshes_by s e r begun id place end reply)
+refreshes_by_view s e r begun id place end c (Some reply) rule_is passing inside = counted_alone place end reply (by_rule (plain_rule r end c.call) passing) refl
+refreshes_by_view s e r begun id place end c None rule_is passing inside = refreshed place end (record { rule = rule_is; call = c; passes = passing; inside = inside }) refl
 
-refreshes_view : (s : Office) (e : Setting) (r : Request) (begun : List Entry) (id place : ℕ) (end : End) → dialog_rule s.calls.calls r ≡ dialogrules.Plain place end
-    → IsInside r → RequestRow s e r begun id (refreshes_at s e r begun id place end)
+refreshes_view : (s : Office) (e : Setting) (r : Request) (begun : List Entry) (id place : ℕ) (end : End) (c : StandingCall) → dialog_rule s.calls.calls r ≡ dialogrules.Plain place end
+    → IsInside r → RequestRow s e r begun id (refreshes_at s e r begun id place end c.call)
 unfolding refreshes_at
-refreshes_view s e r begun id place end rule_is inside = refreshes_by_view s e r begun id place end (offer_reply (plain_rule s.calls.calls r place end)) rule_is refl inside
+refreshes_view s e r begun id place end c rule_is inside = refreshes_by_view s e r begun id place end c (offer_reply (plain_rule r end c.call)) rule_is refl inside
 
 -- ---- the rules of requests
 
 -- why a rule is that one
 abbrev FitsRule : Office → Request → Rule → Type 0
 FitsRule s r (rules.Alone reply) = Unit {0}
-FitsRule s r (rules.Call callrules.Begins) = (request_method (codes "INVITE") r ≡ true) × (tag_value r.parts.to.params ≡ None) × (is_some (contact_address (contacts_of r.headers)) ≡ true)
+FitsRule s r (rules.Call (callrules.Begins to)) = (request_method (codes "INVITE") r ≡ true) × (tag_value r.parts.to.params ≡ None) × (is_some (contact_address (contacts_of r.headers)) ≡ true)
 FitsRule s r (rules.Call (callrules.Cancels place)) = (other : ℕ) × IsCancel s r other × (place_by_offer other s.calls.calls ≡ Some place)
 FitsRule s r (rules.Call (callrules.Leaves place end)) = dialog_rule s.calls.calls r ≡ dialogrules.Leaves place end
-FitsRule s r (rules.Call (callrules.Offers place end)) = dialog_rule s.calls.calls r ≡ dialogrules.Offers place end
-FitsRule s r (rules.Call (callrules.Refreshes place end)) = (dialog_rule s.calls.calls r ≡ dialogrules.Plain place end) × IsInside r
+FitsRule s r (rules.Call (callrules.Offers place end c)) = (dialog_rule s.calls.calls r ≡ dialogrules.Offers place end) × (slice_get s.calls.calls place ≡ Some c)
+FitsRule s r (rules.Call (callrules.Refreshes place end c)) = (dialog_rule s.calls.calls r ≡ dialogrules.Plain place end) × IsInside r
 
 rule_view : (s : Office) (e : Setting) (r : Request) (begun : List Entry) (id : ℕ) (rule : Rule) → request_rule s r e.now ≡ rule → FitsRule s r rule → RequestRow s e r begun id (rule_row s e r begun id rule)
 unfolding call_row
 rule_view s e r begun id (rules.Alone reply) rule_is fits = replied reply rule_is refl
-rule_view s e r begun id (rules.Call callrules.Begins) rule_is fits = begins_view s e r begun id (target s r e.now) (described r.headers r.body) fits.0 fits.1 fits.2 refl refl
+rule_view s e r begun id (rules.Call (callrules.Begins to)) rule_is fits =
+    begins_view s e r begun id to (described r.headers r.body) fits.0 fits.1 fits.2 (subst (WasFound s r e.now) rule_is (request_found s r e.now)) refl
 rule_view s e r begun id (rules.Call (callrules.Cancels place)) rule_is fits = cancelled fits.0 place fits.1 fits.2 refl
 rule_view s e r begun id (rules.Call (callrules.Leaves place end)) rule_is fits = left place end fits refl
-rule_view s e r begun id (rules.Call (callrules.Offers place end)) rule_is fits = offers_view s e r begun id place end fits
-rule_view s e r begun id (rules.Call (callrules.Refreshes place end)) rule_is fits = refreshes_view s e r begun id place end fits.0 fits.1
+rule_view s e r begun id (rules.Call (callrules.Offers place end c)) rule_is fits = offers_view s e r begun id place end c fits.0 fits.1
+rule_view s e r begun id (rules.Call (callrules.Refreshes place end c)) rule_is fits = refreshes_view s e r begun id place end c fits.0 fits.1
 
 abbrev FitsIf : Office → Request → Option Rule → Type 0
 FitsIf s r None = Unit {0}
@@ -230,33 +226,37 @@ cancel_fits : (s : Office) (r : Request) (id : Option ℕ) → request_method (c
 cancel_fits s r None method there = tt
 cancel_fits s r (Some id) method there = cancels_fits s r id (place_by_offer id s.calls.calls) (record { method = method; named = there }) refl
 
-dialog_fits : (s : Office) (r : Request) (rule : DialogRule) → IsInside r → dialog_rule s.calls.calls r ≡ rule → FitsRule s r (checks.of_dialog rule)
+offers_fit : (s : Office) (r : Request) (place : ℕ) (end : End) (c : Option StandingCall) → dialog_rule s.calls.calls r ≡ dialogrules.Offers place end → slice_get s.calls.calls place ≡ c
+    → FitsRule s r (checks.with_call (callrules.Offers place end) c)
+offers_fit s r place end None e there = tt
+offers_fit s r place end (Some c) e there = (e, there)
+
+refreshes_fit : (s : Office) (r : Request) (place : ℕ) (end : End) (c : Option StandingCall) → dialog_rule s.calls.calls r ≡ dialogrules.Plain place end → IsInside r → FitsRule s r (checks.with_call (callrules.Refreshes place end) c)
+refreshes_fit s r place end None e inside = tt
+refreshes_fit s r place end (Some c) e inside = (e, inside)
+
+dialog_fits : (s : Office) (r : Request) (rule : DialogRule) → IsInside r → dialog_rule s.calls.calls r ≡ rule → FitsRule s r (checks.of_dialog s.calls.calls rule)
 dialog_fits s r dialogrules.NoDialog inside e = tt
 dialog_fits s r (dialogrules.OldNumber place end) inside e = tt
 dialog_fits s r (dialogrules.Leaves place end) inside e = e
-dialog_fits s r (dialogrules.Offers place end) inside e = e
-dialog_fits s r (dialogrules.Plain place end) inside e = (e, inside)
+dialog_fits s r (dialogrules.Offers place end) inside e = offers_fit s r place end (slice_get s.calls.calls place) e refl
+dialog_fits s r (dialogrules.Plain place end) inside e = refreshes_fit s r place end (slice_get s.calls.calls place) e inside
 
 abbrev IsFirst : Request → Type 0
 IsFirst r = (request_method (codes "INVITE") r ≡ true) × (tag_value r.parts.to.params ≡ None) × (is_some (contact_address (contacts_of r.headers)) ≡ true)
 
-described_fits : (s : Office) (r : Request) (rule : Option ContentRule) (offer : Option Description) → IsFirst r → FitsRule s r (checks.described_rule rule offer)
-described_fits s r (Some content.Type) offer first = tt
-described_fits s r (Some content.Encoding) offer first = tt
-described_fits s r None None first = tt
-described_fits s r None (Some offer) first = first
+taken_fits : (s : Office) (r : Request) (to : Uri) (rule : Option ContentRule) → IsFirst r → FitsRule s r (checks.taken_rule to rule)
+taken_fits s r to (Some content.Type) first = tt
+taken_fits s r to (Some content.Encoding) first = tt
+taken_fits s r to None first = first
 
-target_fits : (s : Office) (r : Request) (to : Option Uri) → IsFirst r → FitsRule s r (checks.target_by (checks.offer_rule r) to)
-target_fits s r None first = tt
-target_fits s r (Some to) first = described_fits s r _ (described r.headers r.body) first
+bound_fits : (s : Office) (r : Request) (to : Option Uri) → IsFirst r → FitsRule s r (checks.bound_rule r to)
+bound_fits s r None first = tt
+bound_fits s r (Some to) first = taken_fits s r to _ first
 
-known_fits : (s : Office) (r : Request) (user : List ℕ) (now : ℕ) (b : Bool) → IsFirst r → FitsRule s r (checks.known_by (checks.offer_rule r) s user now b)
-known_fits s r user now false first = tt
-known_fits s r user now true first = target_fits s r _ first
-
-user_fits : (s : Office) (r : Request) (now : ℕ) (user : Option (List ℕ)) → IsFirst r → FitsRule s r (checks.user_by (checks.offer_rule r) s now user)
-user_fits s r now None first = tt
-user_fits s r now (Some user) first = known_fits s r user now _ first
+callee_fits : (s : Office) (r : Request) (now : ℕ) → IsFirst r → FitsRule s r (checks.callee_rule s r now)
+callee_fits s r now first =
+    line_fits s r (checks.user_line s r) (checks.bound_rule r (target s r now)) (when_fits s r _ (checks.refused 404) tt) (bound_fits s r (target s r now) first)
 
 first_of : (invite : Bool) (tag : Option (List ℕ)) → (not invite || is_some tag) ≡ false → (invite ≡ true) × (tag ≡ None)
 first_of true None e = (refl, refl)
@@ -268,23 +268,23 @@ not_false : (b : Bool) → not b ≡ false → b ≡ true
 not_false true e = refl
 not_false false e = absurd (false≢true (sym e))
 
-first_fits : (s : Office) (r : Request) (now : ℕ) → (request_method (codes "INVITE") r ≡ true) × (tag_value r.parts.to.params ≡ None) → FitsRule s r (checks.first_call_by (checks.offer_rule r) s r now)
+first_fits : (s : Office) (r : Request) (now : ℕ) → (request_method (codes "INVITE") r ≡ true) × (tag_value r.parts.to.params ≡ None) → FitsRule s r (checks.first_call_rule s r now)
 first_fits s r now first =
-    line_fits s r (checks.hops_line r) (checks.otherwise (checks.contact_line r) (checks.callee_by (checks.offer_rule r) s r now)) (when_fits s r (r.max_forwards == 0) (checks.refused 483) tt)
-    (unless_fits s r (not (is_some (contact_address (contacts_of r.headers)))) (checks.refused 400) (checks.callee_by (checks.offer_rule r) s r now) tt
-    (λ e. user_fits s r now _ (first.0, first.1, not_false (is_some (contact_address (contacts_of r.headers))) e)))
+    line_fits s r (checks.hops_line r) (checks.otherwise (checks.contact_line r) (checks.callee_rule s r now)) (when_fits s r (r.max_forwards == 0) (checks.refused 483) tt)
+    (unless_fits s r (not (is_some (contact_address (contacts_of r.headers)))) (checks.refused 400) (checks.callee_rule s r now) tt
+    (λ e. callee_fits s r now (first.0, first.1, not_false (is_some (contact_address (contacts_of r.headers))) e)))
 
-invite_fits : (s : Office) (r : Request) (now : ℕ) → IsInside r → FitsRule s r (checks.invite_by (checks.offer_rule r) s r now)
-unfolding checks.invite_by
+invite_fits : (s : Office) (r : Request) (now : ℕ) → IsInside r → FitsRule s r (checks.invite_rule s r now)
+unfolding checks.invite_rule
 invite_fits s r now inside =
-    unless_fits s r (not (request_method (codes "INVITE") r) || is_some (tag_value r.parts.to.params)) (checks.of_dialog (dialog_rule s.calls.calls r)) (checks.first_call_by (checks.offer_rule r) s r now)
+    unless_fits s r (not (request_method (codes "INVITE") r) || is_some (tag_value r.parts.to.params)) (checks.of_dialog s.calls.calls (dialog_rule s.calls.calls r)) (checks.first_call_rule s r now)
     (dialog_fits s r (dialog_rule s.calls.calls r) inside refl)
     (λ e. first_fits s r now (first_of (request_method (codes "INVITE") r) (tag_value r.parts.to.params) e))
 
-offered_fits : (s : Office) (r : Request) (now : ℕ) → is_offered_method r ≡ true → FitsRule s r (checks.offered_by (checks.offer_rule r) s r now)
-unfolding checks.offered_by
+offered_fits : (s : Office) (r : Request) (now : ℕ) → is_offered_method r ≡ true → FitsRule s r (checks.offered_rule s r now)
+unfolding checks.offered_rule
 offered_fits s r now offered =
-    let invite = checks.invite_by (checks.offer_rule r) s r now in
+    let invite = checks.invite_rule s r now in
     let register = checks.otherwise (checks.register_line r) invite in
     let options = checks.otherwise (checks.options_line r) register in
     let route = checks.otherwise (checks.route_line r) options in
@@ -295,9 +295,9 @@ offered_fits s r now offered =
     (λ no_register. invite_fits s r now (record { offered = offered; no_options = no_options; no_register = no_register })))))
 
 request_fits : (s : Office) (r : Request) (now : ℕ) → FitsRule s r (request_rule s r now)
-unfolding request_rule checks.rule_by
+unfolding request_rule
 request_fits s r now =
-    let offered = checks.offered_by (checks.offer_rule r) s r now in
+    let offered = checks.offered_rule s r now in
     let known = checks.otherwise (checks.unknown_line r) offered in
     let declined = checks.otherwise (checks.declined_line r) known in
     let once = checks.otherwise (checks.merged_line s r) declined in

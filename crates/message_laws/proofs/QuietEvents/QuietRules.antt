@@ -7,7 +7,8 @@ use Rattle.sip_uri.specs.declared.uri.Uri.{Uri}
 use Rattle.sip_message.specs.declared.message.Request.{Request}
 use Rattle.sip_message.specs.Contact.{contacts_of}
 use Rattle.sip_message.specs.Words.{tag_value}
-use Rattle.sdp.specs.declared.description.Description.{Description}
+use Rattle.registrar.specs.Registering.{user_of}
+use Rattle.registrar.specs.Registrar.{rules_of}
 use Rattle.transactions.specs.Contents.{merged}
 use Rattle.transactions.specs.Slots.{named}
 use Rattle.call_media.specs.declared.end.End.{End}
@@ -20,11 +21,10 @@ use Rattle.calls.specs.Finding.{place_by_end, place_by_offer}
 use Rattle.calls.specs.declared.standing_call.StandingCall.{StandingCall}
 use Rattle.call_rules.specs.declared.content.ContentRule.{ContentRule}
 use Rattle.call_rules.specs.declared.content.ContentRule.TheVariants as content
-use Rattle.call_rules.specs.declared.requests.DialogRule.{DialogRule}
-use Rattle.call_rules.specs.declared.requests.DialogRule.TheVariants as dialogrules
+use Rattle.call_rules.specs.DialogRule.{DialogRule}
+use Rattle.call_rules.specs.DialogRule as dialogrules
 use Rattle.call_rules.specs.declared.offers.OfferRule.{OfferRule}
 use Rattle.call_rules.specs.declared.offers.OfferRule.TheVariants as offerrules
-use Rattle.call_rules.specs.Content.{described}
 use Rattle.call_rules.specs.Reach.{contact_address}
 use Rattle.call_rules.specs.Requests.{counted_rule, dialog_rule, has_left, in_call, in_dialog, of_callee, of_caller}
 use Rattle.call_rules.specs.Speaking.{is_bye, is_offer}
@@ -33,8 +33,10 @@ use Rattle.plans.specs.Office.{Office}
 use Rattle.plans.specs.declared.rule.Reply.{Reply}
 use Rattle.plans.specs.declared.rule.Reply.TheVariants as replies
 use Rattle.plans.specs.CallRows.{offer_reply}
-use Rattle.event_rows.specs.declared.rule.Rule.{Rule}
-use Rattle.event_rows.specs.declared.rule.Rule.TheVariants as rules
+use Rattle.plans.specs.CallRule as callrules
+use Rattle.plans.specs.CallRule.{CallRule}
+use Rattle.event_rows.specs.Rule.{Rule}
+use Rattle.event_rows.specs.Rule as rules
 use Rattle.event_rows.specs.Rules as checks
 use Rattle.event_rows.specs.Rules.{request_rule}
 use Rattle.message_laws.specs.Quiet.{IsQuietReply, MovesNone}
@@ -68,46 +70,45 @@ cancel_quiet : (r : Request) (standing : List StandingCall) (id : Option ℕ) �
 cancel_quiet r standing None none = refl
 cancel_quiet r standing (Some id) none = cancels_quiet r id (place_by_offer id standing) none
 
-of_dialog_quiet : (r : Request) (rule : DialogRule) → IsQuietRule r (checks.of_dialog rule)
-of_dialog_quiet r dialogrules.NoDialog = refl
-of_dialog_quiet r (dialogrules.OldNumber place end) = refl
-of_dialog_quiet r (dialogrules.Leaves place end) = tt
-of_dialog_quiet r (dialogrules.Offers place end) = tt
-of_dialog_quiet r (dialogrules.Plain place end) = tt
+called_quiet : (r : Request) (rule : StandingCall → CallRule) (c : Option StandingCall) → IsQuietRule r (checks.with_call rule c)
+called_quiet r rule None = refl
+called_quiet r rule (Some c) = tt
 
-described_quiet : (r : Request) (rule : Option ContentRule) (offer : Option Description) → IsQuietRule r (checks.described_rule rule offer)
-described_quiet r (Some content.Type) offer = tt
-described_quiet r (Some content.Encoding) offer = tt
-described_quiet r None None = refl
-described_quiet r None (Some offer) = tt
+of_dialog_quiet : (r : Request) (standing : List StandingCall) (rule : DialogRule) → IsQuietRule r (checks.of_dialog standing rule)
+of_dialog_quiet r standing dialogrules.NoDialog = refl
+of_dialog_quiet r standing (dialogrules.OldNumber place end) = refl
+of_dialog_quiet r standing (dialogrules.Leaves place end) = tt
+of_dialog_quiet r standing (dialogrules.Offers place end) = called_quiet r (callrules.Offers place end) (slice_get standing place)
+of_dialog_quiet r standing (dialogrules.Plain place end) = called_quiet r (callrules.Refreshes place end) (slice_get standing place)
 
-target_quiet : (r : Request) (to : Option Uri) → IsQuietRule r (checks.target_by (checks.offer_rule r) to)
-target_quiet r None = refl
-target_quiet r (Some to) = described_quiet r _ (described r.headers r.body)
+taken_quiet : (r : Request) (to : Uri) (rule : Option ContentRule) → IsQuietRule r (checks.taken_rule to rule)
+taken_quiet r to (Some content.Type) = tt
+taken_quiet r to (Some content.Encoding) = tt
+taken_quiet r to None = tt
 
-known_quiet : (s : Office) (r : Request) (user : List ℕ) (now : ℕ) (b : Bool) → IsQuietRule r (checks.known_by (checks.offer_rule r) s user now b)
-known_quiet s r user now false = refl
-known_quiet s r user now true = target_quiet r _
+bound_quiet : (r : Request) (to : Option Uri) → IsQuietRule r (checks.bound_rule r to)
+bound_quiet r None = refl
+bound_quiet r (Some to) = taken_quiet r to _
 
-user_quiet : (s : Office) (r : Request) (now : ℕ) (user : Option (List ℕ)) → IsQuietRule r (checks.user_by (checks.offer_rule r) s now user)
-user_quiet s r now None = refl
-user_quiet s r now (Some user) = known_quiet s r user now _
+callee_quiet : (s : Office) (r : Request) (now : ℕ) → IsQuietRule r (checks.callee_rule s r now)
+callee_quiet s r now =
+    line_quiet r (not (checks.is_user s (user_of (rules_of s.registrar) r.uri))) (checks.refused 404) (checks.bound_rule r (checks.target s r now)) (λ b. refl) (bound_quiet r (checks.target s r now))
 
-first_quiet : (s : Office) (r : Request) (now : ℕ) → IsQuietRule r (checks.first_call_by (checks.offer_rule r) s r now)
+first_quiet : (s : Office) (r : Request) (now : ℕ) → IsQuietRule r (checks.first_call_rule s r now)
 first_quiet s r now =
-    line_quiet r (r.max_forwards == 0) (checks.refused 483) (checks.otherwise (checks.contact_line r) (checks.callee_by (checks.offer_rule r) s r now)) (λ b. refl)
-    (line_quiet r (not (is_some (contact_address (contacts_of r.headers)))) (checks.refused 400) (checks.callee_by (checks.offer_rule r) s r now) (λ b. refl) (user_quiet s r now _))
+    line_quiet r (r.max_forwards == 0) (checks.refused 483) (checks.otherwise (checks.contact_line r) (checks.callee_rule s r now)) (λ b. refl)
+    (line_quiet r (not (is_some (contact_address (contacts_of r.headers)))) (checks.refused 400) (checks.callee_rule s r now) (λ b. refl) (callee_quiet s r now))
 
-invite_quiet : (s : Office) (r : Request) (now : ℕ) → IsQuietRule r (checks.invite_by (checks.offer_rule r) s r now)
-unfolding checks.invite_by
+invite_quiet : (s : Office) (r : Request) (now : ℕ) → IsQuietRule r (checks.invite_rule s r now)
+unfolding checks.invite_rule
 invite_quiet s r now =
-    line_quiet r (not (request_method (codes "INVITE") r) || is_some (tag_value r.parts.to.params)) (checks.of_dialog (dialog_rule s.calls.calls r)) (checks.first_call_by (checks.offer_rule r) s r now)
-    (λ b. of_dialog_quiet r (dialog_rule s.calls.calls r)) (first_quiet s r now)
+    line_quiet r (not (request_method (codes "INVITE") r) || is_some (tag_value r.parts.to.params)) (checks.of_dialog s.calls.calls (dialog_rule s.calls.calls r)) (checks.first_call_rule s r now)
+    (λ b. of_dialog_quiet r s.calls.calls (dialog_rule s.calls.calls r)) (first_quiet s r now)
 
-offered_quiet : (s : Office) (r : Request) (now : ℕ) → IsOneMethod r → IsQuietRule r (checks.offered_by (checks.offer_rule r) s r now)
-unfolding checks.offered_by
+offered_quiet : (s : Office) (r : Request) (now : ℕ) → IsOneMethod r → IsQuietRule r (checks.offered_rule s r now)
+unfolding checks.offered_rule
 offered_quiet s r now one =
-    let invite = checks.invite_by (checks.offer_rule r) s r now in
+    let invite = checks.invite_rule s r now in
     let register = checks.otherwise (checks.register_line r) invite in
     let options = checks.otherwise (checks.options_line r) register in
     let route = checks.otherwise (checks.route_line r) options in
@@ -117,9 +118,9 @@ offered_quiet s r now one =
     (line_quiet r (request_method (codes "REGISTER") r) (rules.Alone replies.Registration) invite (other_method r (codes "REGISTER") one refl refl) (invite_quiet s r now))))
 
 request_quiet : (s : Office) (r : Request) (now : ℕ) → IsOneMethod r → IsQuietRule r (request_rule s r now)
-unfolding request_rule checks.rule_by
+unfolding request_rule
 request_quiet s r now one =
-    let offered = checks.offered_by (checks.offer_rule r) s r now in
+    let offered = checks.offered_rule s r now in
     let known = checks.otherwise (checks.unknown_line r) offered in
     let declined = checks.otherwise (checks.declined_line r) known in
     let once = checks.otherwise (checks.merged_line s r) declined in

@@ -35,19 +35,20 @@ use Rattle.call_rules.specs.Speaking.{is_bye}
 use Rattle.call_steps.specs.Rows.{answers_leg, counts, first_row}
 use Rattle.call_steps.specs.Values.{without_offer}
 use Rattle.plans.specs.Office.{Office}
-use Rattle.plans.specs.declared.rule.CallRule.TheVariants as callrules
+use Rattle.plans.specs.CallRule as callrules
 use Rattle.plans.specs.declared.rule.Reply.{Reply}
 use Rattle.plans.specs.declared.rule.Reply.TheVariants as replies
 use Rattle.plans.specs.declared.setting.Setting.{Setting}
 use Rattle.plans.specs.declared.taken.Taken.{Taken}
 use Rattle.plans.specs.CallRows as rows
-use Rattle.plans.specs.CallRows.{are_full, asker, begins_by, call_row, first_by, has_pairs, has_pairs_for, is_unfit, occasion, of_plan, offer_method, offer_reply, offers, offers_by, passes, passes_at, passes_if, passes_in, refreshes_at, refreshes_by, refuses, tag_at, takes, takes_request, target, unless_full, with_step}
+use Rattle.plans.specs.CallRows.{are_full, asker, begins, call_row, first_by, has_pairs, has_pairs_for, is_unfit, occasion, of_plan, offer_method, offer_reply, offers, offers_by, passes, passes_if, passes_in, refreshes_at, refreshes_by, refuses, tag_at, takes, takes_request, unless_full, with_step}
 use Rattle.plans.specs.Effect.{Effect}
 use Rattle.plans.specs.Plan.{goes, nothing}
 use Rattle.plans.specs.Replies.{reply_row, responds_in}
-use Rattle.event_rows.specs.declared.rule.Rule.{Rule}
-use Rattle.event_rows.specs.declared.rule.Rule.TheVariants as rules
-use Rattle.event_rows.specs.Rules.{request_rule}
+use Rattle.event_rows.specs.Rule.{Rule}
+use Rattle.event_rows.specs.Rule as rules
+use Rattle.event_rows.specs.Rules.{request_rule, target}
+use Rattle.event_rows.proofs.RuleLaws.{WasFound, request_found}
 use Rattle.event_rows.specs.Rows.{is_full, received, received_by, request_by, rule_row}
 use Rattle.message_laws.specs.Addresses.{IsSource}
 use Rattle.message_laws.proofs.Askers.FitReplies.{FitsAlone, FitsReplyIf, offer_reply_fits, request_fits}
@@ -104,10 +105,9 @@ module _ (laws : Laws) (s : Office) (e : Setting) (k : IsReady s) (text : List �
       (λ f. first_reads laws s e k text r id to offer from read bound said))
       (λ b. refusal_reads 503 (omega arith) (omega arith)))
 
-  begins_read : (to : Option Uri) (offer : Option Description) → target s r e.now ≡ to → described r.headers r.body ≡ offer → SendsRead (begins_by s e r begun id to offer)
-  begins_read None offer bound said = refusal_reads 480 (omega arith) (omega arith)
-  begins_read (Some to) None bound said = refusal_reads 488 (omega arith) (omega arith)
-  begins_read (Some to) (Some offer) bound said = first_by_reads to offer bound said
+  begins_read : (to : Uri) (offer : Option Description) → target s r e.now ≡ Some to → described r.headers r.body ≡ offer → SendsRead (begins s e r begun id to offer)
+  begins_read to None bound said = refusal_reads 488 (omega arith) (omega arith)
+  begins_read to (Some offer) bound said = first_by_reads to offer bound said
 
   -- ---- in a dialog
 
@@ -131,25 +131,21 @@ module _ (laws : Laws) (s : Office) (e : Setting) (k : IsReady s) (text : List �
   passes_in_reads place end c None said = counted_reads place end (replies.Refusal 488) (omega arith, omega arith)
   passes_in_reads place end c (Some offer) said = passes_if_reads place end c offer said
 
-  passes_at_reads : (place : ℕ) (end : End) (c : Option StandingCall) → SendsRead (passes_at s e r begun id place end c)
-  passes_at_reads place end None = counted_reads place end (replies.Refusal 481) (omega arith, omega arith)
-  passes_at_reads place end (Some c) = passes_in_reads place end c.call (described r.headers r.body) refl
+  offers_by_reads : (place : ℕ) (end : End) (c : Call) (reply : Option Reply) → FitsReplyIf r reply → SendsRead (offers_by s e r begun id place end c reply)
+  offers_by_reads place end c (Some reply) fits = counted_reads place end reply fits
+  offers_by_reads place end c None fits = passes_in_reads place end c (described r.headers r.body) refl
 
-  offers_by_reads : (place : ℕ) (end : End) (reply : Option Reply) → FitsReplyIf r reply → SendsRead (offers_by s e r begun id place end reply)
-  offers_by_reads place end (Some reply) fits = counted_reads place end reply fits
-  offers_by_reads place end None fits = passes_at_reads place end (slice_get s.calls.calls place)
-
-  offers_read : (place : ℕ) (end : End) → SendsRead (offers s e r begun id place end)
+  offers_read : (place : ℕ) (end : End) (c : Call) → SendsRead (offers s e r begun id place end c)
   unfolding offers
-  offers_read place end = offers_by_reads place end (offer_reply (offer_rule s.calls.calls r place end)) (offer_reply_fits r (offer_rule s.calls.calls r place end))
+  offers_read place end c = offers_by_reads place end c (offer_reply (offer_rule r end c)) (offer_reply_fits r (offer_rule r end c))
 
   refreshes_by_reads : (place : ℕ) (end : End) (reply : Option Reply) → FitsReplyIf r reply → SendsRead (refreshes_by s e r begun id place end reply)
   refreshes_by_reads place end (Some reply) fits = counted_reads place end reply fits
   refreshes_by_reads place end None fits = okay_read s e r begun id can k.scenes.askers.server
 
-  refreshes_read : (place : ℕ) (end : End) → SendsRead (refreshes_at s e r begun id place end)
+  refreshes_read : (place : ℕ) (end : End) (c : Call) → SendsRead (refreshes_at s e r begun id place end c)
   unfolding refreshes_at
-  refreshes_read place end = refreshes_by_reads place end (offer_reply (plain_rule s.calls.calls r place end)) (offer_reply_fits r (plain_rule s.calls.calls r place end))
+  refreshes_read place end c = refreshes_by_reads place end (offer_reply (plain_rule r end c)) (offer_reply_fits r (plain_rule r end c))
 
   -- ---- CANCEL and BYE
 
@@ -162,17 +158,17 @@ module _ (laws : Laws) (s : Office) (e : Setting) (k : IsReady s) (text : List �
 
   -- ---- by the rules
 
-  rule_reads : (rule : Rule) → FitsAlone r rule → SendsRead (rule_row s e r begun id rule)
+  rule_reads : (rule : Rule) → FitsAlone r rule → WasFound s r e.now rule → SendsRead (rule_row s e r begun id rule)
   unfolding call_row
-  rule_reads (rules.Alone reply) fits = replies_read reply fits
-  rule_reads (rules.Call callrules.Begins) fits = begins_read (target s r e.now) (described r.headers r.body) refl refl
-  rule_reads (rules.Call (callrules.Cancels place)) fits = cancels_read place fits
-  rule_reads (rules.Call (callrules.Leaves place end)) fits = leaves_read place end fits
-  rule_reads (rules.Call (callrules.Offers place end)) fits = offers_read place end
-  rule_reads (rules.Call (callrules.Refreshes place end)) fits = refreshes_read place end
+  rule_reads (rules.Alone reply) fits found = replies_read reply fits
+  rule_reads (rules.Call (callrules.Begins to)) fits found = begins_read to (described r.headers r.body) found refl
+  rule_reads (rules.Call (callrules.Cancels place)) fits found = cancels_read place fits
+  rule_reads (rules.Call (callrules.Leaves place end)) fits found = leaves_read place end fits
+  rule_reads (rules.Call (callrules.Offers place end c)) fits found = offers_read place end c.call
+  rule_reads (rules.Call (callrules.Refreshes place end c)) fits found = refreshes_read place end c.call
 
   pub new_reads : SendsRead (rule_row s e r begun id (request_rule s r e.now))
-  new_reads = rule_reads (request_rule s r e.now) (request_fits s r e.now)
+  new_reads = rule_reads (request_rule s r e.now) (request_fits s r e.now) (request_found s r e.now)
 
 -- ---- any request
 

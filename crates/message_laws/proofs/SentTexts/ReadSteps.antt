@@ -35,7 +35,8 @@ use Rattle.call_steps.specs.Rows.{begins_by, counts, first_asker, first_leg, fir
 use Rattle.call_steps.specs.Values.{AskerValue, ComingValue, lent, lent_scene, without_offer}
 use Rattle.call_messages.specs.declared.scene.Scene.{Scene}
 use Rattle.call_messages.specs.Dressing.{dress_one}
-use Rattle.plans.specs.CallRows.{occasion, target}
+use Rattle.plans.specs.CallRows.{occasion}
+use Rattle.event_rows.specs.Rules.{target}
 use Rattle.plans.specs.Office.{Office}
 use Rattle.plans.specs.declared.setting.Setting.{Setting}
 use Rattle.message_laws.specs.Addresses.{IsSource}

@@ -213,7 +213,7 @@ request_callees s tokens few e r begun id x none (counted_alone place end reply 
 request_callees s tokens few e r begun id x none (passed_on place end c offer rule_is why is) =
     subst (Callees s) (sym is) (
     step_callees s begun None None _ none
-    (offers_callee s.calls s.table (occasion s e) place end _ offer r id e.source c why.there (passes_settled s.calls.calls r place end c why.there why.passes) tokens.calls)
+    (offers_callee s.calls s.table (occasion s e) place end _ offer r id e.source c why.there (passes_settled r end c.call why.passes) tokens.calls)
     )
 request_callees s tokens few e r begun id x none (refreshed place end why is) =
     subst (Callees s) (sym is) (put_callees s (okay_plan s e r begun id) place (refreshes s.calls.calls place end r) (reply_none begun id _ (okay_reply s e r begun id) none))

@@ -130,7 +130,7 @@ request_opens s tokens k e r begun id x (counted_alone place end reply why is) =
 request_opens s tokens k e r begun id x (passed_on place end c offer rule_is why is) =
     subst (Opens s) (sym is) (
     step_opens s begun None None _
-    (offers_open s.calls s.table (occasion s e) place end _ offer r id e.source c why.there (passes_settled s.calls.calls r place end c why.there why.passes) tokens.calls
+    (offers_open s.calls s.table (occasion s e) place end _ offer r id e.source c why.there (passes_settled r end c.call why.passes) tokens.calls
     (all_at HasSoundLegs s.calls.calls place c k.calls why.there) why.numbered)
     )
 request_opens s tokens k e r begun id x (refreshed place end why is) =

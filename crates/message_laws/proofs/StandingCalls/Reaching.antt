@@ -25,7 +25,7 @@ use Rattle.calls.specs.Finding.{place_by_end}
 use Rattle.calls.specs.declared.standing_call.StandingCall.{StandingCall}
 use Rattle.call_rules.specs.Content.{content_rule}
 use Rattle.call_rules.specs.Offers as rules
-use Rattle.call_rules.specs.Offers.{offer_in, offer_rule, plain_in, plain_rule}
+use Rattle.call_rules.specs.Offers.{offer_rule, plain_rule}
 use Rattle.call_rules.specs.Reach.{is_unreachable, leaves_unreached}
 use Rattle.call_rules.specs.Requests as requests
 use Rattle.call_rules.specs.Requests.{dialog_rule}
@@ -33,8 +33,8 @@ use Rattle.call_rules.specs.Speaking.{is_bye, is_invite, is_offer, is_update, ma
 use Rattle.call_rules.specs.declared.content.ContentRule.{ContentRule}
 use Rattle.call_rules.specs.declared.offers.OfferRule.{OfferRule}
 use Rattle.call_rules.specs.declared.offers.OfferRule.TheVariants as asked
-use Rattle.call_rules.specs.declared.requests.DialogRule.{DialogRule}
-use Rattle.call_rules.specs.declared.requests.DialogRule.TheVariants as dialogrules
+use Rattle.call_rules.specs.DialogRule.{DialogRule}
+use Rattle.call_rules.specs.DialogRule as dialogrules
 use Rattle.plans.specs.CallRows.{offer_reply}
 use Rattle.message_laws.proofs.Messages.RequestViews.{IsInside}
 
@@ -166,27 +166,19 @@ reach_line r next h = by_reach (leaves_unreached r.parts (contacts_of r.headers)
     by_reach true e = tt
     by_reach false e = h e
 
-offer_reaches : (r : Request) (end : End) (c : Call) → Reaches r (offer_in r end c)
-unfolding offer_in
+offer_reaches : (r : Request) (end : End) (c : Call) → Reaches r (offer_rule r end c)
+unfolding offer_rule
 offer_reaches r end c =
     line_reaches r (rules.clash_line c end) _ (clash_reaches r c (clash_in c.standing end))
     (line_reaches r (rules.hops_line r) _ (when_reaches r (r.max_forwards == 0) asked.NoHops tt)
     (reach_line r (rules.otherwise (rules.content_line r) asked.Passes)
     (λ reached. line_reaches r (rules.content_line r) asked.Passes (content_reaches r (content_rule r.headers)) reached)))
 
-plain_reaches : (r : Request) (end : End) (c : Call) → Reaches r (plain_in r end c)
-unfolding plain_in
+plain_reaches : (r : Request) (end : End) (c : Call) → Reaches r (plain_rule r end c)
+unfolding plain_rule
 plain_reaches r end c =
     line_reaches r (rules.plain_clash_line c end) _ (crosses_reaches r (clash_without_offer_in c.standing end))
     (line_reaches r (rules.hops_line r) _ (when_reaches r (r.max_forwards == 0) asked.NoHops tt) (reach_line r asked.Passes (λ reached. reached)))
-
-offer_by_reaches : (r : Request) (end : End) (c : Option StandingCall) → Reaches r (rules.offer_by r end c)
-offer_by_reaches r end None = tt
-offer_by_reaches r end (Some c) = offer_reaches r end c.call
-
-plain_by_reaches : (r : Request) (end : End) (c : Option StandingCall) → Reaches r (rules.plain_by r end c)
-plain_by_reaches r end None = tt
-plain_by_reaches r end (Some c) = plain_reaches r end c.call
 
 passes_reached : (r : Request) (rule : OfferRule) → Reaches r rule → offer_reply rule ≡ None → leaves_unreached r.parts (contacts_of r.headers) ≡ false
 passes_reached r asked.NoDialog h e = absurd (none-some _ (sym e))
@@ -196,13 +188,11 @@ passes_reached r asked.Unreached h e = absurd (none-some _ (sym e))
 passes_reached r (asked.Content rule) h e = absurd (none-some _ (sym e))
 passes_reached r asked.Passes h e = h
 
-pub offer_reached : (standing : List StandingCall) (r : Request) (place : ℕ) (end : End) → offer_reply (offer_rule standing r place end) ≡ None → leaves_unreached r.parts (contacts_of r.headers) ≡ false
-unfolding offer_rule
-offer_reached standing r place end passes = passes_reached r _ (offer_by_reaches r end (slice_get standing place)) passes
+pub offer_reached : (r : Request) (end : End) (c : Call) → offer_reply (offer_rule r end c) ≡ None → leaves_unreached r.parts (contacts_of r.headers) ≡ false
+offer_reached r end c passes = passes_reached r _ (offer_reaches r end c) passes
 
-pub plain_reached : (standing : List StandingCall) (r : Request) (place : ℕ) (end : End) → offer_reply (plain_rule standing r place end) ≡ None → leaves_unreached r.parts (contacts_of r.headers) ≡ false
-unfolding plain_rule
-plain_reached standing r place end passes = passes_reached r _ (plain_by_reaches r end (slice_get standing place)) passes
+pub plain_reached : (r : Request) (end : End) (c : Call) → offer_reply (plain_rule r end c) ≡ None → leaves_unreached r.parts (contacts_of r.headers) ≡ false
+plain_reached r end c passes = passes_reached r _ (plain_reaches r end c) passes
 
 -- ---- 2xx that a call takes
 

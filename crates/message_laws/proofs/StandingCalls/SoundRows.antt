@@ -35,7 +35,8 @@ use Rattle.call_messages.specs.Messages.{new_leg}
 use Rattle.call_steps.specs.Rows.{answers_leg, counts, first_leg, refreshes}
 use Rattle.call_steps.specs.Scenes.{fresh}
 use Rattle.call_steps.specs.declared.occasion.Occasion.{Occasion}
-use Rattle.plans.specs.CallRows.{acks_again, occasion, of_plan, okay_plan, puts_if, takes, takes_request, target, target_by, timer_input, with_step, without_call_timer}
+use Rattle.plans.specs.CallRows.{acks_again, occasion, of_plan, okay_plan, puts_if, takes, takes_request, timer_input, with_step, without_call_timer}
+use Rattle.event_rows.specs.Rules.{target, target_by}
 use Rattle.plans.specs.Effect.{Effect}
 use Rattle.plans.specs.Office.{Office}
 use Rattle.plans.specs.Plan.{Plan, moves, nothing}
@@ -125,12 +126,12 @@ request_sounds reading s k few e text r begun id x read none (counted_alone plac
     )
 request_sounds reading s k few e text r begun id x read none (passed_on place end c offer rule_is why is) =
     let target : IsTargetIf (reached_at (contacts_of r.headers)) =
-    reached_target reading r.parts r.headers (offers_may_offer s.calls.calls r place end rule_is) (offer_reached s.calls.calls r place end why.passes) in
+    reached_target reading r.parts r.headers (offers_may_offer s.calls.calls r place end rule_is) (offer_reached r end c.call why.passes) in
     subst (Sounds s) (sym is) (step_sounds s begun None None _ none (offers_sound s.calls s.table (occasion s e) place _ end r id e.source k.requests k.calls target))
 request_sounds reading s k few e text r begun id x read none (refreshed place end why is) =
     let target : IsTargetIf (reached_at (contacts_of r.headers)) =
     reached_target reading r.parts r.headers (plain_may_offer text s.calls.calls r place end (reading.message text (Kinds.Request r) read) why.rule why.inside)
-    (plain_reached s.calls.calls r place end why.passes) in
+    (plain_reached r end why.call.call why.passes) in
     subst (Sounds s) (sym is) (
     put_sounds s k (okay_plan s e r begun id) place (refreshes s.calls.calls place end r) (reply_none begun id _ (okay_reply s e r begun id) none)
     (refreshes_sound s.calls.calls place end r target k.calls) tt

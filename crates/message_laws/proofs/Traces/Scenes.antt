@@ -40,7 +40,8 @@ use Rattle.call_steps.specs.Rows.{first_asker, first_leg, first_messages, first_
 use Rattle.call_steps.specs.Scenes.{asker_by, asker_in, dialog_in, first_scene, fork_scene, offerer_tag, passed_id, scene}
 use Rattle.call_steps.specs.Values.{AskerValue, ComingValue, SceneValue, lent, lent_asker, lent_scene}
 use Rattle.call_steps.specs.declared.occasion.Occasion.{Occasion}
-use Rattle.plans.specs.CallRows.{occasion, target, without_call_timer}
+use Rattle.plans.specs.CallRows.{occasion, without_call_timer}
+use Rattle.event_rows.specs.Rules.{target}
 use Rattle.plans.specs.Office.{Office}
 use Rattle.plans.specs.declared.setting.Setting.{Setting}
 use Rattle.message_laws.specs.Addresses.{IsServerAddress, IsSource}

@@ -4,9 +4,9 @@ use plans::{CallRule, Reply};
 
 /// What is done for a request that begins a transaction.
 #[derive(Clone, Copy)]
-pub enum Rule {
+pub(crate) enum Rule<'r> {
     /// It is answered with a final response, and no call has to do with it.
     Alone(Reply),
     /// A call takes it, or begins with it.
-    Call(CallRule),
+    Call(CallRule<'r>),
 }
