@@ -8,6 +8,7 @@ use Rattle.plans.specs.declared.taken.Taken.{Taken}
 use Rattle.events.specs.declared.sent.Sent.{Sent}
 use Rattle.plans.specs.CallRows.{of_plan}
 use Rattle.plans.specs.Effect.{Effect}
+use Rattle.plans.specs.Note.{note_of_taken}
 use Rattle.plans.specs.Plan.{nothing}
 use Rattle.event_rows.specs.Rows.{after, moment_after, only_counts, row, row_by, what_row}
 use Rattle.event_rows.specs.State.{Contents, after_count, after_event, moment_at, moments_end, max_tokens, office}
@@ -53,7 +54,7 @@ sends_counted s e taken sent h =
 counted_alone : (s : Contents) (m : ℕ) (taken : Taken) → after_event s m (of_plan (office s) (nothing taken)) ≡ after_count s m taken
 unfolding after_event
 counted_alone s m taken =
-    let with_tokens : ℕ → Contents = λ n. record { registrar = s.registrar; table = s.table; calls = s.calls; acks = s.acks; changes = []; server = s.server; range = s.range; least = s.least; moment = m; tokens = n; tally = counted s.tally taken } in
+    let with_tokens : ℕ → Contents = λ n. record s { changes = []; moment = m; tokens = n; tally = counted s.tally taken; note = note_of_taken taken; registered = None } in
     ap with_tokens (add-zero s.tokens)
 
 pub after_counted : (s : Contents) (e : Event) (taken : Taken) → only_counts s e ≡ Some taken →

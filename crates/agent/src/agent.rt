@@ -1,6 +1,7 @@
 //! The agent, and its step.
 
 ghost use Rattle.std.specs.Prelude.{◌≡◌, ◌<◌, ◌≤◌, ◌^◌, ◌++◌, [], ℕ, IfOk, List, OnOk, OnErr, None};
+ghost use Rattle.std.specs.Option.{option_copied};
 ghost use Rattle.call_trace.specs.declared.datagram.Datagram.{Datagram};
 ghost use Rattle.port_pool.specs.Holdings.{holder_at};
 ghost use Rattle.port_pool.specs.RelayTable.{changed_by};
@@ -21,12 +22,13 @@ use events::{Event, Sent};
 use media_laws::agents_stand;
 use message_laws::event_comes_from_source;
 use offer_answer::OwnRange;
-use plans::{Doing, KeptAck, Office, Plan, Taken};
+use plans::{Doing, KeptAck, Note, Office, Plan, Taken};
 use port_pool::{Change, RelayTable};
 use registrar::Registrar;
 use sip_uri::Addr;
 use std::alloc::{AllocError, Global};
 use std::marker::Model;
+use text::Text;
 use transactions::Table;
 
 /// The server as one value: a step takes an event, and gives what is sent.
@@ -50,6 +52,10 @@ pub struct Agent {
     /// How many tokens were made.
     pub(crate) tokens: u64,
     pub(crate) tally: Tally,
+    /// What the last event was about.
+    pub(crate) note: Note,
+    /// The user whose bindings it set.
+    pub(crate) registered: Option<Text<'static>>,
 }
 
 impl Drop for Agent {
@@ -67,6 +73,8 @@ impl Drop for Agent {
             moment: _,
             tokens: _,
             tally: _,
+            note: _,
+            registered: _,
         } = self;
     }
 }
@@ -81,7 +89,7 @@ impl Model for Agent {
 
     ghost coded = { Prim.hlevel (codes, coded_contents) };
 
-    ghost view = { λ a. record { registrar = a.registrar; table = a.table; calls = standing a.calls; acks = a.acks.items; changes = a.changes.items; server = a.server; range = a.range; least = a.least; moment = a.moment; tokens = a.tokens; tally = a.tally } };
+    ghost view = { λ a. record { registrar = a.registrar; table = a.table; calls = standing a.calls; acks = a.acks.items; changes = a.changes.items; server = a.server; range = a.range; least = a.least; moment = a.moment; tokens = a.tokens; tally = a.tally; note = a.note; registered = a.registered } };
 
     ghost invariant = { λ a. IsCounted a.moment a.tokens a.calls.begun a.range };
 }
@@ -121,6 +129,27 @@ impl Agent {
         ensures { result.now ≡ self.now.changes }
     {
         &self.changes
+    }
+
+    /// What the last event was about; an event that was lost is none. Takes no memory.
+    pub fn note(&self) -> Note
+        ensures { result ≡ self.now.note }
+    {
+        self.note
+    }
+
+    /// The user whose bindings the last event set. Takes no memory.
+    pub fn registered_user(&self) -> Option<&Text<'static>>
+        ensures { option_copied result ≡ self.now.registered }
+    {
+        self.registered.as_ref()
+    }
+
+    /// Who is bound where. Takes no memory.
+    pub fn registrar(&self) -> &Registrar
+        ensures { result.now ≡ self.now.registrar }
+    {
+        &self.registrar
     }
 
     /// The number of the call that holds the pair of this port, used or reserved. Where the agent stands after a trace,
@@ -247,17 +276,19 @@ impl Agent {
             sends,
             registration,
             made: alone,
+            note,
         } = plan;
         self.calls.reserve_for(&calls)?;
         self.acks.reserve(1)?;
         commit(&mut self.table, sent, changes, sends, now)?;
-        enter(&mut self.registrar, registration);
+        self.registered = enter(&mut self.registrar, registration);
         stop(&mut self.calls, fired);
         self.changes = self.calls.enter(self.alloc, calls, now);
         keep(&mut self.acks, acks);
         self.moment = now;
         self.tokens += made + u64::from(alone);
         self.tally = self.tally.with(taken);
+        self.note = note;
         Ok(taken)
     }
 }

@@ -1,6 +1,7 @@
 //! What a step does to the agent's parts and to the list of what is sent: all of it or nothing.
 
-ghost use Rattle.std.specs.Prelude.{◌≡◌, ◌<◌, ◌≤◌, ◌^◌, ◌++◌, OnOk, OnErr};
+ghost use Rattle.std.specs.Prelude.{◌≡◌, ◌<◌, ◌≤◌, ◌^◌, ◌++◌, option_map, OnOk, OnErr};
+ghost use Rattle.registrar.specs.Registrar.{PlanContents};
 ghost use Rattle.calls.specs.State.{standing};
 ghost use Rattle.plans.specs.Effect.{fired_off};
 ghost use Rattle.transactions.specs.Changes.{entered_all};
@@ -10,6 +11,7 @@ use calls::{CallTimerId, Calls};
 use events::Sent;
 use registrar::Registrar;
 use std::alloc::AllocError;
+use text::Text;
 use transactions::{Change, Table};
 
 /// What is sent goes behind what stands in the list, and the changes of the transactions are entered. Where memory is
@@ -36,13 +38,17 @@ pub(crate) fn commit(
     Ok(())
 }
 
-/// Makes the change of the registrar, if there is one. Takes no memory.
-pub(crate) fn enter(registrar: &mut Registrar, registration: Option<registrar::Plan>)
-    ensures { registrar.new ≡ registered_by registrar.old registration }
+/// Makes the change of the registrar, if there is one, and gives the user whose bindings it sets. Takes no memory.
+pub(crate) fn enter(
+    registrar: &mut Registrar,
+    registration: Option<registrar::Plan>,
+) -> Option<Text<'static>>
+    ensures registrar { registrar.new ≡ registered_by registrar.old registration }
+    ensures user { result ≡ option_map (λ (plan : PlanContents). plan.user) registration }
 {
     match registration {
-        None => {}
-        Some(plan) => registrar.carry_out(plan),
+        None => None,
+        Some(plan) => Some(registrar.carry_out(plan)),
     }
 }
 

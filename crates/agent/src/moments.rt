@@ -7,7 +7,7 @@ ghost use Rattle.event_rows.specs.State.{after_count, moment_at, moments_end};
 
 use crate::agent::Agent;
 use events::{Event, What};
-use plans::{Taken, Why};
+use plans::{Taken, Why, note_of_taken};
 use sip_message::MessageError;
 
 /// Moments end here, in milliseconds.
@@ -75,5 +75,7 @@ impl Agent {
         }
         self.changes = Vec::new(self.alloc);
         self.tally = self.tally.with(taken);
+        self.note = note_of_taken(taken);
+        self.registered = None;
     }
 }

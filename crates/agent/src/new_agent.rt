@@ -14,6 +14,7 @@ use index::PrintKey;
 use media_laws::agents_stand;
 use message_laws::configuration_names_an_address;
 use offer_answer::OwnRange;
+use plans::Note;
 use registrar::Registrar;
 use sip_uri::Addr;
 use std::alloc::{AllocError, Global};
@@ -105,6 +106,8 @@ impl Agent {
             moment: 0,
             tokens: 0,
             tally: Tally::none_counted(),
+            note: Note::Quiet,
+            registered: None,
         })
     }
 }

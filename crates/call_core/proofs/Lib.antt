@@ -1,3 +1,4 @@
 pub mod TableLaws
 pub mod PlanLaws
 pub mod SessionLaws
+pub mod NoteLaws

@@ -15,3 +15,4 @@ pub mod Calls
 pub mod Refusals
 pub mod Plans
 pub mod CallRows
+pub mod Notes

@@ -17,7 +17,12 @@ ghost use Rattle.call_core.specs.declared.call.Call.{Call};
 ghost use Rattle.call_core.specs.declared.input.Input.{Input};
 ghost use Rattle.call_core.specs.declared.input.Input.TheVariants as inputs;
 ghost use Rattle.call_core.specs.declared.stage.Standing.{Standing};
+ghost use Rattle.call_core.specs.declared.note.CallNote.TheVariants.{Begun};
+ghost use Rattle.call_core.specs.declared.row.Row.{Row};
+ghost use Rattle.call_core.specs.declared.signal.Signal.{Signal};
 ghost use Rattle.call_core.specs.CallRows.{call_row, is_fit_input};
+ghost use Rattle.call_core.specs.Notes.{HasNote, note_of};
+ghost use Rattle.call_core.specs.Table.{first_row, row_of};
 ghost use Rattle.call_core.specs.Calls.{IsServed, awaits_answer, has_session, holds_in};
 
 /// Where a session stands, the call's two legs, joined by the relay table, mean what the offerer's own offer and the
@@ -57,4 +62,10 @@ pub fn session_is_of_its_exchange()
     ensures other { (call : Call) (input : Input) (pool : Contents) (now : ℕ) (s : Session) →
         is_fit_input call input ≡ false → (call_row call input pool now).call.media.session ≡ Some s →
         call.media.session ≡ Some s }
+{}
+
+/// A line's note says what the table does for its signal; the first offer's line has its own.
+pub fn lines_have_notes()
+    ensures begun { note_of None first_row.actions first_row.next ≡ Some Begun }
+    ensures line { (standing : Standing) (signal : Signal) (row : Row) → row_of standing signal ≡ Some row → HasNote standing signal row }
 {}

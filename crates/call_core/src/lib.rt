@@ -14,6 +14,7 @@ mod clash;
 mod ending;
 mod input;
 mod laws;
+mod note;
 mod plan;
 mod planner;
 mod reasked;
@@ -31,7 +32,10 @@ pub use call::Call;
 pub use call_media::End;
 pub use clash::{Clash, clash_at, clash_without_offer};
 pub use input::Input;
-pub use laws::{session_is_direct, session_is_of_its_exchange, spared_call_is_served};
+pub use laws::{
+    lines_have_notes, session_is_direct, session_is_of_its_exchange, spared_call_is_served,
+};
+pub use note::{CallNote, NoteOfCall};
 pub use plan::{Done, MediaPlan, Numbers, Plan};
 pub use refusal::CallRefusal;
 pub use refusal_status::status_passed_on;

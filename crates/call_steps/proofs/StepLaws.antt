@@ -23,23 +23,24 @@ use Rattle.calls.specs.State.{Standing}
 use Rattle.calls.specs.Changes.{carries}
 use Rattle.calls.specs.declared.change.LegDialog.{LegDialog}
 use Rattle.calls.specs.declared.standing_call.StandingCall.{StandingCall}
+use Rattle.call_core.specs.declared.note.NoteOfCall.{NoteOfCall}
 use Rattle.call_steps.specs.declared.messages.StepMessages.{StepMessages}
 use Rattle.call_steps.specs.declared.occasion.Occasion.{Occasion}
 use Rattle.call_steps.specs.Effects.{no_effect, with_messages}
-use Rattle.call_steps.specs.Rows.{begins_as, begins_with, begun, counts, does, first_messages, first_row, messages_of, offer_coming, offer_request, offers_row, put_with, standing_as, takes_by, takes_row}
+use Rattle.call_steps.specs.Rows.{begins_as, begins_with, begun, counts, does, first_messages, first_row, messages_of, offer_coming, offer_request, offers_row, put_with, standing_as, step_note, takes_by, takes_row}
 use Rattle.call_steps.specs.Scenes.{fresh}
 use Rattle.call_steps.specs.Values.{AskerValue, ComingValue, without_offer}
 
 -- ---- a call that stands
 
 pub does_as_planned : (calls : Standing) (table : transactions.Contents) (o : Occasion) (place : ℕ) (input : Input) (w : ComingValue)
-    (c : StandingCall) (plan : Plan) (said : StepMessages) → slice_get calls.calls place ≡ Some c
+    (c : StandingCall) (plan : Plan) (said : StepMessages) (note : Option NoteOfCall) → slice_get calls.calls place ≡ Some c
     → carried c.call calls.pool o.now plan ≡ call_row c.call input calls.pool o.now
-    → said ≡ messages_of table o w c (carried c.call calls.pool o.now plan)
-    → with_messages (carries calls o.now place (put_with w said) plan (slice_get calls.calls place)) said
+    → said ≡ messages_of table o w c (carried c.call calls.pool o.now plan) → note ≡ step_note c (carried c.call calls.pool o.now plan)
+    → with_messages (carries calls o.now place (put_with w said) plan (slice_get calls.calls place)) said note
     ≡ does calls table o place w c (call_row c.call input calls.pool o.now)
-does_as_planned calls table o place input w c plan said at row says =
-    rw (at, says) (ap (λ (step : Step). does calls table o place w c step) row)
+does_as_planned calls table o place input w c plan said note at row says notes =
+    rw (at, says, notes) (ap (λ (step : Step). does calls table o place w c step) row)
 
 pub takes_there : (calls : Standing) (table : transactions.Contents) (o : Occasion) (place : ℕ) (input : Input) (leg : Option LegDialog) (request : Option AskerValue)
     (c : StandingCall) → slice_get calls.calls place ≡ Some c

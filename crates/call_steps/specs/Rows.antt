@@ -17,8 +17,10 @@ use Rattle.call_media.specs.Ends.{other}
 use Rattle.call_core.specs.declared.action.Action.TheVariants.{Ack, Bye}
 use Rattle.call_core.specs.declared.call.Call.{Call}
 use Rattle.call_core.specs.declared.input.Input.{Input}
+use Rattle.call_core.specs.declared.note.NoteOfCall.{NoteOfCall}
 use Rattle.call_core.specs.CallRows.{call_row, first_call_row}
 use Rattle.call_core.specs.Calls.{dialog_of, new_call, to_target}
+use Rattle.call_core.specs.Notes.{call_note}
 use Rattle.call_core.specs.Plans.{Step}
 use Rattle.calls.specs.State.{Standing}
 use Rattle.calls.specs.Changes.{after_first_step, after_step, unchanged}
@@ -46,8 +48,12 @@ messages_of table o w c step = messages (scene table o w c step.description) (pa
 abbrev pub put_with : ComingValue → StepMessages → Beside
 put_with w said = record { leg = w.leg; taken = w.taken; answer = said.answer }
 
+-- what happened to the call
+abbrev pub step_note : StandingCall → Step → Option NoteOfCall
+step_note c step = call_note c.call step.actions step.call.standing
+
 abbrev pub stepped : Standing → Occasion → ℕ → ComingValue → StandingCall → Step → StepMessages → Effect
-stepped calls o place w c step said = with_messages (after_step calls o.now place (put_with w said) c step) said
+stepped calls o place w c step said = with_messages (after_step calls o.now place (put_with w said) c step) said (step_note c step)
 
 abbrev pub does : Standing → transactions.Contents → Occasion → ℕ → ComingValue → StandingCall → Step → Effect
 does calls table o place w c step = stepped calls o place w c step (messages_of table o w c step)
@@ -116,6 +122,7 @@ begun calls o c step said = record {
   outcome = after_first_step calls o.now c step;
   dressed = with_made 3 said.dressed;
   ack = said.ack;
+  note = step_note c step;
 }
 
 abbrev pub begins_with : Standing → Occasion → Request → ℕ → Addr → Uri → StandingCall → Step → Effect
@@ -143,7 +150,7 @@ abbrev pub fork_messages : Occasion → Dialog → StepMessages
 fork_messages o leg = messages (fork_scene o leg) None (Ack Callee ∷ Bye Callee ∷ [])
 
 abbrev pub forked : Standing → StepMessages → Effect
-forked calls said = with_messages (unchanged calls) said
+forked calls said = with_messages (unchanged calls) said None
 
 abbrev pub fork_by : Standing → Occasion → Parts → Response → Option Uri → Effect
 fork_by calls o asked response None = no_effect calls

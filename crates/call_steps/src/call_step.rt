@@ -5,6 +5,7 @@ ghost use Rattle.calls.specs.Changes.{FitsChange, entered};
 ghost use Rattle.calls.specs.State.{Standing};
 ghost use Rattle.call_steps.specs.Effects.{effect, no_effect};
 
+use call_core::NoteOfCall;
 use call_messages::Dressed;
 use calls::CallChange;
 use events::Sent;
@@ -19,6 +20,8 @@ pub struct CallStep {
     pub dressed: Dressed,
     /// The ACK of a 2xx that is among them, which goes again where that 2xx comes again (RFC 3261 section 13.2.2.4).
     pub ack: Option<Sent>,
+    /// What happens to a call, if that is told.
+    pub note: Option<NoteOfCall>,
 }
 
 impl CallStep {
@@ -37,6 +40,7 @@ impl CallStep {
                 made: 0,
             },
             ack: None,
+            note: None,
         }
     }
 }

@@ -78,6 +78,7 @@ fn of_fork(said: StepMessages) -> CallStep
         change: CallChange::Unchanged,
         dressed,
         ack,
+        note: None,
     }
 }
 

@@ -15,7 +15,7 @@ ghost use Rattle.calls.specs.declared.change.CallChange.TheVariants.{Carries};
 ghost use Rattle.calls.specs.State.{Standing, standing};
 ghost use Rattle.call_steps.specs.Effects.{effect, with_messages, with_timers};
 ghost use Rattle.call_steps.specs.Refusals.{RefusesTaken};
-ghost use Rattle.call_steps.specs.Rows.{does, messages_of, put_with, takes_row};
+ghost use Rattle.call_steps.specs.Rows.{does, messages_of, put_with, step_note, takes_row};
 ghost use Rattle.call_steps.specs.Values.{asker_value, coming_value};
 
 use crate::arrival::Coming;
@@ -24,7 +24,7 @@ use crate::messages::StepMessages;
 use crate::occasion::Occasion;
 use crate::scene::messages_of;
 use boxed::Boxed;
-use call_core::{CallRefusal, Input, Plan};
+use call_core::{CallRefusal, Input, NoteOfCall, Plan};
 use call_messages::Asker;
 use calls::{Beside, CallChange, Calls, LegDialog, StandingCall};
 use port_pool::Pool;
@@ -36,6 +36,7 @@ use transactions::Table;
 struct PlannedStep {
     plan: Plan,
     said: StepMessages,
+    note: Option<NoteOfCall>,
 }
 
 /// The call at this place does this, with the messages that it comes to, and with what comes with the event beside it.
@@ -46,12 +47,12 @@ fn step_of(
     planned: PlannedStep,
 ) -> Result<CallStep, AllocError>
     ensures row { (calls : Standing) (now : ℕ) → IfOk result (λ step. effect calls now step
-        ≡ with_messages (carries calls now place (put_with (coming_value coming.entry) planned.said) planned.plan (slice_get calls.calls place)) planned.said) }
+        ≡ with_messages (carries calls now place (put_with (coming_value coming.entry) planned.said) planned.plan (slice_get calls.calls place)) planned.said planned.note) }
     ensures change { IfOk result (λ step. step.change ≡ Carries place (put_with (coming_value coming.entry) planned.said) planned.plan) }
     ensures dressed { IfOk result (λ step. step.dressed ≡ planned.said.dressed) }
 {
     let Coming { leg, taken, .. } = coming;
-    let PlannedStep { plan, said } = planned;
+    let PlannedStep { plan, said, note } = planned;
     let StepMessages {
         dressed,
         answer,
@@ -67,6 +68,7 @@ fn step_of(
         },
         dressed,
         ack,
+        note,
     })
 }
 
@@ -100,12 +102,16 @@ fn with_messages(
     ensures plan { IfOk result (λ p. p.plan ≡ plan) }
     ensures said { (pool : Contents) (now : ℕ) → IfOk result (λ p. p.said ≡ messages_of table.now occasion (coming_value coming.now) call.now
         (carried call.now.call pool now p.plan)) }
+    ensures note { (pool : Contents) (now : ℕ) → IfOk result (λ p. p.note ≡ step_note call.now (carried call.now.call pool now p.plan)) }
     ensures few { IfOk result (λ p. p.said.dressed.made < 2 ^ 63) }
     // For want of memory, for which any input may be refused.
     ensures refused { (c : Call) (pool : Contents) (input : Input) (now : ℕ) → IfErr result (RefusesInput c pool input now) }
 {
     match messages_of(alloc, table, occasion, coming, call, &plan) {
-        Ok(said) => Ok(PlannedStep { plan, said }),
+        Ok(said) => {
+            let note = call.call.note(&plan);
+            Ok(PlannedStep { plan, said, note })
+        }
         Err(_) => {
             drop(plan);
             Err(CallRefusal::OutOfMemory)
@@ -128,6 +134,7 @@ fn plan_step(
     ensures row { IfOk result (λ p. carried call.now.call pool.now occasion.now p.plan ≡ call_row call.now.call input.now pool.now occasion.now) }
     ensures planned { IfOk result (λ p. IsPlanned call.now.call pool.now occasion.now p.plan) }
     ensures said { IfOk result (λ p. p.said ≡ messages_of table.now occasion (coming_value coming.now) call.now (carried call.now.call pool.now occasion.now p.plan)) }
+    ensures note { IfOk result (λ p. p.note ≡ step_note call.now (carried call.now.call pool.now occasion.now p.plan)) }
     ensures few { IfOk result (λ p. p.said.dressed.made < 2 ^ 63) }
     ensures may { OnOk result (MayTakeIn call.now.call call.now.call.standing pool.now input.now occasion.now) }
     ensures refused { IfErr result (RefusesInput call.now.call pool.now input.now occasion.now) }

@@ -148,10 +148,12 @@ fn step_of(call: Boxed<StandingCall>, plan: Boxed<Plan>, said: StepMessages) -> 
         ack,
     } = said;
     drop(answer);
+    let note = call.get().call.note(plan.get());
     CallStep {
         change: CallChange::Begins(call, plan),
         dressed: with_made(3, dressed),
         ack,
+        note,
     }
 }
 

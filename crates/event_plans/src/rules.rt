@@ -13,24 +13,24 @@ ghost use Rattle.event_plans.specs.RuleValue.{rule_value};
 
 use crate::rule::Rule;
 use call_rules::{ContentRule, DialogRule, contact_address, content_rule, dialog_rule};
-use plans::{CallRule, Office, Reply};
+use plans::{CallRule, Office, Reason, Reply, reason_of_content};
 use responses::{has_header, is_declined_method, is_method, is_offered_method};
 use sip_message::{Request, contact_values, tag_value};
 use sip_uri::Uri;
 use std::alloc::{AllocError, Global};
 use text::Text;
 
-fn refuse(status: u16) -> Rule<'static>
-    ensures { rule_value result ≡ refused status }
+fn refuse(reason: Reason) -> Rule<'static>
+    ensures { rule_value result ≡ refused reason }
 {
-    Rule::Alone(Reply::Refusal(status))
+    Rule::Alone(Reply::Refusal(reason))
 }
 
 fn merged_line(office: &Office<'_>, request: &Request<'_>) -> Option<Reply>
     ensures { option_map Alone result ≡ merged_line office.now request.now }
 {
     if office.table.is_merged_request(request) {
-        Some(Reply::Refusal(482))
+        Some(Reply::Refusal(Reason::Merged))
     } else {
         None
     }
@@ -40,7 +40,7 @@ fn declined_line(request: &Request<'_>) -> Option<Reply>
     ensures { option_map Alone result ≡ declined_line request.now }
 {
     if is_declined_method(request) {
-        Some(Reply::MethodUnoffered)
+        Some(Reply::Refusal(Reason::MethodNotOffered))
     } else {
         None
     }
@@ -52,7 +52,7 @@ fn unknown_line(request: &Request<'_>) -> Option<Reply>
     if is_offered_method(request) {
         None
     } else {
-        Some(Reply::Refusal(501))
+        Some(Reply::Refusal(Reason::UnknownMethod))
     }
 }
 
@@ -60,7 +60,7 @@ fn extension_line(request: &Request<'_>) -> Option<Reply>
     ensures { option_map Alone result ≡ extension_line request.now }
 {
     if has_header(b"Require", request.headers.as_slice()) {
-        Some(Reply::ExtensionRefused)
+        Some(Reply::Refusal(Reason::ExtensionRequired))
     } else {
         None
     }
@@ -70,7 +70,7 @@ fn route_line(request: &Request<'_>) -> Option<Reply>
     ensures { option_map Alone result ≡ route_line request.now }
 {
     if has_header(b"Record-Route", request.headers.as_slice()) {
-        Some(Reply::Refusal(400))
+        Some(Reply::Refusal(Reason::ProxyBetween))
     } else {
         None
     }
@@ -102,7 +102,7 @@ fn cancel_rule(office: &Office<'_>, request: &Request<'_>) -> Rule<'static>
     ensures { rule_value result ≡ cancel_rule office.now.calls.calls (named office.now.table.slots request.now.parts) }
 {
     match office.table.cancels(request) {
-        None => refuse(481),
+        None => refuse(Reason::NothingToCancel),
         Some(id) => cancels_rule(office, id),
     }
 }
@@ -123,8 +123,8 @@ fn in_dialog_rule<'r>(office: &'r Office<'_>, request: &Request<'_>) -> Rule<'r>
     ensures { rule_value result ≡ of_dialog office.now.calls.calls (dialog_rule office.now.calls.calls request.now) }
 {
     match dialog_rule(office.calls, request) {
-        DialogRule::NoDialog => refuse(481),
-        DialogRule::OldNumber { .. } => refuse(500),
+        DialogRule::NoDialog => refuse(Reason::NoDialog),
+        DialogRule::OldNumber { .. } => refuse(Reason::OldNumber),
         DialogRule::Leaves { place, end } => Rule::Call(CallRule::Leaves(place, end)),
         DialogRule::Offers { place, end, call } => Rule::Call(CallRule::Offers(place, end, call)),
         DialogRule::Plain { place, end, call } => Rule::Call(CallRule::Refreshes(place, end, call)),
@@ -146,7 +146,7 @@ fn contact_line(alloc: Global, request: &Request<'_>) -> Result<Option<Reply>, A
     if contact_address(&values).is_some() {
         return Ok(None);
     }
-    Ok(Some(Reply::Refusal(400)))
+    Ok(Some(Reply::Refusal(Reason::Unreached)))
 }
 
 /// The rule of an offer to the callee, who is bound at this target.
@@ -154,8 +154,7 @@ fn taken_rule<'r>(target: &'r Uri<'static>, rule: Option<ContentRule>) -> Rule<'
     ensures { rule_value result ≡ taken_rule target.now rule }
 {
     match rule {
-        Some(ContentRule::Type) => Rule::Alone(Reply::TypeRefused),
-        Some(ContentRule::Encoding) => Rule::Alone(Reply::EncodingRefused),
+        Some(rule) => refuse(reason_of_content(rule)),
         None => Rule::Call(CallRule::Begins(target)),
     }
 }
@@ -168,7 +167,7 @@ fn bound_rule<'r>(
     ensures { IfOk result (λ rule. rule_value rule ≡ bound_rule request.now (option_copied target.entry)) }
 {
     let Some(target) = target else {
-        return Ok(refuse(480));
+        return Ok(refuse(Reason::Unbound));
     };
     let rule = content_rule(alloc, request.headers.as_slice())?;
     Ok(taken_rule(target, rule))
@@ -187,7 +186,7 @@ fn callee_rule<'r>(
         Some(user) if office.registrar.knows(user) => {
             bound_rule(office.alloc, request, office.registrar.target(user, now))
         }
-        _ => Ok(refuse(404)),
+        _ => Ok(refuse(Reason::UnknownUser)),
     }
 }
 
@@ -199,7 +198,7 @@ fn first_call_rule<'r>(
     ensures { IfOk result (λ rule. rule_value rule ≡ first_call_rule office.now request.now now) }
 {
     if request.max_forwards == 0 {
-        return Ok(refuse(483));
+        return Ok(refuse(Reason::NoHops));
     }
     if let Some(reply) = contact_line(office.alloc, request)? {
         return Ok(Rule::Alone(reply));

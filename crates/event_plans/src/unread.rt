@@ -6,14 +6,12 @@ ghost use Rattle.std.specs.Option.{option_copied};
 ghost use Rattle.sip_message.specs.AnswerableParts.{answerable_of};
 ghost use Rattle.sip_message.specs.Faults.{Fails};
 ghost use Rattle.sip_message.specs.Read.{message_of};
-ghost use Rattle.sip_writing.specs.Reply.{response_address};
 ghost use Rattle.plans.specs.CallRows.{of_plan};
-ghost use Rattle.plans.specs.Plan.{replies};
-ghost use Rattle.responses.specs.Responding.{responds, stateless};
-ghost use Rattle.event_rows.specs.Rows.{datagram_row, unfit_branch, unfit_request, unread_by};
+ghost use Rattle.responses.specs.Responding.{stateless};
+ghost use Rattle.event_rows.specs.Rows.{datagram_row, refuses_alone, unfit_branch, unfit_request, unread_by};
 ghost use Rattle.plans.specs.Office.{Office};
 
-use plans::{Plan, Setting, Taken, Why};
+use plans::{Plan, Reason, Setting, Taken, Why};
 use responses::{STATELESS, is_method, response_with};
 use sip_message::{Message, MessageError, Parts, Request, answerable};
 use sip_writing::reply_address;
@@ -26,30 +24,30 @@ fn stateless() -> &'static [u8]
     STATELESS
 }
 
-fn replies(
+fn refuses_alone(
     alloc: Global,
     setting: Setting,
     parts: &Parts<'_>,
-    status: u16,
+    reason: Reason,
 ) -> Result<Plan, AllocError>
-    ensures { IfOk result (λ p. p ≡ replies (response_address parts.now.vias setting.source) (responds parts.now setting.source status stateless [])) }
+    ensures { IfOk result (λ p. p ≡ refuses_alone setting parts.now reason) }
 {
-    let bytes = response_with(alloc, parts, setting.source, status, stateless(), &[])?;
-    Plan::replies(alloc, reply_address(parts, setting.source), bytes)
+    let (source, status) = (setting.source, reason.status());
+    let bytes = response_with(alloc, parts, source, status, stateless(), &[])?;
+    Plan::replies(alloc, reply_address(parts, source), reason, bytes)
 }
 
 fn unread_by(
     alloc: Global,
     setting: Setting,
     fault: MessageError,
-    status: u16,
     parts: Option<&Parts<'_>>,
 ) -> Result<Plan, AllocError>
-    ensures { IfOk result (λ p. p ≡ unread_by setting fault status (option_copied parts.entry)) }
+    ensures { IfOk result (λ p. p ≡ unread_by setting fault (option_copied parts.entry)) }
 {
     match parts {
         None => Ok(Plan::nothing(alloc, Taken::Dropped(Why::Unread(fault)))),
-        Some(parts) => replies(alloc, setting, parts, status),
+        Some(parts) => refuses_alone(alloc, setting, parts, Reason::Unread(fault)),
     }
 }
 
@@ -59,12 +57,11 @@ fn unread_with(
     setting: Setting,
     datagram: &[u8],
     fault: MessageError,
-    status: u16,
 ) -> Result<Plan, AllocError>
-    ensures { IfOk result (λ p. p ≡ unread_by setting fault status (answerable_of datagram.now)) }
+    ensures { IfOk result (λ p. p ≡ unread_by setting fault (answerable_of datagram.now)) }
 {
     let parts = answerable(alloc, datagram)?;
-    unread_by(alloc, setting, fault, status, parts.as_ref())
+    unread_by(alloc, setting, fault, parts.as_ref())
 }
 
 /// What a datagram comes to that can't be read.
@@ -82,12 +79,12 @@ pub(crate) fn unread_row(
     match fault {
         MessageError::OutOfMemory => Err(AllocError),
         MessageError::TooLong => Ok(Plan::nothing(alloc, Taken::Dropped(Why::Unread(fault)))),
-        MessageError::Version => unread_with(alloc, setting, datagram, fault, 505),
-        MessageError::StartLine => unread_with(alloc, setting, datagram, fault, 400),
-        MessageError::HeaderLine => unread_with(alloc, setting, datagram, fault, 400),
-        MessageError::Missing(_) => unread_with(alloc, setting, datagram, fault, 400),
-        MessageError::Unreadable(_) => unread_with(alloc, setting, datagram, fault, 400),
-        MessageError::Short => unread_with(alloc, setting, datagram, fault, 400),
+        MessageError::Version => unread_with(alloc, setting, datagram, fault),
+        MessageError::StartLine => unread_with(alloc, setting, datagram, fault),
+        MessageError::HeaderLine => unread_with(alloc, setting, datagram, fault),
+        MessageError::Missing(_) => unread_with(alloc, setting, datagram, fault),
+        MessageError::Unreadable(_) => unread_with(alloc, setting, datagram, fault),
+        MessageError::Short => unread_with(alloc, setting, datagram, fault),
     }
 }
 
@@ -97,7 +94,7 @@ fn unfit_request(alloc: Global, setting: Setting, request: &Request<'_>) -> Resu
     if is_method(b"ACK", request) {
         return Ok(Plan::nothing(alloc, Taken::Dropped(Why::NoBranch)));
     }
-    replies(alloc, setting, &request.parts, 400)
+    refuses_alone(alloc, setting, &request.parts, Reason::NoBranch)
 }
 
 /// What a message comes to whose branch does not begin as it has to.

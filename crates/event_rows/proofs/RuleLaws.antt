@@ -13,7 +13,6 @@ use Rattle.call_rules.specs.Content.{content_rule}
 use Rattle.call_rules.specs.Reach.{contact_address}
 use Rattle.call_rules.specs.Requests.{dialog_rule}
 use Rattle.call_rules.specs.declared.content.ContentRule.{ContentRule}
-use Rattle.call_rules.specs.declared.content.ContentRule.TheVariants as content
 use Rattle.call_rules.specs.DialogRule.{DialogRule}
 use Rattle.call_rules.specs.DialogRule as dialog
 use Rattle.calls.specs.Finding.{place_by_offer}
@@ -21,6 +20,7 @@ use Rattle.calls.specs.declared.standing_call.StandingCall.{StandingCall}
 use Rattle.plans.specs.CallRule as calls
 use Rattle.plans.specs.CallRule.{CallRule}
 use Rattle.plans.specs.Office.{Office}
+use Rattle.plans.specs.declared.reason.Reason.TheVariants as reasons
 use Rattle.plans.specs.declared.rule.Reply.TheVariants as replies
 use Rattle.responses.specs.Words.{has_header, is_declined_method, is_method, is_offered_method}
 use Rattle.event_rows.specs.Rule.{Rule, Alone, Call, HandsOn}
@@ -69,8 +69,7 @@ module _ (s : Office) (r : Request) (now : ℕ) where
   dialog_found (dialog.Plain place end) = called_found (calls.Refreshes place end) (slice_get s.calls.calls place) (λ x there. there)
 
   taken_found : (to : Uri) (rule : Option ContentRule) → target s r now ≡ Some to → WasFound (checks.taken_rule to rule)
-  taken_found to (Some content.Type) bound = tt
-  taken_found to (Some content.Encoding) bound = tt
+  taken_found to (Some rule) bound = tt
   taken_found to None bound = bound
 
   bound_found : (to : Option Uri) → target s r now ≡ to → WasFound (checks.bound_rule r to)
@@ -79,9 +78,9 @@ module _ (s : Office) (r : Request) (now : ℕ) where
 
   first_found : WasFound (checks.first_call_rule s r now)
   first_found =
-      behind (checks.hops_line r) (checks.otherwise (checks.contact_line r) (checks.callee_rule s r now)) (when_found (r.max_forwards == 0) (checks.refused 483) tt)
-      (behind (checks.contact_line r) (checks.callee_rule s r now) (when_found (not (is_some (contact_address (contacts_of r.headers)))) (checks.refused 400) tt)
-      (behind (checks.user_line s r) (checks.bound_rule r (target s r now)) (when_found (not (checks.is_user s (user_of (rules_of s.registrar) r.uri))) (checks.refused 404) tt)
+      behind (checks.hops_line r) (checks.otherwise (checks.contact_line r) (checks.callee_rule s r now)) (when_found (r.max_forwards == 0) (checks.refused reasons.NoHops) tt)
+      (behind (checks.contact_line r) (checks.callee_rule s r now) (when_found (not (is_some (contact_address (contacts_of r.headers)))) (checks.refused reasons.Unreached) tt)
+      (behind (checks.user_line s r) (checks.bound_rule r (target s r now)) (when_found (not (checks.is_user s (user_of (rules_of s.registrar) r.uri))) (checks.refused reasons.UnknownUser) tt)
       (bound_found (target s r now) refl)))
 
   invite_found : WasFound (checks.invite_rule s r now)
@@ -97,8 +96,8 @@ module _ (s : Office) (r : Request) (now : ℕ) where
       let invite = checks.invite_rule s r now in
       let register = checks.otherwise (checks.register_line r) invite in
       let options = checks.otherwise (checks.options_line r) register in
-      behind (checks.extension_line r) (checks.otherwise (checks.route_line r) options) (when_found (has_header (codes "Require") r.headers) (Alone replies.ExtensionRefused) tt)
-      (behind (checks.route_line r) options (when_found (has_header (codes "Record-Route") r.headers) (checks.refused 400) tt)
+      behind (checks.extension_line r) (checks.otherwise (checks.route_line r) options) (when_found (has_header (codes "Require") r.headers) (checks.refused reasons.ExtensionRequired) tt)
+      (behind (checks.route_line r) options (when_found (has_header (codes "Record-Route") r.headers) (checks.refused reasons.ProxyBetween) tt)
       (behind (checks.options_line r) register (when_found (is_method (codes "OPTIONS") r) (Alone replies.MethodsListed) tt)
       (behind (checks.register_line r) invite (when_found (is_method (codes "REGISTER") r) (Alone replies.Registration) tt) invite_found)))
 
@@ -111,9 +110,9 @@ module _ (s : Office) (r : Request) (now : ℕ) where
       let asked = named s.table.slots r.parts in
       behind (checks.cancel_line s r) (checks.otherwise (checks.merged_line s r) declined)
       (when_found (is_method (codes "CANCEL") r) (checks.cancel_rule s.calls.calls asked) (cancel_found asked))
-      (behind (checks.merged_line s r) declined (when_found (merged s.table r.parts) (checks.refused 482) tt)
-      (behind (checks.declined_line r) known (when_found (is_declined_method r) (Alone replies.MethodUnoffered) tt)
-      (behind (checks.unknown_line r) offered (when_found (not (is_offered_method r)) (checks.refused 501) tt) offered_found)))
+      (behind (checks.merged_line s r) declined (when_found (merged s.table r.parts) (checks.refused reasons.Merged) tt)
+      (behind (checks.declined_line r) known (when_found (is_declined_method r) (checks.refused reasons.MethodNotOffered) tt)
+      (behind (checks.unknown_line r) offered (when_found (not (is_offered_method r)) (checks.refused reasons.UnknownMethod) tt) offered_found)))
 
   hands_on : (rule : Rule) → WasFound rule → HandsOn s.calls.calls rule
   hands_on (Alone reply) h = tt

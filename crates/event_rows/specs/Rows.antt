@@ -35,6 +35,8 @@ use Rattle.transactions.specs.Slots.{at, serving}
 use Rattle.events.specs.declared.event.Event.{Event}
 use Rattle.events.specs.declared.event.What.{What}
 use Rattle.events.specs.declared.event.What.TheVariants as whats
+use Rattle.plans.specs.declared.reason.Reason.{Reason}
+use Rattle.plans.specs.declared.reason.Reason.TheVariants as reasons
 use Rattle.plans.specs.declared.setting.Setting.{Setting}
 use Rattle.event_rows.specs.Rule as rules
 use Rattle.event_rows.specs.Rule.{Rule}
@@ -55,6 +57,7 @@ use Rattle.calls.specs.Changes.{unchanged}
 use Rattle.calls.specs.declared.timer_id.CallTimerId.{CallTimerId}
 use Rattle.call_rules.specs.Reach.{is_unreachable}
 use Rattle.plans.specs.Effect.{Effect, alone, without_ack}
+use Rattle.plans.specs.Reasons.{status}
 use Rattle.plans.specs.Replies.{reply_row}
 use Rattle.plans.specs.CallRows.{ack_row, call_row, call_timer_row, of_plan, response_row, timeout_row}
 
@@ -101,10 +104,14 @@ received s e message =
 
 -- ---- a branch that does not begin as it has to
 
+-- a refusal that no transaction sends
+abbrev pub refuses_alone : Setting → Parts → Reason → Plan
+refuses_alone e parts reason = replies (response_address parts.vias e.source) (responds parts e.source (status reason) stateless []) reason
+
 abbrev pub unfit_request : Setting → Request → Plan
 unfit_request e r =
     if is_method (codes "ACK") r then nothing (Dropped NoBranch)
-    else replies (response_address r.parts.vias e.source) (responds r.parts e.source 400 stateless [])
+    else refuses_alone e r.parts reasons.NoBranch
 
 abbrev pub unfit_branch : Setting → Message → Plan
 unfit_branch e (Kinds.Request r) = unfit_request e r
@@ -127,15 +134,14 @@ read_row s e message = if has_fit_branch (parts_of message).vias then fit_row s 
 
 -- ---- a datagram that can't be read
 
-abbrev pub unread_by : Setting → MessageError → ℕ → Option Parts → Plan
-unread_by e fault status None = nothing (Dropped (Unread fault))
-unread_by e fault status (Some parts) = replies (response_address parts.vias e.source) (responds parts e.source status stateless [])
+abbrev pub unread_by : Setting → MessageError → Option Parts → Plan
+unread_by e fault None = nothing (Dropped (Unread fault))
+unread_by e fault (Some parts) = refuses_alone e parts (reasons.Unread fault)
 
--- 505 for another version, nothing for what is too long, and 400 for each other fault, where something can be answered
+-- nothing for what is too long, and a refusal for each other fault, where something can be answered
 unfoldable pub unread_row : Setting → List ℕ → MessageError → Plan
 unread_row e bytes faults.TooLong = nothing (Dropped (Unread faults.TooLong))
-unread_row e bytes faults.Version = unread_by e faults.Version 505 (answerable_of bytes)
-unread_row e bytes fault = unread_by e fault 400 (answerable_of bytes)
+unread_row e bytes fault = unread_by e fault (answerable_of bytes)
 
 abbrev pub by_reading : Office → Setting → List ℕ → Result Message MessageError → Effect
 by_reading s e bytes (Ok message) = read_row s e message

@@ -10,7 +10,9 @@ use Rattle.registrar.specs.Registrar.{rules_of, bindings_at}
 use Rattle.transactions.specs.Contents.{merged}
 use Rattle.transactions.specs.Slots.{named}
 use Rattle.event_rows.specs.Rule.{Rule, Alone, Call}
-use Rattle.plans.specs.declared.rule.Reply.TheVariants.{CancelOf, Refusal, MethodUnoffered, TypeRefused, EncodingRefused, ExtensionRefused, MethodsListed, Registration}
+use Rattle.plans.specs.declared.reason.Reason.{Reason}
+use Rattle.plans.specs.declared.reason.Reason.TheVariants as reasons
+use Rattle.plans.specs.declared.rule.Reply.TheVariants.{CancelOf, Refusal, MethodsListed, Registration}
 use Rattle.plans.specs.CallRule as calls
 use Rattle.plans.specs.CallRule.{CallRule}
 use Rattle.calls.specs.declared.standing_call.StandingCall.{StandingCall}
@@ -18,10 +20,10 @@ use Rattle.calls.specs.Finding.{place_by_offer}
 use Rattle.call_rules.specs.DialogRule.{DialogRule}
 use Rattle.call_rules.specs.DialogRule as dialog
 use Rattle.call_rules.specs.declared.content.ContentRule.{ContentRule}
-use Rattle.call_rules.specs.declared.content.ContentRule.TheVariants as content
 use Rattle.call_rules.specs.Requests.{dialog_rule}
 use Rattle.call_rules.specs.Content.{content_rule}
 use Rattle.call_rules.specs.Reach.{contact_address}
+use Rattle.plans.specs.CallRows.{reason_of_content}
 use Rattle.plans.specs.Office.{Office}
 use Rattle.responses.specs.Words.{is_method, has_header, is_declined_method, is_offered_method}
 
@@ -34,8 +36,8 @@ abbrev pub otherwise : Option Rule → Rule → Rule
 otherwise (Some rule) next = rule
 otherwise None next = next
 
-abbrev pub refused : ℕ → Rule
-refused status = Alone (Refusal status)
+abbrev pub refused : Reason → Rule
+refused reason = Alone (Refusal reason)
 
 -- ---- the lines
 
@@ -45,7 +47,7 @@ cancels id None = Alone (CancelOf id)
 cancels id (Some place) = Call (calls.Cancels place)
 
 abbrev pub cancel_rule : List StandingCall → Option ℕ → Rule
-cancel_rule standing None = refused 481
+cancel_rule standing None = refused reasons.NothingToCancel
 cancel_rule standing (Some id) = cancels id (place_by_offer id standing)
 
 -- a CANCEL gets 200 where a request has its branch and sent-by (RFC 3261 section 9.2)
@@ -54,23 +56,23 @@ cancel_line s r = when (is_method (codes "CANCEL") r) (cancel_rule s.calls.calls
 
 -- a request that came on another way too (section 8.2.2.2)
 abbrev pub merged_line : Office → Request → Option Rule
-merged_line s r = when (merged s.table r.parts) (refused 482)
+merged_line s r = when (merged s.table r.parts) (refused reasons.Merged)
 
 -- a method that is known and not offered (section 8.2.1)
 abbrev pub declined_line : Request → Option Rule
-declined_line r = when (is_declined_method r) (Alone MethodUnoffered)
+declined_line r = when (is_declined_method r) (refused reasons.MethodNotOffered)
 
 -- a method that is not known
 abbrev pub unknown_line : Request → Option Rule
-unknown_line r = when (not (is_offered_method r)) (refused 501)
+unknown_line r = when (not (is_offered_method r)) (refused reasons.UnknownMethod)
 
 -- an extension is required (section 8.2.2.3)
 abbrev pub extension_line : Request → Option Rule
-extension_line r = when (has_header (codes "Require") r.headers) (Alone ExtensionRefused)
+extension_line r = when (has_header (codes "Require") r.headers) (refused reasons.ExtensionRequired)
 
 -- a proxy stands between, which is not served
 abbrev pub route_line : Request → Option Rule
-route_line r = when (has_header (codes "Record-Route") r.headers) (refused 400)
+route_line r = when (has_header (codes "Record-Route") r.headers) (refused reasons.ProxyBetween)
 
 abbrev pub options_line : Request → Option Rule
 options_line r = when (is_method (codes "OPTIONS") r) (Alone MethodsListed)
@@ -82,12 +84,12 @@ register_line r = when (is_method (codes "REGISTER") r) (Alone Registration)
 
 -- the call that stands at the place takes it
 abbrev pub with_call : (StandingCall → CallRule) → Option StandingCall → Rule
-with_call rule None = refused 481
+with_call rule None = refused reasons.NoDialog
 with_call rule (Some call) = Call (rule call)
 
 abbrev pub of_dialog : List StandingCall → DialogRule → Rule
-of_dialog standing dialog.NoDialog = refused 481
-of_dialog standing (dialog.OldNumber place end) = refused 500
+of_dialog standing dialog.NoDialog = refused reasons.NoDialog
+of_dialog standing (dialog.OldNumber place end) = refused reasons.OldNumber
 of_dialog standing (dialog.Leaves place end) = Call (calls.Leaves place end)
 of_dialog standing (dialog.Offers place end) = with_call (calls.Offers place end) (slice_get standing place)
 of_dialog standing (dialog.Plain place end) = with_call (calls.Refreshes place end) (slice_get standing place)
@@ -101,10 +103,10 @@ dialog_line s r =
 
 -- no further hop is left (section 16.3)
 abbrev pub hops_line : Request → Option Rule
-hops_line r = when (r.max_forwards == 0) (refused 483)
+hops_line r = when (r.max_forwards == 0) (refused reasons.NoHops)
 
 abbrev pub contact_line : Request → Option Rule
-contact_line r = when (not (is_some (contact_address (contacts_of r.headers)))) (refused 400)
+contact_line r = when (not (is_some (contact_address (contacts_of r.headers)))) (refused reasons.Unreached)
 
 -- the Request-URI names a user of the office
 abbrev pub is_user : Office → Option (List ℕ) → Bool
@@ -112,7 +114,7 @@ is_user s None = false
 is_user s (Some user) = is_known (rules_of s.registrar) user
 
 abbrev pub user_line_by : Office → Option (List ℕ) → Option Rule
-user_line_by s user = when (not (is_user s user)) (refused 404)
+user_line_by s user = when (not (is_user s user)) (refused reasons.UnknownUser)
 
 abbrev pub user_line : Office → Request → Option Rule
 user_line s r = user_line_by s (user_of (rules_of s.registrar) r.uri)
@@ -127,12 +129,11 @@ target s r now = target_by s now (user_of (rules_of s.registrar) r.uri)
 
 -- whether its body is taken (section 8.2.3)
 abbrev pub taken_rule : Uri → Option ContentRule → Rule
-taken_rule to (Some content.Type) = Alone TypeRefused
-taken_rule to (Some content.Encoding) = Alone EncodingRefused
+taken_rule to (Some rule) = refused (reason_of_content rule)
 taken_rule to None = Call (calls.Begins to)
 
 abbrev pub bound_rule : Request → Option Uri → Rule
-bound_rule r None = refused 480
+bound_rule r None = refused reasons.Unbound
 bound_rule r (Some to) = taken_rule to (content_rule r.headers)
 
 abbrev pub callee_by : Office → Request → ℕ → Option (List ℕ) → Rule

@@ -1,5 +1,5 @@
 -- What the agent knows.
-use Rattle.std.specs.Prelude.{◌≡◌, ◌≢◌, ℕ, ◌<◌, ◌≤◌, ◌^◌, ◌+◌, ◌-◌, ◌*◌, max, List, [], Option, Some, None}
+use Rattle.std.specs.Prelude.{◌≡◌, ◌≢◌, ℕ, ◌<◌, ◌≤◌, ◌^◌, ◌+◌, ◌-◌, ◌*◌, max, List, [], Option, Some, None, option_map}
 use Rattle.configuration.specs.declared.config.Config.{Config}
 use Rattle.configuration.specs.declared.error.ConfigError.{ConfigError}
 use Rattle.configuration.specs.declared.error.ConfigError.TheVariants.{OutOfMemory, RelayPorts, Address, Users, MinExpires, Domain, File}
@@ -11,6 +11,8 @@ use Rattle.registrar.specs.Registrar as registrar
 use Rattle.transactions.specs.Contents as transactions
 use Rattle.transactions.specs.Changes.{entered_all}
 use Rattle.event_rows.specs.declared.tally.Tally.{Tally}
+use Rattle.plans.specs.declared.note.Note.{Note}
+use Rattle.plans.specs.declared.note.Note.TheVariants.{Quiet}
 use Rattle.plans.specs.declared.taken.Taken.{Taken}
 use Rattle.sip_uri.specs.declared.uri.Addr.{Addr}
 use Rattle.port_pool.specs.Pool.{new_pool}
@@ -20,13 +22,14 @@ use Rattle.offer_answer.specs.Direct.{hold_address}
 use Rattle.calls.specs.State.{Standing}
 use Rattle.plans.specs.declared.acks.KeptAck.{KeptAck}
 use Rattle.plans.specs.Effect.{Effect}
+use Rattle.plans.specs.Note.{note_of_taken}
 use Rattle.plans.specs.Office.{Office}
 use Rattle.event_rows.specs.Tally.{counted, none_counted}
 
 -- the registrar, the transactions, the calls with their pool, the ACKs that go again, and the changes that the last
 -- event made in the relay table; where the server is reached, its relay ports, and the seconds that a binding has to
--- last at least; the greatest moment so far in milliseconds, how many tokens were made, and how many events were
--- answered how
+-- last at least; the greatest moment so far in milliseconds, how many tokens were made, how many events were
+-- answered how, what the last was about, and whose bindings it set
 pub record Contents : Type 0 where
   pub registrar : registrar.Contents
   pub table : transactions.Contents
@@ -39,6 +42,8 @@ pub record Contents : Type 0 where
   pub moment : ℕ
   pub tokens : ℕ
   pub tally : Tally
+  pub note : Note
+  pub registered : Option (List ℕ)
 
 -- what a plan looks at
 abbrev pub office : Contents → Office
@@ -91,11 +96,13 @@ after_event s now e = record {
   moment = now;
   tokens = s.tokens + e.plan.made;
   tally = counted s.tally e.plan.taken;
+  note = e.plan.note;
+  registered = option_map (λ (plan : PlanContents). plan.user) e.plan.registration;
 }
 
 -- the agent after an event that was only counted
 abbrev pub after_count : Contents → ℕ → Taken → Contents
-after_count s now taken = record s { changes = []; moment = now; tally = counted s.tally taken }
+after_count s now taken = record s { changes = []; moment = now; tally = counted s.tally taken; note = note_of_taken taken; registered = None }
 
 -- ---- the agent of a configuration
 
@@ -126,6 +133,8 @@ pub record IsNew (c : Config) (s : Contents) : Type 0 where
   pub moment : s.moment ≡ 0
   pub tokens : s.tokens ≡ 0
   pub tally : s.tally ≡ none_counted
+  pub note : s.note ≡ Quiet
+  pub registered : s.registered ≡ None
 
 -- the first rule that is broken is told; memory is asked for where none is
 abbrev pub RefusesConfig : Config → ConfigError → Type 0

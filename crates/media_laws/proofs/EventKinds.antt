@@ -9,7 +9,6 @@ pub mod HiddenInputs
 pub mod HiddenSignals
 pub mod Laws
 pub mod Puts
-pub mod RequestCases
 pub mod RequestEvents
 pub mod ResponseEvents
 pub mod UnlistedCalls

@@ -2,5 +2,3 @@ pub mod DialogRules
 pub mod RaisedCalls
 pub mod RaisedRows
 pub mod Raising
-pub mod RequestRules
-pub mod RowCases

@@ -9,7 +9,7 @@ use Rattle.call_rules.specs.Offers.{offer_rule}
 use Rattle.call_rules.specs.Requests.{dialog_rule}
 use Rattle.call_rules.specs.DialogRule.{Offers}
 use Rattle.calls.specs.declared.standing_call.StandingCall.{StandingCall}
-use Rattle.plans.specs.CallRows.{offer_reply}
+use Rattle.plans.specs.CallRows.{reason_of_rule}
 use Rattle.event_rows.specs.Rules.{target}
 use Rattle.plans.specs.Office.{Office}
 use Rattle.responses.specs.Words.{is_method}
@@ -30,6 +30,6 @@ pub record IsFirstOffer (s : Office) (now : ℕ) (r : Request) (to : Uri) (offer
 pub record IsLaterOffer (s : Office) (r : Request) (place : ℕ) (end : End) (c : StandingCall) (offer : Description) : Type 0 where
   pub there : slice_get s.calls.calls place ≡ Some c
   pub rule : dialog_rule s.calls.calls r ≡ Offers place end
-  pub passes : offer_reply (offer_rule r end c.call) ≡ None
+  pub passes : reason_of_rule (offer_rule r end c.call) ≡ None
   pub described : described r.headers r.body ≡ Some offer
   pub numbered : has_number_left (dialog_of (other end) c.call) ≡ true

@@ -3,7 +3,7 @@ pub mod AskerEffects
 pub mod AskerEvents
 pub mod AskerKnown
 pub mod AskerRows
-pub mod FitReplies
+pub mod LeavingRules
 pub mod ServedRequests
 pub mod Sparing
 pub mod Speaking

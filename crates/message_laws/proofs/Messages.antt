@@ -1,3 +1,4 @@
+pub mod Answerable
 pub mod AnyToken
 pub mod Besides
 pub mod BodyCalls

@@ -10,17 +10,18 @@ ghost use Rattle.transactions.specs.declared.change.Entry.{Entry};
 ghost use Rattle.transactions.specs.declared.outcome.Outgoing.{Outgoing};
 ghost use Rattle.responses.specs.Responding.{responds};
 ghost use Rattle.plans.specs.Office.{Office};
+ghost use Rattle.plans.specs.declared.reason.Reason.{Reason};
 ghost use Rattle.plans.specs.declared.rule.Reply.{Reply};
 ghost use Rattle.plans.specs.declared.setting.Setting.{Setting};
 ghost use Rattle.plans.specs.declared.taken.Taken.{Taken};
-ghost use Rattle.plans.specs.CallRows.{offer_reply, okay_plan};
+ghost use Rattle.plans.specs.CallRows.{okay_plan};
 ghost use Rattle.plans.specs.Plan.{moves, nothing, replies};
+ghost use Rattle.plans.specs.Reasons.{status as status_for};
 ghost use Rattle.plans.specs.Replies.{reply_row, responds_in};
 ghost use Rattle.event_rows.specs.Rule as rules;
 ghost use Rattle.event_rows.specs.Rules.{request_rule};
 ghost use Rattle.call_media.specs.declared.end.End.{End};
 ghost use Rattle.calls.specs.declared.standing_call.StandingCall.{StandingCall};
-ghost use Rattle.call_rules.specs.declared.offers.OfferRule.{OfferRule};
 ghost use Rattle.call_rules.specs.DialogRule as dialogs;
 ghost use Rattle.call_rules.specs.Requests.{dialog_rule};
 ghost use Rattle.call_trace.specs.declared.call.Call.{Call};
@@ -52,8 +53,8 @@ pub fn replies_are_plain()
 pub fn what_no_call_takes_is_quiet()
     ensures ignored { (methods : List (List ℕ)) (t : List Datagram) (calls : List Call) (answer : Taken) →
         SeenMove methods t calls None (nothing answer).sends calls }
-    ensures stateless { (methods : List (List ℕ)) (t : List Datagram) (calls : List Call) (taken : Option Message) (to source : Addr) (parts : Parts) (status : ℕ) (tag : List ℕ) →
-        IsRequestIf taken → IsQuietStatus parts status → SeenMove methods t calls taken (replies to (responds parts source status tag [])).sends calls }
+    ensures stateless { (methods : List (List ℕ)) (t : List Datagram) (calls : List Call) (taken : Option Message) (to source : Addr) (parts : Parts) (status : ℕ) (tag : List ℕ) (reason : Reason) →
+        IsRequestIf taken → IsQuietStatus parts status → SeenMove methods t calls taken (replies to (responds parts source status tag []) reason).sends calls }
     ensures refused { (methods : List (List ℕ)) (t : List Datagram) (calls : List Call) (taken : Option Message) (s : Office) (e : Setting) (r : Request) (begun : List Entry) (id status : ℕ) →
         IsRequestIf taken → IsQuietStatus r.parts status → SeenMove methods t calls taken (responds_in s e r begun id status [] None).sends calls }
     ensures replied { (methods : List (List ℕ)) (t : List Datagram) (calls : List Call) (taken : Option Message) (s : Office) (e : Setting) (r : Request) (begun : List Entry) (id : ℕ) (reply : Reply) →
@@ -68,11 +69,11 @@ pub fn what_no_call_takes_is_quiet()
 {}
 
 /// Of a request whose line has the method of its CSeq, each reply that the rules give by themselves is quiet: a 200
-/// goes only to OPTIONS, REGISTER and CANCEL. An offer that no call takes is refused, and an UPDATE without an offer is
+/// goes only to OPTIONS, REGISTER and CANCEL. Whatever the reason, a refusal is no 2xx. An UPDATE without an offer is
 /// neither INVITE nor BYE.
 pub fn rules_reply_quietly()
     ensures alone { (s : Office) (r : Request) (now : ℕ) (reply : Reply) → r.parts.cseq.method ≡ r.method → request_rule s r now ≡ rules.Alone reply →
         IsQuietReply r reply }
-    ensures offer { (r : Request) (rule : OfferRule) (reply : Reply) → offer_reply rule ≡ Some reply → IsQuietReply r reply }
+    ensures refusal { (request : Parts) (reason : Reason) → IsQuietStatus request (status_for reason) }
     ensures plain { (calls : List StandingCall) (r : Request) (place : ℕ) (end : End) → dialog_rule calls r ≡ dialogs.Plain place end → MovesNone r.parts }
 {}

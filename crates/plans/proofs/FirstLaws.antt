@@ -13,9 +13,9 @@ use Rattle.call_media.specs.Offers.{fresh_needed}
 use Rattle.call_core.specs.Calls.{new_media}
 use Rattle.call_steps.specs.Rows.{first_row}
 use Rattle.plans.specs.declared.setting.Setting.{Setting}
-use Rattle.plans.specs.CallRows.{first_by, has_pairs, occasion, of_plan, unless_full}
+use Rattle.plans.specs.CallRows.{first_by, has_pairs, occasion, refuses_first, unless_full}
+use Rattle.plans.specs.declared.reason.Reason.TheVariants.{NoPorts, UnfitOffer}
 use Rattle.plans.specs.Effect.{Effect}
-use Rattle.plans.specs.Replies.{responds_in}
 use Rattle.plans.specs.Office.{Office}
 
 -- by what is said of the offer, and whether there are pairs
@@ -28,27 +28,24 @@ needed s offer = fresh_needed (new_media (s.calls.begun + 1) s.range) Caller off
 abbrev free : Office → ℕ → ℕ
 free s now = length (free_pairs now s.calls.pool.holdings)
 
-abbrev refusal : Office → Setting → Request → List Entry → ℕ → ℕ → Effect
-refusal s e r begun id status = of_plan s (responds_in s e r begun id status [] None)
-
 abbrev passing : Office → Setting → Request → List Entry → ℕ → Uri → Description → Effect
 passing s e r begun id target offer = unless_full s e r begun id (first_row s.calls (occasion s e) r id e.source target offer)
 
 pub unfit : (s : Office) (e : Setting) (r : Request) (begun : List Entry) (id : ℕ) (target : Uri) (offer : Description) (fault : OfferFault)
-    → offer_fault s.range offer None ≡ Some fault → first_by s e r begun id target offer ≡ of_plan s (responds_in s e r begun id 488 [] None)
+    → offer_fault s.range offer None ≡ Some fault → first_by s e r begun id target offer ≡ refuses_first s e r begun id UnfitOffer
 unfit s e r begun id target offer fault h =
-    ap (λ (f : Option OfferFault). by f (has_pairs s e.now offer) (refusal s e r begun id 488) (passing s e r begun id target offer) (refusal s e r begun id 503)) h
+    ap (λ (f : Option OfferFault). by f (has_pairs s e.now offer) (refuses_first s e r begun id UnfitOffer) (passing s e r begun id target offer) (refuses_first s e r begun id NoPorts)) h
 
 pub lacking : (s : Office) (e : Setting) (r : Request) (begun : List Entry) (id : ℕ) (target : Uri) (offer : Description)
     → offer_fault s.range offer None ≡ None → length (free_pairs e.now s.calls.pool.holdings) < fresh_needed (new_media (s.calls.begun + 1) s.range) Caller offer
-    → first_by s e r begun id target offer ≡ of_plan s (responds_in s e r begun id 503 [] None)
+    → first_by s e r begun id target offer ≡ refuses_first s e r begun id NoPorts
 lacking s e r begun id target offer h few =
-    ap (λ (f : Option OfferFault). by f (has_pairs s e.now offer) (refusal s e r begun id 488) (passing s e r begun id target offer) (refusal s e r begun id 503)) h
-    ∙ ap (λ (b : Bool). cond b (passing s e r begun id target offer) (refusal s e r begun id 503)) (lt-leb (needed s offer) (free s e.now) few)
+    ap (λ (f : Option OfferFault). by f (has_pairs s e.now offer) (refuses_first s e r begun id UnfitOffer) (passing s e r begun id target offer) (refuses_first s e r begun id NoPorts)) h
+    ∙ ap (λ (b : Bool). cond b (passing s e r begun id target offer) (refuses_first s e r begun id NoPorts)) (lt-leb (needed s offer) (free s e.now) few)
 
 pub may_pass : (s : Office) (e : Setting) (r : Request) (begun : List Entry) (id : ℕ) (target : Uri) (offer : Description)
     → offer_fault s.range offer None ≡ None → fresh_needed (new_media (s.calls.begun + 1) s.range) Caller offer ≤ length (free_pairs e.now s.calls.pool.holdings)
     → first_by s e r begun id target offer ≡ unless_full s e r begun id (first_row s.calls (occasion s e) r id e.source target offer)
 may_pass s e r begun id target offer h enough =
-    ap (λ (f : Option OfferFault). by f (has_pairs s e.now offer) (refusal s e r begun id 488) (passing s e r begun id target offer) (refusal s e r begun id 503)) h
-    ∙ ap (λ (b : Bool). cond b (passing s e r begun id target offer) (refusal s e r begun id 503)) (le-leb (needed s offer) (free s e.now) enough)
+    ap (λ (f : Option OfferFault). by f (has_pairs s e.now offer) (refuses_first s e r begun id UnfitOffer) (passing s e r begun id target offer) (refuses_first s e r begun id NoPorts)) h
+    ∙ ap (λ (b : Bool). cond b (passing s e r begun id target offer) (refuses_first s e r begun id NoPorts)) (le-leb (needed s offer) (free s e.now) enough)

@@ -2,3 +2,4 @@ mod CallLaws
 mod FirstLaws
 mod OfferLaws
 mod PlanLaws
+pub mod ReasonLaws

@@ -32,16 +32,16 @@ use Rattle.port_pool.specs.Pool as pools
 use Rattle.call_rules.specs.declared.offers.OfferRule.{OfferRule}
 use Rattle.call_rules.specs.declared.offers.OfferRule.TheVariants as asked
 use Rattle.call_rules.specs.Offers.{clash_by, content_line, hops_line, is_settled, offer_rule, otherwise, reach_line}
-use Rattle.plans.specs.declared.rule.Reply.{Reply}
-use Rattle.plans.specs.declared.rule.Reply.TheVariants.{Refusal}
+use Rattle.plans.specs.declared.reason.Reason.{Reason}
+use Rattle.plans.specs.declared.reason.Reason.TheVariants.{NoPorts, NumberAtItsEnd, UnfitOffer}
 use Rattle.plans.specs.declared.setting.Setting.{Setting}
-use Rattle.plans.specs.CallRows.{has_pairs_for, is_unfit, offer_method, offer_reply, passes, passes_if, refusal_reply, refuses}
+use Rattle.plans.specs.CallRows.{has_pairs_for, is_unfit, offer_method, passes, passes_if, reason_of_refusal, reason_of_rule, refuses}
 use Rattle.plans.specs.Effect.{Effect}
 use Rattle.plans.specs.Office.{Office}
 
 -- ---- only a settled call, with no offer that crosses, takes an offer
 
-pub only_passes : (rule : OfferRule) → offer_reply rule ≡ None → rule ≡ asked.Passes
+pub only_passes : (rule : OfferRule) → reason_of_rule rule ≡ None → rule ≡ asked.Passes
 only_passes asked.NoDialog h = absurd cc
 only_passes (asked.Crosses clash) h = absurd cc
 only_passes asked.NoHops h = absurd cc
@@ -69,8 +69,8 @@ by unfit pairs left fault passing numberless full = cond unfit fault (cond pairs
 
 abbrev told : Office → Setting → Request → List Entry → ℕ → ℕ → End → Call → Description → Bool → Bool → Bool → Effect
 told s e r begun id place end c offer unfit pairs left =
-    by unfit pairs left (refuses s e r begun id place end (Refusal 488)) (passes s e r begun id place end offer)
-    (refuses s e r begun id place end (Refusal 500)) (refuses s e r begun id place end (Refusal 503))
+    by unfit pairs left (refuses s e r begun id place end UnfitOffer) (passes s e r begun id place end offer)
+    (refuses s e r begun id place end NumberAtItsEnd) (refuses s e r begun id place end NoPorts)
 
 abbrev needed : Call → End → Description → ℕ
 needed c end offer = fresh_needed c.media end offer
@@ -78,25 +78,25 @@ needed c end offer = fresh_needed c.media end offer
 abbrev free : Office → ℕ → ℕ
 free s now = length (free_pairs now s.calls.pool.holdings)
 
-replied : (s : Office) (e : Setting) (r : Request) (begun : List Entry) (id place : ℕ) (end : End) (reply is : Reply)
-    → Some is ≡ Some reply → refuses s e r begun id place end reply ≡ refuses s e r begun id place end is
-replied s e r begun id place end reply is h = let same : is ≡ reply = cc in ap (refuses s e r begun id place end) (sym same)
+replied : (s : Office) (e : Setting) (r : Request) (begun : List Entry) (id place : ℕ) (end : End) (reason is : Reason)
+    → Some is ≡ Some reason → refuses s e r begun id place end reason ≡ refuses s e r begun id place end is
+replied s e r begun id place end reason is h = let same : is ≡ reason = cc in ap (refuses s e r begun id place end) (sym same)
 
-pub refused_as : (s : Office) (e : Setting) (r : Request) (begun : List Entry) (id place : ℕ) (end : End) (c : Call) (offer : Description) (refusal : CallRefusal) (reply : Reply)
-    → clash_in c.standing end ≡ None → RefusesLater c s.calls.pool end (Some offer) e.now refusal → refusal_reply refusal ≡ Some reply
-    → refuses s e r begun id place end reply ≡ passes_if s e r begun id place end c offer
-refused_as s e r begun id place end c offer refusals.OutOfMemory reply uncrossed why is = absurd cc
-refused_as s e r begun id place end c offer (refusals.Crosses clash) reply uncrossed why is = absurd cc
-refused_as s e r begun id place end c offer refusals.Undescribed reply uncrossed why is = let none = why.1 in absurd cc
-refused_as s e r begun id place end c offer (refusals.Unfit fault) reply uncrossed why is =
-    replied s e r begun id place end reply (Refusal 488) is
+pub refused_as : (s : Office) (e : Setting) (r : Request) (begun : List Entry) (id place : ℕ) (end : End) (c : Call) (offer : Description) (refusal : CallRefusal) (reason : Reason)
+    → clash_in c.standing end ≡ None → RefusesLater c s.calls.pool end (Some offer) e.now refusal → reason_of_refusal refusal ≡ Some reason
+    → refuses s e r begun id place end reason ≡ passes_if s e r begun id place end c offer
+refused_as s e r begun id place end c offer refusals.OutOfMemory reason uncrossed why is = absurd cc
+refused_as s e r begun id place end c offer (refusals.Crosses clash) reason uncrossed why is = absurd cc
+refused_as s e r begun id place end c offer refusals.Undescribed reason uncrossed why is = let none = why.1 in absurd cc
+refused_as s e r begun id place end c offer (refusals.Unfit fault) reason uncrossed why is =
+    replied s e r begun id place end reason UnfitOffer is
     ∙ sym (ap (λ (f : Option OfferFault). told s e r begun id place end c offer (is_some f) (has_pairs_for s e.now c end offer) (has_number_left (dialog_of (other end) c))) why.1)
-refused_as s e r begun id place end c offer refusals.NoPorts reply uncrossed why is =
-    replied s e r begun id place end reply (Refusal 503) is
+refused_as s e r begun id place end c offer refusals.NoPorts reason uncrossed why is =
+    replied s e r begun id place end reason NoPorts is
     ∙ sym (ap (λ (f : Option OfferFault). told s e r begun id place end c offer (is_some f) (has_pairs_for s e.now c end offer) (has_number_left (dialog_of (other end) c))) why.1.0
     ∙ ap (λ (b : Bool). told s e r begun id place end c offer false b (has_number_left (dialog_of (other end) c))) (lt-leb (needed c end offer) (free s e.now) why.1.1))
-refused_as s e r begun id place end c offer refusals.NumberAtItsEnd reply uncrossed why is =
-    replied s e r begun id place end reply (Refusal 500) is
+refused_as s e r begun id place end c offer refusals.NumberAtItsEnd reason uncrossed why is =
+    replied s e r begun id place end reason NumberAtItsEnd is
     ∙ sym (ap (λ (f : Option OfferFault). told s e r begun id place end c offer (is_some f) (has_pairs_for s e.now c end offer) (has_number_left (dialog_of (other end) c))) why.1.0
     ∙ ap (λ (b : Bool). told s e r begun id place end c offer false b (has_number_left (dialog_of (other end) c))) (le-leb (needed c end offer) (free s e.now) why.1.1)
     ∙ ap (λ (b : Bool). told s e r begun id place end c offer false true b) why.2)

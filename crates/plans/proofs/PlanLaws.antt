@@ -10,8 +10,8 @@ use Rattle.plans.specs.declared.acks.KeptAck.{KeptAck}
 use Rattle.plans.specs.declared.effects_of_events.Doing.{Doing}
 use Rattle.sip_message.specs.declared.message.Request.{Request}
 use Rattle.plans.specs.declared.setting.Setting.{Setting}
-use Rattle.plans.specs.CallRows.{are_full, of_plan, unless_full, with_step}
-use Rattle.plans.specs.Replies.{responds_in}
+use Rattle.plans.specs.CallRows.{are_full, refuses_first, unless_full, with_step}
+use Rattle.plans.specs.declared.reason.Reason.TheVariants.{TooManyCalls}
 use Rattle.plans.specs.Office.{Office}
 use Rattle.plans.specs.Effect.{CanEnter, Effect, effect}
 
@@ -32,7 +32,7 @@ effect_as r calls acks now x y same h = subst (λ e. IfOk r (λ d. effect calls 
 -- a call more may stand
 pub not_full : (s : Office) (e : Setting) (r : Request) (begun : List Entry) (id : ℕ) (x : steps.Effect) → false ≡ are_full s
     → with_step s.acks begun None None x ≡ unless_full s e r begun id x
-not_full s e r begun id x h = ap (λ (b : Bool). cond b (of_plan s (responds_in s e r begun id 503 [] None)) (with_step s.acks begun None None x)) h
+not_full s e r begun id x h = ap (λ (b : Bool). cond b (refuses_first s e r begun id TooManyCalls) (with_step s.acks begun None None x)) h
 
 -- a step that no call begins with
 pub enters_alone : (calls : Standing) (now : ℕ) (step : CallStep) → FitsChange calls now step.change → step.dressed.made < 2 ^ 63

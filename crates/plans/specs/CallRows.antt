@@ -60,14 +60,16 @@ use Rattle.call_steps.specs.Values.{AskerValue}
 use Rattle.plans.specs.declared.acks.KeptAck.{KeptAck}
 use Rattle.plans.specs.CallRule as calls
 use Rattle.plans.specs.CallRule.{CallRule}
+use Rattle.plans.specs.declared.note.Note.TheVariants.{Quiet}
 use Rattle.plans.specs.declared.setting.Setting.{Setting}
 use Rattle.plans.specs.declared.taken.Taken.TheVariants.{Done, Dropped}
 use Rattle.plans.specs.declared.taken.Why.TheVariants.{Ack}
 use Rattle.plans.specs.Effect.{Effect, alone, without_ack}
+use Rattle.plans.specs.Note.{note_of_call}
 use Rattle.plans.specs.Plan.{Plan, answers, goes, moves, nothing}
-use Rattle.plans.specs.Replies.{reply_row, responds_in}
-use Rattle.plans.specs.declared.rule.Reply.{Reply}
-use Rattle.plans.specs.declared.rule.Reply.TheVariants.{Refusal, RetryLater, TypeRefused, EncodingRefused}
+use Rattle.plans.specs.Replies.{refuses_for, responds_in}
+use Rattle.plans.specs.declared.reason.Reason.{Reason}
+use Rattle.plans.specs.declared.reason.Reason.TheVariants as reasons
 use Rattle.responses.specs.Words.{is_method}
 use Rattle.plans.specs.Office.{Office}
 
@@ -93,6 +95,7 @@ step_plan begun send step = record {
   sends = goes send ++ step.dressed.sends;
   registration = None;
   made = step.dressed.made;
+  note = note_of_call step.note;
 }
 
 abbrev pub with_step : List KeptAck → List Entry → Option Outgoing → Option ℕ → steps.Effect → Effect
@@ -129,23 +132,26 @@ abbrev pub has_pairs : Office → ℕ → Description → Bool
 has_pairs s now offer =
     nat_le (fresh_needed (new_media (s.calls.begun + 1) s.range) Caller offer) (length (free_pairs now s.calls.pool.holdings))
 
+-- it is refused before a call stands
+abbrev pub refuses_first : Office → Setting → Request → List Entry → ℕ → Reason → Effect
+refuses_first s e r begun id reason = of_plan s (refuses_for s e r begun id reason)
+
 abbrev pub unless_full : Office → Setting → Request → List Entry → ℕ → steps.Effect → Effect
 unless_full s e r begun id step =
-    if are_full s then of_plan s (responds_in s e r begun id 503 [] None)
+    if are_full s then refuses_first s e r begun id reasons.TooManyCalls
     else with_step s.acks begun None None step
 
--- the offer is none that the relay carries: 488 (RFC 3264 section 6); as many calls stand as may, or too few pairs are
--- free: 503
+-- the offer is none that the relay carries (RFC 3264 section 6), too few pairs are free, or as many calls stand as may
 abbrev pub first_by : Office → Setting → Request → List Entry → ℕ → Uri → Description → Effect
 first_by s e r begun id target offer =
-    if is_some (offer_fault s.range offer None) then of_plan s (responds_in s e r begun id 488 [] None)
+    if is_some (offer_fault s.range offer None) then refuses_first s e r begun id reasons.UnfitOffer
     else (if has_pairs s e.now offer
     then unless_full s e r begun id (first_row s.calls (occasion s e) r id e.source target offer)
-    else of_plan s (responds_in s e r begun id 503 [] None))
+    else refuses_first s e r begun id reasons.NoPorts)
 
--- an offer that can't be read: 488
+-- an offer that can't be read
 abbrev pub begins : Office → Setting → Request → List Entry → ℕ → Uri → Option Description → Effect
-begins s e r begun id to None = of_plan s (responds_in s e r begun id 488 [] None)
+begins s e r begun id to None = refuses_first s e r begun id reasons.Undescribed
 begins s e r begun id to (Some offer) = first_by s e r begun id to offer
 
 -- ---- a request in a dialog
@@ -164,37 +170,37 @@ abbrev pub counted : Office → Request → ℕ → End → Plan → Effect
 counted s r place end plan =
     record { plan = plan; calls = unchanged (puts_if s.calls place (counts s.calls.calls place end r.parts.cseq.number)); acks = s.acks }
 
--- it is answered by the server itself
-abbrev pub refuses : Office → Setting → Request → List Entry → ℕ → ℕ → End → Reply → Effect
-refuses s e r begun id place end reply = counted s r place end (reply_row s e r begun id reply)
+-- the server itself refuses it
+abbrev pub refuses : Office → Setting → Request → List Entry → ℕ → ℕ → End → Reason → Effect
+refuses s e r begun id place end reason = counted s r place end (refuses_for s e r begun id reason)
 
 -- ---- an offer inside a call
 
-abbrev pub clash_reply : Clash → Reply
-clash_reply SecondOffer = RetryLater
-clash_reply Glare = Refusal 491
+abbrev pub reason_of_clash : Clash → Reason
+reason_of_clash SecondOffer = reasons.SecondOffer
+reason_of_clash Glare = reasons.Glare
 
-abbrev pub content_reply : ContentRule → Reply
-content_reply content.Type = TypeRefused
-content_reply content.Encoding = EncodingRefused
+abbrev pub reason_of_content : ContentRule → Reason
+reason_of_content content.Type = reasons.BodyType
+reason_of_content content.Encoding = reasons.BodyEncoding
 
 -- None: the call takes it
-abbrev pub offer_reply : OfferRule → Option Reply
-offer_reply asked.NoDialog = Some (Refusal 481)
-offer_reply (asked.Crosses clash) = Some (clash_reply clash)
-offer_reply asked.NoHops = Some (Refusal 483)
-offer_reply asked.Unreached = Some (Refusal 400)
-offer_reply (asked.Content rule) = Some (content_reply rule)
-offer_reply asked.Passes = None
+abbrev pub reason_of_rule : OfferRule → Option Reason
+reason_of_rule asked.NoDialog = Some reasons.NoDialog
+reason_of_rule (asked.Crosses clash) = Some (reason_of_clash clash)
+reason_of_rule asked.NoHops = Some reasons.NoHops
+reason_of_rule asked.Unreached = Some reasons.Unreached
+reason_of_rule (asked.Content rule) = Some (reason_of_content rule)
+reason_of_rule asked.Passes = None
 
 -- why the call itself refuses it, but for want of memory
-abbrev pub refusal_reply : CallRefusal → Option Reply
-refusal_reply refusals.OutOfMemory = None
-refusal_reply (refusals.Crosses clash) = Some (clash_reply clash)
-refusal_reply refusals.Undescribed = Some (Refusal 488)
-refusal_reply (refusals.Unfit fault) = Some (Refusal 488)
-refusal_reply refusals.NoPorts = Some (Refusal 503)
-refusal_reply refusals.NumberAtItsEnd = Some (Refusal 500)
+abbrev pub reason_of_refusal : CallRefusal → Option Reason
+reason_of_refusal refusals.OutOfMemory = None
+reason_of_refusal (refusals.Crosses clash) = Some (reason_of_clash clash)
+reason_of_refusal refusals.Undescribed = Some reasons.Undescribed
+reason_of_refusal (refusals.Unfit fault) = Some reasons.UnfitOffer
+reason_of_refusal refusals.NoPorts = Some reasons.NoPorts
+reason_of_refusal refusals.NumberAtItsEnd = Some reasons.NumberAtItsEnd
 
 -- INVITE or UPDATE
 abbrev pub offer_method : Request → OfferMethod
@@ -212,35 +218,35 @@ is_unfit c end offer = is_some (offer_fault c.media.range offer (previous end c.
 abbrev pub has_pairs_for : Office → ℕ → Call → End → Description → Bool
 has_pairs_for s now c end offer = nat_le (fresh_needed c.media end offer) (length (free_pairs now s.calls.pool.holdings))
 
--- it is none that the end may make or the relay carries: 488 (RFC 3264 section 8); too few pairs are free: 503; no
--- number is left for a request to the end across: 500
+-- it is none that the end may make or the relay carries (RFC 3264 section 8), too few pairs are free, or no number is
+-- left for a request to the end across
 abbrev pub passes_if : Office → Setting → Request → List Entry → ℕ → ℕ → End → Call → Description → Effect
 passes_if s e r begun id place end c offer =
-    if is_unfit c end offer then refuses s e r begun id place end (Refusal 488)
+    if is_unfit c end offer then refuses s e r begun id place end reasons.UnfitOffer
     else if has_pairs_for s e.now c end offer
     then (if has_number_left (dialog_of (other end) c) then passes s e r begun id place end offer
-    else refuses s e r begun id place end (Refusal 500))
-    else refuses s e r begun id place end (Refusal 503)
+    else refuses s e r begun id place end reasons.NumberAtItsEnd)
+    else refuses s e r begun id place end reasons.NoPorts
 
--- an offer without a description that can be read: 488
+-- an offer without a description that can be read
 abbrev pub passes_in : Office → Setting → Request → List Entry → ℕ → ℕ → End → Call → Option Description → Effect
-passes_in s e r begun id place end c None = refuses s e r begun id place end (Refusal 488)
+passes_in s e r begun id place end c None = refuses s e r begun id place end reasons.Undescribed
 passes_in s e r begun id place end c (Some offer) = passes_if s e r begun id place end c offer
 
-abbrev pub offers_by : Office → Setting → Request → List Entry → ℕ → ℕ → End → Call → Option Reply → Effect
-offers_by s e r begun id place end c (Some reply) = refuses s e r begun id place end reply
+abbrev pub offers_by : Office → Setting → Request → List Entry → ℕ → ℕ → End → Call → Option Reason → Effect
+offers_by s e r begun id place end c (Some reason) = refuses s e r begun id place end reason
 offers_by s e r begun id place end c None = passes_in s e r begun id place end c (described r.headers r.body)
 
 unfoldable pub offers : Office → Setting → Request → List Entry → ℕ → ℕ → End → Call → Effect
-offers s e r begun id place end c = offers_by s e r begun id place end c (offer_reply (offer_rule r end c))
+offers s e r begun id place end c = offers_by s e r begun id place end c (reason_of_rule (offer_rule r end c))
 
 -- ---- an UPDATE without an offer: 200, which says where the server is reached (RFC 3311 section 5.2)
 
 abbrev pub okay_plan : Office → Setting → Request → List Entry → ℕ → Plan
 okay_plan s e r begun id = responds_in s e r begun id 200 (contact s.server ∷ []) None
 
-abbrev pub refreshes_by : Office → Setting → Request → List Entry → ℕ → ℕ → End → Option Reply → Effect
-refreshes_by s e r begun id place end (Some reply) = refuses s e r begun id place end reply
+abbrev pub refreshes_by : Office → Setting → Request → List Entry → ℕ → ℕ → End → Option Reason → Effect
+refreshes_by s e r begun id place end (Some reason) = refuses s e r begun id place end reason
 refreshes_by s e r begun id place end None = record {
   plan = okay_plan s e r begun id;
   calls = unchanged (puts_if s.calls place (refreshes s.calls.calls place end r));
@@ -248,7 +254,7 @@ refreshes_by s e r begun id place end None = record {
 }
 
 unfoldable pub refreshes_at : Office → Setting → Request → List Entry → ℕ → ℕ → End → Call → Effect
-refreshes_at s e r begun id place end c = refreshes_by s e r begun id place end (offer_reply (plain_rule r end c))
+refreshes_at s e r begun id place end c = refreshes_by s e r begun id place end (reason_of_rule (plain_rule r end c))
 
 -- ---- a request that a call has to do with. BYE: section 15.1.2
 unfoldable pub call_row : Office → Setting → Request → List Entry → ℕ → CallRule → Effect
@@ -284,6 +290,7 @@ acks_again s begun id = record {
   sends = again (find (λ (ack : KeptAck). ack.id == id) s.acks);
   registration = None;
   made = 0;
+  note = Quiet;
 }
 
 abbrev pub responds_by : Office → Setting → Response → List Entry → Option Outgoing → ℕ → Transaction → ResponseRule → Effect

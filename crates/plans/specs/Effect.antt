@@ -42,7 +42,7 @@ fired_off (Some timer) calls = without_timer timer calls
 
 -- so many tokens more are made
 abbrev pub with_made : ℕ → Plan → Plan
-with_made more p = record { taken = p.taken; changes = p.changes; sends = p.sends; registration = p.registration; made = more + p.made }
+with_made more p = record { taken = p.taken; changes = p.changes; sends = p.sends; registration = p.registration; made = more + p.made; note = p.note }
 
 abbrev pub effect : Standing → List KeptAck → ℕ → Doing → Effect
 effect calls acks now d = record {

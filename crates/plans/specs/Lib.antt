@@ -1,4 +1,6 @@
 pub mod Office
+pub mod Reasons
+pub mod Note
 pub mod Plan
 pub mod Effect
 pub mod Replies

@@ -9,17 +9,22 @@ use Rattle.registrar.specs.Registrar.{PlanContents}
 use Rattle.transactions.specs.declared.change.Entry.{Entry}
 use Rattle.transactions.specs.declared.outcome.Outgoing.{Outgoing}
 use Rattle.transactions.specs.Changes.{answer_of}
+use Rattle.plans.specs.declared.note.Note.{Note}
+use Rattle.plans.specs.declared.note.Note.TheVariants.{Quiet, Refused}
+use Rattle.plans.specs.declared.reason.Reason.{Reason}
 use Rattle.plans.specs.declared.taken.Taken.{Taken}
 use Rattle.plans.specs.declared.taken.Taken.TheVariants.{Done}
+use Rattle.plans.specs.Note.{note_of_registration, note_of_taken}
 
--- what is answered, the changes of the transactions in order, what is sent in order, what changes in the registrar, and
--- how many tokens are made
+-- what is answered, the changes of the transactions in order, what is sent in order, what changes in the registrar, how
+-- many tokens are made, and what the event was about
 pub record Plan : Type 0 where
   pub taken : Taken
   pub changes : List Entry
   pub sends : List Sent
   pub registration : Option PlanContents
   pub made : ℕ
+  pub note : Note
 
 -- the bytes of a response go to this address
 abbrev pub sent_response : Addr → Response → Sent
@@ -27,7 +32,7 @@ sent_response to response = record { to = to; bytes = message_text (Kinds.Respon
 
 -- nothing changes in the transactions, and nothing is sent
 abbrev pub nothing : Taken → Plan
-nothing taken = record { taken = taken; changes = []; sends = []; registration = None; made = 0 }
+nothing taken = record { taken = taken; changes = []; sends = []; registration = None; made = 0; note = note_of_taken taken }
 
 -- bytes that a transaction sends, if any
 abbrev pub goes : Option Outgoing → List Sent
@@ -36,11 +41,11 @@ goes (Some out) = record { to = out.to; bytes = out.bytes } ∷ []
 
 -- a transaction did something by itself
 abbrev pub moves : List Entry → Option Outgoing → Plan
-moves begun out = record { taken = Done; changes = begun; sends = goes out; registration = None; made = 0 }
+moves begun out = record { taken = Done; changes = begun; sends = goes out; registration = None; made = 0; note = Quiet }
 
--- a response that no transaction sends
-abbrev pub replies : Addr → Response → Plan
-replies to response = record { taken = Done; changes = []; sends = sent_response to response ∷ []; registration = None; made = 0 }
+-- a refusal that no transaction sends
+abbrev pub replies : Addr → Response → Reason → Plan
+replies to response reason = record { taken = Done; changes = []; sends = sent_response to response ∷ []; registration = None; made = 0; note = Refused reason }
 
 -- a request began transaction id, and is answered there at once
 abbrev pub answers : List Entry → ℕ → Addr → Response → Option PlanContents → ℕ → Plan
@@ -50,4 +55,9 @@ answers begun id to response registration made = record {
   sends = sent_response to response ∷ [];
   registration = registration;
   made = made;
+  note = note_of_registration registration;
 }
+
+-- the same plan, of a request that is refused for this reason
+abbrev pub as_refusal : Reason → Plan → Plan
+as_refusal reason p = record p { note = Refused reason }

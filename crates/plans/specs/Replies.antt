@@ -20,10 +20,13 @@ use Rattle.transactions.specs.Slots.{at}
 use Rattle.plans.specs.declared.setting.Setting.{Setting}
 use Rattle.plans.specs.declared.rule.Reply.{Reply}
 use Rattle.plans.specs.declared.rule.Reply.TheVariants as reply
-use Rattle.plans.specs.Plan.{Plan, answers}
+use Rattle.plans.specs.declared.reason.Reason.{Reason}
+use Rattle.plans.specs.declared.reason.Reason.TheVariants as reasons
+use Rattle.plans.specs.Plan.{Plan, answers, as_refusal}
+use Rattle.plans.specs.Reasons.{status}
 use Rattle.plans.specs.Office.{Office}
 use Rattle.responses.specs.Registering.{register_of}
-use Rattle.responses.specs.Responding.{allow, contact_header, refusal_headers, status_of, responds, stateless}
+use Rattle.responses.specs.Responding.{allow, contact_header, refusal_headers, responds, stateless}
 use Rattle.responses.specs.Tags.{joined_tags, required_tags}
 use Rattle.responses.specs.Tokens.{token}
 use Rattle.call_messages.specs.Messages.{retry_after}
@@ -81,15 +84,27 @@ accept_encoding = named (codes "Accept-Encoding") (codes "identity")
 abbrev pub unsupported : Request → Header
 unsupported r = named (codes "Unsupported") (joined_tags (required_tags r.headers))
 
--- why a REGISTER is refused (section 10.3)
-abbrev pub not_registered : Office → Setting → Request → List Entry → ℕ → Refusal → Plan
-not_registered s e r begun id refusal = responds_in s e r begun id (status_of refusal) (refusal_headers s.least refusal) None
+-- the header fields that say more of a reason: when the request may come again (RFC 3261 section 14.2), the methods that
+-- are offered (8.2.1), what is required and not there (8.2.2.3), what is taken in a body (8.2.3), and how long a binding
+-- lasts at least (10.3)
+abbrev pub headers_of : Office → Request → Reason → List Header
+headers_of s r reasons.SecondOffer = retry_after ∷ []
+headers_of s r reasons.MethodNotOffered = allow ∷ []
+headers_of s r reasons.ExtensionRequired = unsupported r ∷ []
+headers_of s r reasons.BodyType = accept ∷ []
+headers_of s r reasons.BodyEncoding = accept_encoding ∷ []
+headers_of s r (reasons.Register refusal) = refusal_headers s.least refusal
+headers_of s r reason = []
+
+-- a refusal of request r in transaction id
+abbrev pub refuses_for : Office → Setting → Request → List Entry → ℕ → Reason → Plan
+refuses_for s e r begun id reason = as_refusal reason (responds_in s e r begun id (status reason) (headers_of s r reason) None)
 
 -- a REGISTER: all the bindings that its user then has, or why it is refused
 abbrev pub registers_by : Office → Setting → Request → List Entry → ℕ → Option (List ℕ) → Result (List Binding) Refusal → Plan
 registers_by s e r begun id user (Ok bindings) =
     responds_in s e r begun id 200 (map (contact_header e.now) bindings) (option_map (λ u. plan_of u bindings) user)
-registers_by s e r begun id user (Err refusal) = not_registered s e r begun id refusal
+registers_by s e r begun id user (Err refusal) = refuses_for s e r begun id (reasons.Register refusal)
 
 unfoldable pub registers : Office → Setting → Request → List Entry → ℕ → Plan
 registers s e r begun id =
@@ -98,11 +113,6 @@ registers s e r begun id =
 
 unfoldable pub reply_row : Office → Setting → Request → List Entry → ℕ → Reply → Plan
 reply_row s e r begun id (reply.CancelOf other) = cancels s e r begun id other
-reply_row s e r begun id (reply.Refusal status) = responds_in s e r begun id status [] None
-reply_row s e r begun id reply.RetryLater = responds_in s e r begun id 500 (retry_after ∷ []) None
-reply_row s e r begun id reply.MethodUnoffered = responds_in s e r begun id 405 (allow ∷ []) None
-reply_row s e r begun id reply.ExtensionRefused = responds_in s e r begun id 420 (unsupported r ∷ []) None
+reply_row s e r begun id (reply.Refusal reason) = refuses_for s e r begun id reason
 reply_row s e r begun id reply.MethodsListed = responds_in s e r begun id 200 (allow ∷ []) None
-reply_row s e r begun id reply.TypeRefused = responds_in s e r begun id 415 (accept ∷ []) None
-reply_row s e r begun id reply.EncodingRefused = responds_in s e r begun id 415 (accept_encoding ∷ []) None
 reply_row s e r begun id reply.Registration = registers s e r begun id

@@ -9,15 +9,15 @@ ghost use Rattle.call_steps.specs.Effects as steps;
 ghost use Rattle.call_steps.specs.Effects.{with_timers};
 ghost use Rattle.call_steps.specs.Rows.{takes_row};
 ghost use Rattle.call_steps.specs.Values.{asker_value};
-ghost use Rattle.plans.specs.CallRows.{are_full, asker, begins, call_row, counted, first_by, occasion, of_plan, tag_at, takes, takes_request, unless_full};
+ghost use Rattle.plans.specs.CallRows.{are_full, asker, begins, call_row, counted, first_by, occasion, refuses_first, tag_at, takes, takes_request, unless_full};
 ghost use Rattle.plans.specs.Effect.{CanEnter, Fits, effect};
 ghost use Rattle.plans.specs.CallRule as rules;
 ghost use Rattle.plans.specs.CallRule.{StandsThere, call_rule};
-ghost use Rattle.plans.specs.Replies.{responds_in};
 
 use crate::effects_of_events::{Before, Doing};
 use crate::office::Office;
 use crate::plan::Plan;
+use crate::reason::Reason;
 use crate::rule::CallRule;
 use crate::setting::Setting;
 use call_core::{CallRefusal, End, Input};
@@ -148,19 +148,19 @@ impl<'o> Office<'o> {
     // ---- a first INVITE
 
     #[inline(never)]
-    fn refuses(
+    fn refuses_first(
         &self,
         setting: Setting,
         request: &Request<'_>,
         begun: Vec<Change>,
         id: usize,
-        status: u16,
+        reason: Reason,
     ) -> Result<Doing, AllocError>
-        ensures row { IfOk result (λ d. effect self.now.calls self.now.acks setting.now d ≡ of_plan self.now (responds_in self.now setting request.now begun.items id status [] None)) }
+        ensures row { IfOk result (λ d. effect self.now.calls self.now.acks setting.now d ≡ refuses_first self.now setting request.now begun.items id reason) }
         ensures fits { IfOk result (Fits self.now.calls setting.now) }
     {
-        let further = Vec::new(self.alloc);
-        Ok(Doing::alone(self.responds_in(setting, request, begun, id, status, further)?))
+        let plan = self.refuses_for(setting, request, begun, id, reason)?;
+        Ok(Doing::alone(plan))
     }
 
     fn are_full(&self) -> bool
@@ -185,7 +185,7 @@ impl<'o> Office<'o> {
     {
         if self.are_full() {
             drop(step);
-            return self.refuses(setting, request, begun, id, 503);
+            return self.refuses_first(setting, request, begun, id, Reason::TooManyCalls);
         }
         Doing::of_step(Before::alone(begun), step)
     }
@@ -217,8 +217,12 @@ impl<'o> Office<'o> {
             offer,
         ) {
             Ok(step) => self.begins_unless_full(setting, request, begun, id, step),
-            Err(CallRefusal::Unfit(_)) => self.refuses(setting, request, begun, id, 488),
-            Err(CallRefusal::NoPorts) => self.refuses(setting, request, begun, id, 503),
+            Err(CallRefusal::Unfit(_)) => {
+                self.refuses_first(setting, request, begun, id, Reason::UnfitOffer)
+            }
+            Err(CallRefusal::NoPorts) => {
+                self.refuses_first(setting, request, begun, id, Reason::NoPorts)
+            }
             Err(CallRefusal::OutOfMemory) => Err(AllocError),
             Err(CallRefusal::Crosses(_)) => unreachable!(),
             Err(CallRefusal::Undescribed) => unreachable!(),
@@ -241,7 +245,7 @@ impl<'o> Office<'o> {
     {
         let headers = request.headers.as_slice();
         let Some(offer) = body_description(self.alloc, headers, request.body.as_bytes())? else {
-            return self.refuses(setting, request, begun, id, 488);
+            return self.refuses_first(setting, request, begun, id, Reason::Undescribed);
         };
         let doing = self.first_by(setting, request, begun, id, target, &offer);
         drop(offer);

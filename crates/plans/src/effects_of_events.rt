@@ -8,11 +8,14 @@ ghost use Rattle.call_steps.specs.Effects as steps;
 ghost use Rattle.plans.specs.declared.taken.Taken.TheVariants.{Done};
 ghost use Rattle.plans.specs.CallRows.{acks_with, puts_if, with_step};
 ghost use Rattle.plans.specs.Effect.{CanEnter, Fits, acks_after, alone, effect, fired_off, without_ack};
+ghost use Rattle.plans.specs.Note.{note_of_call};
 ghost use Rattle.plans.specs.Plan.{goes};
 
 use crate::acks::{AckChange, KeptAck};
+use crate::note::note_of_call;
 use crate::plan::{Plan, sends_of};
 use crate::taken::Taken;
+use call_core::NoteOfCall;
 use call_messages::Dressed;
 use call_steps::CallStep;
 use calls::{CallChange, CallTimerId, LegDialog};
@@ -121,13 +124,14 @@ impl Doing {
             change,
             dressed,
             ack,
+            note,
         } = step;
         let Dressed {
             changes,
             sends,
             made,
         } = dressed;
-        match plan_of(begun, send, changes, sends) {
+        match plan_of(begun, send, changes, sends, note) {
             Ok(plan) => Ok(Doing {
                 plan,
                 calls: change,
@@ -213,8 +217,9 @@ fn plan_of(
     send: Option<Outgoing>,
     mut changes: Vec<Change>,
     mut sends: Vec<Sent>,
+    note: Option<NoteOfCall>,
 ) -> Result<Plan, AllocError>
-    ensures { IfOk result (λ p. p ≡ record { taken = Done; changes = begun.items ++ changes.items; sends = goes send ++ sends.items; registration = None; made = 0 }) }
+    ensures { IfOk result (λ p. p ≡ record { taken = Done; changes = begun.items ++ changes.items; sends = goes send ++ sends.items; registration = None; made = 0; note = note_of_call note }) }
 {
     let mut all = sends_of(*begun.allocator(), send)?;
     begun.append(&mut changes)?;
@@ -225,5 +230,6 @@ fn plan_of(
         sends: all,
         registration: None,
         made: 0,
+        note: note_of_call(note),
     })
 }

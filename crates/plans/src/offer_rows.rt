@@ -10,13 +10,13 @@ ghost use Rattle.call_steps.specs.Effects as steps;
 ghost use Rattle.call_steps.specs.Effects.{with_timers};
 ghost use Rattle.call_steps.specs.Refusals.{MayTakeThere, RefusesTaken};
 ghost use Rattle.call_steps.specs.Rows.{offers_row};
-ghost use Rattle.plans.specs.CallRows.{clash_reply, content_reply, occasion, offer_method, offer_reply, offers, okay_plan, passes_if, passes_in, refreshes_at, refreshes_by, refusal_reply, refuses};
+ghost use Rattle.plans.specs.CallRows.{occasion, offer_method, offers, okay_plan, passes_if, passes_in, reason_of_clash, reason_of_content, reason_of_refusal, reason_of_rule, refreshes_at, refreshes_by, refuses};
 ghost use Rattle.plans.specs.Effect.{CanEnter, Fits, effect};
 
 use crate::effects_of_events::{Before, Doing};
 use crate::office::Office;
 use crate::plan::Plan;
-use crate::rule::Reply;
+use crate::reason::Reason;
 use crate::setting::Setting;
 use call_core::{Call, CallRefusal, Clash, End, Input, OfferMethod};
 use call_messages::contact_header;
@@ -38,34 +38,35 @@ fn one_header(alloc: Global, header: Header<'static>) -> Result<Vec<Header<'stat
     Ok(headers)
 }
 
-fn clash_reply(clash: Clash) -> Reply
-    ensures { result ≡ clash_reply clash }
+fn reason_of_clash(clash: Clash) -> Reason
+    ensures { result ≡ reason_of_clash clash }
 {
     match clash {
-        Clash::SecondOffer => Reply::RetryLater,
-        Clash::Glare => Reply::Refusal(491),
+        Clash::SecondOffer => Reason::SecondOffer,
+        Clash::Glare => Reason::Glare,
     }
 }
 
-fn content_reply(rule: ContentRule) -> Reply
-    ensures { result ≡ content_reply rule }
+/// Why a body is not taken.
+pub fn reason_of_content(rule: ContentRule) -> Reason
+    ensures { result ≡ reason_of_content rule }
 {
     match rule {
-        ContentRule::Type => Reply::TypeRefused,
-        ContentRule::Encoding => Reply::EncodingRefused,
+        ContentRule::Type => Reason::BodyType,
+        ContentRule::Encoding => Reason::BodyEncoding,
     }
 }
 
 /// None where the call takes it.
-fn offer_reply(rule: OfferRule) -> Option<Reply>
-    ensures { result ≡ offer_reply rule }
+fn reason_of_rule(rule: OfferRule) -> Option<Reason>
+    ensures { result ≡ reason_of_rule rule }
 {
     match rule {
-        OfferRule::NoDialog => Some(Reply::Refusal(481)),
-        OfferRule::Crosses(clash) => Some(clash_reply(clash)),
-        OfferRule::NoHops => Some(Reply::Refusal(483)),
-        OfferRule::Unreached => Some(Reply::Refusal(400)),
-        OfferRule::Content(rule) => Some(content_reply(rule)),
+        OfferRule::NoDialog => Some(Reason::NoDialog),
+        OfferRule::Crosses(clash) => Some(reason_of_clash(clash)),
+        OfferRule::NoHops => Some(Reason::NoHops),
+        OfferRule::Unreached => Some(Reason::Unreached),
+        OfferRule::Content(rule) => Some(reason_of_content(rule)),
         OfferRule::Passes => None,
     }
 }
@@ -81,21 +82,21 @@ fn offer_method(request: &Request<'_>) -> OfferMethod
 }
 
 /// None where memory ran out.
-fn refusal_reply(refusal: CallRefusal) -> Option<Reply>
-    ensures { result ≡ refusal_reply refusal }
+fn reason_of_refusal(refusal: CallRefusal) -> Option<Reason>
+    ensures { result ≡ reason_of_refusal refusal }
 {
     match refusal {
         CallRefusal::OutOfMemory => None,
-        CallRefusal::Crosses(clash) => Some(clash_reply(clash)),
-        CallRefusal::Undescribed => Some(Reply::Refusal(488)),
-        CallRefusal::Unfit(_) => Some(Reply::Refusal(488)),
-        CallRefusal::NoPorts => Some(Reply::Refusal(503)),
-        CallRefusal::NumberAtItsEnd => Some(Reply::Refusal(500)),
+        CallRefusal::Crosses(clash) => Some(reason_of_clash(clash)),
+        CallRefusal::Undescribed => Some(Reason::Undescribed),
+        CallRefusal::Unfit(_) => Some(Reason::UnfitOffer),
+        CallRefusal::NoPorts => Some(Reason::NoPorts),
+        CallRefusal::NumberAtItsEnd => Some(Reason::NumberAtItsEnd),
     }
 }
 
 impl<'o> Office<'o> {
-    /// The server answers by itself, and the dialog counts the number of the request.
+    /// The server itself refuses it, and the dialog counts the number of the request.
     #[inline(never)]
     fn refuses_in(
         &self,
@@ -105,13 +106,13 @@ impl<'o> Office<'o> {
         id: usize,
         place: usize,
         end: End,
-        reply: Reply,
+        reason: Reason,
     ) -> Result<Doing, AllocError>
         requires moment { setting.now < 2 ^ 60 }
-        ensures row { IfOk result (λ d. effect self.now.calls self.now.acks setting.now d ≡ refuses self.now setting request.now begun.items id place end reply) }
+        ensures row { IfOk result (λ d. effect self.now.calls self.now.acks setting.now d ≡ refuses self.now setting request.now begun.items id place end reason) }
         ensures fits { IfOk result (Fits self.now.calls setting.now) }
     {
-        let plan = self.reply_row(setting, request, begun, id, reply)?;
+        let plan = self.refuses_for(setting, request, begun, id, reason)?;
         self.counts_its_number(request, place, end, plan)
     }
 
@@ -179,9 +180,9 @@ impl<'o> Office<'o> {
         drop(input);
         match step {
             Ok(step) => Doing::of_step(Before::alone(begun), step),
-            Err(refusal) => match refusal_reply(refusal) {
+            Err(refusal) => match reason_of_refusal(refusal) {
                 None => Err(AllocError),
-                Some(reply) => self.refuses_in(setting, request, begun, id, place, end, reply),
+                Some(reason) => self.refuses_in(setting, request, begun, id, place, end, reason),
             },
         }
     }
@@ -207,7 +208,7 @@ impl<'o> Office<'o> {
     {
         let headers = request.headers.as_slice();
         match body_description(self.alloc, headers, request.body.as_bytes())? {
-            None => self.refuses_in(setting, request, begun, id, place, end, Reply::Refusal(488)),
+            None => self.refuses_in(setting, request, begun, id, place, end, Reason::Undescribed),
             Some(offer) => self.passes_if(setting, request, begun, id, place, end, call, offer),
         }
     }
@@ -232,8 +233,8 @@ impl<'o> Office<'o> {
         ensures fits { IfOk result (Fits self.now.calls setting.now) }
     {
         let rule = offer_rule(self.alloc, request, end, &call.call)?;
-        match offer_reply(rule) {
-            Some(reply) => self.refuses_in(setting, request, begun, id, place, end, reply),
+        match reason_of_rule(rule) {
+            Some(reason) => self.refuses_in(setting, request, begun, id, place, end, reason),
             None => self.passes_in(setting, request, begun, id, place, end, call),
         }
     }
@@ -291,8 +292,8 @@ impl<'o> Office<'o> {
         ensures fits { IfOk result (Fits self.now.calls setting.now) }
     {
         let rule = plain_rule(self.alloc, request, end, call)?;
-        match offer_reply(rule) {
-            Some(reply) => self.refuses_in(setting, request, begun, id, place, end, reply),
+        match reason_of_rule(rule) {
+            Some(reason) => self.refuses_in(setting, request, begun, id, place, end, reason),
             None => self.okays(setting, request, begun, id, place, end),
         }
     }

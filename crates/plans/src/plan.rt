@@ -4,8 +4,11 @@ ghost use Rattle.std.specs.Prelude.{◌≡◌, ◌∷◌, ◌++◌, [], IfOk, No
 ghost use Rattle.sip_message.specs.Words.{class_of};
 ghost use Rattle.transactions.specs.declared.change.Entry.TheVariants.{Answers};
 ghost use Rattle.plans.specs.declared.taken.Taken.TheVariants.{Done};
-ghost use Rattle.plans.specs.Plan.{goes, moves, nothing};
+ghost use Rattle.plans.specs.declared.note.Note.TheVariants.{Quiet, Refused, Registered};
+ghost use Rattle.plans.specs.Plan.{as_refusal, goes, moves, nothing};
 
+use crate::note::{Note, note_of_taken};
+use crate::reason::Reason;
 use crate::taken::Taken;
 use events::Sent;
 use sip_message::class_of;
@@ -25,6 +28,8 @@ pub struct Plan {
     pub registration: Option<registrar::Plan>,
     /// How many tokens are made.
     pub made: u8,
+    /// What the event is about.
+    pub note: Note,
 }
 
 impl Model for Plan {
@@ -32,7 +37,7 @@ impl Model for Plan {
 
     ghost Value = { plans.Plan };
 
-    ghost view = { λ p. record { taken = p.taken; changes = p.changes.items; sends = p.sends.items; registration = p.registration; made = p.made } };
+    ghost view = { λ p. record { taken = p.taken; changes = p.changes.items; sends = p.sends.items; registration = p.registration; made = p.made; note = p.note } };
 }
 
 /// The list of one change.
@@ -92,6 +97,7 @@ impl Plan {
             sends: Vec::new(alloc),
             registration: None,
             made: 0,
+            note: note_of_taken(taken),
         }
     }
 
@@ -110,17 +116,24 @@ impl Plan {
             sends,
             registration: None,
             made: 0,
+            note: Note::Quiet,
         })
     }
 
-    /// A response that no transaction sends, of which these are the bytes.
-    pub fn replies(alloc: Global, to: Addr, bytes: Text<'static>) -> Result<Plan, AllocError>
+    /// A refusal that no transaction sends, for this reason, of which these are the bytes.
+    pub fn replies(
+        alloc: Global,
+        to: Addr,
+        reason: Reason,
+        bytes: Text<'static>,
+    ) -> Result<Plan, AllocError>
         ensures { IfOk result (λ p. p ≡ record {
           taken = Done;
           changes = [];
           sends = record { to = to; bytes = bytes.entry } ∷ [];
           registration = None;
           made = 0;
+          note = Refused reason;
         }) }
     {
         Ok(Plan {
@@ -129,6 +142,7 @@ impl Plan {
             sends: one_send(alloc, Sent { to, bytes })?,
             registration: None,
             made: 0,
+            note: Note::Refused(reason),
         })
     }
 
@@ -149,6 +163,7 @@ impl Plan {
           sends = record { to = to; bytes = bytes.entry } ∷ [];
           registration = None;
           made = made;
+          note = Quiet;
         }) }
     {
         let changes = with_response(alloc, begun, id, status, &bytes)?;
@@ -159,15 +174,27 @@ impl Plan {
             sends,
             registration: None,
             made,
+            note: Note::Quiet,
         })
+    }
+
+    /// The same, of a request that is refused for this reason. Takes no memory.
+    pub(crate) fn as_refusal(self, reason: Reason) -> Plan
+        ensures { result ≡ as_refusal reason self }
+    {
+        Plan {
+            note: Note::Refused(reason),
+            ..self
+        }
     }
 
     /// The same, with this change of the registrar. Takes no memory.
     pub(crate) fn with_registration(self, registration: registrar::Plan) -> Plan
-        ensures { result ≡ record self { registration = Some registration } }
+        ensures { result ≡ record self { registration = Some registration; note = Registered } }
     {
         Plan {
             registration: Some(registration),
+            note: Note::Registered,
             ..self
         }
     }

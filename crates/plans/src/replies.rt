@@ -9,18 +9,19 @@ ghost use Rattle.registrar.specs.Registering.{AllLast};
 ghost use Rattle.registrar.specs.Registrar.{Fails};
 ghost use Rattle.responses.specs.Responding.{allow, responds, stateless};
 ghost use Rattle.sip_message.specs.Lookup.{named};
-ghost use Rattle.plans.specs.Replies.{cancels, fresh_tag, not_registered, registers, registers_by, reply_row, responds_in, response_tag, response_tag_in, tag_in, tag_of, tags_made, unsupported};
+ghost use Rattle.plans.specs.Replies.{cancels, fresh_tag, headers_of, refuses_for, registers, registers_by, reply_row, responds_in, response_tag, response_tag_in, tag_in, tag_of, tags_made};
 ghost use Rattle.plans.specs.Plan.{answers};
 
 use crate::office::Office;
 use crate::plan::Plan;
+use crate::reason::Reason;
 use crate::rule::Reply;
 use crate::setting::Setting;
 use call_messages::retry_alone;
 use registrar::Refusal;
 use responses::{
-    STATELESS, allow_header, contact_headers, refusal_headers, register_of, response_with,
-    status_of, token, unsupported_header,
+    STATELESS, allow_header, contact_headers, refusal_headers, register_of, response_with, token,
+    unsupported_header,
 };
 use sip_message::{Header, Message, MessageError, Request, has_tag, read_message, tag_value};
 use sip_writing::reply_address;
@@ -111,6 +112,15 @@ fn tags_made(request: &Request<'_>) -> u8
     } else {
         1
     }
+}
+
+/// The list of one header field.
+fn one_named(alloc: Global, name: &[u8], value: &[u8]) -> Result<Vec<Header<'static>>, AllocError>
+    ensures { IfOk result (λ headers. headers.items ≡ named name.now value.now ∷ []) }
+{
+    let mut headers = Vec::new(alloc);
+    headers.push(Header::of(alloc, name, value)?)?;
+    Ok(headers)
 }
 
 /// The plan of a response to a request that began transaction `id`: its status, the tag that To is given where it has
@@ -216,19 +226,43 @@ impl<'o> Office<'o> {
         Ok(planned.with_registration(plan))
     }
 
+    /// The header fields that say more of a reason.
+    #[tactic(auto, unfolding(crate::specs::Replies::headers_of))]
+    fn headers_of(
+        &self,
+        request: &Request<'_>,
+        reason: Reason,
+    ) -> Result<Vec<Header<'static>>, AllocError>
+        ensures { IfOk result (λ headers. headers.items ≡ headers_of self.now request.now reason) }
+    {
+        match reason {
+            Reason::SecondOffer => retry_alone(self.alloc),
+            Reason::MethodNotOffered => allow_header(self.alloc),
+            Reason::ExtensionRequired => {
+                unsupported_header(self.alloc, request.headers.as_slice())
+            }
+            Reason::BodyType => one_named(self.alloc, b"Accept", b"application/sdp"),
+            Reason::BodyEncoding => one_named(self.alloc, b"Accept-Encoding", b"identity"),
+            Reason::Register(refusal) => refusal_headers(self.alloc, self.least, refusal),
+            _ => Ok(Vec::new(self.alloc)),
+        }
+    }
+
+    /// A refusal of a request that began transaction `id`.
     #[inline(never)]
-    fn not_registered(
+    pub(crate) fn refuses_for(
         &self,
         setting: Setting,
         request: &Request<'_>,
         begun: Vec<Change>,
         id: usize,
-        refusal: Refusal,
+        reason: Reason,
     ) -> Result<Plan, AllocError>
-        ensures { IfOk result (λ p. p ≡ not_registered self.now setting request.now begun.items id refusal) }
+        ensures { IfOk result (λ p. p ≡ refuses_for self.now setting request.now begun.items id reason) }
     {
-        let further = refusal_headers(self.alloc, self.least, refusal)?;
-        self.responds_in(setting, request, begun, id, status_of(refusal), further)
+        let further = self.headers_of(request, reason)?;
+        let planned = self.responds_in(setting, request, begun, id, reason.status(), further)?;
+        Ok(planned.as_refusal(reason))
     }
 
     /// A REGISTER for which this is the registrar's answer, or for which memory ran out.
@@ -246,12 +280,48 @@ impl<'o> Office<'o> {
     {
         match refusal {
             Refusal::OutOfMemory => Err(AllocError),
-            Refusal::UnknownUser => self.not_registered(setting, request, begun, id, refusal),
-            Refusal::StarMisused => self.not_registered(setting, request, begun, id, refusal),
-            Refusal::TooBrief => self.not_registered(setting, request, begun, id, refusal),
-            Refusal::OutOfOrder => self.not_registered(setting, request, begun, id, refusal),
-            Refusal::TooManyBindings => self.not_registered(setting, request, begun, id, refusal),
-            Refusal::BadContact => self.not_registered(setting, request, begun, id, refusal),
+            Refusal::UnknownUser => self.refuses_for(
+                setting,
+                request,
+                begun,
+                id,
+                Reason::Register(refusal),
+            ),
+            Refusal::StarMisused => self.refuses_for(
+                setting,
+                request,
+                begun,
+                id,
+                Reason::Register(refusal),
+            ),
+            Refusal::TooBrief => self.refuses_for(
+                setting,
+                request,
+                begun,
+                id,
+                Reason::Register(refusal),
+            ),
+            Refusal::OutOfOrder => self.refuses_for(
+                setting,
+                request,
+                begun,
+                id,
+                Reason::Register(refusal),
+            ),
+            Refusal::TooManyBindings => self.refuses_for(
+                setting,
+                request,
+                begun,
+                id,
+                Reason::Register(refusal),
+            ),
+            Refusal::BadContact => self.refuses_for(
+                setting,
+                request,
+                begun,
+                id,
+                Reason::Register(refusal),
+            ),
         }
     }
 
@@ -281,44 +351,11 @@ impl<'o> Office<'o> {
         request: &Request<'_>,
         begun: Vec<Change>,
         id: usize,
-        status: u16,
     ) -> Result<Plan, AllocError>
-        ensures { IfOk result (λ p. p ≡ responds_in self.now setting request.now begun.items id status (allow ∷ []) None) }
+        ensures { IfOk result (λ p. p ≡ responds_in self.now setting request.now begun.items id 200 (allow ∷ []) None) }
     {
         let further = allow_header(self.alloc)?;
-        self.responds_in(setting, request, begun, id, status, further)
-    }
-
-    #[inline(never)]
-    fn refuses_extensions(
-        &self,
-        setting: Setting,
-        request: &Request<'_>,
-        begun: Vec<Change>,
-        id: usize,
-    ) -> Result<Plan, AllocError>
-        ensures { IfOk result (λ p. p ≡ responds_in self.now setting request.now begun.items id 420 (unsupported request.now ∷ []) None) }
-    {
-        let further = unsupported_header(self.alloc, request.headers.as_slice())?;
-        self.responds_in(setting, request, begun, id, 420, further)
-    }
-
-    /// 415, with what is taken in place of it.
-    #[inline(never)]
-    fn refuses_body(
-        &self,
-        setting: Setting,
-        request: &Request<'_>,
-        begun: Vec<Change>,
-        id: usize,
-        name: &[u8],
-        taken: &[u8],
-    ) -> Result<Plan, AllocError>
-        ensures { IfOk result (λ p. p ≡ responds_in self.now setting request.now begun.items id 415 (named name.now taken.now ∷ []) None) }
-    {
-        let mut further = Vec::new(self.alloc);
-        further.push(Header::of(self.alloc, name, taken)?)?;
-        self.responds_in(setting, request, begun, id, 415, further)
+        self.responds_in(setting, request, begun, id, 200, further)
     }
 
     /// What a reply comes to, to a request that began transaction `id`.
@@ -337,32 +374,8 @@ impl<'o> Office<'o> {
     {
         match reply {
             Reply::CancelOf(other) => self.cancels(setting, request, begun, id, other),
-            Reply::Refusal(status) => {
-                self.responds_in(setting, request, begun, id, status, Vec::new(self.alloc))
-            }
-            Reply::RetryLater => {
-                let further = retry_alone(self.alloc)?;
-                self.responds_in(setting, request, begun, id, 500, further)
-            }
-            Reply::MethodUnoffered => self.lists_methods(setting, request, begun, id, 405),
-            Reply::TypeRefused => self.refuses_body(
-                setting,
-                request,
-                begun,
-                id,
-                b"Accept",
-                b"application/sdp",
-            ),
-            Reply::EncodingRefused => self.refuses_body(
-                setting,
-                request,
-                begun,
-                id,
-                b"Accept-Encoding",
-                b"identity",
-            ),
-            Reply::ExtensionRefused => self.refuses_extensions(setting, request, begun, id),
-            Reply::MethodsListed => self.lists_methods(setting, request, begun, id, 200),
+            Reply::Refusal(reason) => self.refuses_for(setting, request, begun, id, reason),
+            Reply::MethodsListed => self.lists_methods(setting, request, begun, id),
             Reply::Registration => self.registers(setting, request, begun, id),
         }
     }

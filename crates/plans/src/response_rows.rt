@@ -11,6 +11,7 @@ ghost use Rattle.plans.specs.Effect.{Fits, effect};
 
 use crate::acks::{KeptAck, kept_ack};
 use crate::effects_of_events::{Before, Doing};
+use crate::note::Note;
 use crate::office::Office;
 use crate::plan::Plan;
 use crate::setting::Setting;
@@ -91,6 +92,7 @@ impl<'o> Office<'o> {
             sends,
             registration: None,
             made: 0,
+            note: Note::Quiet,
         })
     }
 

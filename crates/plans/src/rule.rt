@@ -1,5 +1,6 @@
 //! What is asked of a plan for a request that began a transaction.
 
+use crate::reason::Reason;
 use call_core::End;
 use calls::StandingCall;
 use sip_uri::Uri;
@@ -9,18 +10,8 @@ use sip_uri::Uri;
 pub enum Reply {
     /// 200 to a CANCEL of the request of this transaction.
     CancelOf(usize),
-    /// A refusal with this status.
-    Refusal(u16),
-    /// 500, with when the request may come again.
-    RetryLater,
-    /// 405, with the methods that are offered.
-    MethodUnoffered,
-    /// 415, with the type of body that is taken.
-    TypeRefused,
-    /// 415, with the coding of a body that is taken.
-    EncodingRefused,
-    /// 420, with the extensions that are required and not there.
-    ExtensionRefused,
+    /// A refusal for this reason.
+    Refusal(Reason),
     /// 200 to OPTIONS, with the methods that are offered.
     MethodsListed,
     /// The registrar answers.

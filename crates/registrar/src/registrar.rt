@@ -129,13 +129,15 @@ impl Registrar {
         Ok(Plan::new(user.keep(self.alloc)?, after))
     }
 
-    /// Makes the change of a plan. Takes no memory.
+    /// Makes the change of a plan, and gives the user whose bindings it sets. Takes no memory.
     #[tactic(auto, unfolding(crate::specs::Registrar::after_plan))]
-    pub fn carry_out(&mut self, plan: Plan)
-        ensures { self.new ≡ after_plan self.old plan }
+    pub fn carry_out(&mut self, plan: Plan) -> Text<'static>
+        ensures table { self.new ≡ after_plan self.old plan }
+        ensures user { result ≡ plan.user }
     {
         let (user, bindings) = plan.into_parts();
         self.entries.put_bindings(&user, bindings);
+        user
     }
 
     /// Takes a REGISTER, and answers the bindings that its user then has, oldest first (RFC 3261 section 10.3): `plan`
@@ -208,7 +210,7 @@ impl Registrar {
     {
         let plan = self.plan(register, now)?;
         let answer = copy_all(self.alloc, plan.bindings())?;
-        self.carry_out(plan);
+        drop(self.carry_out(plan));
         Ok(answer)
     }
 

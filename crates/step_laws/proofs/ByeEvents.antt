@@ -42,13 +42,13 @@ use Rattle.message_laws.proofs.Traces.Comings.{bye_comes}
 use Rattle.message_laws.proofs.QuietEvents.Describing.{BodiesDescribe}
 use Rattle.message_laws.proofs.TokenUse.Events.{few_tokens}
 use Rattle.message_laws.proofs.Messages.ReadBack.{SentIsRead}
+use Rattle.message_laws.proofs.Messages.RequestViews.{FitsRule, request_fits}
 use Rattle.media_laws.specs.Coming.{HasNumbersLeft, scene_at}
 use Rattle.media_laws.specs.Lines.{actions_in}
 use Rattle.media_laws.specs.Standing.{AgentStands}
 use Rattle.media_laws.specs.Taking.{KnowsLegs}
 use Rattle.media_laws.proofs.Scenes.Leaving.{rule_fits}
 use Rattle.media_laws.proofs.Scenes.Reading.{Reading}
-use Rattle.media_laws.proofs.RisingNumbers.RequestRules.{Fits, request_fits}
 use Rattle.step_laws.specs.Coming.{BeginsTransaction}
 use Rattle.step_laws.specs.Leaving.{IsBye, IsGoingOn, IsOfDialog, PassesBye, StandsAt, WithOffer, bye, okay, to_offerer}
 use Rattle.step_laws.specs.Sending.{cancels, Going, Sends}
@@ -95,7 +95,7 @@ module _ (reads : Reading) (describes : BodiesDescribe) (law : SentIsRead) (s : 
   scene = scene_at (office s) e w c step.description
 
   rule : dialog_rule s.calls.calls r ≡ dialogrules.Leaves place end
-  rule = subst (Fits (office s) r) is_bye (request_fits (office s) r e.now)
+  rule = subst (FitsRule (office s) r) is_bye (request_fits (office s) r e.now)
 
   pub in_dialog : IsOfDialog r.parts c end
   in_dialog =

@@ -67,12 +67,7 @@ module _ (s : Contents) (event : Event) (source : Addr) (bytes : List ℕ) (data
     by_reply : (reply : Reply) → request_rule (office s) r (moment_at s event.now) ≡ rules.Alone reply → (IsNoRegister s event) ⊎ (rules.Alone reply ≡ rules.Alone replies.Registration)
     by_reply replies.Registration is = inr refl
     by_reply (replies.CancelOf other) is = inl (none_ruled _ is (λ e. cc))
-    by_reply (replies.Refusal status) is = inl (none_ruled _ is (λ e. cc))
-    by_reply replies.RetryLater is = inl (none_ruled _ is (λ e. cc))
-    by_reply replies.MethodUnoffered is = inl (none_ruled _ is (λ e. cc))
-    by_reply replies.TypeRefused is = inl (none_ruled _ is (λ e. cc))
-    by_reply replies.EncodingRefused is = inl (none_ruled _ is (λ e. cc))
-    by_reply replies.ExtensionRefused is = inl (none_ruled _ is (λ e. cc))
+    by_reply (replies.Refusal reason) is = inl (none_ruled _ is (λ e. cc))
     by_reply replies.MethodsListed is = inl (none_ruled _ is (λ e. cc))
 
     which_rule : (rule : Rule) → request_rule (office s) r (moment_at s event.now) ≡ rule → (IsNoRegister s event) ⊎ (rule ≡ rules.Alone replies.Registration)

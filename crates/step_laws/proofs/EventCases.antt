@@ -1,7 +1,7 @@
 -- An event, as a list of cases: it counts as not come, for a reason; or it is done, and leaves the registrar; or it
 -- brings a REGISTER. The changes of all of them are ready.
 use Rattle.std.proofs.Common.{◌≡◌, ℕ, true, false, nat_le, nat_lt, List, [], ◌∷◌, codes, length, Option, Some, None, Result, Ok, Err, inl, inr, is_some, refl, subst, sym}
-use Rattle.std.specs.Prelude.{◌||◌, ◌&&◌, ◌<◌, cond}
+use Rattle.std.specs.Prelude.{◌||◌, ◌&&◌, ◌<◌, cond, slice_get}
 use Rattle.std.proofs.lemmas.Bool.{and_parts, cond_both, false≢true, leb-false, leb-true, ltb-true}
 use Rattle.sip_uri.specs.declared.uri.Addr.{Addr}
 use Rattle.sip_message.specs.AnswerableParts.{answerable_of}
@@ -14,7 +14,6 @@ use Rattle.sip_message.specs.declared.message.Message.TheVariants as Kinds
 use Rattle.sip_message.specs.declared.message.Parts.{Parts}
 use Rattle.sip_message.specs.declared.message.Request.{Request}
 use Rattle.sip_message.specs.declared.message.Response.{Response}
-use Rattle.sip_writing.specs.Reply.{response_address}
 use Rattle.timers.specs.Queue.{first_due}
 use Rattle.timers.specs.declared.timers.Timer.{Timer}
 use Rattle.transactions.specs.declared.change.Entry.{Entry}
@@ -29,17 +28,19 @@ use Rattle.transactions.specs.Contents.{fired_of, reception_of}
 use Rattle.transactions.specs.Limits.{max_served}
 use Rattle.transactions.specs.Slots.{at, serving}
 use Rattle.call_core.specs.declared.input.Input.TheVariants as inputs
+use Rattle.call_steps.specs.Rows.{counts as number_counts}
 use Rattle.calls.specs.Finding.{place_by_ack}
 use Rattle.calls.specs.declared.timer_id.CallTimerId.{CallTimerId}
 use Rattle.call_rules.specs.Reach.{is_unreachable}
-use Rattle.responses.specs.Responding.{responds, stateless}
+use Rattle.responses.specs.Responding.{stateless}
 use Rattle.responses.specs.Words.{has_fit_branch, is_method as request_method}
 use Rattle.events.specs.declared.event.Event.{Event}
 use Rattle.events.specs.declared.event.What.{What}
 use Rattle.events.specs.declared.event.What.TheVariants as whats
-use Rattle.plans.specs.CallRows.{ack_by, ack_row, call_timer_row, of_plan}
+use Rattle.plans.specs.CallRows.{ack_by, ack_row, call_timer_row, of_plan, tag_at}
 use Rattle.plans.specs.Effect.{Effect}
-use Rattle.plans.specs.Plan.{nothing, replies as plain_replies}
+use Rattle.plans.specs.Plan.{nothing}
+use Rattle.plans.specs.declared.reason.Reason.TheVariants as reasons
 use Rattle.plans.specs.Replies.{registers, reply_row}
 use Rattle.plans.specs.declared.rule.Reply.{Reply}
 use Rattle.plans.specs.declared.rule.Reply.TheVariants as replies
@@ -47,14 +48,14 @@ use Rattle.plans.specs.declared.setting.Setting.{Setting}
 use Rattle.plans.specs.declared.taken.Taken.{Taken}
 use Rattle.plans.specs.declared.taken.Taken.TheVariants.{Dropped, Idle, Shed}
 use Rattle.plans.specs.declared.taken.Why.TheVariants.{Ack, Clock, NoBranch, Spent, Stray, Unread}
-use Rattle.event_rows.specs.Rows.{begins, by_reading, datagram_row, due_row, fires_by, fit_row, is_full, no_source, only_counts, parts_of, read_row, received, received_by, request_by, response_by, row, row_by, rule_row, setting, timer_row, unfit_branch, unread_by, unread_row, what_counts, what_row}
+use Rattle.event_rows.specs.Rows.{begins, by_reading, datagram_row, due_row, fires_by, fit_row, is_full, no_source, only_counts, parts_of, read_row, received, received_by, refuses_alone, request_by, response_by, row, row_by, rule_row, setting, timer_row, unfit_branch, unread_by, unread_row, what_counts, what_row}
 use Rattle.event_rows.specs.Rules.{request_rule}
 use Rattle.event_rows.specs.State.{Contents, moment_at, moments_end, max_tokens, office}
-use Rattle.event_rows.specs.Rule.{Rule}
 use Rattle.event_rows.specs.Rule as rules
+use Rattle.message_laws.proofs.Messages.RequestViews as requests
 use Rattle.step_laws.specs.Dropping.{NoneTakes, IsAnsweredFor, IsBranched, IsRead}
 use Rattle.step_laws.specs.Registering.{Registers}
-use Rattle.step_laws.proofs.CallRows.{IsDoneBy, IsNoRegistration, call_done, call_timer_done, fire_ready, moves_done, reply_done, response_done, takes_done, timeout_done}
+use Rattle.step_laws.proofs.CallRows.{IsDoneBy, call_timer_done, fire_ready, first_done, moves_done, okay_done, passes_done, refuses_done, reply_done, request_done, response_done, takes_done, timeout_done}
 use Rattle.step_laws.proofs.Ready.{change_ready}
 use Rattle.step_laws.proofs.ReadySteps.{AllReady, none_ready, one_ready}
 use Rattle.event_rows.proofs.AckRequests.{IsAckIf, up_is_ack}
@@ -137,23 +138,26 @@ module _ (s : Contents) (event : Event) (source : Addr) (bytes : List ℕ) (data
     entries_ready : AllReady entries
     entries_ready = one_ready (change_of s.table (Kinds.Request r) source) (change_ready s.table (Kinds.Request r) source)
 
-    reply_case : (id : ℕ) (reply : Reply) → IsNoRegistration reply → Case (of_plan (office s) (reply_row (office s) e r entries id reply))
-    reply_case id reply fits = went (reply_done (office s) e r entries id entries_ready reply fits)
-
-    rule_case : (id : ℕ) (rule : Rule) → (reception_of s.table (Kinds.Request r)).verdict ≡ verdicts.New id → serving s.table.slots < max_served → request_rule (office s) r (moment_at s event.now) ≡ rule
-        → Case (rule_row (office s) e r entries id rule)
+    -- a reply of the rules
+    replied_case : (id : ℕ) (reply : Reply) → (reception_of s.table (Kinds.Request r)).verdict ≡ verdicts.New id → serving s.table.slots < max_served → request_rule (office s) r (moment_at s event.now) ≡ rules.Alone reply
+        → Case (of_plan (office s) (reply_row (office s) e r entries id reply))
     unfolding reply_row
-    rule_case id (rules.Alone (replies.CancelOf other)) new room is = reply_case id (replies.CancelOf other) tt
-    rule_case id (rules.Alone (replies.Refusal status)) new room is = reply_case id (replies.Refusal status) tt
-    rule_case id (rules.Alone replies.RetryLater) new room is = reply_case id replies.RetryLater tt
-    rule_case id (rules.Alone replies.MethodUnoffered) new room is = reply_case id replies.MethodUnoffered tt
-    rule_case id (rules.Alone replies.TypeRefused) new room is = reply_case id replies.TypeRefused tt
-    rule_case id (rules.Alone replies.EncodingRefused) new room is = reply_case id replies.EncodingRefused tt
-    rule_case id (rules.Alone replies.ExtensionRefused) new room is = reply_case id replies.ExtensionRefused tt
-    rule_case id (rules.Alone replies.MethodsListed) new room is = reply_case id replies.MethodsListed tt
-    rule_case id (rules.Alone replies.Registration) new room is =
+    replied_case id (replies.CancelOf other) new room is = went (reply_done (office s) e r entries id entries_ready (replies.CancelOf other) tt)
+    replied_case id (replies.Refusal reason) new room is = went (reply_done (office s) e r entries id entries_ready (replies.Refusal reason) tt)
+    replied_case id replies.MethodsListed new room is = went (reply_done (office s) e r entries id entries_ready replies.MethodsListed tt)
+    replied_case id replies.Registration new room is =
         registered source r id (record { bytes = bytes; begins = record { comes = record { datagram = datagram; counts = counts; read = read; branch = fit }; new = new; room = room }; rule = is }) refl
-    rule_case id (rules.Call rule) new room is = went (call_done (office s) e r entries id entries_ready rule)
+
+    row_case : (id : ℕ) (x : Effect) → (reception_of s.table (Kinds.Request r)).verdict ≡ verdicts.New id → serving s.table.slots < max_served → requests.RequestRow (office s) e r entries id x → Case x
+    row_case id x new room (requests.replied reply rule is) = subst Case (sym is) (replied_case id reply new room rule)
+    row_case id x new room (requests.unfit reason is) = subst Case (sym is) (went (refuses_done (office s) e r entries id entries_ready reason))
+    row_case id x new room (requests.asks_callee to offer why is) = subst Case (sym is) (went (first_done (office s) e r entries id entries_ready to offer))
+    row_case id x new room (requests.cancelled other place why found is) = subst Case (sym is) (went (request_done (office s) e r entries id entries_ready place inputs.Cancel None (tag_at (slice_get s.calls.calls place))))
+    row_case id x new room (requests.left place end rule is) =
+        subst Case (sym is) (went (request_done (office s) e r entries id entries_ready place (inputs.Bye end) (number_counts s.calls.calls place end r.parts.cseq.number) stateless))
+    row_case id x new room (requests.counted_alone place end reason why is) = subst Case (sym is) (went (refuses_done (office s) e r entries id entries_ready reason))
+    row_case id x new room (requests.passed_on place end c offer rule why is) = subst Case (sym is) (went (passes_done (office s) e r entries id entries_ready place end offer))
+    row_case id x new room (requests.refreshed place end why is) = subst Case (sym is) (went (okay_done (office s) e r entries id entries_ready))
 
     ack_by_case : (place : Option ℕ) → is_method (codes "ACK") r.parts ≡ true → NoneTakes (reception_of s.table (Kinds.Request r)).verdict → place_by_ack r.parts s.calls.calls ≡ place → Case (ack_by (office s) e entries place)
     ack_by_case None is up there =
@@ -167,7 +171,8 @@ module _ (s : Contents) (event : Event) (source : Addr) (bytes : List ℕ) (data
     request_case : (verdict : Verdict) (send : Option Outgoing) → (reception_of s.table (Kinds.Request r)).verdict ≡ verdict → IsAckIf r verdict → (begins verdict && nat_le max_served (serving s.table.slots)) ≡ false
         → Case (request_by (office s) e r entries verdict send)
     unfolding request_by
-    request_case (verdicts.New id) send is ack free = rule_case id (request_rule (office s) r (moment_at s event.now)) is (room_left (verdicts.New id) id max_served (serving s.table.slots) refl free) refl
+    request_case (verdicts.New id) send is ack free =
+        row_case id (rule_row (office s) e r entries id (request_rule (office s) r (moment_at s event.now))) is (room_left (verdicts.New id) id max_served (serving s.table.slots) refl free) (requests.request_view (office s) e r entries id)
     request_case verdicts.Repeat send is ack free = went (moves_done entries send entries_ready)
     request_case verdicts.Swallowed send is ack free = went (moves_done entries send entries_ready)
     request_case (verdicts.Up id) send is ack free = ack_case ack (subst NoneTakes (sym is) tt)
@@ -223,7 +228,7 @@ module _ (s : Contents) (event : Event) (source : Addr) (bytes : List ℕ) (data
 
   unfit_case : (m : Message) → message_of bytes ≡ Ok m → has_fit_branch (parts_of m).vias ≡ false → Case (of_plan (office s) (unfit_branch e m))
   unfit_case (Kinds.Request r) read unfit =
-      cond_both (request_method (codes "ACK") r) (nothing (Dropped NoBranch)) (plain_replies (response_address r.parts.vias source) (responds r.parts source 400 stateless [])) (λ p. Case (of_plan (office s) p))
+      cond_both (request_method (codes "ACK") r) (nothing (Dropped NoBranch)) (refuses_alone e r.parts reasons.NoBranch) (λ p. Case (of_plan (office s) p))
       (λ ack. ignored (Dropped NoBranch) (record { message = Kinds.Request r; is_read = read_as (Kinds.Request r) read; branch = unfit; kind = ack }) refl)
       (λ other. went (record { taken = refl; registration = refl; changes = none_ready }))
   unfit_case (Kinds.Response r) read unfit =
@@ -236,17 +241,16 @@ module _ (s : Contents) (event : Event) (source : Addr) (bytes : List ℕ) (data
 
   -- ---- bytes that can't be read
 
-  unread_by_case : (fault : MessageError) (status : ℕ) (parts : Option Parts) → message_of bytes ≡ Err fault → answerable_of bytes ≡ parts → Case (of_plan (office s) (unread_by e fault status parts))
-  unread_by_case fault status None unread can =
+  unread_by_case : (fault : MessageError) (parts : Option Parts) → message_of bytes ≡ Err fault → answerable_of bytes ≡ parts → Case (of_plan (office s) (unread_by e fault parts))
+  unread_by_case fault None unread can =
       ignored (Dropped (Unread fault)) (record { source = source; bytes = bytes; datagram = datagram; why = inr (unread, inr can) }) refl
-  unread_by_case fault status (Some parts) unread can = went (record { taken = refl; registration = refl; changes = none_ready })
+  unread_by_case fault (Some parts) unread can = went (record { taken = refl; registration = refl; changes = none_ready })
 
   unread_case : (fault : MessageError) → message_of bytes ≡ Err fault → Case (of_plan (office s) (unread_row e bytes fault))
   unfolding unread_row
   unread_case faults.TooLong unread =
       ignored (Dropped (Unread faults.TooLong)) (record { source = source; bytes = bytes; datagram = datagram; why = inr (unread, inl refl) }) refl
-  unread_case faults.Version unread = unread_by_case faults.Version 505 (answerable_of bytes) unread refl
-  unread_case fault unread = unread_by_case fault 400 (answerable_of bytes) unread refl
+  unread_case fault unread = unread_by_case fault (answerable_of bytes) unread refl
 
   reading_case : (m : Result Message MessageError) → message_of bytes ≡ m → Case (by_reading (office s) e bytes m)
   reading_case (Ok m) read = read_case m read

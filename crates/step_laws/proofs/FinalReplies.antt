@@ -1,42 +1,42 @@
 -- What the server answers by itself to an INVITE or UPDATE: one final response.
-use Rattle.std.proofs.Common.{◌≡◌, ◌∙◌, ℕ, ◌≤◌, ◌<◌, ◌^◌, true, false, nat_le, List, [], ◌∷◌, codes, None, Ok, inl, refl, sym, subst, arith}
+use Rattle.std.proofs.Common.{◌≡◌, ◌∙◌, ℕ, ◌≤◌, ◌<◌, ◌^◌, true, false, nat_le, List, [], ◌∷◌, codes, None, inl, refl, sym, subst, arith}
 use Rattle.std.specs.Prelude.{IsTrue}
 use Rattle.std.proofs.lemmas.Bool.{false≢true, le-leb}
 use Rattle.events.specs.declared.sent.Sent.{Sent}
 use Rattle.sip_uri.specs.declared.uri.Addr.{Addr}
 use Rattle.sip_writing.specs.Reply.{response_address}
-use Rattle.sip_message.specs.Read.{message_of}
 use Rattle.sip_message.specs.declared.headers.Header.{Header}
 use Rattle.sip_message.specs.declared.message.Message.TheVariants as Kinds
 use Rattle.sip_message.specs.declared.message.Parts.{Parts}
 use Rattle.sip_message.specs.declared.message.Request.{Request}
 use Rattle.sip_writing.specs.Reply.{replied, reply_of}
 use Rattle.sip_writing.specs.Writing.{message_text}
-use Rattle.responses.specs.Responding.{allow, responds}
-use Rattle.call_messages.specs.Messages.{contact, retry_after}
+use Rattle.responses.specs.Responding.{responds}
+use Rattle.call_messages.specs.Messages.{contact}
 use Rattle.transactions.specs.declared.change.Entry.{Entry}
 use Rattle.call_rules.specs.Speaking.{may_offer}
 use Rattle.plans.specs.CallRows.{okay_plan}
 use Rattle.plans.specs.Office.{Office}
 use Rattle.plans.specs.Plan.{Plan}
-use Rattle.plans.specs.Replies.{accept, accept_encoding, fresh_tag, reply_row, responds_in, unsupported}
+use Rattle.plans.specs.Reasons.{status as status_for}
+use Rattle.plans.specs.Replies.{fresh_tag, headers_of, refuses_for, reply_row, responds_in}
+use Rattle.plans.specs.declared.reason.Reason.{Reason}
 use Rattle.plans.specs.declared.rule.Reply.{Reply}
 use Rattle.plans.specs.declared.rule.Reply.TheVariants as replies
 use Rattle.plans.specs.declared.setting.Setting.{Setting}
 use Rattle.plans.specs.declared.taken.Taken.TheVariants.{Done}
+use Rattle.plans.proofs.ReasonLaws.{reason_refuses}
 use Rattle.call_trace.specs.declared.datagram.Kind.{Kind}
 use Rattle.call_trace.specs.declared.datagram.Message.{Message}
 use Rattle.call_trace.specs.Listed.{AnyOf}
 use Rattle.call_trace.specs.Messages.{is_final}
 use Rattle.trace_reading.specs.Message.{trace_message}
-use Rattle.message_laws.specs.Addresses.{IsReached, IsSource}
+use Rattle.message_laws.specs.Addresses.{IsReached}
 use Rattle.message_laws.specs.Seeing.{SeesResponse}
-use Rattle.message_laws.proofs.TokenUse.Further.{FollowsIn, IsPlain, accept_encoding_plain, accept_plain, allow_plain, contact_follows, none_follows, plain_follows, refusal_needs_none, retry_after_plain}
-use Rattle.message_laws.proofs.TokenUse.Grounds.{read_repeats}
-use Rattle.message_laws.proofs.Messages.ReadParts.{IsStatus, same_method}
-use Rattle.message_laws.proofs.Messages.Repeats.{CanAnswer, FitsReply, fresh_token, responds_written}
+use Rattle.message_laws.proofs.TokenUse.Further.{FollowsIn, contact_follows}
+use Rattle.message_laws.proofs.Messages.ReadParts.{IsStatus}
+use Rattle.message_laws.proofs.Messages.Repeats.{CanAnswer, FitsReply, fresh_token, headers_follow, refusal_status, responds_written}
 use Rattle.message_laws.proofs.QuietEvents.SeenMessages.{response_sees}
-use Rattle.message_laws.proofs.Askers.UnsupportedField.{unsupported_written}
 use Rattle.message_laws.specs.Said.{IsSaid}
 use Rattle.message_laws.specs.Messages.{AreMessages, IsMessage}
 use Rattle.media_laws.proofs.Scenes.Leaving.{request_of}
@@ -122,13 +122,10 @@ module _ (s : Office) (e : Setting) (r : Request) (begun : List Entry) (id : ℕ
         );
       }
 
-  pub refuses_once : (status : ℕ) → 300 ≤ status → status ≤ 699 → IsFinalReply r.parts e.source (responds_in s e r begun id status [] None)
-  refuses_once status low most = responds_once status [] (record { low = omega (arith, low); high = most }) (omega (arith, low)) (none_follows status r.parts.cseq.method (refusal_needs_none status r.parts.cseq.method low))
-
-  -- with one header field more
-  plain_once : (status : ℕ) (h : Header) → 300 ≤ status → status ≤ 699 → IsPlain h → IsFinalReply r.parts e.source (responds_in s e r begun id status (h ∷ []) None)
-  plain_once status h low most plain =
-      responds_once status (h ∷ []) (record { low = omega (arith, low); high = most }) (omega (arith, low)) (plain_follows status r.parts.cseq.method h (refusal_needs_none status r.parts.cseq.method low) plain)
+  pub refuses_once : (reason : Reason) → s.least < 2 ^ 64 → IsFinalReply r.parts e.source (refuses_for s e r begun id reason)
+  refuses_once reason small =
+      let once = responds_once (status_for reason) (headers_of s r reason) (refusal_status reason) (omega (arith, (reason_refuses reason).0)) (headers_follow s r reason can.refused small) in
+      record { taken = once.taken; datagram = once.datagram; whole = once.whole; address = once.address; said = once.said }
 
   -- the 200 to an UPDATE without an offer
   pub okay_once : IsReached s.server → IsFinalReply r.parts e.source (okay_plan s e r begun id)
@@ -139,23 +136,9 @@ module _ (s : Office) (e : Setting) (r : Request) (begun : List Entry) (id : ℕ
     pub no_other : (name : List ℕ) → r.method ≡ name → (may_offer (record r.parts { cseq = record r.parts.cseq { method = name } }) ≡ false) → ⊥
     no_other name is none = false≢true (sym none ∙ subst (λ (n : List ℕ). may_offer (record r.parts { cseq = record r.parts.cseq { method = n } }) ≡ true) (can.method ∙ is) may)
 
-    pub reply_once : (reply : Reply) → FitsReply r reply → IsFinalReply r.parts e.source (reply_row s e r begun id reply)
+    pub reply_once : (reply : Reply) → s.least < 2 ^ 64 → FitsReply r reply → IsFinalReply r.parts e.source (reply_row s e r begun id reply)
     unfolding reply_row
-    reply_once (replies.CancelOf other) fits = absurd (no_other (codes "CANCEL") fits refl)
-    reply_once (replies.Refusal status) fits = refuses_once status fits.0 fits.1
-    reply_once replies.RetryLater fits = plain_once 500 retry_after (omega arith) (omega arith) retry_after_plain
-    reply_once replies.MethodUnoffered fits = plain_once 405 allow (omega arith) (omega arith) allow_plain
-    reply_once replies.ExtensionRefused fits = plain_once 420 (unsupported r) (omega arith) (omega arith) can.refused
-    reply_once replies.MethodsListed fits = absurd (no_other (codes "OPTIONS") fits refl)
-    reply_once replies.TypeRefused fits = plain_once 415 accept (omega arith) (omega arith) accept_plain
-    reply_once replies.EncodingRefused fits = plain_once 415 accept_encoding (omega arith) (omega arith) accept_encoding_plain
-    reply_once replies.Registration fits = absurd (no_other (codes "REGISTER") fits refl)
-
-pub can_answer : (bytes : List ℕ) (s : Office) (e : Setting) (r : Request) → message_of bytes ≡ Ok (Kinds.Request r) → IsSource e.source → s.tokens < 2 ^ 63 → CanAnswer s e r
-can_answer bytes s e r read from few = record {
-  repeats = read_repeats bytes (Kinds.Request r) read;
-  method = same_method bytes r read;
-  refused = record { written = unsupported_written bytes r read; repeats = refl; no_length = refl; no_contact = refl; no_hops = refl; no_type = refl };
-  from = from;
-  few = few;
-}
+    reply_once (replies.CancelOf other) small fits = absurd (no_other (codes "CANCEL") fits refl)
+    reply_once (replies.Refusal reason) small fits = refuses_once reason small
+    reply_once replies.MethodsListed small fits = absurd (no_other (codes "OPTIONS") fits refl)
+    reply_once replies.Registration small fits = absurd (no_other (codes "REGISTER") fits refl)

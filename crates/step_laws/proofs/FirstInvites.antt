@@ -16,9 +16,10 @@ use Rattle.dialogs.specs.Making.{reached_at}
 use Rattle.call_core.specs.CallRows.{first_call_row}
 use Rattle.call_steps.specs.Rows.{begins_as, first_row}
 use Rattle.calls.specs.declared.standing_call.StandingCall.{StandingCall}
-use Rattle.plans.specs.CallRows.{begins, call_row, first_by, has_pairs, max_calls, occasion, of_plan, unless_full, with_step}
+use Rattle.plans.specs.CallRows.{begins, call_row, first_by, has_pairs, max_calls, occasion, refuses_first, unless_full, with_step}
 use Rattle.plans.specs.Effect.{Effect}
-use Rattle.plans.specs.Replies.{responds_in}
+use Rattle.plans.specs.declared.reason.Reason.{Reason}
+use Rattle.plans.specs.declared.reason.Reason.TheVariants as reasons
 use Rattle.plans.specs.declared.setting.Setting.{Setting}
 use Rattle.event_rows.specs.Rows.{after, row, rule_row}
 use Rattle.event_rows.specs.Rules.{request_rule}
@@ -33,6 +34,7 @@ use Rattle.message_laws.proofs.TokenUse.Events.{few_tokens}
 use Rattle.message_laws.proofs.Messages.ReadBack.{SentIsRead}
 use Rattle.message_laws.proofs.StandingCalls.Reading.{Reading as ReadsNames}
 use Rattle.message_laws.proofs.StandingCalls.SoundRows.{callee_target}
+use Rattle.message_laws.proofs.Messages.RequestViews.{FitsRule, request_fits}
 use Rattle.message_laws.specs.Serving.{KnowsServing}
 use Rattle.message_laws.specs.Messages.{AreMessages}
 use Rattle.media_laws.specs.Beginning.{entries_of}
@@ -41,7 +43,6 @@ use Rattle.media_laws.specs.Standing.{AgentStands}
 use Rattle.media_laws.specs.Ties.{AreTied}
 use Rattle.media_laws.proofs.OfferPairs.FirstSteps.{NamesOne, first_before, first_call, first_is, first_listed, first_reached}
 use Rattle.media_laws.proofs.Scenes.Reading.{Reading}
-use Rattle.media_laws.proofs.RisingNumbers.RequestRules.{Fits, request_fits}
 use Rattle.step_laws.specs.Coming.{BeginsTransaction}
 use Rattle.step_laws.specs.Offers.{BeginsCall, IsFirstCall}
 use Rattle.step_laws.proofs.AlikeOffers.{Serves, offer_alike}
@@ -58,10 +59,10 @@ module _ (s : Contents) (e : Setting) (r : Request) (begun : List Entry) (id : �
 
   fit_row : first_by (office s) e r begun id to offer ≡ Step
   fit_row =
-      let refused : ℕ → Effect = λ status. of_plan (office s) (responds_in (office s) e r begun id status [] None) in
+      let refusal : Reason → Effect = λ reason. refuses_first (office s) e r begun id reason in
       let full = unless_full (office s) e r begun id (first_row s.calls (occasion (office s) e) r id e.source to offer) in
-      ap (λ (o : Option OfferFault). cond (is_some o) (refused 488) (cond (has_pairs (office s) e.now offer) full (refused 503))) h.fit
-      ∙ (ap (λ b. cond b full (refused 503)) h.pairs ∙ ap (λ b. cond b (refused 503) Step) (lt-leb max_calls (length s.calls.calls) h.few))
+      ap (λ (o : Option OfferFault). cond (is_some o) (refusal reasons.UnfitOffer) (cond (has_pairs (office s) e.now offer) full (refusal reasons.NoPorts))) h.fit
+      ∙ (ap (λ b. cond b full (refusal reasons.NoPorts)) h.pairs ∙ ap (λ b. cond b (refusal reasons.TooManyCalls) Step) (lt-leb max_calls (length s.calls.calls) h.few))
 
   first_step_row : rule_row (office s) e r begun id (request_rule (office s) r e.now) ≡ Step
   unfolding call_row
@@ -71,7 +72,7 @@ module _ (s : Contents) (e : Setting) (r : Request) (begun : List Entry) (id : �
 
   is_first_offer : IsFirstOffer (office s) e.now r to offer
   is_first_offer =
-      let first = subst (Fits (office s) r) h.rule (request_fits (office s) r e.now) in
+      let first = subst (FitsRule (office s) r) h.rule (request_fits (office s) r e.now) in
       record { invite = first.0; no_tag = first.1; bound = first_found s e.now r to offer h; described = h.described }
 
 -- ---- what it does

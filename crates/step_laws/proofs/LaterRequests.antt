@@ -16,7 +16,6 @@ use Rattle.call_rules.specs.DialogRule as dialogrules
 use Rattle.calls.specs.declared.standing_call.StandingCall.{StandingCall}
 use Rattle.plans.specs.CallRows.{passes}
 use Rattle.plans.specs.Effect.{Effect}
-use Rattle.plans.specs.declared.rule.Reply.TheVariants as replies
 use Rattle.plans.specs.declared.setting.Setting.{Setting}
 use Rattle.event_rows.specs.Rows.{after, row}
 use Rattle.event_rows.specs.State.{Contents, after_event, office}
@@ -29,14 +28,15 @@ use Rattle.call_trace.specs.Listed.{AnyOf}
 use Rattle.trace_reading.specs.Message.{trace_message}
 use Rattle.message_laws.specs.Addresses.{IsSource}
 use Rattle.message_laws.specs.OpenRequests.{HasAsked}
+use Rattle.message_laws.proofs.Messages.Answerable.{can_answer}
 use Rattle.message_laws.proofs.StandingCalls.Asking.{all_asked}
 use Rattle.message_laws.proofs.QuietEvents.Describing.{BodiesDescribe}
 use Rattle.message_laws.proofs.TokenUse.Events.{few_tokens}
-use Rattle.message_laws.proofs.Askers.FitReplies.{FitsAlone, FitsReplyIf, offer_reply_fits, request_fits}
 use Rattle.message_laws.proofs.Messages.ReadBack.{SentIsRead}
 use Rattle.message_laws.proofs.StandingCalls.Reading.{Reading as ReadsNames}
 use Rattle.message_laws.proofs.Messages.Repeats.{CanAnswer}
-use Rattle.message_laws.proofs.Messages.RequestViews.{IsPassedOffer}
+use Rattle.message_laws.proofs.Messages.RequestViews.{IsPassedOffer, RequestRow, alone_fits, request_view}
+use Rattle.message_laws.proofs.Messages.RequestViews as cases
 use Rattle.message_laws.specs.Serving.{KnowsServing}
 use Rattle.message_laws.specs.Messages.{AreMessages}
 use Rattle.media_laws.specs.Beginning.{entries_of}
@@ -46,12 +46,10 @@ use Rattle.media_laws.specs.Ties.{AreTied}
 use Rattle.media_laws.proofs.EventKinds.Cases.{later_case}
 use Rattle.media_laws.proofs.Scenes.Leaving.{rule_fits}
 use Rattle.media_laws.proofs.Scenes.Reading.{Reading}
-use Rattle.media_laws.proofs.EventKinds.RequestCases.{RequestCase, request_view}
-use Rattle.media_laws.proofs.EventKinds.RequestCases as cases
 use Rattle.step_laws.specs.Coming.{BeginsTransaction}
 use Rattle.step_laws.specs.Offers.{GoesAcross, GoesBack, IsFinalTo, IsLaterRequest, IsServed, PassedOrAnswered}
 use Rattle.step_laws.proofs.ComingRows.{begun_row, setting_of}
-use Rattle.step_laws.proofs.FinalReplies.{IsFinalReply, can_answer, final_back, final_goes, no_other, okay_once, refuses_once, reply_once}
+use Rattle.step_laws.proofs.FinalReplies.{IsFinalReply, final_back, final_goes, no_other, okay_once, refuses_once, reply_once}
 use Rattle.step_laws.proofs.AlikeOffers.{Serves}
 use Rattle.step_laws.proofs.Known.{tied_of}
 use Rattle.step_laws.proofs.LaterSends.{goes_across, passed_alike, passes_on, passes_row}
@@ -102,16 +100,15 @@ module _ (reads : Reading) (names : ReadsNames) (describes : BodiesDescribe) (la
 
   module _ (P : Effect → Type 0) (back : (x : Effect) → IsFinalReply r.parts source x.plan → P x)
       (passed_as : (place : ℕ) (end : End) (c : StandingCall) (offer : Description) → dialog_rule s.calls.calls r ≡ dialogrules.Offers place end → IsPassedOffer (office s) e.now r place end c offer → P (passes (office s) e r entries id place end offer)) where
-    by_case : (x : Effect) → RequestCase (office s) e r entries id x → P x
-    by_case x (cases.replied reply rule eq) = subst P (sym eq) (back _ (reply_once (office s) e r entries id can later.method reply (subst (FitsAlone r) rule (request_fits (office s) r e.now))))
-    by_case x (cases.unfit status low most eq) = subst P (sym eq) (back _ (refuses_once (office s) e r entries id can status low most))
+    by_case : (x : Effect) → RequestRow (office s) e r entries id x → P x
+    by_case x (cases.replied reply rule eq) = subst P (sym eq) (back _ (reply_once (office s) e r entries id can later.method reply tied.scenes.askers.least (alone_fits (office s) r e.now reply rule)))
+    by_case x (cases.unfit reason eq) = subst P (sym eq) (back _ (refuses_once (office s) e r entries id can reason tied.scenes.askers.least))
     by_case x (cases.asks_callee to offer why eq) = absurd (none-some later.tag (sym why.no_tag ∙ later.has_tag))
     by_case x (cases.cancelled other place why found eq) = absurd (no_other (office s) e r entries id can later.method (codes "CANCEL") ((bytes_eq-Decides r.method (codes "CANCEL")).0 why.method) refl)
     by_case x (cases.left place end rule eq) =
         let bye = (rule_fits s.calls.calls r (dialogrules.Leaves place end) rule).1 in
         absurd (no_other (office s) e r entries id can later.method (codes "BYE") (sym can.method ∙ (bytes_eq-Decides r.parts.cseq.method (codes "BYE")).0 bye) refl)
-    by_case x (cases.counted place end reply rule why eq) = subst P (sym eq) (back _ (reply_once (office s) e r entries id can later.method reply (subst (FitsReplyIf r) why (offer_reply_fits r rule))))
-    by_case x (cases.counted_refused place end status low most eq) = subst P (sym eq) (back _ (reply_once (office s) e r entries id can later.method (replies.Refusal status) (low, most)))
+    by_case x (cases.counted_alone place end reason why eq) = subst P (sym eq) (back _ (refuses_once (office s) e r entries id can reason tied.scenes.askers.least))
     by_case x (cases.passed_on place end c offer rule why eq) = subst P (sym eq) (passed_as place end c offer rule why)
     by_case x (cases.refreshed place end why eq) = subst P (sym eq) (back _ (okay_once (office s) e r entries id can tied.scenes.askers.server))
 

@@ -18,7 +18,9 @@ use Rattle.events.specs.declared.event.What.TheVariants as whats
 use Rattle.plans.specs.CallRows.{of_plan}
 use Rattle.plans.specs.Effect.{Effect}
 use Rattle.plans.specs.Office.{Office}
-use Rattle.plans.specs.Plan.{nothing, replies}
+use Rattle.plans.specs.Plan.{nothing}
+use Rattle.plans.specs.Reasons.{status as status_for}
+use Rattle.plans.specs.declared.reason.Reason.TheVariants as reasons
 use Rattle.plans.specs.Replies.{registers, registers_by, reply_row}
 use Rattle.plans.specs.declared.rule.Reply.{Reply}
 use Rattle.plans.specs.declared.rule.Reply.TheVariants as reply
@@ -26,10 +28,9 @@ use Rattle.plans.specs.declared.setting.Setting.{Setting}
 use Rattle.plans.specs.declared.taken.Taken.TheVariants.{Done, Dropped}
 use Rattle.plans.specs.declared.taken.Why.TheVariants.{NoBranch}
 use Rattle.responses.specs.Registering.{register_of}
-use Rattle.responses.specs.Responding.{responds, stateless}
+use Rattle.responses.specs.Responding.{stateless}
 use Rattle.responses.specs.Words.{has_fit_branch, is_method}
-use Rattle.sip_writing.specs.Reply.{response_address}
-use Rattle.event_rows.specs.Rows.{by_reading, datagram_row, fit_row, only_counts, read_row, row, row_by, rule_row, unfit_branch, unread_by, unread_row, what_row}
+use Rattle.event_rows.specs.Rows.{by_reading, datagram_row, fit_row, only_counts, read_row, refuses_alone, row, row_by, rule_row, unfit_branch, unread_by, unread_row, what_row}
 use Rattle.event_rows.specs.Rules.{request_rule}
 use Rattle.event_rows.specs.State.{Contents, moment_at, office}
 use Rattle.event_rows.specs.Rule.{Alone}
@@ -52,13 +53,8 @@ module _ (s : Office) (e : Setting) (r : Request) (begun : List Entry) (id : ℕ
   pub reply_once : (x : Reply) → Once (of_plan s (reply_row s e r begun id x))
   unfolding reply_row registers
   reply_once (reply.CancelOf other) = record { taken = refl; status = _; tag = _; further = _; sends = refl }
-  reply_once (reply.Refusal status) = record { taken = refl; status = _; tag = _; further = _; sends = refl }
-  reply_once reply.RetryLater = record { taken = refl; status = _; tag = _; further = _; sends = refl }
-  reply_once reply.MethodUnoffered = record { taken = refl; status = _; tag = _; further = _; sends = refl }
-  reply_once reply.ExtensionRefused = record { taken = refl; status = _; tag = _; further = _; sends = refl }
+  reply_once (reply.Refusal reason) = record { taken = refl; status = _; tag = _; further = _; sends = refl }
   reply_once reply.MethodsListed = record { taken = refl; status = _; tag = _; further = _; sends = refl }
-  reply_once reply.TypeRefused = record { taken = refl; status = _; tag = _; further = _; sends = refl }
-  reply_once reply.EncodingRefused = record { taken = refl; status = _; tag = _; further = _; sends = refl }
   reply_once reply.Registration = registers_once (register_of (rules_of s.registrar) r).user (answer_of s.registrar (register_of (rules_of s.registrar) r) e.now)
 
 module _ (s : Contents) (event : Event) (source : Addr) (bytes : List ℕ) where
@@ -84,18 +80,17 @@ module _ (s : Contents) (event : Event) (source : Addr) (bytes : List ℕ) where
         (sym (came
         ∙ (ap (by_reading (office s) e bytes) read
         ∙ (ap (λ b. cond b (fit_row (office s) e (Kinds.Request r)) (of_plan (office s) (unfit_branch e (Kinds.Request r)))) branch
-        ∙ ap (λ b. of_plan (office s) (cond b (nothing (Dropped NoBranch)) (replies (response_address r.parts.vias source) (responds r.parts source 400 stateless [])))) no_ack))))
+        ∙ ap (λ b. of_plan (office s) (cond b (nothing (Dropped NoBranch)) (refuses_alone e r.parts reasons.NoBranch))) no_ack))))
         (record { taken = refl; status = 400; tag = stateless; further = []; sends = refl })
 
-    unread_once : (fault : MessageError) (status : ℕ) (o : Option Parts) (parts : Parts) → o ≡ Some parts → RespondsOnce parts source (of_plan (office s) (unread_by e fault status o))
-    unread_once fault status o parts is =
-        subst (λ x. RespondsOnce parts source (of_plan (office s) (unread_by e fault status x))) (sym is) (record { taken = refl; status = status; tag = stateless; further = []; sends = refl })
+    unread_once : (fault : MessageError) (o : Option Parts) (parts : Parts) → o ≡ Some parts → RespondsOnce parts source (of_plan (office s) (unread_by e fault o))
+    unread_once fault o parts is =
+        subst (λ x. RespondsOnce parts source (of_plan (office s) (unread_by e fault x))) (sym is) (record { taken = refl; status = status_for (reasons.Unread fault); tag = stateless; further = []; sends = refl })
 
     faulty : (fault : MessageError) (parts : Parts) → (fault ≡ faults.TooLong → ⊥) → answerable_of bytes ≡ Some parts → RespondsOnce parts source (of_plan (office s) (unread_row e bytes fault))
     unfolding unread_row
     faulty faults.TooLong parts short answerable = absurd (short refl)
-    faulty faults.Version parts short answerable = unread_once faults.Version 505 (answerable_of bytes) parts answerable
-    faulty fault parts short answerable = unread_once fault 400 (answerable_of bytes) parts answerable
+    faulty fault parts short answerable = unread_once fault (answerable_of bytes) parts answerable
 
     pub unread : (fault : MessageError) → message_of bytes ≡ Err fault → (fault ≡ faults.TooLong → ⊥) → (parts : Parts) → answerable_of bytes ≡ Some parts → RespondsOnce parts source (row s event)
     unread fault is short parts answerable =

@@ -53,15 +53,13 @@ module _ (s : Contents) (event : Event) where
 
     request_reason : (r : Request) → message_of bytes ≡ Ok (Kinds.Request r) → (begun : List Entry) (id : ℕ) (x : Effect) → requests.RequestRow (office s) e r begun id x → R x
     request_reason r read begun id x (requests.replied reply rule same) = once r read x _ same (reply_once (office s) e r begun id reply)
-    request_reason r read begun id x (requests.unfit status high same) = once r read x _ same (record { taken = refl; status = status; tag = _; further = _; sends = refl })
+    request_reason r read begun id x (requests.unfit reason same) = once r read x _ same (record { taken = refl; status = _; tag = _; further = _; sends = refl })
     request_reason r read begun id x (requests.asks_callee to offer h same) = first_sends s event e x r id to offer (ap (λ (y : Effect). y.plan.sends) same)
     request_reason r read begun id x (requests.cancelled other place h found same) =
         call_sends s event e x [] (nothing refl) place inputs.Cancel None (Some (asker r e id (tag_at (slice_get s.calls.calls place)))) (ap (λ (y : Effect). y.plan.sends) same)
     request_reason r read begun id x (requests.left place end rule same) =
         call_sends s event e x [] (nothing refl) place (inputs.Bye end) (counts s.calls.calls place end r.parts.cseq.number) (Some (asker r e id stateless)) (ap (λ (y : Effect). y.plan.sends) same)
-    request_reason r read begun id x (requests.counted_alone place end reply alone same) =
-        let h = reply_once (office s) e r begun id reply in
-        once r read x _ same (record { taken = h.taken; status = h.status; tag = h.tag; further = h.further; sends = h.sends })
+    request_reason r read begun id x (requests.counted_alone place end reason alone same) = once r read x _ same (record { taken = refl; status = _; tag = _; further = _; sends = refl })
     request_reason r read begun id x (requests.passed_on place end c offer rule h same) =
         offer_sends s event e x place (inputs.Offer end (offer_method r) (Some offer)) end r id (ap (λ (y : Effect). y.plan.sends) same)
     request_reason r read begun id x (requests.refreshed place end h same) = once r read x _ same (record { taken = refl; status = 200; tag = _; further = _; sends = refl })
@@ -87,8 +85,8 @@ module _ (s : Contents) (event : Event) where
 
     datagram_reason : (x : Effect) → views.DatagramRow (office s) e bytes x → R x
     datagram_reason x (views.ignored taken same) = quiet x (ap (λ (y : Effect). y.plan.sends) same)
-    datagram_reason x (views.unreadable fault status parts bad answerable same) =
-        unread source bytes parts is answerable (subst (λ a. RespondsOnce parts a x) from (subst (RespondsOnce parts e.source) (sym same) (record { taken = refl; status = status; tag = stateless; further = []; sends = refl })))
+    datagram_reason x (views.unreadable fault parts bad answerable same) =
+        unread source bytes parts is answerable (subst (λ a. RespondsOnce parts a x) from (subst (RespondsOnce parts e.source) (sym same) (record { taken = refl; status = _; tag = stateless; further = []; sends = refl })))
     datagram_reason x (views.unfit_branched r read same) = once r read x _ same (record { taken = refl; status = 400; tag = stateless; further = []; sends = refl })
     datagram_reason x (views.was_received m read branch reached h) = message_reason m read _ x h
 

@@ -1,5 +1,5 @@
 -- What is known of the 200s to BYEs in a trace stays known, event by event.
-use Rattle.std.proofs.Common.{◌≡◌, ℕ, ◌+◌, ◌<◌, ◌≤◌, ◌^◌, List, [], ◌∷◌, ◌++◌, codes, Option, Some, None, Result, Ok, Err, refl, ap, sym, subst, inl, inr, arith}
+use Rattle.std.proofs.Common.{◌≡◌, ℕ, ◌+◌, ◌<◌, ◌^◌, List, [], ◌∷◌, ◌++◌, codes, Option, Some, None, Result, Ok, Err, refl, ap, sym, subst, inl, inr, arith}
 use Rattle.std.specs.Prelude.{IsTrue}
 use Rattle.std.proofs.lemmas.Option.{same_Some}
 use Rattle.configuration.specs.declared.config.Config.{Config}
@@ -15,7 +15,6 @@ use Rattle.sip_message.specs.declared.error.MessageError.TheVariants as faults
 use Rattle.sip_message.specs.declared.message.Message.{Message as ReadMessage}
 use Rattle.sip_message.specs.declared.message.Message.TheVariants as Kinds
 use Rattle.sip_message.specs.declared.message.Parts.{Parts}
-use Rattle.sip_writing.specs.Reply.{response_address}
 use Rattle.transactions.specs.Changes.{fire_of}
 use Rattle.transactions.specs.declared.transaction.Transaction.{Transaction}
 use Rattle.call_core.specs.declared.action.CallTimer.{CallTimer}
@@ -25,15 +24,16 @@ use Rattle.calls.specs.declared.timer_id.CallTimerId.{CallTimerId}
 use Rattle.plans.specs.CallRows.{of_plan, takes, timer_input, without_call_timer}
 use Rattle.plans.specs.Effect.{Effect}
 use Rattle.plans.specs.Office.{Office}
-use Rattle.plans.specs.Plan.{nothing, replies as plain_replies}
+use Rattle.plans.specs.Plan.{nothing}
+use Rattle.plans.specs.declared.reason.Reason.{Reason}
+use Rattle.plans.specs.declared.reason.Reason.TheVariants as reasons
 use Rattle.plans.specs.declared.setting.Setting.{Setting}
 use Rattle.plans.specs.declared.taken.Taken.{Taken}
 use Rattle.plans.specs.declared.taken.Taken.TheVariants as takens
 use Rattle.plans.specs.declared.taken.Why.TheVariants as whys
-use Rattle.responses.specs.Responding.{responds, stateless}
 use Rattle.responses.specs.Tokens.{token}
 use Rattle.responses.specs.Words.{has_fit_branch, is_method as request_method}
-use Rattle.event_rows.specs.Rows.{after, by_reading, datagram_row, fit_row, is_unreachable_message, moment_after, no_source, only_counts, parts_of, read_row, received, row, row_by, setting, unfit_branch, unread_by, unread_row, what_row}
+use Rattle.event_rows.specs.Rows.{after, by_reading, datagram_row, fit_row, is_unreachable_message, moment_after, no_source, only_counts, parts_of, read_row, received, refuses_alone, row, row_by, setting, unfit_branch, unread_by, unread_row, what_row}
 use Rattle.event_rows.specs.State.{Contents, IsNew, after_event, moment_at, office}
 use Rattle.call_trace.specs.declared.call.Call.{Call}
 use Rattle.call_trace.specs.declared.datagram.Datagram.{Datagram}
@@ -77,10 +77,8 @@ module _ (laws : Laws) (s : Office) (begun : List Transaction) (sent : List Sent
   -- ---- a datagram
 
   module _ (from : IsSource e.source) where
-    stateless_sent : (parts : Parts) (status : ℕ) → 300 ≤ status → status ≤ 699 → CanBeRepeated parts → P (of_plan s (plain_replies (response_address parts.vias e.source) (responds parts e.source status stateless [])))
-    stateless_sent parts status low high repeats =
-        plain_sent laws s begun sent t ds k asked e (plain_replies (response_address parts.vias e.source) (responds parts e.source status stateless [])).sends
-        (stateless_says parts (response_address parts.vias e.source) e.source status from repeats low high)
+    stateless_sent : (parts : Parts) (reason : Reason) → CanBeRepeated parts → P (of_plan s (refuses_alone e parts reason))
+    stateless_sent parts reason repeats = plain_sent laws s begun sent t ds k asked e (refuses_alone e parts reason).sends (stateless_says e parts reason from repeats)
 
     message_sent : (text : List ℕ) (m : ReadMessage) → message_of text ≡ Ok m → P (received s e m)
     message_sent text (Kinds.Request r) read = request_received laws s begun sent t ds k asked e from text r read
@@ -88,19 +86,18 @@ module _ (laws : Laws) (s : Office) (begun : List Transaction) (sent : List Sent
 
     unfit_sent : (text : List ℕ) (m : ReadMessage) → message_of text ≡ Ok m → P (of_plan s (unfit_branch e m))
     unfit_sent text (Kinds.Request r) read =
-        by_if (λ p. P (of_plan s p)) (request_method (codes "ACK") r) (nothing (takens.Dropped whys.NoBranch)) (plain_replies (response_address r.parts.vias e.source) (responds r.parts e.source 400 stateless [])) (λ b. nothing_sent)
-        (λ b. stateless_sent r.parts 400 (omega arith) (omega arith) (read_repeats text (Kinds.Request r) read))
+        by_if (λ p. P (of_plan s p)) (request_method (codes "ACK") r) (nothing (takens.Dropped whys.NoBranch)) (refuses_alone e r.parts reasons.NoBranch) (λ b. nothing_sent)
+        (λ b. stateless_sent r.parts reasons.NoBranch (read_repeats text (Kinds.Request r) read))
     unfit_sent text (Kinds.Response r) read = nothing_sent
 
-    unread_by_sent : (text : List ℕ) (fault : MessageError) (status : ℕ) (parts : Option Parts) → answerable_of text ≡ parts → 300 ≤ status → status ≤ 699 → P (of_plan s (unread_by e fault status parts))
-    unread_by_sent text fault status None can low high = nothing_sent
-    unread_by_sent text fault status (Some parts) can low high = stateless_sent parts status low high (answerable_repeats text parts can)
+    unread_by_sent : (text : List ℕ) (fault : MessageError) (parts : Option Parts) → answerable_of text ≡ parts → P (of_plan s (unread_by e fault parts))
+    unread_by_sent text fault None can = nothing_sent
+    unread_by_sent text fault (Some parts) can = stateless_sent parts (reasons.Unread fault) (answerable_repeats text parts can)
 
     unread_sent : (text : List ℕ) (fault : MessageError) → P (of_plan s (unread_row e text fault))
     unfolding unread_row
     unread_sent text faults.TooLong = nothing_sent
-    unread_sent text faults.Version = unread_by_sent text faults.Version 505 (answerable_of text) refl (omega arith) (omega arith)
-    unread_sent text fault = unread_by_sent text fault 400 (answerable_of text) refl (omega arith) (omega arith)
+    unread_sent text fault = unread_by_sent text fault (answerable_of text) refl
 
     fit_sent : (text : List ℕ) (m : ReadMessage) → message_of text ≡ Ok m → P (fit_row s e m)
     fit_sent text m read = by_if P (is_unreachable_message m) (of_plan s (nothing (takens.Dropped whys.Stray))) (received s e m) (λ b. nothing_sent) (λ b. message_sent text m read)

@@ -1,10 +1,10 @@
 -- What each event sends: no 200 to a BYE but those that went before and the one to a BYE that comes in a dialog of a
 -- call.
-use Rattle.std.proofs.Common.{◌≡◌, ◌∙◌, ℕ, ◌==◌, ◌≤◌, ◌<◌, Bool, true, false, cond, List, [], ◌∷◌, ◌++◌, codes, find, nat_le, nat_lt, Option, Some, None, Ok, refl, ap, sym, subst, arith}
+use Rattle.std.proofs.Common.{◌≡◌, ◌∙◌, ℕ, ◌==◌, ◌≤◌, ◌<◌, Bool, true, false, cond, List, [], ◌∷◌, ◌++◌, codes, find, nat_lt, Option, Some, None, Ok, refl, ap, sym, subst, arith}
 use Rattle.std.specs.Prelude.{IsTrue, nat_eq, slice_get}
 use Rattle.std.specs.Cmp.Lexicographic.{bytes_decides, pointwise}
 use Rattle.std.specs.List.{All}
-use Rattle.std.proofs.lemmas.Bool.{and_right, false≢true, le-ltb, ltb-false, ltb-true}
+use Rattle.std.proofs.lemmas.Bool.{false≢true, ltb-false, ltb-true}
 use Rattle.std.proofs.lemmas.List.Elements.{All-head, All-tail}
 use Rattle.events.specs.declared.sent.Sent.{Sent}
 use Rattle.sip_message.specs.Read.{message_of}
@@ -12,7 +12,6 @@ use Rattle.sip_message.specs.declared.message.Message.{Message as ReadMessage}
 use Rattle.sip_message.specs.declared.message.Message.TheVariants as Kinds
 use Rattle.sip_message.specs.declared.message.Request.{Request}
 use Rattle.sip_message.specs.declared.message.Response.{Response}
-use Rattle.sip_message.specs.declared.words.Class.TheVariants as classes
 use Rattle.transactions.specs.Contents.{reception_of}
 use Rattle.transactions.specs.declared.change.Entry.{Entry}
 use Rattle.transactions.specs.declared.outcome.Outgoing.{Outgoing}
@@ -28,14 +27,14 @@ use Rattle.call_steps.specs.Values.{without_offer}
 use Rattle.calls.specs.Finding.{place_by_ack}
 use Rattle.calls.specs.declared.change.LegDialog.{LegDialog}
 use Rattle.plans.specs.CallRows as rows
-use Rattle.plans.specs.CallRows.{are_full, asker, call_row, first_by, has_pairs, has_pairs_for, is_unfit, occasion, of_plan, offer_method, offer_reply, offers, offers_by, okay_plan, passes, passes_if, passes_in, refreshes_at, refreshes_by, refuses, tag_at, takes, takes_request, timer_input, unless_full, with_step, without_call_timer}
+use Rattle.plans.specs.CallRows.{asker, of_plan, offer_method, okay_plan, tag_at, takes}
 use Rattle.plans.specs.Effect.{Effect}
 use Rattle.plans.specs.Office.{Office}
 use Rattle.plans.specs.Plan.{goes, nothing}
-use Rattle.plans.specs.Replies.{responds_in, reply_row, unsupported}
+use Rattle.plans.specs.Replies.{refuses_for, reply_row}
 use Rattle.plans.specs.declared.acks.KeptAck.{KeptAck}
+use Rattle.plans.specs.declared.reason.Reason.{Reason}
 use Rattle.plans.specs.declared.rule.Reply.{Reply}
-use Rattle.plans.specs.declared.rule.Reply.TheVariants as replies
 use Rattle.plans.specs.declared.setting.Setting.{Setting}
 use Rattle.plans.specs.declared.taken.Taken.TheVariants as takens
 use Rattle.responses.specs.Responding.{stateless}
@@ -46,26 +45,24 @@ use Rattle.call_trace.specs.declared.call.Call.{Call}
 use Rattle.call_trace.specs.declared.datagram.Datagram.{Datagram}
 use Rattle.call_trace.specs.declared.datagram.Message.{Message}
 use Rattle.call_trace.specs.Listed.{AllOf}
-use Rattle.call_trace.specs.declared.datagram.Kind.TheVariants as kinds
-use Rattle.call_trace.specs.Messages.{is_success, offering}
+use Rattle.call_trace.specs.Messages.{offering}
 use Rattle.call_trace.specs.Events.{is_plain}
 use Rattle.call_trace.proofs.Members.{all_append}
 use Rattle.trace_reading.specs.Message.{trace_message}
 use Rattle.message_laws.specs.Addresses.{IsSource}
 use Rattle.message_laws.specs.Quiet.{IsQuietReply}
 use Rattle.message_laws.specs.Sending.{AckWasSent, WasSentIf}
-use Rattle.message_laws.proofs.Askers.FitReplies.{FitsReplyIf, offer_reply_fits}
-use Rattle.message_laws.proofs.TokenUse.Further.{IsPlain}
-use Rattle.message_laws.proofs.TokenUse.Grounds.{read_repeats}
+use Rattle.message_laws.proofs.Messages.Answerable.{can_answer}
+use Rattle.message_laws.proofs.Askers.AskerRows.{class_by, failure_by}
+use Rattle.message_laws.proofs.Askers.LeavingRules.{leaves_by_bye}
 use Rattle.message_laws.proofs.Messages.MessageViews.{IsResponseTo, ReceivedRow, acknowledged, begun_by, dropped, moved, received_view, requested, responded}
-use Rattle.message_laws.proofs.QuietEvents.QuietRules.{alone_quiet, offer_quiet, plain_other}
+use Rattle.message_laws.proofs.QuietEvents.QuietRules.{alone_quiet, plain_other}
 use Rattle.message_laws.proofs.Messages.ReadParts.{IsStatus, response_status, same_method}
 use Rattle.message_laws.proofs.Messages.Repeats.{CanAnswer, FitsReply}
-use Rattle.message_laws.proofs.Messages.RequestViews.{by_if}
+use Rattle.message_laws.proofs.Messages.RequestViews.{RequestRow, alone_fits, asks_callee, by_if, cancelled, counted_alone, left, passed_on, refreshed, replied, request_view, unfit}
 use Rattle.message_laws.proofs.Messages.ResponseViews.{ResponseRow, ack_alone, again, answered, fork, provisional, refused, silent as passed_over}
 use Rattle.message_laws.proofs.TokenUse.Rows.{answered_client}
 use Rattle.message_laws.proofs.Askers.SpokenLines.{FitsInput, is_offer_input}
-use Rattle.message_laws.proofs.Askers.UnsupportedField.{unsupported_written}
 use Rattle.message_laws.specs.Comings.{CanCome}
 use Rattle.message_laws.proofs.Traces.Comings.{alone_comes, answer_comes, bye_comes, cancel_comes}
 use Rattle.message_laws.proofs.SentTexts.Registered.{answer_bound}
@@ -76,23 +73,9 @@ use Rattle.media_laws.specs.Ties.{AreTied}
 use Rattle.media_laws.proofs.Copies.EventMoves.{sends_are_idle}
 use Rattle.media_laws.proofs.Scenes.QuietSends.{SaysPlain, all_seen}
 use Rattle.media_laws.proofs.Copies.Receptions.{LastGoes, last_sent, request_goes}
-use Rattle.media_laws.proofs.Scenes.Replies.{okay_says, refusal_says, reply_says}
+use Rattle.media_laws.proofs.Scenes.Replies.{okay_says, refuses_says, reply_says}
 use Rattle.media_laws.proofs.EndTags.ByeTags.{IsTagged, all_idle, all_plain}
-use Rattle.media_laws.proofs.RisingNumbers.RowCases.{RowCase, asks_callee, cancelled, left, passed_on, refreshed, refused as refused_in, replied, row_case, ruled, unfit}
 use Rattle.media_laws.proofs.EndTags.TagSteps.{IsRequestTagged, Laws, before_tagged, bye_tagged, first_tagged, fork_tagged, late_tagged, offers_tagged, silent, takes_tagged}
-
-refused_is_none : (status : ℕ) → 300 ≤ status → is_success (kinds.Response status) ≡ false
-refused_is_none status low = and_right (nat_le 200 status) (nat_lt status 300) (le-ltb status 300 low)
-
-class_by : (a b : Bool) → cond a classes.Provisional (cond b classes.Success classes.Failure) ≡ classes.Provisional → a ≡ true
-class_by true b e = refl
-class_by false true e = absurd cc
-class_by false false e = absurd cc
-
-failure_by : (a b : Bool) → cond a classes.Provisional (cond b classes.Success classes.Failure) ≡ classes.Failure → b ≡ false
-failure_by true b e = absurd cc
-failure_by false true e = absurd cc
-failure_by false false e = refl
 
 module _ (laws : Laws) (s : Office) (begun : List Transaction) (sent : List Sent) (t : List Datagram) (ds : List Call) (k : AreTied s begun sent t ds) (asked : KnowsAsked s) (e : Setting) where
   abbrev Tagged : List Message → Type 0
@@ -156,15 +139,15 @@ module _ (laws : Laws) (s : Office) (begun : List Transaction) (sent : List Sent
   -- ---- a request that begins transaction id
 
   module _ (from : IsSource e.source) (text : List ℕ) (r : Request) (read : message_of text ≡ Ok (Kinds.Request r)) (entries : List Entry) (id : ℕ) where
-    unsupported_plain : IsPlain (unsupported r)
-    unsupported_plain = record { written = unsupported_written text r read; repeats = refl; no_length = refl; no_contact = refl; no_hops = refl; no_type = refl }
-
     can : CanAnswer s e r
-    can = record { repeats = read_repeats text (Kinds.Request r) read; method = same_method text r read; refused = unsupported_plain; from = from; few = k.scenes.few }
+    can = can_answer text s e r read from k.scenes.few
 
     says : (reply : Reply) → FitsReply r reply → IsQuietReply r reply → Sends (of_plan s (reply_row s e r entries id reply))
     says reply fits quiet =
         plain_sent (reply_row s e r entries id reply).sends (reply_says s e r entries id reply can k.scenes.askers.least (answer_bound laws.names s e r entries id k.scenes.dialogs.bindings) fits quiet)
+
+    refuses : (reason : Reason) → Sends (of_plan s (refuses_for s e r entries id reason))
+    refuses reason = plain_sent (refuses_for s e r entries id reason).sends (refuses_says s e r entries id reason can k.scenes.askers.least)
 
     no_bye : is_method (codes "INVITE") r ≡ true → is_bye r.parts ≡ false
     no_bye is = ap (λ name. pointwise nat_eq name (codes "BYE")) (same_method text r read ∙ (bytes_decides r.method (codes "INVITE")).0 is)
@@ -172,22 +155,23 @@ module _ (laws : Laws) (s : Office) (begun : List Transaction) (sent : List Sent
     cancel_tag : (tag : List ℕ) → r.method ≡ codes "CANCEL" → IsRequestTagged s.tokens (Some (asker r e id tag))
     cancel_tag tag is by = absurd (false≢true (sym (ap (λ name. pointwise nat_eq name (codes "BYE")) (same_method text r read ∙ is)) ∙ by))
 
-    pub case_sent : (x : Effect) → RowCase s e r entries id x → Sends x
-    case_sent x (replied reply rule fits is) = subst Sends (sym is) (says reply fits (alone_quiet s r e.now reply (same_method text r read) rule))
-    case_sent x (unfit status low high is) = subst Sends (sym is) (plain_sent (responds_in s e r entries id status [] None).sends (refusal_says s e r entries id status can low high))
-    case_sent x (asks_callee to offer first bound said is) = subst Sends (sym is) (first_tagged laws s begun sent t ds k asked e text r id to offer from read bound said (no_bye first.0))
-    case_sent x (cancelled place method is) =
+    pub case_sent : (x : Effect) → RequestRow s e r entries id x → Sends x
+    case_sent x (replied reply rule is) = subst Sends (sym is) (says reply (alone_fits s r e.now reply rule) (alone_quiet s r e.now reply (same_method text r read) rule))
+    case_sent x (unfit reason is) = subst Sends (sym is) (refuses reason)
+    case_sent x (asks_callee to offer why is) = subst Sends (sym is) (first_tagged laws s begun sent t ds k asked e text r id to offer from read why.bound why.described (no_bye why.invite))
+    case_sent x (cancelled other place why found is) =
+        let method : r.method ≡ codes "CANCEL" = (bytes_decides r.method (codes "CANCEL")).0 why.method in
         subst Sends (sym is)
         (takes_tagged laws s begun sent t ds k asked e place inputs.Cancel None (Some (asker r e id (tag_at (slice_get s.calls.calls place)))) tt refl (cancel_comes s e text r id place k.scenes from read method) (cancel_tag _ method))
-    case_sent x (left place end rule bye is) =
+    case_sent x (left place end rule is) =
+        let bye = leaves_by_bye s.calls.calls r place end rule in
         subst Sends (sym is)
         (takes_tagged laws s begun sent t ds k asked e place (inputs.Bye end) (counts s.calls.calls place end r.parts.cseq.number) (Some (asker r e id stateless)) tt refl (bye_comes s e text r id place end k.scenes from read bye)
         (bye_tagged laws s begun sent t ds k asked e r id place end rule))
-    case_sent x (ruled place end reply rule h why is) = subst Sends (sym is) (says reply (subst (FitsReplyIf r) why (offer_reply_fits r rule)) (offer_quiet r rule reply why))
-    case_sent x (refused_in place end status h low high is) = subst Sends (sym is) (says (replies.Refusal status) (low, high) (refused_is_none status low))
-    case_sent x (passed_on place end c offer why is) = subst Sends (sym is) (offers_tagged laws s begun sent t ds k asked e text r id place end (offer_method r) offer from read why.described why.rule)
-    case_sent x (refreshed place end rule is) =
-        subst Sends (sym is) (plain_sent (okay_plan s e r entries id).sends (okay_says s e r entries id can k.scenes.askers.server (plain_other s.calls.calls r place end rule)))
+    case_sent x (counted_alone place end reason why is) = subst Sends (sym is) (refuses reason)
+    case_sent x (passed_on place end c offer rule why is) = subst Sends (sym is) (offers_tagged laws s begun sent t ds k asked e text r id place end (offer_method r) offer from read why.described rule)
+    case_sent x (refreshed place end why is) =
+        subst Sends (sym is) (plain_sent (okay_plan s e r entries id).sends (okay_says s e r entries id can k.scenes.askers.server (plain_other s.calls.calls r place end why.rule)))
 
   -- ---- any request
 
@@ -201,7 +185,7 @@ module _ (laws : Laws) (s : Office) (begun : List Transaction) (sent : List Sent
 
   request_by_sent : IsSource e.source → (text : List ℕ) (r : Request) → message_of text ≡ Ok (Kinds.Request r) → (entries : List Entry) (verdict : Verdict) → Sends (request_by s e r entries verdict (reception_of s.table (Kinds.Request r)).send)
   unfolding request_by
-  request_by_sent from text r read entries (verdicts.New id) = case_sent from text r read entries id (rule_row s e r entries id (request_rule s r e.now)) (row_case s e r entries id)
+  request_by_sent from text r read entries (verdicts.New id) = case_sent from text r read entries id (rule_row s e r entries id (request_rule s r e.now)) (request_view s e r entries id)
   request_by_sent from text r read entries verdicts.Repeat = request_sent r
   request_by_sent from text r read entries verdicts.Swallowed = request_sent r
   request_by_sent from text r read entries (verdicts.Up id) = ack_sent r entries

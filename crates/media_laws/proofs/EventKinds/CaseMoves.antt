@@ -29,6 +29,7 @@ use Rattle.plans.specs.Effect.{Effect}
 use Rattle.plans.specs.Office.{Office}
 use Rattle.plans.specs.Plan.{moves}
 use Rattle.plans.specs.Replies.{registers, registers_by, reply_row}
+use Rattle.plans.specs.declared.reason.Reason.TheVariants as reasons
 use Rattle.plans.specs.declared.rule.Reply.{Reply}
 use Rattle.plans.specs.declared.rule.Reply.TheVariants as replies
 use Rattle.plans.specs.declared.setting.Setting.{Setting}
@@ -39,6 +40,8 @@ use Rattle.message_laws.specs.CalleeDialogs.{KnowsCallees}
 use Rattle.message_laws.specs.Datagrams.{ComesFromSource}
 use Rattle.message_laws.proofs.QuietEvents.Describing.{BodiesDescribe}
 use Rattle.message_laws.proofs.Messages.MessageViews.{IsResponseTo, begun_by}
+use Rattle.message_laws.proofs.Messages.RequestViews.{RequestRow}
+use Rattle.message_laws.proofs.Messages.RequestViews as requests
 use Rattle.message_laws.proofs.StandingCalls.Reading.{Reading as ReadsNames}
 use Rattle.message_laws.proofs.Messages.Views.{DueRow}
 use Rattle.message_laws.proofs.Messages.Views as views
@@ -54,21 +57,18 @@ use Rattle.media_laws.proofs.EventKinds.EventCases.{DatagramCase, EventCase, IsN
 use Rattle.media_laws.proofs.EventKinds.EventCases as cases
 use Rattle.media_laws.proofs.Copies.EventMoves as moving
 use Rattle.media_laws.proofs.LateResponses.ForkMoves.{fork_move}
-use Rattle.media_laws.proofs.EventKinds.RequestCases.{RequestCase}
-use Rattle.media_laws.proofs.EventKinds.RequestCases as requests
-use Rattle.media_laws.proofs.Scenes.RequestMoves.{counted_move, refreshed_move, refused_move, replied_move, unfit_branched_move, unfit_move, unreadable_move}
+use Rattle.media_laws.proofs.Scenes.RequestMoves.{refreshed_move, refused_move, replied_move, unfit_branched_move, unreadable_move}
 use Rattle.media_laws.proofs.Copies.TransactionMoves.{nothing_move}
 
 -- ---- no call takes it
 
-abbrev pub NoneTakesRequest : (s : Office) (e : Setting) (r : Request) (begun : List Entry) (id : ℕ) (x : Effect) → RequestCase s e r begun id x → Type 0
+abbrev pub NoneTakesRequest : (s : Office) (e : Setting) (r : Request) (begun : List Entry) (id : ℕ) (x : Effect) → RequestRow s e r begun id x → Type 0
 NoneTakesRequest s e r begun id x (requests.replied reply rule is) = Unit {0}
-NoneTakesRequest s e r begun id x (requests.unfit status low high is) = Unit {0}
+NoneTakesRequest s e r begun id x (requests.unfit reason is) = Unit {0}
 NoneTakesRequest s e r begun id x (requests.asks_callee to offer why is) = ⊥
 NoneTakesRequest s e r begun id x (requests.cancelled other place named found is) = ⊥
 NoneTakesRequest s e r begun id x (requests.left place end rule is) = ⊥
-NoneTakesRequest s e r begun id x (requests.counted place end reply rule why is) = Unit {0}
-NoneTakesRequest s e r begun id x (requests.counted_refused place end status low high is) = Unit {0}
+NoneTakesRequest s e r begun id x (requests.counted_alone place end reason why is) = Unit {0}
 NoneTakesRequest s e r begun id x (requests.passed_on place end c offer rule why is) = ⊥
 NoneTakesRequest s e r begun id x (requests.refreshed place end why is) = Unit {0}
 
@@ -90,7 +90,7 @@ NoneTakesMessage s e m begun send x (cases.responded r id t same verdict to row)
 
 abbrev pub NoneTakesDatagram : (s : Office) (e : Setting) (bytes : List ℕ) (x : Effect) → DatagramCase s e bytes x → Type 0
 NoneTakesDatagram s e bytes x (cases.ignored taken why is) = Unit {0}
-NoneTakesDatagram s e bytes x (cases.unreadable fault status parts low high unread can is) = Unit {0}
+NoneTakesDatagram s e bytes x (cases.unreadable fault parts unread can is) = Unit {0}
 NoneTakesDatagram s e bytes x (cases.unfit_branched r read is) = Unit {0}
 NoneTakesDatagram s e bytes x (cases.was_received m read branch reached row) = NoneTakesMessage s e m (begun_by s e m) (reception_of s.table m).send x row
 
@@ -123,13 +123,8 @@ registers_done s e r begun id user (Err refusal) = refl
 reply_done : (s : Office) (e : Setting) (r : Request) (begun : List Entry) (id : ℕ) (reply : Reply) → (reply_row s e r begun id reply).taken ≡ takens.Done
 unfolding reply_row registers
 reply_done s e r begun id (replies.CancelOf other) = refl
-reply_done s e r begun id (replies.Refusal status) = refl
-reply_done s e r begun id replies.RetryLater = refl
-reply_done s e r begun id replies.MethodUnoffered = refl
-reply_done s e r begun id replies.ExtensionRefused = refl
+reply_done s e r begun id (replies.Refusal reason) = refl
 reply_done s e r begun id replies.MethodsListed = refl
-reply_done s e r begun id replies.TypeRefused = refl
-reply_done s e r begun id replies.EncodingRefused = refl
 reply_done s e r begun id replies.Registration = registers_done s e r begun id (register_of (rules_of s.registrar) r).user (answer_of s.registrar (register_of (rules_of s.registrar) r) e.now)
 
 -- ---- the moves
@@ -151,22 +146,19 @@ module _ (reads : Reading) (names : ReadsNames) (describes : BodiesDescribe) (s 
     from_e : IsSource e.source
     from_e = subst IsSource (sym at_source) from
 
-    request_move : (r : Request) → message_of bytes ≡ Ok (Kinds.Request r) → (changes : List Entry) (id : ℕ) (x : Effect) (row : RequestCase s e r changes id x) → NoneTakesRequest s e r changes id x row
+    request_move : (r : Request) → message_of bytes ≡ Ok (Kinds.Request r) → (changes : List Entry) (id : ℕ) (x : Effect) (row : RequestRow s e r changes id x) → NoneTakesRequest s e r changes id x row
         → IsQuiet (whats.Datagram source bytes) x
     request_move r read changes id x (requests.replied reply rule is) none =
         subst (IsQuiet (whats.Datagram source bytes)) (sym is)
         (λ took are. replied_move reads t ds taken bytes ms (was_done source bytes e r changes id reply took) s e from_e r read k.scenes changes id names reply rule are)
-    request_move r read changes id x (requests.unfit status low high is) none =
-        subst (IsQuiet (whats.Datagram source bytes)) (sym is) (λ took are. unfit_move reads t ds taken bytes ms took s e from_e r read k.scenes changes id status low high are)
+    request_move r read changes id x (requests.unfit reason is) none =
+        subst (IsQuiet (whats.Datagram source bytes)) (sym is) (λ took are. refused_move reads t ds taken bytes ms took s e from_e r read k.scenes changes id reason are)
     request_move r read changes id x (requests.asks_callee to offer why is) none = absurd none
     request_move r read changes id x (requests.cancelled other place named found is) none = absurd none
     request_move r read changes id x (requests.left place end rule is) none = absurd none
-    request_move r read changes id x (requests.counted place end reply rule why is) none =
+    request_move r read changes id x (requests.counted_alone place end reason why is) none =
         subst (IsQuiet (whats.Datagram source bytes)) (sym is)
-        (λ took are. counted_move reads t ds taken bytes ms (was_done source bytes e r changes id reply took) s e from_e r read k.scenes changes id names place end reply rule why are)
-    request_move r read changes id x (requests.counted_refused place end status low high is) none =
-        subst (IsQuiet (whats.Datagram source bytes)) (sym is)
-        (λ took are. refused_move reads t ds taken bytes ms (was_done source bytes e r changes id (replies.Refusal status) took) s e from_e r read k.scenes changes id names place end status low high are)
+        (λ took are. refused_move reads t ds taken bytes ms took s e from_e r read k.scenes changes id reason are)
     request_move r read changes id x (requests.passed_on place end c offer rule why is) none = absurd none
     request_move r read changes id x (requests.refreshed place end why is) none =
         subst (IsQuiet (whats.Datagram source bytes)) (sym is) (λ took are. refreshed_move reads t ds taken bytes ms took s e from_e r read k.scenes changes id place end why.rule are)
@@ -208,8 +200,8 @@ module _ (reads : Reading) (names : ReadsNames) (describes : BodiesDescribe) (s 
 
     datagram_move : (x : Effect) (row : DatagramCase s e bytes x) → NoneTakesDatagram s e bytes x row → IsQuiet (whats.Datagram source bytes) x
     datagram_move x (cases.ignored answer why is) none = subst (IsQuiet (whats.Datagram source bytes)) (sym is) (λ took are. none_move (whats.Datagram source bytes) answer why took are)
-    datagram_move x (cases.unreadable fault status parts low high unread can is) none =
-        subst (IsQuiet (whats.Datagram source bytes)) (sym is) (λ took are. unreadable_move reads t ds taken bytes ms took s e from_e parts status can low high are)
+    datagram_move x (cases.unreadable fault parts unread can is) none =
+        subst (IsQuiet (whats.Datagram source bytes)) (sym is) (λ took are. unreadable_move reads t ds taken bytes ms took s e from_e parts (reasons.Unread fault) can are)
     datagram_move x (cases.unfit_branched r read is) none =
         subst (IsQuiet (whats.Datagram source bytes)) (sym is) (λ took are. unfit_branched_move reads t ds taken bytes ms took s e from_e r read are)
     datagram_move x (cases.was_received m read branch reached row) none = message_move m read reached x row none

@@ -26,7 +26,7 @@ use Rattle.sip_message.specs.declared.message.Message.{Message as Read}
 use Rattle.message_laws.proofs.Messages.MessageViews.{IsResponseTo, begun_by}
 use Rattle.media_laws.proofs.EventKinds.EventCases.{DatagramCase, EventCase, IsNotDone, MessageCase, ResponseCase}
 use Rattle.media_laws.proofs.EventKinds.EventCases as cases
-use Rattle.media_laws.proofs.EventKinds.RequestCases.{RequestCase}
+use Rattle.message_laws.proofs.Messages.RequestViews.{RequestRow}
 use Rattle.media_laws.specs.Known.{IsTied}
 use Rattle.media_laws.proofs.EventKinds.Laws.{Laws}
 use Rattle.media_laws.proofs.EventKinds.Puts.{none_goes_on}
@@ -79,7 +79,7 @@ module _ (laws : Laws) (s : Contents) (event : Event) (begun more : List Transac
         → (NoneTakesMessage before e m (begun_by before e m) (reception_of s.table m).send x row → Move offering t old taken ms old) → Goes
 
     abbrev AtRequest : Request → Read → Type 0
-    AtRequest r m = (id : ℕ) → (reception_of s.table m).verdict ≡ verdicts.New id → (row : RequestCase before e r (begun_by before e m) id x) → (NoneTakesRequest before e r (begun_by before e m) id x row → Move offering t old taken ms old) → Goes
+    AtRequest r m = (id : ℕ) → (reception_of s.table m).verdict ≡ verdicts.New id → (row : RequestRow before e r (begun_by before e m) id x) → (NoneTakesRequest before e r (begun_by before e m) id x row → Move offering t old taken ms old) → Goes
 
     at_request : (r : Request) → message_of bytes ≡ Ok (Kinds.Request r) → AtRequest r (Kinds.Request r)
     at_request r read id new row alone =
@@ -105,6 +105,6 @@ module _ (laws : Laws) (s : Contents) (event : Event) (begun more : List Transac
 
     pub datagram_goes : (row : DatagramCase before e bytes x) → (NoneTakesDatagram before e bytes x row → Move offering t old taken ms old) → Goes
     datagram_goes (cases.ignored answer why is) alone = stays (alone tt) (ap (λ (z : Effect). z.calls.standing.calls) is)
-    datagram_goes (cases.unreadable fault status parts low high unread can is) alone = stays (alone tt) (ap (λ (z : Effect). z.calls.standing.calls) is)
+    datagram_goes (cases.unreadable fault parts unread can is) alone = stays (alone tt) (ap (λ (z : Effect). z.calls.standing.calls) is)
     datagram_goes (cases.unfit_branched r read is) alone = stays (alone tt) (ap (λ (z : Effect). z.calls.standing.calls) is)
     datagram_goes (cases.was_received m read branch reached row) alone = message_goes m read reached row alone

@@ -1,6 +1,6 @@
 -- An event, as a list of cases: each row of the agent for it, as promise's lists have it, with what else tells whether
 -- a call takes it.
-use Rattle.std.proofs.Common.{◌≡◌, ◌∙◌, ℕ, ◌≤◌, true, false, List, [], codes, Option, Some, None, Result, Ok, Err, position, refl, sym, subst, arith}
+use Rattle.std.proofs.Common.{◌≡◌, ◌∙◌, ℕ, true, false, List, codes, Option, Some, None, Result, Ok, Err, position, refl, sym, subst}
 use Rattle.std.specs.Prelude.{slice_get}
 use Rattle.std.proofs.lemmas.List.Quantifiers.{position-Some}
 use Rattle.std.proofs.lemmas.Bool.{false≢true}
@@ -16,7 +16,6 @@ use Rattle.sip_message.specs.declared.words.Class.TheVariants.{Failure, Provisio
 use Rattle.sip_message.specs.AnswerableParts.{answerable_of}
 use Rattle.sip_message.specs.Read.{message_of}
 use Rattle.sip_message.specs.Words.{class_of, is_method}
-use Rattle.sip_writing.specs.Reply.{response_address}
 use Rattle.transactions.specs.declared.change.Entry.{Entry}
 use Rattle.transactions.specs.declared.outcome.Outgoing.{Outgoing}
 use Rattle.transactions.specs.declared.outcome.Verdict.{Verdict}
@@ -35,27 +34,26 @@ use Rattle.call_rules.specs.Responses.{response_rule}
 use Rattle.call_rules.specs.declared.responses.ResponseRule.{ResponseRule}
 use Rattle.call_rules.specs.declared.responses.ResponseRule.TheVariants as rule
 use Rattle.call_steps.specs.Rows.{answers_leg, fork_row, late_row}
-use Rattle.responses.specs.Responding.{responds, stateless}
 use Rattle.responses.specs.Words.{has_fit_branch, is_method as request_method}
 use Rattle.events.specs.declared.event.What.{What}
 use Rattle.events.specs.declared.event.What.TheVariants as whats
 use Rattle.plans.specs.Office.{Office}
 use Rattle.plans.specs.CallRows.{ack_by, ack_row, acks_again, occasion, of_plan, response_by_asked, response_row, responds_by, takes, with_step}
 use Rattle.plans.specs.Effect.{Effect}
-use Rattle.plans.specs.Plan.{moves, nothing, replies as plain_replies}
+use Rattle.plans.specs.Plan.{moves, nothing}
+use Rattle.plans.specs.declared.reason.Reason.TheVariants as reasons
 use Rattle.plans.specs.declared.setting.Setting.{Setting}
 use Rattle.plans.specs.declared.taken.Taken.{Taken}
 use Rattle.plans.specs.declared.taken.Taken.TheVariants as takens
 use Rattle.plans.specs.declared.taken.Why.TheVariants as whys
-use Rattle.event_rows.specs.Rows.{by_reading, datagram_row, fit_row, is_full, is_unreachable_message, parts_of, read_row, received, received_by, no_source, request_by, response_by, setting, unfit_branch, unread_by, unread_row, what_row}
+use Rattle.event_rows.specs.Rows.{by_reading, datagram_row, fit_row, is_full, is_unreachable_message, parts_of, read_row, received, received_by, refuses_alone, no_source, request_by, response_by, setting, unfit_branch, unread_by, unread_row, what_row}
 use Rattle.message_laws.proofs.Messages.MessageViews.{IsResponseTo, begun_by}
-use Rattle.message_laws.proofs.Messages.RequestViews.{by_if}
+use Rattle.message_laws.proofs.Messages.RequestViews.{RequestRow, by_if, request_view}
 use Rattle.message_laws.proofs.Messages.ResponseViews.{IsAsked}
 use Rattle.message_laws.proofs.Messages.Views as views
 use Rattle.message_laws.proofs.Messages.Views.{DueRow, WhatRow, what_view}
 use Rattle.media_laws.specs.Verdicts.{IsTransactions}
 use Rattle.event_rows.proofs.AckRequests.{IsAckIf, up_is_ack}
-use Rattle.media_laws.proofs.EventKinds.RequestCases.{RequestCase, request_view}
 use Rattle.media_laws.proofs.LateResponses.RuleReasons.{Reason, rule_reason}
 
 -- what counts as not come
@@ -98,7 +96,7 @@ response_case s e r begun send id asked = rule_case s e r begun send id asked (r
 pub data MessageCase (s : Office) (e : Setting) (m : Message) (begun : List Entry) (send : Option Outgoing) (x : Effect) : Type 0 where
   dropped : (taken : Taken) → IsNotDone taken → x ≡ of_plan s (nothing taken) → MessageCase s e m begun send x
   moved : IsTransactions (reception_of s.table m).verdict → x ≡ of_plan s (moves begun send) → MessageCase s e m begun send x
-  requested : (r : Request) (id : ℕ) → m ≡ Kinds.Request r → (reception_of s.table m).verdict ≡ verdicts.New id → RequestCase s e r begun id x → MessageCase s e m begun send x
+  requested : (r : Request) (id : ℕ) → m ≡ Kinds.Request r → (reception_of s.table m).verdict ≡ verdicts.New id → RequestRow s e r begun id x → MessageCase s e m begun send x
   acknowledged : (r : Request) (place : ℕ) → m ≡ Kinds.Request r → is_method (codes "ACK") r.parts ≡ true → place_by_ack r.parts s.calls.calls ≡ Some place → x ≡ takes s e begun None None place inputs.Ack None → MessageCase s e m begun send x
   responded : (r : Response) (id : ℕ) (t : Transaction) → m ≡ Kinds.Response r → (reception_of s.table m).verdict ≡ verdicts.Up id → IsResponseTo s r id t → ResponseCase s e r begun send id t x
       → MessageCase s e m begun send x
@@ -194,28 +192,24 @@ received_case s e m =
 
 pub data DatagramCase (s : Office) (e : Setting) (bytes : List ℕ) (x : Effect) : Type 0 where
   ignored : (taken : Taken) → IsNotDone taken → x ≡ of_plan s (nothing taken) → DatagramCase s e bytes x
-  unreadable : (fault : MessageError) (status : ℕ) (parts : Parts) → 300 ≤ status → status ≤ 699 → message_of bytes ≡ Err fault → answerable_of bytes ≡ Some parts
-      → x ≡ of_plan s (plain_replies (response_address parts.vias e.source) (responds parts e.source status stateless [])) → DatagramCase s e bytes x
-  unfit_branched : (r : Request) → message_of bytes ≡ Ok (Kinds.Request r) → x ≡ of_plan s (plain_replies (response_address r.parts.vias e.source) (responds r.parts e.source 400 stateless []))
-      → DatagramCase s e bytes x
+  unreadable : (fault : MessageError) (parts : Parts) → message_of bytes ≡ Err fault → answerable_of bytes ≡ Some parts → x ≡ of_plan s (refuses_alone e parts (reasons.Unread fault)) → DatagramCase s e bytes x
+  unfit_branched : (r : Request) → message_of bytes ≡ Ok (Kinds.Request r) → x ≡ of_plan s (refuses_alone e r.parts reasons.NoBranch) → DatagramCase s e bytes x
   was_received : (m : Message) → message_of bytes ≡ Ok m → has_fit_branch (parts_of m).vias ≡ true → is_unreachable_message m ≡ false → ReceivedCase s e m x → DatagramCase s e bytes x
 
 unfit_case : (s : Office) (e : Setting) (bytes : List ℕ) (m : Message) → message_of bytes ≡ Ok m → DatagramCase s e bytes (of_plan s (unfit_branch e m))
 unfit_case s e bytes (Kinds.Request r) read =
     by_if (λ p. DatagramCase s e bytes (of_plan s p)) (request_method (codes "ACK") r) (nothing (takens.Dropped whys.NoBranch))
-    (plain_replies (response_address r.parts.vias e.source) (responds r.parts e.source 400 stateless [])) (λ b. ignored (takens.Dropped whys.NoBranch) tt refl) (λ b. unfit_branched r read refl)
+    (refuses_alone e r.parts reasons.NoBranch) (λ b. ignored (takens.Dropped whys.NoBranch) tt refl) (λ b. unfit_branched r read refl)
 unfit_case s e bytes (Kinds.Response r) read = ignored (takens.Dropped whys.NoBranch) tt refl
 
-unread_by_case : (s : Office) (e : Setting) (bytes : List ℕ) (fault : MessageError) (status : ℕ) (parts : Option Parts) → 300 ≤ status → status ≤ 699 → message_of bytes ≡ Err fault → answerable_of bytes ≡ parts
-    → DatagramCase s e bytes (of_plan s (unread_by e fault status parts))
-unread_by_case s e bytes fault status None low high unread can = ignored (takens.Dropped (whys.Unread fault)) tt refl
-unread_by_case s e bytes fault status (Some parts) low high unread can = unreadable fault status parts low high unread can refl
+unread_by_case : (s : Office) (e : Setting) (bytes : List ℕ) (fault : MessageError) (parts : Option Parts) → message_of bytes ≡ Err fault → answerable_of bytes ≡ parts → DatagramCase s e bytes (of_plan s (unread_by e fault parts))
+unread_by_case s e bytes fault None unread can = ignored (takens.Dropped (whys.Unread fault)) tt refl
+unread_by_case s e bytes fault (Some parts) unread can = unreadable fault parts unread can refl
 
 unread_case : (s : Office) (e : Setting) (bytes : List ℕ) (fault : MessageError) → message_of bytes ≡ Err fault → DatagramCase s e bytes (of_plan s (unread_row e bytes fault))
 unfolding unread_row
 unread_case s e bytes faults.TooLong unread = ignored (takens.Dropped (whys.Unread faults.TooLong)) tt refl
-unread_case s e bytes faults.Version unread = unread_by_case s e bytes faults.Version 505 (answerable_of bytes) (omega arith) (omega arith) unread refl
-unread_case s e bytes fault unread = unread_by_case s e bytes fault 400 (answerable_of bytes) (omega arith) (omega arith) unread refl
+unread_case s e bytes fault unread = unread_by_case s e bytes fault (answerable_of bytes) unread refl
 
 read_case : (s : Office) (e : Setting) (bytes : List ℕ) (m : Message) → message_of bytes ≡ Ok m → DatagramCase s e bytes (read_row s e m)
 unfolding read_row

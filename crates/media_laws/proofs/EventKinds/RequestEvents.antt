@@ -38,8 +38,6 @@ use Rattle.message_laws.proofs.AwaitedOffers.Awaiting.{all_at}
 use Rattle.call_rules.specs.DialogRule.{Leaves}
 use Rattle.sdp.specs.declared.description.Description.{Description}
 use Rattle.trace_reading.specs.Message.{trace_message}
-use Rattle.media_laws.proofs.EventKinds.RequestCases.{RequestCase}
-use Rattle.media_laws.proofs.EventKinds.RequestCases as requests
 use Rattle.media_laws.specs.Known.{IsTied}
 use Rattle.media_laws.proofs.EventKinds.Laws.{Laws}
 use Rattle.media_laws.proofs.EventKinds.HiddenInputs.{hidden_acks, hidden_byes, hidden_cancels}
@@ -54,7 +52,8 @@ use Rattle.call_rules.specs.DialogRule as rules
 use Rattle.call_steps.specs.Rows.{first_row, refreshes}
 use Rattle.plans.specs.CallRows.{passes, puts_if}
 use Rattle.plans.specs.declared.taken.Taken.TheVariants.{Done}
-use Rattle.message_laws.proofs.Messages.RequestViews.{IsCancel, IsFirstInvite, IsPassedOffer, IsRefresh}
+use Rattle.message_laws.proofs.Messages.RequestViews.{IsCancel, IsFirstInvite, IsPassedOffer, IsRefresh, RequestRow}
+use Rattle.message_laws.proofs.Messages.RequestViews as requests
 use Rattle.message_laws.proofs.StandingCalls.Reaching.{plain_may_offer, plain_reached}
 use Rattle.message_laws.proofs.StandingCalls.Reading.{reached_target}
 use Rattle.media_laws.proofs.Scenes.Leaving.{rule_fits}
@@ -144,13 +143,12 @@ module _ (laws : Laws) (s after : Office) (begun more : List Transaction) (sent 
         let done = took (ap (λ (y : Effect). y.plan.taken) is) in
         later_goes_on laws.reads laws.names laws.describes laws.sent laws.keep s after begun more sent t old k shows later tie tied.known.legs tied.answers e from bytes r id taken read done place end c offer (later_case s e.now r place end c offer rule why) begins.0 x is begins.1 ms are calls
 
-    pub request_goes : (row : RequestCase s e r own id x) → (NoneTakesRequest s e r own id x row → Move offering t old taken ms old) → Goes
+    pub request_goes : (row : RequestRow s e r own id x) → (NoneTakesRequest s e r own id x row → Move offering t old taken ms old) → Goes
     request_goes (requests.replied reply rule is) alone = stays (alone tt) (calls ∙ ap (λ (y : Effect). y.calls.standing.calls) is)
-    request_goes (requests.unfit status low high is) alone = stays (alone tt) (calls ∙ ap (λ (y : Effect). y.calls.standing.calls) is)
+    request_goes (requests.unfit reason is) alone = stays (alone tt) (calls ∙ ap (λ (y : Effect). y.calls.standing.calls) is)
     request_goes (requests.asks_callee to offer why is) alone = offered_goes to offer why is
     request_goes (requests.cancelled other place why found is) alone = cancelled_goes other place why is
     request_goes (requests.left place end rule is) alone = left_goes place end rule is
-    request_goes (requests.counted place end reply rule why is) alone = counted_goes place end (alone tt) (calls ∙ ap (λ (y : Effect). y.calls.standing.calls) is)
-    request_goes (requests.counted_refused place end status low high is) alone = counted_goes place end (alone tt) (calls ∙ ap (λ (y : Effect). y.calls.standing.calls) is)
+    request_goes (requests.counted_alone place end reason why is) alone = counted_goes place end (alone tt) (calls ∙ ap (λ (y : Effect). y.calls.standing.calls) is)
     request_goes (requests.passed_on place end c offer rule why is) alone = passed_goes place end c offer rule why is
     request_goes (requests.refreshed place end why is) alone = refreshed_goes place end why (alone tt) (calls ∙ ap (λ (y : Effect). y.calls.standing.calls) is)

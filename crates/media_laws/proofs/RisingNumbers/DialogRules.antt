@@ -1,5 +1,5 @@
 -- Where a request counts in a dialog, its number is above what that had taken (RFC 3261 section 12.2.2).
-use Rattle.std.proofs.Common.{◌≡◌, ℕ, true, List, Option, Some, None, refl, subst}
+use Rattle.std.proofs.Common.{◌≡◌, ◌⊎◌, ℕ, true, List, Option, Some, None, inl, inr, refl, subst}
 use Rattle.std.specs.Prelude.{slice_get, cond}
 use Rattle.sip_message.specs.declared.message.Request.{Request}
 use Rattle.call_media.specs.declared.end.End.{End}
@@ -65,3 +65,8 @@ module _ (calls : List StandingCall) (r : Request) where
   -- of the rule that it is
   pub counts_by_rule : (rule : DialogRule) → dialog_rule calls r ≡ rule → CountsBy calls r.parts.cseq.number rule
   counts_by_rule rule is = subst Counts is rule_counts
+
+  -- whether it is an offer or not
+  pub counts_alone : (place : ℕ) (end : End) → (dialog_rule calls r ≡ Offers place end) ⊎ (dialog_rule calls r ≡ Plain place end) → CountsIn calls place end r.parts.cseq.number
+  counts_alone place end (inl rule) = counts_by_rule (Offers place end) rule
+  counts_alone place end (inr rule) = counts_by_rule (Plain place end) rule

@@ -53,7 +53,7 @@ use Rattle.event_rows.specs.Trace.{Entry as TraceEntry, after_answer, after_entr
 use Rattle.message_laws.specs.Knowing.{KnowsTokens}
 use Rattle.message_laws.proofs.TokenUse.Events.{after_knows, few_tokens, new_knows}
 use Rattle.message_laws.proofs.Messages.MessageViews.{ReceivedRow, acknowledged, begun_by, dropped, moved, received_view, requested, responded}
-use Rattle.message_laws.proofs.Messages.RequestViews.{by_if}
+use Rattle.message_laws.proofs.Messages.RequestViews.{RequestRow, asks_callee, by_if, cancelled, counted_alone, left, passed_on, refreshed, replied, request_view, unfit}
 use Rattle.message_laws.proofs.Messages.ResponseViews.{ResponseRow, ack_alone, again, answered, fork, provisional, refused, silent}
 use Rattle.message_laws.proofs.TokenUse.TaggedSteps.{answers_fits, counts_fits, refreshes_fits}
 use Rattle.message_laws.proofs.AwaitedOffers.Tables.{IsNoOfferInput}
@@ -61,9 +61,8 @@ use Rattle.message_laws.proofs.Messages.Views.{DueRow, WhatRow, call_fired, came
 use Rattle.message_laws.proofs.AwaitedOffers.WaitPassed.{passes_settled}
 use Rattle.media_laws.specs.Rising.{RisesFrom}
 use Rattle.media_laws.specs.Taken.{HasTakenOffer, KnowsTaken}
-use Rattle.media_laws.proofs.RisingNumbers.DialogRules.{CountsIn, counts_by_rule}
+use Rattle.media_laws.proofs.RisingNumbers.DialogRules.{CountsIn, counts_alone, counts_by_rule}
 use Rattle.media_laws.proofs.RisingNumbers.RaisedCalls.{AllGo, CanPut, answers_raises, counts_raises, first_goes, fork_goes, kept_all, late_goes, offers_go, puts_go, refreshes_raises, takes_go}
-use Rattle.media_laws.proofs.RisingNumbers.RowCases.{RowCase, asks_callee, cancelled, left, passed_on, refreshed, refused as refused_in, replied, row_case, ruled, unfit}
 
 -- what is known where an event comes
 pub record IsReady (s : Office) : Type 0 where
@@ -106,22 +105,21 @@ module _ (s : Office) (k : IsReady s) (e : Setting) where
   counted_rises : (place : ℕ) (end : End) (number : ℕ) → CountsIn s.calls.calls place end number → AllGo s.tokens s.calls.calls (puts_if s.calls place (counts s.calls.calls place end number)).calls
   counted_rises place end number h = puts_go s.tokens s.calls place (counts s.calls.calls place end number) (counts_put place end number h) k.taken
 
-  case_rises : (r : Request) (begun : List Entry) (id : ℕ) (x : Effect) → RowCase s e r begun id x → P x
-  case_rises r begun id x (replied reply rule fits is) = subst P (sym is) same_calls
-  case_rises r begun id x (unfit status low high is) = subst P (sym is) same_calls
-  case_rises r begun id x (asks_callee to offer first bound said is) = subst P (sym is) (first_goes s.calls (occasion s e) r id e.source to offer (no_tag_text r.parts first.1) k.few k.taken)
-  case_rises r begun id x (cancelled place method is) = subst P (sym is) (takes_go s.tokens s.calls s.table (occasion s e) place inputs.Cancel None _ tt k.taken (no_leg place))
-  case_rises r begun id x (left place end rule bye is) =
+  case_rises : (r : Request) (begun : List Entry) (id : ℕ) (x : Effect) → RequestRow s e r begun id x → P x
+  case_rises r begun id x (replied reply rule is) = subst P (sym is) same_calls
+  case_rises r begun id x (unfit reason is) = subst P (sym is) same_calls
+  case_rises r begun id x (asks_callee to offer why is) = subst P (sym is) (first_goes s.calls (occasion s e) r id e.source to offer (no_tag_text r.parts why.no_tag) k.few k.taken)
+  case_rises r begun id x (cancelled other place why found is) = subst P (sym is) (takes_go s.tokens s.calls s.table (occasion s e) place inputs.Cancel None _ tt k.taken (no_leg place))
+  case_rises r begun id x (left place end rule is) =
       subst P (sym is) (takes_go s.tokens s.calls s.table (occasion s e) place (inputs.Bye end) (counts s.calls.calls place end r.parts.cseq.number) _ tt k.taken
       (counts_put place end r.parts.cseq.number (counts_by_rule s.calls.calls r (dialogrules.Leaves place end) rule)))
-  case_rises r begun id x (ruled place end reply rule h why is) = subst P (sym is) (counted_rises place end r.parts.cseq.number h)
-  case_rises r begun id x (refused_in place end status h low high is) = subst P (sym is) (counted_rises place end r.parts.cseq.number h)
-  case_rises r begun id x (passed_on place end c offer why is) =
+  case_rises r begun id x (counted_alone place end reason why is) = subst P (sym is) (counted_rises place end r.parts.cseq.number (counts_alone s.calls.calls r place end why))
+  case_rises r begun id x (passed_on place end c offer rule why is) =
       subst P (sym is)
       (offers_go s.tokens s.calls s.table (occasion s e) place end (offer_method r) offer r id e.source c k.tokens.calls k.taken why.there (passes_settled r end c.call why.passes)
-      (counts_by_rule s.calls.calls r (dialogrules.Offers place end) why.rule))
-  case_rises r begun id x (refreshed place end rule is) =
-      let h = counts_by_rule s.calls.calls r (dialogrules.Plain place end) rule in
+      (counts_by_rule s.calls.calls r (dialogrules.Offers place end) rule))
+  case_rises r begun id x (refreshed place end why is) =
+      let h = counts_by_rule s.calls.calls r (dialogrules.Plain place end) why.rule in
       subst P (sym is)
       (puts_go s.tokens s.calls place (refreshes s.calls.calls place end r)
       (λ d there. record { fits = refreshes_fits s.tokens s.calls.calls place end r d k.tokens.calls there; raises = refreshes_raises s.calls.calls place end r d h there }) k.taken)
@@ -138,7 +136,7 @@ module _ (s : Office) (k : IsReady s) (e : Setting) where
 
   request_by_rises : (r : Request) (begun : List Entry) (verdict : Verdict) (send : Option Outgoing) → P (request_by s e r begun verdict send)
   unfolding request_by
-  request_by_rises r begun (verdicts.New id) send = case_rises r begun id (rule_row s e r begun id (request_rule s r e.now)) (row_case s e r begun id)
+  request_by_rises r begun (verdicts.New id) send = case_rises r begun id (rule_row s e r begun id (request_rule s r e.now)) (request_view s e r begun id)
   request_by_rises r begun verdicts.Repeat send = same_calls
   request_by_rises r begun verdicts.Swallowed send = same_calls
   request_by_rises r begun (verdicts.Up id) send = ack_rises r begun

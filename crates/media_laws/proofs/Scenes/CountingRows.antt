@@ -60,12 +60,12 @@ takes_leaves s k e begun send id place input leg n put = takes_left s.calls s.ta
 
 request_leaves : (s : Office) → KnowsNumbersLeft s → (e : Setting) (r : Request) (begun : List Entry) (id : ℕ) (x : Effect) → RequestRow s e r begun id x → Leaves x
 request_leaves s k e r begun id x (replied reply why is) = subst Leaves (sym is) k
-request_leaves s k e r begun id x (unfit status low is) = subst Leaves (sym is) k
+request_leaves s k e r begun id x (unfit reason is) = subst Leaves (sym is) k
 request_leaves s k e r begun id x (asks_callee to offer why is) = subst Leaves (sym is) (first_left s.calls (occasion s e) r id e.source to offer k)
 request_leaves s k e r begun id x (cancelled other place named_is found is) = subst Leaves (sym is) (takes_left s.calls s.table (occasion s e) place inputs.Cancel None _ tt k tt)
 request_leaves s k e r begun id x (left place end rule_is is) =
     subst Leaves (sym is) (takes_left s.calls s.table (occasion s e) place (inputs.Bye end) _ _ tt k (counts_left s.calls.calls place end r.parts.cseq.number k))
-request_leaves s k e r begun id x (counted_alone place end reply why is) =
+request_leaves s k e r begun id x (counted_alone place end reason why is) =
     subst Leaves (sym is) (puts_left s.calls place (counts s.calls.calls place end r.parts.cseq.number) (counts_left s.calls.calls place end r.parts.cseq.number k) k)
 request_leaves s k e r begun id x (passed_on place end c offer rule_is why is) =
     subst Leaves (sym is) (offers_left s.calls s.table (occasion s e) place end _ offer r id e.source c k why.there why.numbered)
@@ -109,7 +109,7 @@ message_leaves s waiting k e m send x (responded r id t is up to row) = response
 
 datagram_leaves : (s : Office) → KnowsWaiting s → KnowsNumbersLeft s → (e : Setting) (bytes : List ℕ) (x : Effect) → DatagramRow s e bytes x → Leaves x
 datagram_leaves s waiting k e bytes x (ignored taken is) = subst Leaves (sym is) k
-datagram_leaves s waiting k e bytes x (unreadable fault status parts unread can is) = subst Leaves (sym is) k
+datagram_leaves s waiting k e bytes x (unreadable fault parts unread can is) = subst Leaves (sym is) k
 datagram_leaves s waiting k e bytes x (unfit_branched r read is) = subst Leaves (sym is) k
 datagram_leaves s waiting k e bytes x (was_received m read branch reached row) = message_leaves s waiting k e m _ x row
 

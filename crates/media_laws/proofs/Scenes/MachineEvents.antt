@@ -18,14 +18,14 @@ use Rattle.event_rows.specs.Rows.{after, moment_after, no_source, only_counts, r
 use Rattle.event_rows.specs.State.{Contents, IsNew, after_event, moment_at, office}
 use Rattle.event_rows.specs.Trace.{Entry as TraceEntry, after_answer, after_entries, after_entry}
 use Rattle.plans.specs.CallRows.{occasion, okay_plan, timer_input, without_call_timer}
-use Rattle.plans.specs.Replies.{reply_row, responds_in}
+use Rattle.plans.specs.Replies.{refuses_for, reply_row}
 use Rattle.plans.specs.Effect.{Effect}
 use Rattle.plans.specs.Office.{Office}
 use Rattle.plans.specs.declared.setting.Setting.{Setting}
 use Rattle.plans.specs.declared.taken.Taken.{Taken}
 use Rattle.message_laws.proofs.Messages.MessageViews.{MessageRow, acknowledged, begun_by, dropped, moved, requested, responded}
 use Rattle.message_laws.proofs.AwaitedOffers.Once.{NoneOwn}
-use Rattle.message_laws.proofs.Messages.Replying.{okay_reply, responds_reply, row_reply}
+use Rattle.message_laws.proofs.Messages.Replying.{okay_reply, refuses_reply, row_reply}
 use Rattle.message_laws.proofs.Messages.RequestViews.{RequestRow, asks_callee, cancelled, counted_alone, left, passed_on, refreshed, replied, unfit}
 use Rattle.message_laws.proofs.Messages.ResponseViews.{ResponseRow, ack_alone, again, answered, fork, provisional, refused, silent}
 use Rattle.message_laws.proofs.Messages.Views.{DatagramRow, DueRow, WhatRow, call_fired, came, due, ended, fired_alone, idle, ignored, sent_again, stopped, timed, unfit_branched, unreadable, was_received, what_view}
@@ -53,12 +53,12 @@ timer_fit timer = λ x opens. absurd opens
 
 request_fit : (s : Office) (e : Setting) (r : Request) (begun : List Entry) (id : ℕ) (x : Effect) → NoneOwn begun → RequestRow s e r begun id x → RowFits x
 request_fit s e r begun id x none (replied reply why is) = subst RowFits (sym is) (own_fit (reply_row s e r begun id reply).changes (reply_none begun id _ (row_reply s e r begun id reply) none))
-request_fit s e r begun id x none (unfit status low is) =
-    subst RowFits (sym is) (own_fit (responds_in s e r begun id status [] None).changes (reply_none begun id _ (responds_reply s e r begun id status [] None) none))
+request_fit s e r begun id x none (unfit reason is) =
+    subst RowFits (sym is) (own_fit (refuses_for s e r begun id reason).changes (reply_none begun id _ (refuses_reply s e r begun id reason) none))
 request_fit s e r begun id x none (asks_callee to offer why is) = subst RowFits (sym is) (behind_fit begun _ none (first_fit s.calls (occasion s e) r id e.source to offer))
 request_fit s e r begun id x none (cancelled other place named found is) = subst RowFits (sym is) (behind_fit begun _ none (takes_fit s.calls s.table (occasion s e) place inputs.Cancel None _))
 request_fit s e r begun id x none (left place end rule is) = subst RowFits (sym is) (behind_fit begun _ none (takes_fit s.calls s.table (occasion s e) place (inputs.Bye end) _ _))
-request_fit s e r begun id x none (counted_alone place end reply why is) = subst RowFits (sym is) (own_fit (reply_row s e r begun id reply).changes (reply_none begun id _ (row_reply s e r begun id reply) none))
+request_fit s e r begun id x none (counted_alone place end reason why is) = subst RowFits (sym is) (own_fit (refuses_for s e r begun id reason).changes (reply_none begun id _ (refuses_reply s e r begun id reason) none))
 request_fit s e r begun id x none (passed_on place end c offer rule why is) = subst RowFits (sym is) (behind_fit begun _ none (offers_fit s.calls s.table (occasion s e) place _ end r id e.source))
 request_fit s e r begun id x none (refreshed place end why is) = subst RowFits (sym is) (own_fit (okay_plan s e r begun id).changes (reply_none begun id _ (okay_reply s e r begun id) none))
 
@@ -81,7 +81,7 @@ message_fit s e m send x (responded r id t same up to row) = response_fit s e r 
 
 datagram_fit : (s : Office) (e : Setting) (bytes : List ℕ) (x : Effect) → DatagramRow s e bytes x → RowFits x
 datagram_fit s e bytes x (ignored taken is) = subst RowFits (sym is) none_fit
-datagram_fit s e bytes x (unreadable fault status parts unread can is) = subst RowFits (sym is) none_fit
+datagram_fit s e bytes x (unreadable fault parts unread can is) = subst RowFits (sym is) none_fit
 datagram_fit s e bytes x (unfit_branched r read is) = subst RowFits (sym is) none_fit
 datagram_fit s e bytes x (was_received m read branch reached row) = message_fit s e m _ x row
 

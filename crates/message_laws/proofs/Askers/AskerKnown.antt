@@ -1,6 +1,6 @@
 -- What an agent knows of the requests that wait for its responses after events, and that all it sends in them is its
 -- own.
-use Rattle.std.proofs.Common.{◌≡◌, ◌∙◌, ℕ, ◌<◌, ◌≤◌, ◌^◌, List, [], ◌∷◌, ◌++◌, codes, Option, Some, None, Result, Ok, Err, refl, ap, sym, subst, inl, arith}
+use Rattle.std.proofs.Common.{◌≡◌, ◌∙◌, ℕ, ◌<◌, ◌^◌, List, [], ◌∷◌, ◌++◌, codes, Option, Some, None, Result, Ok, Err, refl, ap, sym, subst, inl, arith}
 use Rattle.std.specs.List.{All}
 use Rattle.std.proofs.lemmas.List.{append-nil, append_assoc}
 use Rattle.std.proofs.lemmas.List.Elements.{All-append, All-head, All-nil, All-tail}
@@ -20,8 +20,7 @@ use Rattle.sip_message.specs.declared.message.Response.{Response}
 use Rattle.sip_message.specs.AnswerableParts.{answerable_of}
 use Rattle.sip_message.specs.Read.{message_of}
 use Rattle.sip_message.specs.Repeatable.{CanBeRepeated}
-use Rattle.sip_writing.specs.Reply.{response_address}
-use Rattle.responses.specs.Responding.{responds, stateless}
+use Rattle.responses.specs.Responding.{stateless}
 use Rattle.responses.specs.Words.{has_fit_branch, is_method as request_method}
 use Rattle.transactions.specs.declared.change.Entry.{Entry as TableEntry}
 use Rattle.transactions.specs.declared.outcome.Outgoing.{Outgoing}
@@ -45,15 +44,18 @@ use Rattle.plans.specs.declared.taken.Why.TheVariants as whys
 use Rattle.plans.specs.CallRows as rows
 use Rattle.plans.specs.CallRows.{of_plan, takes, timer_input, without_call_timer}
 use Rattle.plans.specs.Effect.{Effect}
-use Rattle.plans.specs.Plan.{nothing, replies as plain_replies}
-use Rattle.plans.specs.Replies.{unsupported}
-use Rattle.event_rows.specs.Rows.{after, by_reading, datagram_row, fit_row, is_full, is_unreachable_message, moment_after, no_source, only_counts, parts_of, read_row, received, received_by, request_by, row, row_by, setting, unfit_branch, unread_by, unread_row, what_row}
+use Rattle.plans.specs.Plan.{nothing}
+use Rattle.plans.specs.Reasons.{status}
+use Rattle.plans.specs.declared.reason.Reason.{Reason}
+use Rattle.plans.specs.declared.reason.Reason.TheVariants as reasons
+use Rattle.event_rows.specs.Rows.{after, by_reading, datagram_row, fit_row, is_full, is_unreachable_message, moment_after, no_source, only_counts, parts_of, read_row, received, received_by, refuses_alone, request_by, row, row_by, setting, unfit_branch, unread_by, unread_row, what_row}
 use Rattle.event_rows.specs.State.{Contents, IsNew, after_event, moment_at, office}
 use Rattle.event_rows.specs.Trace.{AreEntries, Entry, IsEntryWith, after_answer, after_entries, after_entry}
 use Rattle.sdp.specs.declared.description.Description.{Description}
 use Rattle.call_rules.specs.Content.{described}
 use Rattle.message_laws.specs.Addresses.{IsConfigured, IsReached, IsSource}
 use Rattle.message_laws.specs.Bodies.{KnowsDescriptions, WasRead}
+use Rattle.message_laws.proofs.Messages.Answerable.{can_answer}
 use Rattle.message_laws.proofs.Messages.BodyRows.{after_bodies, new_bodies}
 use Rattle.message_laws.proofs.QuietEvents.Describing.{BodiesDescribe}
 use Rattle.message_laws.proofs.Messages.ReadBodies.{body_read, body_read_if}
@@ -66,31 +68,18 @@ use Rattle.message_laws.proofs.Askers.AskerEffects.{AskedEffect, GoesOwn, IsRead
 use Rattle.message_laws.proofs.Askers.AskerEvents.{fired_goes, message_begun, message_goes, new_begun}
 use Rattle.message_laws.proofs.Askers.AskerRows.{new_asks, response_asks}
 use Rattle.message_laws.proofs.TokenUse.Events.{few_tokens}
-use Rattle.message_laws.proofs.TokenUse.Further.{IsPlain, none_follows, refusal_needs_none}
+use Rattle.message_laws.proofs.TokenUse.Further.{none_follows}
 use Rattle.message_laws.proofs.TokenUse.Grounds.{answerable_repeats, read_repeats}
 use Rattle.message_laws.proofs.AwaitedOffers.Lists.{answer_messages, new_messages}
 use Rattle.message_laws.proofs.Messages.MessageViews.{ReceivedRow, acknowledged, begun_by, dropped, moved, received_view, requested, responded}
-use Rattle.message_laws.proofs.Messages.ReadParts.{response_status, same_method}
-use Rattle.message_laws.proofs.Messages.Repeats.{CanAnswer, one_own, responds_read, stateless_token}
+use Rattle.message_laws.proofs.Messages.ReadParts.{response_status}
+use Rattle.message_laws.proofs.Messages.Repeats.{CanAnswer, one_own, refusal_needs, refusal_status, responds_read, stateless_token}
 use Rattle.message_laws.proofs.Messages.RequestViews.{by_if}
 use Rattle.message_laws.proofs.Askers.ServedRequests.{all_entered_asked}
 use Rattle.message_laws.proofs.Askers.SpokenSteps.{IsBegun, IsBegunAs, same_kept}
-use Rattle.message_laws.proofs.Askers.UnsupportedField.{unsupported_written}
 use Rattle.message_laws.proofs.Messages.Views.{DueRow, WhatRow, call_fired, came, due, ended, fired_alone, idle, sent_again, stopped, timed, what_view}
 
 -- ---- a request
-
-unsupported_plain : (bytes : List ℕ) (r : Request) → message_of bytes ≡ Ok (Kinds.Request r) → IsPlain (unsupported r)
-unsupported_plain bytes r read = record { written = unsupported_written bytes r read; repeats = refl; no_length = refl; no_contact = refl; no_hops = refl; no_type = refl }
-
-can_answer : (bytes : List ℕ) (s : Office) (e : Setting) (r : Request) → message_of bytes ≡ Ok (Kinds.Request r) → IsSource e.source → s.tokens < 2 ^ 63 → CanAnswer s e r
-can_answer bytes s e r read from few = record {
-  repeats = read_repeats bytes (Kinds.Request r) read;
-  method = same_method bytes r read;
-  refused = unsupported_plain bytes r read;
-  from = from;
-  few = few;
-}
 
 ack_asks : (s : Office) → IsReady s → (e : Setting) (begun : List TableEntry) (place : Option ℕ) → IsBegun begun → AskedEffect s (rows.ack_by s e begun place)
 ack_asks s k e begun None b = nothing_asks s k (takens.Dropped whys.Ack)
@@ -136,29 +125,25 @@ message_asks describes bytes s k e (Kinds.Response r) read from = response_recei
 -- ---- a datagram
 
 -- a response that no transaction sends
-stateless_asks : (s : Office) → IsReady s → (e : Setting) (parts : Parts) (status : ℕ) → IsSource e.source → CanBeRepeated parts → 300 ≤ status → status ≤ 699
-    → AskedEffect s (of_plan s (plain_replies (response_address parts.vias e.source) (responds parts e.source status stateless [])))
-stateless_asks s k e parts status from repeats low high =
-    plan_asks s k (plain_replies (response_address parts.vias e.source) (responds parts e.source status stateless []))
-    (one_own _ (inl (responds_read parts e.source status stateless [] from repeats stateless_token (record { low = omega (arith, low); high = high })
-    (none_follows status parts.cseq.method (refusal_needs_none status parts.cseq.method low))))) tt (λ id a. tt)
+stateless_asks : (s : Office) → IsReady s → (e : Setting) (parts : Parts) (reason : Reason) → IsSource e.source → CanBeRepeated parts → AskedEffect s (of_plan s (refuses_alone e parts reason))
+stateless_asks s k e parts reason from repeats =
+    plan_asks s k (refuses_alone e parts reason)
+    (one_own _ (inl (responds_read parts e.source (status reason) stateless [] from repeats stateless_token (refusal_status reason) (none_follows (status reason) parts.cseq.method (refusal_needs reason parts.cseq.method))))) tt (λ id a. tt)
 
 unfit_asks : (bytes : List ℕ) (s : Office) → IsReady s → (e : Setting) (m : Message) → message_of bytes ≡ Ok m → IsSource e.source → AskedEffect s (of_plan s (unfit_branch e m))
 unfit_asks bytes s k e (Kinds.Request r) read from =
-    by_if (λ p. AskedEffect s (of_plan s p)) (request_method (codes "ACK") r) (nothing (takens.Dropped whys.NoBranch)) (plain_replies (response_address r.parts.vias e.source) (responds r.parts e.source 400 stateless []))
-    (λ b. nothing_asks s k (takens.Dropped whys.NoBranch)) (λ b. stateless_asks s k e r.parts 400 from (read_repeats bytes (Kinds.Request r) read) (omega arith) (omega arith))
+    by_if (λ p. AskedEffect s (of_plan s p)) (request_method (codes "ACK") r) (nothing (takens.Dropped whys.NoBranch)) (refuses_alone e r.parts reasons.NoBranch)
+    (λ b. nothing_asks s k (takens.Dropped whys.NoBranch)) (λ b. stateless_asks s k e r.parts reasons.NoBranch from (read_repeats bytes (Kinds.Request r) read))
 unfit_asks bytes s k e (Kinds.Response r) read from = nothing_asks s k (takens.Dropped whys.NoBranch)
 
-unread_by_asks : (bytes : List ℕ) (s : Office) → IsReady s → (e : Setting) (fault : MessageError) (status : ℕ) (parts : Option Parts) → answerable_of bytes ≡ parts → IsSource e.source → 300 ≤ status → status ≤ 699
-    → AskedEffect s (of_plan s (unread_by e fault status parts))
-unread_by_asks bytes s k e fault status None can from low high = nothing_asks s k (takens.Dropped (whys.Unread fault))
-unread_by_asks bytes s k e fault status (Some parts) can from low high = stateless_asks s k e parts status from (answerable_repeats bytes parts can) low high
+unread_by_asks : (bytes : List ℕ) (s : Office) → IsReady s → (e : Setting) (fault : MessageError) (parts : Option Parts) → answerable_of bytes ≡ parts → IsSource e.source → AskedEffect s (of_plan s (unread_by e fault parts))
+unread_by_asks bytes s k e fault None can from = nothing_asks s k (takens.Dropped (whys.Unread fault))
+unread_by_asks bytes s k e fault (Some parts) can from = stateless_asks s k e parts (reasons.Unread fault) from (answerable_repeats bytes parts can)
 
 unread_asks : (bytes : List ℕ) (s : Office) → IsReady s → (e : Setting) (fault : MessageError) → IsSource e.source → AskedEffect s (of_plan s (unread_row e bytes fault))
 unfolding unread_row
 unread_asks bytes s k e faults.TooLong from = nothing_asks s k (takens.Dropped (whys.Unread faults.TooLong))
-unread_asks bytes s k e faults.Version from = unread_by_asks bytes s k e faults.Version 505 (answerable_of bytes) refl from (omega arith) (omega arith)
-unread_asks bytes s k e fault from = unread_by_asks bytes s k e fault 400 (answerable_of bytes) refl from (omega arith) (omega arith)
+unread_asks bytes s k e fault from = unread_by_asks bytes s k e fault (answerable_of bytes) refl from
 
 fit_asks : BodiesDescribe → (bytes : List ℕ) (s : Office) → IsReady s → (e : Setting) (m : Message) → message_of bytes ≡ Ok m → IsSource e.source → AskedEffect s (fit_row s e m)
 fit_asks describes bytes s k e m read from =

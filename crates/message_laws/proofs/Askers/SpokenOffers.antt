@@ -28,16 +28,16 @@ use Rattle.call_core.specs.CallRows.{call_row, first_call_row}
 use Rattle.call_core.specs.Calls.{awaits_answer, holds_in}
 use Rattle.call_core.specs.Plans.{Step}
 use Rattle.calls.specs.Carrying.{with_step}
-use Rattle.calls.specs.Changes.{beside, unchanged}
+use Rattle.calls.specs.Changes.{beside}
 use Rattle.calls.specs.State.{Standing}
 use Rattle.calls.specs.declared.change.LegDialog.{LegDialog}
 use Rattle.calls.specs.declared.standing_call.OfferRequest.{OfferRequest}
 use Rattle.calls.specs.declared.standing_call.StandingCall.{StandingCall}
 use Rattle.call_steps.specs.declared.occasion.Occasion.{Occasion}
 use Rattle.call_steps.specs.Effects as steps
-use Rattle.call_steps.specs.Effects.{no_effect, with_messages}
+use Rattle.call_steps.specs.Effects.{no_effect}
 use Rattle.call_steps.specs.Messages as said
-use Rattle.call_steps.specs.Rows.{begins_by, counts, does, first_asker, first_leg, first_row, first_standing, fork_by, fork_row, late_by, late_row, later_dialog, messages_of, offer_coming, offer_request, offers_by, offers_row, put_with, taken_offer, takes_by, takes_row}
+use Rattle.call_steps.specs.Rows.{begins_by, counts, does, first_asker, first_leg, first_row, first_standing, fork_by, fork_row, forked, late_by, late_row, later_dialog, messages_of, offer_coming, offer_request, offers_by, offers_row, put_with, taken_offer, takes_by, takes_row}
 use Rattle.call_steps.specs.Scenes.{first_scene, fork_scene, passed_id, scene}
 use Rattle.call_steps.specs.Values.{AskerValue, ComingValue, SceneValue, lent_asker, lent_scene}
 use Rattle.message_laws.specs.Addresses.{IsServerAddress, IsSource}
@@ -271,7 +271,7 @@ first_speaks table begun calls o r id source target offer k b opens from repeats
 -- ---- a 2xx that no call takes
 
 alone_speaks : (table : transactions.Contents) (begun : List Entry) (calls : Standing) (o : Occasion) (leg : Dialog) (actions : List Action) → IsOccasion table calls.calls o → IsBegun begun → FitActions actions
-    → SpokenStep table begun (with_messages (unchanged calls) (said.messages (fork_scene o leg) None actions))
+    → SpokenStep table begun (forked calls (said.messages (fork_scene o leg) None actions))
 alone_speaks table begun calls o leg actions k b f =
     let own = says_step (fork_scene o leg) None actions (record { server = k.server; offer = λ e. tt; request = tt; again = tt; short = tt }) f in
     let later = (said.messages (fork_scene o leg) None actions).dressed.changes in

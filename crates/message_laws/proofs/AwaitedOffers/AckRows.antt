@@ -55,7 +55,7 @@ use Rattle.message_laws.specs.Acks.{HasAck, IsAnswered, IsKept, KnowsAcks, had_f
 use Rattle.message_laws.proofs.AwaitedOffers.Ending.{ended_answered, ended_gone, fired_answered, fires_other, is_end, response_line, success_answered}
 use Rattle.message_laws.proofs.AwaitedOffers.Firing.{NoneFires, all_answered, fires_append, is_fires, said_tells}
 use Rattle.message_laws.proofs.Messages.MessageViews.{IsResponseTo, MessageRow, acknowledged, begun_by, dropped, moved, requested, responded}
-use Rattle.message_laws.proofs.Messages.Replying.{IsReply, okay_reply, responds_reply, row_reply}
+use Rattle.message_laws.proofs.Messages.Replying.{IsReply, okay_reply, refuses_reply, row_reply}
 use Rattle.message_laws.proofs.Messages.RequestViews.{RequestRow, asks_callee, cancelled, counted_alone, left, passed_on, refreshed, replied, unfit}
 use Rattle.message_laws.proofs.Messages.ResponseViews.{ResponseRow, ack_alone, again, answered, fork, provisional, refused, silent}
 use Rattle.message_laws.proofs.TokenUse.Rows.{answered_client}
@@ -173,11 +173,11 @@ reply_tells begun id p is none = subst (λ changes. NoneFires changes) (sym is.c
 
 request_acks : (s : Office) → KnowsAcks s → (e : Setting) (r : Request) (begun : List Entry) (id : ℕ) (x : Effect) → NoneFires begun → RequestRow s e r begun id x → Acks s x
 request_acks s k e r begun id x none (replied reply why is) = subst (Acks s) (sym is) (quiet s k _ refl (reply_tells begun id _ (row_reply s e r begun id reply) none))
-request_acks s k e r begun id x none (unfit status low is) = subst (Acks s) (sym is) (quiet s k _ refl (reply_tells begun id _ (responds_reply s e r begun id status [] None) none))
+request_acks s k e r begun id x none (unfit reason is) = subst (Acks s) (sym is) (quiet s k _ refl (reply_tells begun id _ (refuses_reply s e r begun id reason) none))
 request_acks s k e r begun id x none (asks_callee to offer why is) = subst (Acks s) (sym is) (quiet s k _ refl (fires_append begun _ none (first_tells s.calls _ r id e.source to offer)))
 request_acks s k e r begun id x none (cancelled other place named_is found is) = subst (Acks s) (sym is) (quiet s k _ refl (fires_append begun _ none (takes_tells s.calls s.table _ place _ _ _)))
 request_acks s k e r begun id x none (left place end rule_is is) = subst (Acks s) (sym is) (quiet s k _ refl (fires_append begun _ none (takes_tells s.calls s.table _ place _ _ _)))
-request_acks s k e r begun id x none (counted_alone place end reply why is) = subst (Acks s) (sym is) (quiet s k _ refl (reply_tells begun id _ (row_reply s e r begun id reply) none))
+request_acks s k e r begun id x none (counted_alone place end reason why is) = subst (Acks s) (sym is) (quiet s k _ refl (reply_tells begun id _ (refuses_reply s e r begun id reason) none))
 request_acks s k e r begun id x none (passed_on place end c offer rule_is why is) =
     subst (Acks s) (sym is) (quiet s k _ refl (fires_append begun _ none (offers_tells s.calls s.table _ place _ end r id e.source)))
 request_acks s k e r begun id x none (refreshed place end rule_is is) = subst (Acks s) (sym is) (quiet s k _ refl (reply_tells begun id _ (okay_reply s e r begun id) none))
@@ -257,7 +257,7 @@ message_acks s k e m send x (responded r id t is up to row) =
 
 datagram_acks : (s : Office) → KnowsAcks s → (e : Setting) (bytes : List ℕ) (x : Effect) → DatagramRow s e bytes x → Acks s x
 datagram_acks s k e bytes x (ignored taken is) = subst (Acks s) (sym is) (quiet s k _ refl tt)
-datagram_acks s k e bytes x (unreadable fault status parts unread can is) = subst (Acks s) (sym is) (quiet s k _ refl tt)
+datagram_acks s k e bytes x (unreadable fault parts unread can is) = subst (Acks s) (sym is) (quiet s k _ refl tt)
 datagram_acks s k e bytes x (unfit_branched r read is) = subst (Acks s) (sym is) (quiet s k _ refl tt)
 datagram_acks s k e bytes x (was_received m read branch reached row) = message_acks s k e m _ x row
 

@@ -52,7 +52,7 @@ use Rattle.message_laws.proofs.AwaitedOffers.Coming.{OpensIn}
 use Rattle.message_laws.proofs.Messages.MessageViews.{MessageRow, acknowledged, begun_by, dropped, moved, requested, responded}
 use Rattle.message_laws.proofs.StandingCalls.Reaching.{offers_may_offer}
 use Rattle.message_laws.proofs.Messages.ReadParts.{IsStatus, response_status, same_method}
-use Rattle.message_laws.proofs.Messages.Replying.{IsReply, okay_reply, responds_reply, row_reply}
+use Rattle.message_laws.proofs.Messages.Replying.{IsReply, okay_reply, refuses_reply, row_reply}
 use Rattle.message_laws.proofs.Messages.RequestViews.{RequestRow, asks_callee, cancelled, counted_alone, left, passed_on, refreshed, replied, unfit}
 use Rattle.message_laws.proofs.Messages.ResponseViews.{ResponseRow, ack_alone, again, answered, fork, provisional, refused, silent}
 use Rattle.message_laws.proofs.Askers.SpokenLines.{FitsInput, is_offer_input}
@@ -146,15 +146,15 @@ invite_offers parts method same is = either (is_invite parts) (is_update parts) 
 request_rows : (s : Office) → KnowsAsked s → (e : Setting) (bytes : List ℕ) (r : Request) (begun : List Entry) (id : ℕ) (x : Effect) → message_of bytes ≡ Ok (Kinds.Request r) → IsOne begun → at s.table.slots id ≡ None
     → ((t : Transaction) → OpensIn t begun → t.parts ≡ r.parts) → RequestRow s e r begun id x → Asks s x
 request_rows s k e bytes r begun id x read one free opens (replied reply why is) = subst (Asks s) (sym is) (reply_asks s k begun id _ (row_reply s e r begun id reply) one)
-request_rows s k e bytes r begun id x read one free opens (unfit status low is) = subst (Asks s) (sym is) (reply_asks s k begun id _ (responds_reply s e r begun id status [] None) one)
+request_rows s k e bytes r begun id x read one free opens (unfit reason is) = subst (Asks s) (sym is) (reply_asks s k begun id _ (refuses_reply s e r begun id reason) one)
 request_rows s k e bytes r begun id x read one free opens (asks_callee to offer why is) =
     subst (Asks s) (sym is)
     (step_asks s begun None None (first_row s.calls (occasion s e) r id e.source to offer) one (first_own s.calls (occasion s e) r id e.source to offer)
     (first_origins s.table.slots begun s.calls (occasion s e) r id e.source to offer k free opens (invite_offers r.parts r.method (same_method bytes r read) why.invite)))
 request_rows s k e bytes r begun id x read one free opens (cancelled other place named_is found is) = subst (Asks s) (sym is) (asked_ask s k e r begun id place inputs.Cancel None _ one tt refl)
 request_rows s k e bytes r begun id x read one free opens (left place end rule_is is) = subst (Asks s) (sym is) (asked_ask s k e r begun id place (inputs.Bye end) _ _ one tt refl)
-request_rows s k e bytes r begun id x read one free opens (counted_alone place end reply why is) =
-    subst (Asks s) (sym is) (put_asks s k begun id place (counts s.calls.calls place end r.parts.cseq.number) _ (row_reply s e r begun id reply) one)
+request_rows s k e bytes r begun id x read one free opens (counted_alone place end reason why is) =
+    subst (Asks s) (sym is) (put_asks s k begun id place (counts s.calls.calls place end r.parts.cseq.number) _ (refuses_reply s e r begun id reason) one)
 request_rows s k e bytes r begun id x read one free opens (passed_on place end c offer rule_is why is) =
     subst (Asks s) (sym is)
     (step_asks s begun None None (offers_row s.calls s.table (occasion s e) place (inputs.Offer end (offer_method r) (Some offer)) end r id e.source) one
@@ -205,7 +205,7 @@ message_rows s k e bytes m send x read (responded r id t is up to view) =
 
 datagram_rows : (s : Office) → KnowsAsked s → (e : Setting) (bytes : List ℕ) (x : Effect) → DatagramRow s e bytes x → Asks s x
 datagram_rows s k e bytes x (ignored taken is) = subst (Asks s) (sym is) (quiet_asks s k taken)
-datagram_rows s k e bytes x (unreadable fault status parts unread can is) = subst (Asks s) (sym is) (plan_asks s k _ [] [] refl tt none_own)
+datagram_rows s k e bytes x (unreadable fault parts unread can is) = subst (Asks s) (sym is) (plan_asks s k _ [] [] refl tt none_own)
 datagram_rows s k e bytes x (unfit_branched r read is) = subst (Asks s) (sym is) (plan_asks s k _ [] [] refl tt none_own)
 datagram_rows s k e bytes x (was_received m read branch reached view) = message_rows s k e bytes m _ x read view
 

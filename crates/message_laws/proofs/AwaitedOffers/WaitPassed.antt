@@ -35,7 +35,7 @@ use Rattle.call_rules.specs.declared.offers.OfferRule.{OfferRule}
 use Rattle.call_rules.specs.declared.offers.OfferRule.TheVariants.{NoDialog}
 use Rattle.call_rules.specs.Responses.{awaits_final, is_last_in, is_open}
 use Rattle.calls.specs.declared.standing_call.StandingCall.{StandingCall}
-use Rattle.plans.specs.CallRows.{clash_reply, offer_reply}
+use Rattle.plans.specs.CallRows.{reason_of_clash, reason_of_rule}
 use Rattle.call_messages.specs.declared.scene.Scene.{Scene}
 use Rattle.call_messages.specs.Dressing.{dialog_with}
 use Rattle.message_laws.specs.Carried.{has_leg, awaits_callee}
@@ -46,15 +46,15 @@ use Rattle.message_laws.proofs.AwaitedOffers.OneOffer.{HasOne}
 
 -- ---- it is passed on where the call is settled
 
-settled_if : (b : Bool) (later : OfferRule) → offer_reply (otherwise (cond b None (Some NoDialog)) later) ≡ None → b ≡ true
+settled_if : (b : Bool) (later : OfferRule) → reason_of_rule (otherwise (cond b None (Some NoDialog)) later) ≡ None → b ≡ true
 settled_if true later e = refl
 settled_if false later e = absurd (none-some _ (sym e))
 
-settled_by : (c : Call) (clash : Option Clash) (later : OfferRule) → offer_reply (otherwise (clash_by c clash) later) ≡ None → holds_in is_settled c.standing ≡ true
+settled_by : (c : Call) (clash : Option Clash) (later : OfferRule) → reason_of_rule (otherwise (clash_by c clash) later) ≡ None → holds_in is_settled c.standing ≡ true
 settled_by c None later e = settled_if (holds_in is_settled c.standing) later e
-settled_by c (Some clash) later e = absurd (none-some (clash_reply clash) (sym e))
+settled_by c (Some clash) later e = absurd (none-some (reason_of_clash clash) (sym e))
 
-pub passes_settled : (r : Request) (end : End) (c : Call) → offer_reply (offer_rule r end c) ≡ None → holds_in is_settled c.standing ≡ true
+pub passes_settled : (r : Request) (end : End) (c : Call) → reason_of_rule (offer_rule r end c) ≡ None → holds_in is_settled c.standing ≡ true
 unfolding offer_rule
 passes_settled r end c e = settled_by c (clash_in c.standing end) (otherwise (hops_line r) (otherwise (reach_line r) (otherwise (content_line r) _))) e
 

@@ -42,7 +42,7 @@ use Rattle.plans.specs.declared.setting.Setting.{Setting}
 use Rattle.plans.specs.CallRows.{acks_again, occasion, okay_plan, takes, takes_request, timer_input, times_responses, with_step, without_call_timer}
 use Rattle.plans.specs.Effect.{Effect}
 use Rattle.plans.specs.Plan.{moves, nothing}
-use Rattle.plans.specs.Replies.{reply_row, responds_in}
+use Rattle.plans.specs.Replies.{refuses_for, reply_row}
 use Rattle.event_rows.specs.Rows.{no_source, setting, what_row}
 use Rattle.message_laws.specs.Knowing.{KnowsTokens}
 use Rattle.message_laws.specs.Waiting.{KnowsWaiting}
@@ -53,7 +53,7 @@ use Rattle.message_laws.proofs.AwaitedOffers.InOrder.{behind_none}
 use Rattle.message_laws.proofs.AwaitedOffers.Lines.{failure_ends, success_ends, waits_after}
 use Rattle.message_laws.proofs.AwaitedOffers.Offering.{opens_split}
 use Rattle.message_laws.proofs.AwaitedOffers.Once.{NoneOwn, none_before, own_offers}
-use Rattle.message_laws.proofs.Messages.Replying.{okay_reply, responds_reply, row_reply}
+use Rattle.message_laws.proofs.Messages.Replying.{okay_reply, refuses_reply, row_reply}
 use Rattle.message_laws.proofs.Messages.RequestViews.{RequestRow, asks_callee, cancelled, counted_alone, left, passed_on, refreshed, replied, unfit}
 use Rattle.message_laws.proofs.Messages.ResponseViews.{IsAsked, ResponseRow, ack_alone, again, answered, fork, provisional, refused, silent}
 use Rattle.message_laws.proofs.Messages.MessageViews.{IsResponseTo, MessageRow, acknowledged, begun_by, dropped, moved, requested, responded}
@@ -121,8 +121,8 @@ offer_step s tokens k begun x none b = record {
 request_waits : (s : Office) → KnowsTokens s → KnowsWaiting s → s.tokens < 2 ^ 63 → (e : Setting) (r : Request) (begun : List Entry) (id : ℕ) (x : Effect) → NoneOwn begun → RequestRow s e r begun id x
     → Waits s x
 request_waits s tokens k few e r begun id x none (replied reply why is) = subst (Waits s) (sym is) (plan_waits s k (reply_row s e r begun id reply) (reply_none begun id _ (row_reply s e r begun id reply) none))
-request_waits s tokens k few e r begun id x none (unfit status low is) =
-    subst (Waits s) (sym is) (plan_waits s k (responds_in s e r begun id status [] None) (reply_none begun id _ (responds_reply s e r begun id status [] None) none))
+request_waits s tokens k few e r begun id x none (unfit reason is) =
+    subst (Waits s) (sym is) (plan_waits s k (refuses_for s e r begun id reason) (reply_none begun id _ (refuses_reply s e r begun id reason) none))
 request_waits s tokens k few e r begun id x none (asks_callee to offer why is) =
     subst (Waits s) (sym is) (offer_step s tokens k begun _ none (first_begins s.calls (occasion s e) r id e.source to offer (no_tag_text r.parts why.no_tag) few tokens.calls))
   where
@@ -135,9 +135,9 @@ request_waits s tokens k few e r begun id x none (left place end rule_is is) =
     asked_takes s k e r begun id place s.tokens (inputs.Bye end) _ _ none tt refl
     (λ d there. calm_leg s.tokens _ d (counts_fits s.tokens s.calls.calls place end r.parts.cseq.number d tokens.calls there) (counts_keeps s.calls.calls place end r.parts.cseq.number d there))
     )
-request_waits s tokens k few e r begun id x none (counted_alone place end reply why is) =
+request_waits s tokens k few e r begun id x none (counted_alone place end reason why is) =
     subst (Waits s) (sym is) (
-    puts_waits s k s.tokens place _ (reply_row s e r begun id reply) (reply_none begun id _ (row_reply s e r begun id reply) none)
+    puts_waits s k s.tokens place _ (refuses_for s e r begun id reason) (reply_none begun id _ (refuses_reply s e r begun id reason) none)
     (λ d there. (counts_fits s.tokens s.calls.calls place end r.parts.cseq.number d tokens.calls there, counts_keeps s.calls.calls place end r.parts.cseq.number d there))
     )
 request_waits s tokens k few e r begun id x none (passed_on place end c offer rule_is why is) =
@@ -234,7 +234,7 @@ message_waits s tokens k few e m send x (responded r id t is up to row) =
 
 datagram_waits : (s : Office) → KnowsTokens s → KnowsWaiting s → s.tokens < 2 ^ 63 → (e : Setting) (bytes : List ℕ) (x : Effect) → DatagramRow s e bytes x → Waits s x
 datagram_waits s tokens k few e bytes x (ignored taken is) = subst (Waits s) (sym is) (plan_waits s k (nothing taken) (λ t opens offers. opens))
-datagram_waits s tokens k few e bytes x (unreadable fault status parts unread can is) = subst (Waits s) (sym is) (plan_waits s k _ (λ t opens offers. opens))
+datagram_waits s tokens k few e bytes x (unreadable fault parts unread can is) = subst (Waits s) (sym is) (plan_waits s k _ (λ t opens offers. opens))
 datagram_waits s tokens k few e bytes x (unfit_branched r read is) = subst (Waits s) (sym is) (plan_waits s k _ (λ t opens offers. opens))
 datagram_waits s tokens k few e bytes x (was_received m read branch reached row) = message_waits s tokens k few e m _ x row
 

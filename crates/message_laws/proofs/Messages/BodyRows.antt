@@ -73,12 +73,12 @@ read_as bytes m n read is = subst (λ x. message_of bytes ≡ Ok x) is read
 module _ (describes : BodiesDescribe) (s : Office) (k : KnowsDescriptions s) (e : Setting) (bytes : List ℕ) where
   request_knows : (r : Request) (begun : List Entry) (id : ℕ) (x : Effect) → message_of bytes ≡ Ok (Kinds.Request r) → RequestRow s e r begun id x → Knows s x
   request_knows r begun id x read (replied reply why is) = subst (Knows s) (sym is) k.calls
-  request_knows r begun id x read (unfit status low is) = subst (Knows s) (sym is) k.calls
+  request_knows r begun id x read (unfit reason is) = subst (Knows s) (sym is) k.calls
   request_knows r begun id x read (asks_callee to offer why is) =
       subst (Knows s) (sym is) (first_knows s.range.ip s.calls (occasion s e) r id e.source to offer k.address refl k.calls (body_read describes bytes (Kinds.Request r) offer read why.described))
   request_knows r begun id x read (cancelled other place named_is found is) = subst (Knows s) (sym is) (takes_by s k e place inputs.Cancel _ _ tt)
   request_knows r begun id x read (left place end rule_is is) = subst (Knows s) (sym is) (takes_by s k e place (inputs.Bye end) _ _ tt)
-  request_knows r begun id x read (counted_alone place end reply why is) = subst (Knows s) (sym is) (puts_knows s.range.ip s.calls place (counts s.calls.calls place end r.parts.cseq.number) k.calls)
+  request_knows r begun id x read (counted_alone place end reason why is) = subst (Knows s) (sym is) (puts_knows s.range.ip s.calls place (counts s.calls.calls place end r.parts.cseq.number) k.calls)
   request_knows r begun id x read (passed_on place end c offer rule_is why is) =
       subst (Knows s) (sym is)
       (offers_knows s.range.ip s.calls s.table (occasion s e) place _ end r id e.source k.address k.calls (body_read describes bytes (Kinds.Request r) offer read why.described))
@@ -104,7 +104,7 @@ module _ (describes : BodiesDescribe) (s : Office) (k : KnowsDescriptions s) (e 
 
   datagram_knows : (x : Effect) → DatagramRow s e bytes x → Knows s x
   datagram_knows x (ignored taken is) = subst (Knows s) (sym is) k.calls
-  datagram_knows x (unreadable fault status parts unread can is) = subst (Knows s) (sym is) k.calls
+  datagram_knows x (unreadable fault parts unread can is) = subst (Knows s) (sym is) k.calls
   datagram_knows x (unfit_branched r read is) = subst (Knows s) (sym is) k.calls
   datagram_knows x (was_received m read branch reached row) = message_knows m x read row
 

@@ -19,20 +19,23 @@ use Rattle.sip_writing.specs.Writing.{message_text}
 use Rattle.sip_writing.specs.WritingMessage.{IsWrittenMessage}
 use Rattle.registrar.specs.declared.binding.Binding.{Binding}
 use Rattle.registrar.specs.declared.refusal.Refusal.{Refusal}
-use Rattle.registrar.specs.declared.refusal.Refusal.TheVariants as refusals
 use Rattle.registrar.specs.Registrar.{PlanContents, answer_of, rules_of}
 use Rattle.responses.specs.Registering.{register_of}
-use Rattle.responses.specs.Responding.{allow, refusal_headers, responds, stateless, status_of}
+use Rattle.responses.specs.Responding.{allow, responds, stateless, status_of}
 use Rattle.call_messages.specs.Messages.{contact, retry_after, with_body}
 use Rattle.transactions.specs.declared.change.Entry.{Entry}
 use Rattle.transactions.specs.declared.transaction.Transaction.{Transaction}
 use Rattle.transactions.specs.Slots.{at}
 use Rattle.plans.specs.Office.{Office}
 use Rattle.plans.specs.CallRows.{okay_plan}
-use Rattle.plans.specs.Replies.{accept, accept_encoding, fresh_tag, registers, registers_by, reply_row, responds_in, tag_in, response_tag, response_tag_in, token_or_sent, unsupported}
+use Rattle.plans.specs.Reasons.{status as status_for}
+use Rattle.plans.specs.Replies.{accept, accept_encoding, fresh_tag, headers_of, refuses_for, registers, registers_by, reply_row, responds_in, tag_in, response_tag, response_tag_in, token_or_sent, unsupported}
+use Rattle.plans.specs.declared.reason.Reason.{Reason}
+use Rattle.plans.specs.declared.reason.Reason.TheVariants as reasons
 use Rattle.plans.specs.declared.rule.Reply.{Reply}
 use Rattle.plans.specs.declared.rule.Reply.TheVariants as replies
 use Rattle.plans.specs.declared.setting.Setting.{Setting}
+use Rattle.plans.proofs.ReasonLaws.{reason_refuses}
 use Rattle.message_laws.specs.Addresses.{IsReached, IsSource}
 use Rattle.message_laws.specs.Datagrams.{IsOwnDatagram, IsReadResponse}
 use Rattle.message_laws.proofs.TokenUse.Further.{FollowsIn, NeedsNoContact, accept_encoding_plain, accept_plain, allow_plain, contact_follows, none_follows, other_needs_none, plain_follows, refusal_follows, refusal_needs_none, retry_after_plain, IsPlain}
@@ -88,18 +91,30 @@ responds_in_own : (s : Office) (e : Setting) (r : Request) (begun : List Entry) 
 responds_in_own s e r begun id status further registration can is follows =
     one_own _ (inl (responds_read r.parts e.source status (fresh_tag s e) further can.from can.repeats (fresh_token s e can.few) is follows))
 
--- a refusal without further header fields
-pub refuses_own : (s : Office) (e : Setting) (r : Request) (begun : List Entry) (id status : ℕ) → CanAnswer s e r → 300 ≤ status → status ≤ 699
-    → All IsOwnDatagram (responds_in s e r begun id status [] None).sends
-refuses_own s e r begun id status can low high =
-    responds_in_own s e r begun id status [] None can (record { low = omega (arith, low); high = high }) (none_follows status r.parts.cseq.method (refusal_needs_none status r.parts.cseq.method low))
+-- ---- a refusal
 
--- with one
-plain_own : (s : Office) (e : Setting) (r : Request) (begun : List Entry) (id status : ℕ) (h : Header) → CanAnswer s e r → 300 ≤ status → status ≤ 699 → IsPlain h
-    → All IsOwnDatagram (responds_in s e r begun id status (h ∷ []) None).sends
-plain_own s e r begun id status h can low high plain =
-    responds_in_own s e r begun id status (h ∷ []) None can (record { low = omega (arith, low); high = high })
-    (plain_follows status r.parts.cseq.method h (refusal_needs_none status r.parts.cseq.method low) plain)
+pub refusal_status : (reason : Reason) → IsStatus (status_for reason)
+refusal_status reason = record { low = omega (arith, (reason_refuses reason).0); high = (reason_refuses reason).1 }
+
+pub refusal_needs : (reason : Reason) (method : List ℕ) → NeedsNoContact (status_for reason) method
+refusal_needs reason method = refusal_needs_none (status_for reason) method (reason_refuses reason).0
+
+one_follows : (r : Request) (reason : Reason) (h : Header) → IsPlain h → FollowsIn (status_for reason) r.parts.cseq.method (h ∷ [])
+one_follows r reason h plain = plain_follows (status_for reason) r.parts.cseq.method h (refusal_needs reason r.parts.cseq.method) plain
+
+-- the header fields that say more of it
+pub headers_follow : (s : Office) (r : Request) (reason : Reason) → IsPlain (unsupported r) → s.least < 2 ^ 64 → FollowsIn (status_for reason) r.parts.cseq.method (headers_of s r reason)
+headers_follow s r reasons.SecondOffer plain small = one_follows r reasons.SecondOffer retry_after retry_after_plain
+headers_follow s r reasons.MethodNotOffered plain small = one_follows r reasons.MethodNotOffered allow allow_plain
+headers_follow s r reasons.ExtensionRequired plain small = one_follows r reasons.ExtensionRequired (unsupported r) plain
+headers_follow s r reasons.BodyType plain small = one_follows r reasons.BodyType accept accept_plain
+headers_follow s r reasons.BodyEncoding plain small = one_follows r reasons.BodyEncoding accept_encoding accept_encoding_plain
+headers_follow s r (reasons.Register refusal) plain small = refusal_follows s.least (status_of refusal) r.parts.cseq.method refusal small (refusal_needs (reasons.Register refusal) r.parts.cseq.method)
+headers_follow s r reason plain small = none_follows (status_for reason) r.parts.cseq.method (refusal_needs reason r.parts.cseq.method)
+
+pub refuses_own : (s : Office) (e : Setting) (r : Request) (begun : List Entry) (id : ℕ) (reason : Reason) → CanAnswer s e r → s.least < 2 ^ 64 → All IsOwnDatagram (refuses_for s e r begun id reason).sends
+refuses_own s e r begun id reason can small =
+    responds_in_own s e r begun id (status_for reason) (headers_of s r reason) None can (refusal_status reason) (headers_follow s r reason can.refused small)
 
 pub okay_status : IsStatus 200
 okay_status = record { low = omega arith; high = omega arith }
@@ -113,7 +128,6 @@ okay_own s e r begun id can reached = responds_in_own s e r begun id 200 (contac
 -- why a reply is one that can be written
 abbrev pub FitsReply : Request → Reply → Type 0
 FitsReply r (replies.CancelOf other) = r.method ≡ codes "CANCEL"
-FitsReply r (replies.Refusal status) = (300 ≤ status) × (status ≤ 699)
 FitsReply r replies.MethodsListed = r.method ≡ codes "OPTIONS"
 FitsReply r replies.Registration = r.method ≡ codes "REGISTER"
 FitsReply r reply = Unit {0}
@@ -138,37 +152,20 @@ response_tag_token s other = token_or _ stateless (last_tag (at s.table.slots ot
     last_tag None = tt
     last_tag (Some t) = token_kept (tag_value t.parts.to.params) (tag_in t.last) (sent_tag t.last)
 
-pub refused_high : (refusal : Refusal) → (300 ≤ status_of refusal) × (status_of refusal ≤ 699)
-refused_high refusals.OutOfMemory = (omega arith, omega arith)
-refused_high refusals.UnknownUser = (omega arith, omega arith)
-refused_high refusals.StarMisused = (omega arith, omega arith)
-refused_high refusals.TooBrief = (omega arith, omega arith)
-refused_high refusals.OutOfOrder = (omega arith, omega arith)
-refused_high refusals.TooManyBindings = (omega arith, omega arith)
-refused_high refusals.BadContact = (omega arith, omega arith)
-
 registers_own : (s : Office) (e : Setting) (r : Request) (begun : List Entry) (id : ℕ) (user : Option (List ℕ)) (answer : Result (List Binding) Refusal) → CanAnswer s e r → s.least < 2 ^ 64
     → All IsOwnDatagram (registers_by s e r begun id user answer).sends
 registers_own s e r begun id user (Ok bindings) can small =
     one_own _ (inr (inl (record { parts = r.parts; source = e.source; tag = fresh_tag s e; now = e.now; bindings = bindings; said = refl })))
-registers_own s e r begun id user (Err refusal) can small =
-    let high = refused_high refusal in
-    responds_in_own s e r begun id (status_of refusal) (refusal_headers s.least refusal) None can (record { low = omega (arith, high.0); high = high.1 })
-    (refusal_follows s.least (status_of refusal) r.parts.cseq.method refusal small (refusal_needs_none (status_of refusal) r.parts.cseq.method high.0))
+registers_own s e r begun id user (Err refusal) can small = refuses_own s e r begun id (reasons.Register refusal) can small
 
 pub reply_own : (s : Office) (e : Setting) (r : Request) (begun : List Entry) (id : ℕ) (reply : Reply) → CanAnswer s e r → s.least < 2 ^ 64 → FitsReply r reply → All IsOwnDatagram (reply_row s e r begun id reply).sends
 unfolding reply_row registers
 reply_own s e r begun id (replies.CancelOf other) can small fits =
     one_own _ (inl (responds_read r.parts e.source 200 (response_tag_in s other) [] can.from can.repeats (response_tag_token s other) okay_status
     (none_follows 200 r.parts.cseq.method (method_needs_none s e r 200 (codes "CANCEL") can fits refl refl))))
-reply_own s e r begun id (replies.Refusal status) can small fits = refuses_own s e r begun id status can fits.0 fits.1
-reply_own s e r begun id replies.RetryLater can small fits = plain_own s e r begun id 500 retry_after can (omega arith) (omega arith) retry_after_plain
-reply_own s e r begun id replies.MethodUnoffered can small fits = plain_own s e r begun id 405 allow can (omega arith) (omega arith) allow_plain
-reply_own s e r begun id replies.ExtensionRefused can small fits = plain_own s e r begun id 420 (unsupported r) can (omega arith) (omega arith) can.refused
+reply_own s e r begun id (replies.Refusal reason) can small fits = refuses_own s e r begun id reason can small
 reply_own s e r begun id replies.MethodsListed can small fits =
     responds_in_own s e r begun id 200 (allow ∷ []) None can okay_status
     (plain_follows 200 r.parts.cseq.method allow (method_needs_none s e r 200 (codes "OPTIONS") can fits refl refl) allow_plain)
-reply_own s e r begun id replies.TypeRefused can small fits = plain_own s e r begun id 415 accept can (omega arith) (omega arith) accept_plain
-reply_own s e r begun id replies.EncodingRefused can small fits = plain_own s e r begun id 415 accept_encoding can (omega arith) (omega arith) accept_encoding_plain
 reply_own s e r begun id replies.Registration can small fits =
     registers_own s e r begun id (register_of (rules_of s.registrar) r).user (answer_of s.registrar (register_of (rules_of s.registrar) r) e.now) can small

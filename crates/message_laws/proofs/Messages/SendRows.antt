@@ -55,13 +55,13 @@ use Rattle.plans.specs.declared.taken.Taken.{Taken}
 use Rattle.plans.specs.CallRows.{acks_again, acks_with, counted, occasion, of_plan, okay_plan, puts_if, takes, takes_request, timer_input, with_step, without_call_timer}
 use Rattle.plans.specs.Effect.{Effect, without_ack}
 use Rattle.plans.specs.Plan.{Plan, goes, moves, nothing, sent_response}
-use Rattle.plans.specs.Replies.{reply_row, responds_in}
+use Rattle.plans.specs.Replies.{refuses_for, reply_row}
 use Rattle.event_rows.specs.Rows.{after, moment_after, no_source, only_counts, row, row_by, setting, what_row}
 use Rattle.event_rows.specs.State.{Contents, IsNew, after_event, moment_at, office}
 use Rattle.message_laws.specs.Sending.{AckWasSent, AnswerWasSent, CallWasSent, KnowsSent, LastWasSent, WasSentIf}
 use Rattle.message_laws.proofs.Messages.KeptSends.{EntriesWereSent, Within, acks_within, all_entered_last, calls_within, entries_joined, entries_within, EntryWasSent, message_sent, request_change_sent, sent_left, sent_right, slots_within}
 use Rattle.message_laws.proofs.Messages.SendSteps.{SentStep, changed_sent, first_sends, fork_sends, late_sends, offers_sent, takes_sent}
-use Rattle.message_laws.proofs.Messages.Replying.{IsReply, okay_reply, responds_reply, row_reply}
+use Rattle.message_laws.proofs.Messages.Replying.{IsReply, okay_reply, refuses_reply, row_reply}
 use Rattle.message_laws.proofs.Messages.RequestViews.{RequestRow, asks_callee, cancelled, counted_alone, left, passed_on, refreshed, replied, unfit}
 use Rattle.message_laws.proofs.Messages.ResponseViews.{ResponseRow, ack_alone, again, answered, fork, provisional, refused, silent}
 use Rattle.message_laws.proofs.Messages.MessageViews.{IsResponseTo, ReceivedRow, acknowledged, begun_by, dropped, moved, requested, responded}
@@ -173,15 +173,15 @@ refreshed_sent before s k e r begun id place end b =
 request_goes_by : (before : List Sent) (s : Office) → KnowsSent s before → (e : Setting) (r : Request) (begun : List Entry) (id : ℕ) (x : Effect) → GoAlone begun → RequestRow s e r begun id x
     → SentEffect before x
 request_goes_by before s k e r begun id x b (replied reply why is) = subst (SentEffect before) (sym is) (plan_sent before s k (reply_row s e r begun id reply) (reply_sent begun id _ (row_reply s e r begun id reply) b))
-request_goes_by before s k e r begun id x b (unfit status low is) =
-    subst (SentEffect before) (sym is) (plan_sent before s k (responds_in s e r begun id status [] None) (reply_sent begun id _ (responds_reply s e r begun id status [] None) b))
+request_goes_by before s k e r begun id x b (unfit reason is) =
+    subst (SentEffect before) (sym is) (plan_sent before s k (refuses_for s e r begun id reason) (reply_sent begun id _ (refuses_reply s e r begun id reason) b))
 request_goes_by before s k e r begun id x b (asks_callee to offer why is) =
     subst (SentEffect before) (sym is) (step_sent before s k begun None None _ b (first_sends before s.calls (occasion s e) r id e.source to offer k.calls))
 request_goes_by before s k e r begun id x b (cancelled other place named_is found is) = subst (SentEffect before) (sym is) (request_goes before s k e r begun id place inputs.Cancel None _ b)
 request_goes_by before s k e r begun id x b (left place end rule_is is) =
     subst (SentEffect before) (sym is) (request_goes before s k e r begun id place (inputs.Bye end) (counts s.calls.calls place end r.parts.cseq.number) _ b)
-request_goes_by before s k e r begun id x b (counted_alone place end reply why is) =
-    subst (SentEffect before) (sym is) (counted_sent before s k r place end (reply_row s e r begun id reply) (reply_sent begun id _ (row_reply s e r begun id reply) b))
+request_goes_by before s k e r begun id x b (counted_alone place end reason why is) =
+    subst (SentEffect before) (sym is) (counted_sent before s k r place end (refuses_for s e r begun id reason) (reply_sent begun id _ (refuses_reply s e r begun id reason) b))
 request_goes_by before s k e r begun id x b (passed_on place end c offer rule_is why is) =
     subst (SentEffect before) (sym is) (step_sent before s k begun None None _ b (offers_sent before s.calls s.table (occasion s e) place _ end r id e.source k.calls))
 request_goes_by before s k e r begun id x b (refreshed place end rule_is is) = subst (SentEffect before) (sym is) (refreshed_sent before s k e r begun id place end b)
@@ -287,7 +287,7 @@ message_goes before s k e m x (responded r id t is up to row) =
 
 datagram_goes : (before : List Sent) (s : Office) → KnowsSent s before → (e : Setting) (bytes : List ℕ) (x : Effect) → DatagramRow s e bytes x → SentEffect before x
 datagram_goes before s k e bytes x (ignored taken is) = subst (SentEffect before) (sym is) (plan_sent before s k (nothing taken) tt)
-datagram_goes before s k e bytes x (unreadable fault status parts unread can is) = subst (SentEffect before) (sym is) (plan_sent before s k _ tt)
+datagram_goes before s k e bytes x (unreadable fault parts unread can is) = subst (SentEffect before) (sym is) (plan_sent before s k _ tt)
 datagram_goes before s k e bytes x (unfit_branched r read is) = subst (SentEffect before) (sym is) (plan_sent before s k _ tt)
 datagram_goes before s k e bytes x (was_received m read branch reached row) = message_goes before s k e m x row
 

@@ -48,13 +48,12 @@ use Rattle.call_messages.specs.Messages.{ack, bye, offer}
 use Rattle.call_steps.specs.declared.messages.StepMessages.{StepMessages}
 use Rattle.call_steps.specs.declared.occasion.Occasion.{Occasion}
 use Rattle.call_steps.specs.Effects as steps
-use Rattle.call_steps.specs.Effects.{no_effect, with_messages}
+use Rattle.call_steps.specs.Effects.{no_effect}
 use Rattle.call_steps.specs.Messages.{ack_kept, answer_kept, first_sent, given_up, is_abandon, is_answer}
 use Rattle.call_steps.specs.Messages as said
-use Rattle.call_steps.specs.Rows.{begins_by, counts, does, first_asker, first_leg, first_row, first_standing, fork_by, fork_row, late_by, late_row, later_dialog, messages_of, offer_coming, offers_by, offers_row, put_with, takes_by, takes_row}
+use Rattle.call_steps.specs.Rows.{begins_by, counts, does, first_asker, first_leg, first_row, first_standing, fork_by, fork_row, forked, late_by, late_row, later_dialog, messages_of, offer_coming, offers_by, offers_row, put_with, takes_by, takes_row}
 use Rattle.call_steps.specs.Scenes.{first_scene, fork_scene, passed_id, scene}
 use Rattle.call_steps.specs.Values.{AskerValue, ComingValue, SceneValue, dressed_in, lent_scene, without_offer}
-use Rattle.calls.specs.Changes.{unchanged}
 use Rattle.message_laws.specs.Sending.{AnswerWasSent, CallWasSent}
 use Rattle.message_laws.proofs.Messages.KeptSends.{EntriesWereSaid, EntriesWereSent, EntryWasSaid, calls_within, entries_joined, entries_said, entries_within, sent_left, sent_right}
 
@@ -375,7 +374,7 @@ unfolding first_row
 first_sends before calls o r id source target offer each = begins_by_sent before calls o r id source target offer (reached_at (contacts_of r.headers)) each
 
 alone_sends : (before : List Sent) (calls : Standing) (o : Occasion) (leg : Dialog) (actions : List Action) → All (CallWasSent before) calls.calls
-    → SentStep before (with_messages (unchanged calls) (said.messages (fork_scene o leg) None actions))
+    → SentStep before (forked calls (said.messages (fork_scene o leg) None actions))
 alone_sends before calls o leg actions each =
     let own = said_sent (fork_scene o leg) None actions in
     record { entries = own.entries; ack = own.ack; calls = stays before (said.messages (fork_scene o leg) None actions).dressed.sends calls.calls each }

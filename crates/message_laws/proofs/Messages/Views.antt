@@ -33,11 +33,10 @@ use Rattle.plans.specs.declared.taken.Taken.TheVariants.{Dropped, Idle}
 use Rattle.plans.specs.declared.taken.Why.TheVariants.{NoBranch, Stray, Unread}
 use Rattle.plans.specs.CallRows.{call_timer_at, call_timer_row, of_plan, takes, timed_out, timed_out_at, timeout_row, timer_input, times_responses, without_call_timer}
 use Rattle.plans.specs.Effect.{Effect}
-use Rattle.plans.specs.Plan.{moves, nothing, replies as plain_replies}
-use Rattle.event_rows.specs.Rows.{by_reading, datagram_row, due_row, ends, fires_by, fit_row, is_unreachable_message, no_source, parts_of, read_row, received, setting, timer_row, unfit_branch, unread_by, unread_row, what_row}
-use Rattle.responses.specs.Responding.{responds, stateless}
+use Rattle.plans.specs.Plan.{moves, nothing}
+use Rattle.plans.specs.declared.reason.Reason.TheVariants as reasons
+use Rattle.event_rows.specs.Rows.{by_reading, datagram_row, due_row, ends, fires_by, fit_row, is_unreachable_message, no_source, parts_of, read_row, received, refuses_alone, setting, timer_row, unfit_branch, unread_by, unread_row, what_row}
 use Rattle.responses.specs.Words.{has_fit_branch, is_method as request_method}
-use Rattle.sip_writing.specs.Reply.{response_address}
 use Rattle.message_laws.proofs.Messages.RequestViews.{by_if}
 use Rattle.message_laws.proofs.Messages.MessageViews.{ReceivedRow, received_view}
 
@@ -46,28 +45,24 @@ use Rattle.message_laws.proofs.Messages.MessageViews.{ReceivedRow, received_view
 pub data DatagramRow (s : Office) (e : Setting) (bytes : List ℕ) (x : Effect) : Type 0 where
   -- what can't be read, or has another branch, gets nothing, or a response that no transaction sends
   ignored : (taken : Taken) → x ≡ of_plan s (nothing taken) → DatagramRow s e bytes x
-  unreadable : (fault : MessageError) (status : ℕ) (parts : Parts) → message_of bytes ≡ Err fault → answerable_of bytes ≡ Some parts
-      → x ≡ of_plan s (plain_replies (response_address parts.vias e.source) (responds parts e.source status stateless [])) → DatagramRow s e bytes x
-  unfit_branched : (r : Request) → message_of bytes ≡ Ok (Kinds.Request r) → x ≡ of_plan s (plain_replies (response_address r.parts.vias e.source) (responds r.parts e.source 400 stateless []))
-      → DatagramRow s e bytes x
+  unreadable : (fault : MessageError) (parts : Parts) → message_of bytes ≡ Err fault → answerable_of bytes ≡ Some parts → x ≡ of_plan s (refuses_alone e parts (reasons.Unread fault)) → DatagramRow s e bytes x
+  unfit_branched : (r : Request) → message_of bytes ≡ Ok (Kinds.Request r) → x ≡ of_plan s (refuses_alone e r.parts reasons.NoBranch) → DatagramRow s e bytes x
   was_received : (m : Message) → message_of bytes ≡ Ok m → has_fit_branch (parts_of m).vias ≡ true → is_unreachable_message m ≡ false → ReceivedRow s e m x → DatagramRow s e bytes x
 
 unfit_view : (s : Office) (e : Setting) (bytes : List ℕ) (m : Message) → message_of bytes ≡ Ok m → DatagramRow s e bytes (of_plan s (unfit_branch e m))
 unfit_view s e bytes (Kinds.Request r) read =
     by_if (λ p. DatagramRow s e bytes (of_plan s p)) (request_method (codes "ACK") r) (nothing (Dropped NoBranch))
-    (plain_replies (response_address r.parts.vias e.source) (responds r.parts e.source 400 stateless [])) (λ b. ignored (Dropped NoBranch) refl) (λ b. unfit_branched r read refl)
+    (refuses_alone e r.parts reasons.NoBranch) (λ b. ignored (Dropped NoBranch) refl) (λ b. unfit_branched r read refl)
 unfit_view s e bytes (Kinds.Response r) read = ignored (Dropped NoBranch) refl
 
-unread_by_view : (s : Office) (e : Setting) (bytes : List ℕ) (fault : MessageError) (status : ℕ) (parts : Option Parts) → message_of bytes ≡ Err fault → answerable_of bytes ≡ parts
-    → DatagramRow s e bytes (of_plan s (unread_by e fault status parts))
-unread_by_view s e bytes fault status None unread can = ignored (Dropped (Unread fault)) refl
-unread_by_view s e bytes fault status (Some parts) unread can = unreadable fault status parts unread can refl
+unread_by_view : (s : Office) (e : Setting) (bytes : List ℕ) (fault : MessageError) (parts : Option Parts) → message_of bytes ≡ Err fault → answerable_of bytes ≡ parts → DatagramRow s e bytes (of_plan s (unread_by e fault parts))
+unread_by_view s e bytes fault None unread can = ignored (Dropped (Unread fault)) refl
+unread_by_view s e bytes fault (Some parts) unread can = unreadable fault parts unread can refl
 
 unread_view : (s : Office) (e : Setting) (bytes : List ℕ) (fault : MessageError) → message_of bytes ≡ Err fault → DatagramRow s e bytes (of_plan s (unread_row e bytes fault))
 unfolding unread_row
 unread_view s e bytes faults.TooLong unread = ignored (Dropped (Unread faults.TooLong)) refl
-unread_view s e bytes faults.Version unread = unread_by_view s e bytes faults.Version 505 (answerable_of bytes) unread refl
-unread_view s e bytes fault unread = unread_by_view s e bytes fault 400 (answerable_of bytes) unread refl
+unread_view s e bytes fault unread = unread_by_view s e bytes fault (answerable_of bytes) unread refl
 
 read_view : (s : Office) (e : Setting) (bytes : List ℕ) (m : Message) → message_of bytes ≡ Ok m → DatagramRow s e bytes (read_row s e m)
 unfolding read_row

@@ -7,6 +7,7 @@ use Rattle.transactions.specs.declared.change.Entry.{Entry}
 use Rattle.transactions.specs.declared.outcome.Outgoing.{Outgoing}
 use Rattle.events.specs.declared.sent.Sent.{Sent}
 use Rattle.responses.specs.Responding.{responds}
+use Rattle.plans.specs.declared.reason.Reason.{Reason}
 use Rattle.plans.specs.Office.{Office}
 use Rattle.plans.specs.declared.rule.Reply.{Reply}
 use Rattle.plans.specs.declared.setting.Setting.{Setting}
@@ -74,9 +75,9 @@ plain_move methods t calls taken sends is all = quiet_move methods t calls taken
 pub nothing_move : (methods : List (List ℕ)) (t : List Datagram) (calls : List Call) (answer : Taken) → SeenMove methods t calls None (nothing answer).sends calls
 nothing_move methods t calls answer = quiet_move methods t calls None [] (request_parts methods t calls None tt) tt
 
-pub stateless_move : (methods : List (List ℕ)) (t : List Datagram) (calls : List Call) (taken : Option Message) (to source : Addr) (parts : Parts) (status : ℕ) (tag : List ℕ) → IsRequestIf taken
-    → IsQuietStatus parts status → SeenMove methods t calls taken (plain_replies to (responds parts source status tag [])).sends calls
-stateless_move methods t calls taken to source parts status tag is fits = plain_move methods t calls taken _ is (one_plain methods to parts source status tag [] fits)
+pub stateless_move : (methods : List (List ℕ)) (t : List Datagram) (calls : List Call) (taken : Option Message) (to source : Addr) (parts : Parts) (status : ℕ) (tag : List ℕ) (reason : Reason) → IsRequestIf taken
+    → IsQuietStatus parts status → SeenMove methods t calls taken (plain_replies to (responds parts source status tag []) reason).sends calls
+stateless_move methods t calls taken to source parts status tag reason is fits = plain_move methods t calls taken _ is (one_plain methods to parts source status tag [] fits)
 
 pub refusal_move : (methods : List (List ℕ)) (t : List Datagram) (calls : List Call) (taken : Option Message) (s : Office) (e : Setting) (r : Request) (begun : List Entry) (id status : ℕ) → IsRequestIf taken
     → IsQuietStatus r.parts status → SeenMove methods t calls taken (responds_in s e r begun id status [] None).sends calls

@@ -12,19 +12,21 @@ use Rattle.sip_writing.specs.Writing.{message_text}
 use Rattle.sdp.specs.declared.description.Description.{Description}
 use Rattle.registrar.specs.declared.binding.Binding.{Binding}
 use Rattle.registrar.specs.declared.refusal.Refusal.{Refusal}
-use Rattle.registrar.specs.declared.refusal.Refusal.TheVariants as refusals
 use Rattle.registrar.specs.Registrar.{PlanContents, answer_of as answer_of_register, plan_of, rules_of}
 use Rattle.transactions.specs.declared.change.Entry.{Entry}
-use Rattle.call_messages.specs.Messages.{contact, retry_after}
+use Rattle.call_messages.specs.Messages.{contact}
 use Rattle.responses.specs.Registering.{register_of}
-use Rattle.responses.specs.Responding.{allow, contact_header, refusal_headers, responds, status_of}
+use Rattle.responses.specs.Responding.{allow, contact_header, responds}
 use Rattle.plans.specs.Office.{Office}
 use Rattle.plans.specs.declared.rule.Reply.{Reply}
 use Rattle.plans.specs.declared.rule.Reply.TheVariants as replies
 use Rattle.plans.specs.declared.setting.Setting.{Setting}
 use Rattle.plans.specs.CallRows.{okay_plan}
 use Rattle.plans.specs.Plan.{sent_response}
-use Rattle.plans.specs.Replies.{accept, accept_encoding, fresh_tag, registers, registers_by, reply_row, responds_in, response_tag_in, unsupported}
+use Rattle.plans.specs.Reasons.{status as status_for}
+use Rattle.plans.specs.Replies.{fresh_tag, headers_of, refuses_for, registers, registers_by, reply_row, responds_in, response_tag_in}
+use Rattle.plans.specs.declared.reason.Reason.{Reason}
+use Rattle.plans.specs.declared.reason.Reason.TheVariants as reasons
 use Rattle.call_trace.specs.declared.datagram.Kind.{Kind}
 use Rattle.call_trace.specs.declared.datagram.Kind.TheVariants as kinds
 use Rattle.call_trace.specs.declared.datagram.Message.{Message}
@@ -33,6 +35,7 @@ use Rattle.call_trace.specs.Messages.{ack, bye, invite, is_final, is_listed, is_
 use Rattle.trace_reading.specs.Message.{trace_message}
 use Rattle.message_laws.specs.Quiet.{IsQuietReply, IsQuietStatus, MovesNone, SayPlain}
 use Rattle.message_laws.specs.Seeing.{SeesResponse}
+use Rattle.message_laws.proofs.QuietEvents.QuietRules.{refusal_quiet}
 use Rattle.message_laws.proofs.QuietEvents.SeenMessages.{response_sees}
 
 -- ---- a response without a description
@@ -86,34 +89,22 @@ in_plain methods s e r begun id status further registration quiet = one_plain me
 pub okay_plain : (methods : List (List ℕ)) (s : Office) (e : Setting) (r : Request) (begun : List Entry) (id : ℕ) → MovesNone r.parts → SayPlain methods (okay_plan s e r begun id).sends
 okay_plain methods s e r begun id none = in_plain methods s e r begun id 200 (contact s.server ∷ []) None (inr none)
 
-refusal_is_none : (refusal : Refusal) → is_success (kinds.Response (status_of refusal)) ≡ false
-refusal_is_none refusals.OutOfMemory = refl
-refusal_is_none refusals.UnknownUser = refl
-refusal_is_none refusals.StarMisused = refl
-refusal_is_none refusals.TooBrief = refl
-refusal_is_none refusals.OutOfOrder = refl
-refusal_is_none refusals.TooManyBindings = refl
-refusal_is_none refusals.BadContact = refl
+pub refuses_plain : (methods : List (List ℕ)) (s : Office) (e : Setting) (r : Request) (begun : List Entry) (id : ℕ) (reason : Reason) → SayPlain methods (refuses_for s e r begun id reason).sends
+refuses_plain methods s e r begun id reason = in_plain methods s e r begun id (status_for reason) (headers_of s r reason) None (refusal_quiet r.parts reason)
 
 registers_plain : (methods : List (List ℕ)) (s : Office) (e : Setting) (r : Request) (begun : List Entry) (id : ℕ) (user : Option (List ℕ)) (answer : Result (List Binding) Refusal) → MovesNone r.parts
     → SayPlain methods (registers_by s e r begun id user answer).sends
 registers_plain methods s e r begun id user (Ok bindings) none =
     in_plain methods s e r begun id 200 (map (contact_header e.now) bindings) (option_map (λ u. plan_of u bindings) user) (inr none)
-registers_plain methods s e r begun id user (Err refusal) none =
-    in_plain methods s e r begun id (status_of refusal) (refusal_headers s.least refusal) None (inl (refusal_is_none refusal))
+registers_plain methods s e r begun id user (Err refusal) none = refuses_plain methods s e r begun id (reasons.Register refusal)
 
 pub reply_plain : (methods : List (List ℕ)) (s : Office) (e : Setting) (r : Request) (begun : List Entry) (id : ℕ) (reply : Reply) → IsQuietReply r reply
     → SayPlain methods (reply_row s e r begun id reply).sends
 unfolding reply_row registers
 reply_plain methods s e r begun id (replies.CancelOf other) quiet =
     one_plain methods (response_address r.parts.vias e.source) r.parts e.source 200 (response_tag_in s other) [] (inr quiet)
-reply_plain methods s e r begun id (replies.Refusal status) quiet = in_plain methods s e r begun id status [] None (inl quiet)
-reply_plain methods s e r begun id replies.RetryLater quiet = in_plain methods s e r begun id 500 (retry_after ∷ []) None (inl refl)
-reply_plain methods s e r begun id replies.MethodUnoffered quiet = in_plain methods s e r begun id 405 (allow ∷ []) None (inl refl)
-reply_plain methods s e r begun id replies.ExtensionRefused quiet = in_plain methods s e r begun id 420 (unsupported r ∷ []) None (inl refl)
+reply_plain methods s e r begun id (replies.Refusal reason) quiet = refuses_plain methods s e r begun id reason
 reply_plain methods s e r begun id replies.MethodsListed quiet = in_plain methods s e r begun id 200 (allow ∷ []) None (inr quiet)
-reply_plain methods s e r begun id replies.TypeRefused quiet = in_plain methods s e r begun id 415 (accept ∷ []) None (inl refl)
-reply_plain methods s e r begun id replies.EncodingRefused quiet = in_plain methods s e r begun id 415 (accept_encoding ∷ []) None (inl refl)
 reply_plain methods s e r begun id replies.Registration quiet =
     registers_plain methods s e r begun id (register_of (rules_of s.registrar) r).user (answer_of_register s.registrar (register_of (rules_of s.registrar) r) e.now) quiet
 

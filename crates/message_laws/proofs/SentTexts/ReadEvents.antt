@@ -1,5 +1,5 @@
 -- Each event sends what reads back, and so do any events of a new agent.
-use Rattle.std.proofs.Common.{◌≡◌, ℕ, ◌<◌, ◌≤◌, ◌^◌, List, [], ◌∷◌, ◌++◌, codes, Option, Some, None, Ok, refl, sym, subst, arith}
+use Rattle.std.proofs.Common.{◌≡◌, ℕ, ◌<◌, ◌^◌, List, [], ◌∷◌, ◌++◌, codes, Option, Some, None, Ok, refl, sym, subst}
 use Rattle.std.specs.List.{All}
 use Rattle.std.proofs.lemmas.List.Elements.{All-append, All-nil}
 use Rattle.events.specs.declared.event.Event.{Event}
@@ -15,8 +15,6 @@ use Rattle.sip_message.specs.declared.message.Parts.{Parts}
 use Rattle.sip_message.specs.declared.message.Request.{Request}
 use Rattle.sip_message.specs.AnswerableParts.{answerable_of}
 use Rattle.sip_message.specs.Read.{message_of}
-use Rattle.sip_writing.specs.Reply.{response_address}
-use Rattle.responses.specs.Responding.{responds, stateless}
 use Rattle.responses.specs.Words.{has_fit_branch, is_method as request_method}
 use Rattle.std.specs.Prelude.{Result, Err}
 use Rattle.transactions.specs.Changes.{fire_of}
@@ -31,9 +29,9 @@ use Rattle.plans.specs.declared.taken.Taken.TheVariants as takens
 use Rattle.plans.specs.declared.taken.Why.TheVariants as whys
 use Rattle.plans.specs.CallRows.{of_plan, takes, timer_input, without_call_timer}
 use Rattle.plans.specs.Effect.{Effect}
-use Rattle.plans.specs.Plan.{nothing, replies as plain_replies}
-use Rattle.plans.specs.Replies.{unsupported}
-use Rattle.event_rows.specs.Rows.{by_reading, datagram_row, fit_row, is_unreachable_message, no_source, only_counts, parts_of, read_row, received, row, row_by, setting, unfit_branch, unread_by, unread_row, what_row}
+use Rattle.plans.specs.Plan.{nothing}
+use Rattle.plans.specs.declared.reason.Reason.TheVariants as reasons
+use Rattle.event_rows.specs.Rows.{by_reading, datagram_row, fit_row, is_unreachable_message, no_source, only_counts, parts_of, read_row, received, refuses_alone, row, row_by, setting, unfit_branch, unread_by, unread_row, what_row}
 use Rattle.event_rows.specs.State.{Contents, moment_at, office}
 use Rattle.message_laws.specs.Addresses.{IsSource}
 use Rattle.message_laws.specs.Askers.{KnowsAskers}
@@ -42,13 +40,10 @@ use Rattle.message_laws.specs.Datagrams.{ComesFromSource}
 use Rattle.message_laws.specs.Knowing.{KnowsTokens}
 use Rattle.message_laws.specs.Sending.{KnowsSent}
 use Rattle.message_laws.specs.Sound.{KnowsDialogs}
+use Rattle.message_laws.proofs.Messages.Answerable.{can_answer}
 use Rattle.message_laws.proofs.TokenUse.Events.{few_tokens}
-use Rattle.message_laws.proofs.TokenUse.Further.{IsPlain}
 use Rattle.message_laws.proofs.TokenUse.Grounds.{answerable_repeats, read_repeats}
-use Rattle.message_laws.proofs.Messages.ReadParts.{same_method}
-use Rattle.message_laws.proofs.Messages.Repeats.{CanAnswer}
 use Rattle.message_laws.proofs.Messages.RequestViews.{by_if}
-use Rattle.message_laws.proofs.Askers.UnsupportedField.{unsupported_written}
 use Rattle.message_laws.proofs.Messages.Views.{DueRow, WhatRow, call_fired, came, due, ended, fired_alone, idle, sent_again, stopped, timed, what_view}
 use Rattle.message_laws.specs.ReadDatagrams.{IsReadDatagram}
 use Rattle.message_laws.specs.SoundClients.{KnowsClients}
@@ -59,20 +54,6 @@ use Rattle.message_laws.proofs.SentTexts.ReadSends.{IsReady, fired_goes, is_read
 use Rattle.message_laws.proofs.SentTexts.ReadSteps.{Laws}
 use Rattle.message_laws.proofs.Traces.Scenes.{stopped_scenes}
 
--- ---- a request that was read can be answered
-
-unsupported_plain : (text : List ℕ) (r : Request) → message_of text ≡ Ok (Kinds.Request r) → IsPlain (unsupported r)
-unsupported_plain text r read = record { written = unsupported_written text r read; repeats = refl; no_length = refl; no_contact = refl; no_hops = refl; no_type = refl }
-
-can_answer : (text : List ℕ) (s : Office) (e : Setting) (r : Request) → message_of text ≡ Ok (Kinds.Request r) → IsSource e.source → s.tokens < 2 ^ 63 → CanAnswer s e r
-can_answer text s e r read from few = record {
-  repeats = read_repeats text (Kinds.Request r) read;
-  method = same_method text r read;
-  refused = unsupported_plain text r read;
-  from = from;
-  few = few;
-}
-
 -- ---- a datagram
 
 message_reads : (laws : Laws) (s : Office) (e : Setting) → IsReady s → (text : List ℕ) (m : Message) → message_of text ≡ Ok m → IsSource e.source → SendsRead (received s e m)
@@ -81,20 +62,18 @@ message_reads laws s e k text (Kinds.Response r) read from = response_received l
 
 unfit_reads : (s : Office) (e : Setting) (text : List ℕ) (m : Message) → message_of text ≡ Ok m → IsSource e.source → SendsRead (of_plan s (unfit_branch e m))
 unfit_reads s e text (Kinds.Request r) read from =
-    by_if (λ p. SendsRead (of_plan s p)) (request_method (codes "ACK") r) (nothing (takens.Dropped whys.NoBranch)) (plain_replies (response_address r.parts.vias e.source) (responds r.parts e.source 400 stateless []))
-    (λ b. All-nil IsReadDatagram) (λ b. stateless_read r.parts e (response_address r.parts.vias e.source) 400 from (read_repeats text (Kinds.Request r) read) (omega arith) (omega arith))
+    by_if (λ p. SendsRead (of_plan s p)) (request_method (codes "ACK") r) (nothing (takens.Dropped whys.NoBranch)) (refuses_alone e r.parts reasons.NoBranch)
+    (λ b. All-nil IsReadDatagram) (λ b. stateless_read r.parts e reasons.NoBranch from (read_repeats text (Kinds.Request r) read))
 unfit_reads s e text (Kinds.Response r) read from = All-nil IsReadDatagram
 
-unread_by_reads : (s : Office) (e : Setting) (text : List ℕ) (fault : MessageError) (status : ℕ) (parts : Option Parts) → answerable_of text ≡ parts → IsSource e.source → 300 ≤ status → status ≤ 699
-    → SendsRead (of_plan s (unread_by e fault status parts))
-unread_by_reads s e text fault status None can from low high = All-nil IsReadDatagram
-unread_by_reads s e text fault status (Some parts) can from low high = stateless_read parts e (response_address parts.vias e.source) status from (answerable_repeats text parts can) low high
+unread_by_reads : (s : Office) (e : Setting) (text : List ℕ) (fault : MessageError) (parts : Option Parts) → answerable_of text ≡ parts → IsSource e.source → SendsRead (of_plan s (unread_by e fault parts))
+unread_by_reads s e text fault None can from = All-nil IsReadDatagram
+unread_by_reads s e text fault (Some parts) can from = stateless_read parts e (reasons.Unread fault) from (answerable_repeats text parts can)
 
 unread_reads : (s : Office) (e : Setting) (text : List ℕ) (fault : MessageError) → IsSource e.source → SendsRead (of_plan s (unread_row e text fault))
 unfolding unread_row
 unread_reads s e text faults.TooLong from = All-nil IsReadDatagram
-unread_reads s e text faults.Version from = unread_by_reads s e text faults.Version 505 (answerable_of text) refl from (omega arith) (omega arith)
-unread_reads s e text fault from = unread_by_reads s e text fault 400 (answerable_of text) refl from (omega arith) (omega arith)
+unread_reads s e text fault from = unread_by_reads s e text fault (answerable_of text) refl from
 
 fit_reads : (laws : Laws) (s : Office) (e : Setting) → IsReady s → (text : List ℕ) (m : Message) → message_of text ≡ Ok m → IsSource e.source → SendsRead (fit_row s e m)
 fit_reads laws s e k text m read from =

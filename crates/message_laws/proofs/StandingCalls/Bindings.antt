@@ -210,13 +210,8 @@ pub reply_bound : Reading → (s : Office) (e : Setting) (r : Request) (begun : 
     → IsBoundPlan (reply_row s e r begun id reply).registration
 unfolding reply_row registers
 reply_bound reading s e r begun id (replies.CancelOf other) each = tt
-reply_bound reading s e r begun id (replies.Refusal status) each = tt
-reply_bound reading s e r begun id replies.RetryLater each = tt
-reply_bound reading s e r begun id replies.MethodUnoffered each = tt
-reply_bound reading s e r begun id replies.ExtensionRefused each = tt
+reply_bound reading s e r begun id (replies.Refusal reason) each = tt
 reply_bound reading s e r begun id replies.MethodsListed each = tt
-reply_bound reading s e r begun id replies.TypeRefused each = tt
-reply_bound reading s e r begun id replies.EncodingRefused each = tt
 reply_bound reading s e r begun id replies.Registration each =
     let register = register_of (rules_of s.registrar) r in
     registers_bound s e r begun id register.user (answer_of s.registrar register e.now) (answer_bound s.registrar register e.now (register_read reading (rules_of s.registrar) r) each)

@@ -49,7 +49,7 @@ use Rattle.plans.specs.CallRows.{acks_again, occasion, of_plan, okay_plan, puts_
 use Rattle.plans.specs.Effect.{Effect}
 use Rattle.plans.specs.Office.{Office}
 use Rattle.plans.specs.Plan.{Plan, moves, nothing}
-use Rattle.plans.specs.Replies.{reply_row, responds_in}
+use Rattle.plans.specs.Replies.{refuses_for, reply_row}
 use Rattle.plans.specs.declared.setting.Setting.{Setting}
 use Rattle.plans.specs.declared.taken.Taken.{Taken}
 use Rattle.event_rows.specs.Rows.{after, moment_after, no_source, only_counts, row, row_by, setting, what_row}
@@ -67,7 +67,7 @@ use Rattle.message_laws.proofs.Messages.MessageViews.{IsResponseTo, MessageRow, 
 use Rattle.message_laws.proofs.AwaitedOffers.Offering.{opens_split}
 use Rattle.message_laws.proofs.AwaitedOffers.Once.{NoneOffers, NoneOwn, offering_before}
 use Rattle.message_laws.proofs.StandingCalls.Reaching.{response_method, success_is}
-use Rattle.message_laws.proofs.Messages.Replying.{okay_reply, responds_reply, row_reply}
+use Rattle.message_laws.proofs.Messages.Replying.{okay_reply, refuses_reply, row_reply}
 use Rattle.message_laws.proofs.Messages.RequestViews.{RequestRow, asks_callee, cancelled, counted_alone, left, passed_on, refreshed, replied, unfit}
 use Rattle.message_laws.proofs.Messages.ResponseViews.{IsAsked, ResponseRow, ack_alone, again, answered, fork, provisional, refused, silent}
 use Rattle.message_laws.proofs.TokenUse.Rows.{answered_client}
@@ -193,8 +193,8 @@ late_callee made calls o asked r none = late_by_callee made calls o asked r (rea
 
 request_callees : (s : Office) → KnowsTokens s → s.tokens < 2 ^ 63 → (e : Setting) (r : Request) (begun : List Entry) (id : ℕ) (x : Effect) → NoneOwn begun → RequestRow s e r begun id x → Callees s x
 request_callees s tokens few e r begun id x none (replied reply why is) = subst (Callees s) (sym is) (plan_callees s (reply_row s e r begun id reply) (reply_none begun id _ (row_reply s e r begun id reply) none))
-request_callees s tokens few e r begun id x none (unfit status low is) =
-    subst (Callees s) (sym is) (plan_callees s (responds_in s e r begun id status [] None) (reply_none begun id _ (responds_reply s e r begun id status [] None) none))
+request_callees s tokens few e r begun id x none (unfit reason is) =
+    subst (Callees s) (sym is) (plan_callees s (refuses_for s e r begun id reason) (reply_none begun id _ (refuses_reply s e r begun id reason) none))
 request_callees s tokens few e r begun id x none (asks_callee to offer why is) =
     subst (Callees s) (sym is) (step_callees s begun None None _ none (first_callee s.calls (occasion s e) r id e.source to offer (no_tag_text r.parts why.no_tag) few tokens.calls))
   where
@@ -208,8 +208,8 @@ request_callees s tokens few e r begun id x none (left place end rule_is is) =
     (λ d there.
     (calm_leg s.tokens _ d (counts_fits s.tokens s.calls.calls place end r.parts.cseq.number d tokens.calls there) (counts_keeps s.calls.calls place end r.parts.cseq.number d there), λ fit. absurd (false≢true fit)))
     )
-request_callees s tokens few e r begun id x none (counted_alone place end reply why is) =
-    subst (Callees s) (sym is) (put_callees s (reply_row s e r begun id reply) place (counts s.calls.calls place end r.parts.cseq.number) (reply_none begun id _ (row_reply s e r begun id reply) none))
+request_callees s tokens few e r begun id x none (counted_alone place end reason why is) =
+    subst (Callees s) (sym is) (put_callees s (refuses_for s e r begun id reason) place (counts s.calls.calls place end r.parts.cseq.number) (reply_none begun id _ (refuses_reply s e r begun id reason) none))
 request_callees s tokens few e r begun id x none (passed_on place end c offer rule_is why is) =
     subst (Callees s) (sym is) (
     step_callees s begun None None _ none
@@ -257,7 +257,7 @@ message_callees names s tokens k callees few e text m send x read (responded r i
 
 datagram_callees : NamesContact → (s : Office) → KnowsTokens s → KnowsWaiting s → KnowsCallees s → s.tokens < 2 ^ 63 → (e : Setting) (bytes : List ℕ) (x : Effect) → DatagramRow s e bytes x → Callees s x
 datagram_callees names s tokens k callees few e bytes x (ignored taken is) = subst (Callees s) (sym is) (plan_callees s (nothing taken) (λ t opens client. opens))
-datagram_callees names s tokens k callees few e bytes x (unreadable fault status parts unread can is) = subst (Callees s) (sym is) (plan_callees s _ (λ t opens client. opens))
+datagram_callees names s tokens k callees few e bytes x (unreadable fault parts unread can is) = subst (Callees s) (sym is) (plan_callees s _ (λ t opens client. opens))
 datagram_callees names s tokens k callees few e bytes x (unfit_branched r read is) = subst (Callees s) (sym is) (plan_callees s _ (λ t opens client. opens))
 datagram_callees names s tokens k callees few e bytes x (was_received m read branch reached row) = message_callees names s tokens k callees few e bytes m _ x read row
 

@@ -36,7 +36,7 @@ use Rattle.plans.specs.CallRows.{acks_again, occasion, of_plan, okay_plan, puts_
 use Rattle.plans.specs.Effect.{Effect}
 use Rattle.plans.specs.Office.{Office}
 use Rattle.plans.specs.Plan.{Plan, moves, nothing}
-use Rattle.plans.specs.Replies.{reply_row, responds_in}
+use Rattle.plans.specs.Replies.{refuses_for, reply_row}
 use Rattle.plans.specs.declared.setting.Setting.{Setting}
 use Rattle.plans.specs.declared.taken.Taken.{Taken}
 use Rattle.event_rows.specs.Rows.{after, is_unreachable_message, moment_after, no_source, only_counts, row, row_by, setting, what_row}
@@ -51,7 +51,7 @@ use Rattle.message_laws.proofs.AwaitedOffers.Offering.{opens_split}
 use Rattle.message_laws.proofs.AwaitedOffers.Once.{NoneOwn}
 use Rattle.message_laws.proofs.StandingCalls.Reaching.{response_may_offer, response_reached}
 use Rattle.message_laws.proofs.StandingCalls.Reading.{Reading, reached_target}
-use Rattle.message_laws.proofs.Messages.Replying.{okay_reply, responds_reply, row_reply}
+use Rattle.message_laws.proofs.Messages.Replying.{okay_reply, refuses_reply, row_reply}
 use Rattle.message_laws.proofs.Messages.RequestViews.{RequestRow, asks_callee, cancelled, counted_alone, left, passed_on, refreshed, replied, unfit}
 use Rattle.message_laws.proofs.Messages.ResponseViews.{ResponseRow, ack_alone, again, answered, fork, provisional, refused, silent}
 use Rattle.message_laws.proofs.TokenUse.Rows.{answered_client}
@@ -127,8 +127,8 @@ request_row : Reading → (s : Office) → IsKnown s → s.tokens < 2 ^ 63 → (
     → RequestRow s e r begun id x → ClientRow s x
 request_row reading s k few e text r begun id x read none (replied reply why is) =
     subst (ClientRow s) (sym is) (plan_row s k (reply_row s e r begun id reply) (reply_none begun id _ (row_reply s e r begun id reply) none))
-request_row reading s k few e text r begun id x read none (unfit status low is) =
-    subst (ClientRow s) (sym is) (plan_row s k (responds_in s e r begun id status [] None) (reply_none begun id _ (responds_reply s e r begun id status [] None) none))
+request_row reading s k few e text r begun id x read none (unfit reason is) =
+    subst (ClientRow s) (sym is) (plan_row s k (refuses_for s e r begun id reason) (reply_none begun id _ (refuses_reply s e r begun id reason) none))
 request_row reading s k few e text r begun id x read none (asks_callee to offer why is) =
     subst (ClientRow s) (sym is) (step_row s begun None None _ none (first_asks s.calls (occasion s e) r id e.source to offer k.clients.server k.clients.calls
     (λ contact at_contact. known_leg reading s e text r contact to k.dialogs few read at_contact why.bound)))
@@ -137,8 +137,8 @@ request_row reading s k few e text r begun id x read none (cancelled named_id pl
 request_row reading s k few e text r begun id x read none (left place end rule_is is) =
     subst (ClientRow s) (sym is) (asked_row s k e r begun id place (inputs.Bye end) _ _ none (counts_sound s.calls.calls place end r.parts.cseq.number k.dialogs.calls)
     (counts_low s.calls.calls place end r.parts.cseq.number k.clients.calls) (λ c. tt))
-request_row reading s k few e text r begun id x read none (counted_alone place end reply why is) =
-    subst (ClientRow s) (sym is) (put_row s k (reply_row s e r begun id reply) place (counts s.calls.calls place end r.parts.cseq.number) (reply_none begun id _ (row_reply s e r begun id reply) none)
+request_row reading s k few e text r begun id x read none (counted_alone place end reason why is) =
+    subst (ClientRow s) (sym is) (put_row s k (refuses_for s e r begun id reason) place (counts s.calls.calls place end r.parts.cseq.number) (reply_none begun id _ (refuses_reply s e r begun id reason) none)
     (counts_low s.calls.calls place end r.parts.cseq.number k.clients.calls))
 request_row reading s k few e text r begun id x read none (passed_on place end c offer rule_is why is) =
     subst (ClientRow s) (sym is) (step_row s begun None None _ none (offers_asks s.calls s.table (occasion s e) place _ end r id e.source k.clients.server (are_known s k)
@@ -194,7 +194,7 @@ message_row reading s k few e text m send x read reached (responded r id t is up
 
 datagram_row : Reading → (s : Office) → IsKnown s → s.tokens < 2 ^ 63 → (e : Setting) (bytes : List ℕ) (x : Effect) → DatagramRow s e bytes x → ClientRow s x
 datagram_row reading s k few e bytes x (ignored taken is) = subst (ClientRow s) (sym is) (plan_row s k (nothing taken) (λ t opens client. opens))
-datagram_row reading s k few e bytes x (unreadable fault status parts unread can is) = subst (ClientRow s) (sym is) (plan_row s k _ (λ t opens client. opens))
+datagram_row reading s k few e bytes x (unreadable fault parts unread can is) = subst (ClientRow s) (sym is) (plan_row s k _ (λ t opens client. opens))
 datagram_row reading s k few e bytes x (unfit_branched r read is) = subst (ClientRow s) (sym is) (plan_row s k _ (λ t opens client. opens))
 datagram_row reading s k few e bytes x (was_received m read branch reached view) = message_row reading s k few e bytes m _ x read reached view
 

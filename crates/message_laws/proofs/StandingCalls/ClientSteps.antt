@@ -31,15 +31,15 @@ use Rattle.call_core.specs.declared.action.Action.{Action}
 use Rattle.call_core.specs.declared.action.Action.TheVariants.{Ack, Bye}
 use Rattle.call_core.specs.declared.input.Input.{Input}
 use Rattle.calls.specs.Carrying.{with_step}
-use Rattle.calls.specs.Changes.{beside, unchanged}
+use Rattle.calls.specs.Changes.{beside}
 use Rattle.calls.specs.State.{Standing}
 use Rattle.calls.specs.declared.change.LegDialog.{LegDialog}
 use Rattle.calls.specs.declared.standing_call.StandingCall.{StandingCall}
 use Rattle.call_messages.specs.Messages.{new_leg}
 use Rattle.call_steps.specs.Effects as steps
-use Rattle.call_steps.specs.Effects.{no_effect, with_messages}
+use Rattle.call_steps.specs.Effects.{no_effect}
 use Rattle.call_steps.specs.Messages.{messages}
-use Rattle.call_steps.specs.Rows.{begins_by, counts, does, first_asker, first_leg, first_row, first_standing, fork_by, fork_row, late_by, late_row, later_dialog, messages_of, offer_coming, offers_by, offers_row, put_with, takes_by, takes_row}
+use Rattle.call_steps.specs.Rows.{begins_by, counts, does, first_asker, first_leg, first_row, first_standing, fork_by, fork_row, forked, late_by, late_row, later_dialog, messages_of, offer_coming, offers_by, offers_row, put_with, takes_by, takes_row}
 use Rattle.call_steps.specs.Scenes.{at_id, dialog_in, first_scene, fork_scene, passed_id, scene}
 use Rattle.call_steps.specs.Values.{AskerValue, ComingValue, lent_scene, without_offer}
 use Rattle.call_steps.specs.declared.occasion.Occasion.{Occasion}
@@ -174,7 +174,7 @@ pub fork_scene_asks : (o : Occasion) (leg : Dialog) → IsReached o.server → C
 fork_scene_asks o leg reached can = lent_asks (fork_scene o leg) reached tt can tt
 
 alone_asks : (calls : Standing) (o : Occasion) (leg : Dialog) (actions : List Action) → IsReached o.server → CanAskIn leg → All HasLowNumbers calls.calls
-    → ClientStep (with_messages (unchanged calls) (messages (fork_scene o leg) None actions))
+    → ClientStep (forked calls (messages (fork_scene o leg) None actions))
 alone_asks calls o leg actions reached can all = record { began = messages_sound (fork_scene o leg) None actions (fork_scene_asks o leg reached can); calls = all }
 
 -- the dialog that it makes

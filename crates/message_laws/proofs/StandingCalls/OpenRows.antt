@@ -34,7 +34,7 @@ use Rattle.plans.specs.CallRows.{occasion, of_plan, okay_plan, puts_if, takes, t
 use Rattle.plans.specs.Effect.{Effect}
 use Rattle.plans.specs.Office.{Office}
 use Rattle.plans.specs.Plan.{Plan, nothing}
-use Rattle.plans.specs.Replies.{reply_row}
+use Rattle.plans.specs.Replies.{refuses_for}
 use Rattle.plans.specs.declared.setting.Setting.{Setting}
 use Rattle.plans.specs.declared.taken.Taken.{Taken}
 use Rattle.event_rows.specs.Rows.{after, moment_after, no_source, only_counts, row, row_by, setting, what_row}
@@ -112,7 +112,7 @@ puts_opens s made place leg p fits = record { kept = λ begun all old new each. 
 
 request_opens : (s : Office) → KnowsTokens s → KnowsDialogs s → (e : Setting) (r : Request) (begun : List Entry) (id : ℕ) (x : Effect) → RequestRow s e r begun id x → Opens s x
 request_opens s tokens k e r begun id x (replied reply why is) = subst (Opens s) (sym is) (plan_opens s _)
-request_opens s tokens k e r begun id x (unfit status low is) = subst (Opens s) (sym is) (plan_opens s _)
+request_opens s tokens k e r begun id x (unfit reason is) = subst (Opens s) (sym is) (plan_opens s _)
 request_opens s tokens k e r begun id x (asks_callee to offer why is) =
     subst (Opens s) (sym is) (step_opens s begun None None _ (first_open s.calls (occasion s e) r id e.source to offer (callee_target s k r e.now to why.bound).leads))
 request_opens s tokens k e r begun id x (cancelled other place named_is found is) =
@@ -122,9 +122,9 @@ request_opens s tokens k e r begun id x (left place end rule_is is) =
     asked_opens s e r begun id place s.tokens (inputs.Bye end) _ _ tt
     (λ d there. calm_leg s.tokens _ d (counts_fits s.tokens s.calls.calls place end r.parts.cseq.number d tokens.calls there) (counts_keeps s.calls.calls place end r.parts.cseq.number d there))
     )
-request_opens s tokens k e r begun id x (counted_alone place end reply why is) =
+request_opens s tokens k e r begun id x (counted_alone place end reason why is) =
     subst (Opens s) (sym is) (
-    puts_opens s s.tokens place _ (reply_row s e r begun id reply)
+    puts_opens s s.tokens place _ (refuses_for s e r begun id reason)
     (λ d there. (counts_fits s.tokens s.calls.calls place end r.parts.cseq.number d tokens.calls there, counts_keeps s.calls.calls place end r.parts.cseq.number d there))
     )
 request_opens s tokens k e r begun id x (passed_on place end c offer rule_is why is) =
@@ -172,7 +172,7 @@ message_opens s tokens k dialogs e m begun send x (responded r id t is up to row
 
 datagram_opens : (s : Office) → KnowsTokens s → KnowsWaiting s → KnowsDialogs s → (e : Setting) (bytes : List ℕ) (x : Effect) → DatagramRow s e bytes x → Opens s x
 datagram_opens s tokens k dialogs e bytes x (ignored taken is) = subst (Opens s) (sym is) (plan_opens s _)
-datagram_opens s tokens k dialogs e bytes x (unreadable fault status parts unread can is) = subst (Opens s) (sym is) (plan_opens s _)
+datagram_opens s tokens k dialogs e bytes x (unreadable fault parts unread can is) = subst (Opens s) (sym is) (plan_opens s _)
 datagram_opens s tokens k dialogs e bytes x (unfit_branched r read is) = subst (Opens s) (sym is) (plan_opens s _)
 datagram_opens s tokens k dialogs e bytes x (was_received m read branch reached row) = message_opens s tokens k dialogs e m (begun_by s e m) _ x row
 

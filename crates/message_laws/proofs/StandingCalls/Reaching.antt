@@ -35,7 +35,7 @@ use Rattle.call_rules.specs.declared.offers.OfferRule.{OfferRule}
 use Rattle.call_rules.specs.declared.offers.OfferRule.TheVariants as asked
 use Rattle.call_rules.specs.DialogRule.{DialogRule}
 use Rattle.call_rules.specs.DialogRule as dialogrules
-use Rattle.plans.specs.CallRows.{offer_reply}
+use Rattle.plans.specs.CallRows.{reason_of_rule}
 use Rattle.message_laws.proofs.Messages.RequestViews.{IsInside}
 
 -- ---- the method of a request in a dialog
@@ -180,7 +180,7 @@ plain_reaches r end c =
     line_reaches r (rules.plain_clash_line c end) _ (crosses_reaches r (clash_without_offer_in c.standing end))
     (line_reaches r (rules.hops_line r) _ (when_reaches r (r.max_forwards == 0) asked.NoHops tt) (reach_line r asked.Passes (λ reached. reached)))
 
-passes_reached : (r : Request) (rule : OfferRule) → Reaches r rule → offer_reply rule ≡ None → leaves_unreached r.parts (contacts_of r.headers) ≡ false
+passes_reached : (r : Request) (rule : OfferRule) → Reaches r rule → reason_of_rule rule ≡ None → leaves_unreached r.parts (contacts_of r.headers) ≡ false
 passes_reached r asked.NoDialog h e = absurd (none-some _ (sym e))
 passes_reached r (asked.Crosses clash) h e = absurd (none-some _ (sym e))
 passes_reached r asked.NoHops h e = absurd (none-some _ (sym e))
@@ -188,10 +188,10 @@ passes_reached r asked.Unreached h e = absurd (none-some _ (sym e))
 passes_reached r (asked.Content rule) h e = absurd (none-some _ (sym e))
 passes_reached r asked.Passes h e = h
 
-pub offer_reached : (r : Request) (end : End) (c : Call) → offer_reply (offer_rule r end c) ≡ None → leaves_unreached r.parts (contacts_of r.headers) ≡ false
+pub offer_reached : (r : Request) (end : End) (c : Call) → reason_of_rule (offer_rule r end c) ≡ None → leaves_unreached r.parts (contacts_of r.headers) ≡ false
 offer_reached r end c passes = passes_reached r _ (offer_reaches r end c) passes
 
-pub plain_reached : (r : Request) (end : End) (c : Call) → offer_reply (plain_rule r end c) ≡ None → leaves_unreached r.parts (contacts_of r.headers) ≡ false
+pub plain_reached : (r : Request) (end : End) (c : Call) → reason_of_rule (plain_rule r end c) ≡ None → leaves_unreached r.parts (contacts_of r.headers) ≡ false
 plain_reached r end c passes = passes_reached r _ (plain_reaches r end c) passes
 
 -- ---- 2xx that a call takes

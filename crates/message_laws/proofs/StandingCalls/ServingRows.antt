@@ -186,12 +186,12 @@ module _ (own : Owns) (once : Once) (have : HaveRows) (law : Spared) where
   module _ (s : Office) (k : KnowsServing s) (e : Setting) where
     request_serves : (r : Request) (begun : List Entry) (id : ℕ) (x : Effect) → RequestRow s e r begun id x → LeavesServed s x
     request_serves r begun id x (replied reply why is) = subst (LeavesServed s) (sym is) k.calls
-    request_serves r begun id x (unfit status low is) = subst (LeavesServed s) (sym is) k.calls
+    request_serves r begun id x (unfit reason is) = subst (LeavesServed s) (sym is) k.calls
     request_serves r begun id x (asks_callee to offer why is) =
         subst (LeavesServed s) (sym is) (first_row_serves s.range s.calls (occasion s e) r id e.source to offer k.address refl k.calls (leb-true _ _ why.paired))
     request_serves r begun id x (cancelled other place named_is found is) = subst (LeavesServed s) (sym is) (taken_serves s k e place inputs.Cancel _ _ (λ c there. tt))
     request_serves r begun id x (left place end rule_is is) = subst (LeavesServed s) (sym is) (taken_serves s k e place (inputs.Bye end) _ _ (λ c there. tt))
-    request_serves r begun id x (counted_alone place end reply why is) = subst (LeavesServed s) (sym is) (puts_serves s.range s.calls place (counts s.calls.calls place end r.parts.cseq.number) k.calls)
+    request_serves r begun id x (counted_alone place end reason why is) = subst (LeavesServed s) (sym is) (puts_serves s.range s.calls place (counts s.calls.calls place end r.parts.cseq.number) k.calls)
     request_serves r begun id x (passed_on place end c offer rule_is why is) =
         subst (LeavesServed s) (sym is)
         (offers_serves s.range s.calls s.table (occasion s e) place _ end r id e.source k.calls (one_there s e.now place end (offer_method r) c offer why.there why.paired))
@@ -216,7 +216,7 @@ module _ (own : Owns) (once : Once) (have : HaveRows) (law : Spared) where
 
     datagram_serves : (bytes : List ℕ) (x : Effect) → DatagramRow s e bytes x → LeavesServed s x
     datagram_serves bytes x (ignored taken is) = subst (LeavesServed s) (sym is) k.calls
-    datagram_serves bytes x (unreadable fault status parts unread can is) = subst (LeavesServed s) (sym is) k.calls
+    datagram_serves bytes x (unreadable fault parts unread can is) = subst (LeavesServed s) (sym is) k.calls
     datagram_serves bytes x (unfit_branched r read is) = subst (LeavesServed s) (sym is) k.calls
     datagram_serves bytes x (was_received m read branch reached row) = message_serves m x row
 

@@ -40,7 +40,7 @@ use Rattle.event_rows.specs.Rules.{target, target_by}
 use Rattle.plans.specs.Effect.{Effect}
 use Rattle.plans.specs.Office.{Office}
 use Rattle.plans.specs.Plan.{Plan, moves, nothing}
-use Rattle.plans.specs.Replies.{reply_row, responds_in}
+use Rattle.plans.specs.Replies.{refuses_for, reply_row}
 use Rattle.plans.specs.declared.setting.Setting.{Setting}
 use Rattle.plans.specs.declared.taken.Taken.{Taken}
 use Rattle.event_rows.specs.Rows.{after, is_unreachable_message, moment_after, no_source, only_counts, row, row_by, setting, what_row}
@@ -56,7 +56,7 @@ use Rattle.message_laws.proofs.AwaitedOffers.Offering.{opens_split}
 use Rattle.message_laws.proofs.AwaitedOffers.Once.{NoneOwn}
 use Rattle.message_laws.proofs.StandingCalls.Reaching.{offer_reached, offers_may_offer, plain_may_offer, plain_reached, response_may_offer, response_reached}
 use Rattle.message_laws.proofs.StandingCalls.Reading.{Reading, reached_target}
-use Rattle.message_laws.proofs.Messages.Replying.{okay_reply, responds_reply, row_reply}
+use Rattle.message_laws.proofs.Messages.Replying.{okay_reply, refuses_reply, row_reply}
 use Rattle.message_laws.proofs.Messages.RequestViews.{RequestRow, asks_callee, cancelled, counted_alone, left, passed_on, refreshed, replied, unfit}
 use Rattle.message_laws.proofs.Messages.ResponseViews.{ResponseRow, ack_alone, again, answered, fork, provisional, refused, silent}
 use Rattle.message_laws.proofs.Messages.MessageViews.{IsResponseTo}
@@ -112,17 +112,17 @@ request_sounds : Reading → (s : Office) → KnowsDialogs s → s.tokens < 2 ^ 
     → RequestRow s e r begun id x → Sounds s x
 request_sounds reading s k few e text r begun id x read none (replied reply why is) =
     subst (Sounds s) (sym is) (plan_sounds s k (reply_row s e r begun id reply) (reply_none begun id _ (row_reply s e r begun id reply) none) (reply_bound reading s e r begun id reply k.bindings))
-request_sounds reading s k few e text r begun id x read none (unfit status low is) =
-    subst (Sounds s) (sym is) (plan_sounds s k (responds_in s e r begun id status [] None) (reply_none begun id _ (responds_reply s e r begun id status [] None) none) tt)
+request_sounds reading s k few e text r begun id x read none (unfit reason is) =
+    subst (Sounds s) (sym is) (plan_sounds s k (refuses_for s e r begun id reason) (reply_none begun id _ (refuses_reply s e r begun id reason) none) tt)
 request_sounds reading s k few e text r begun id x read none (asks_callee to offer why is) =
     subst (Sounds s) (sym is) (step_sounds s begun None None _ none (first_sound reading s.calls (occasion s e) text r id e.source to offer read why.reached k.server few k.calls))
 request_sounds reading s k few e text r begun id x read none (cancelled other place named_is found is) = subst (Sounds s) (sym is) (asked_sounds s k e r begun id place inputs.Cancel None _ none tt)
 request_sounds reading s k few e text r begun id x read none (left place end rule_is is) =
     subst (Sounds s) (sym is) (asked_sounds s k e r begun id place (inputs.Bye end) _ _ none (counts_sound s.calls.calls place end r.parts.cseq.number k.calls))
-request_sounds reading s k few e text r begun id x read none (counted_alone place end reply why is) =
+request_sounds reading s k few e text r begun id x read none (counted_alone place end reason why is) =
     subst (Sounds s) (sym is) (
-    put_sounds s k (reply_row s e r begun id reply) place (counts s.calls.calls place end r.parts.cseq.number) (reply_none begun id _ (row_reply s e r begun id reply) none)
-    (counts_sound s.calls.calls place end r.parts.cseq.number k.calls) (reply_bound reading s e r begun id reply k.bindings)
+    put_sounds s k (refuses_for s e r begun id reason) place (counts s.calls.calls place end r.parts.cseq.number) (reply_none begun id _ (refuses_reply s e r begun id reason) none)
+    (counts_sound s.calls.calls place end r.parts.cseq.number k.calls) tt
     )
 request_sounds reading s k few e text r begun id x read none (passed_on place end c offer rule_is why is) =
     let target : IsTargetIf (reached_at (contacts_of r.headers)) =
@@ -171,7 +171,7 @@ message_sounds reading s k few e text m send x read reached (responded r id t is
 
 datagram_sounds : Reading → (s : Office) → KnowsDialogs s → s.tokens < 2 ^ 63 → (e : Setting) (bytes : List ℕ) (x : Effect) → DatagramRow s e bytes x → Sounds s x
 datagram_sounds reading s k few e bytes x (ignored taken is) = subst (Sounds s) (sym is) (plan_sounds s k (nothing taken) (λ t opens client. opens) tt)
-datagram_sounds reading s k few e bytes x (unreadable fault status parts unread can is) = subst (Sounds s) (sym is) (plan_sounds s k _ (λ t opens client. opens) tt)
+datagram_sounds reading s k few e bytes x (unreadable fault parts unread can is) = subst (Sounds s) (sym is) (plan_sounds s k _ (λ t opens client. opens) tt)
 datagram_sounds reading s k few e bytes x (unfit_branched r read is) = subst (Sounds s) (sym is) (plan_sounds s k _ (λ t opens client. opens) tt)
 datagram_sounds reading s k few e bytes x (was_received m read branch reached row) = message_sounds reading s k few e bytes m _ x read reached row
 

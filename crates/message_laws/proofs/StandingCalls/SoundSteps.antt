@@ -30,16 +30,16 @@ use Rattle.call_core.specs.declared.action.Action.{Action}
 use Rattle.call_core.specs.declared.action.Action.TheVariants.{Ack, Bye}
 use Rattle.call_core.specs.declared.input.Input.{Input}
 use Rattle.calls.specs.Carrying.{offerer_of, with_step}
-use Rattle.calls.specs.Changes.{beside, unchanged}
+use Rattle.calls.specs.Changes.{beside}
 use Rattle.calls.specs.State.{Standing}
 use Rattle.calls.specs.declared.change.LegDialog.{LegDialog}
 use Rattle.calls.specs.declared.standing_call.StandingCall.{StandingCall}
 use Rattle.call_rules.specs.Reach.{contact_address}
 use Rattle.call_messages.specs.Messages.{new_leg}
 use Rattle.call_steps.specs.Effects as steps
-use Rattle.call_steps.specs.Effects.{no_effect, with_messages}
+use Rattle.call_steps.specs.Effects.{no_effect}
 use Rattle.call_steps.specs.Messages.{messages}
-use Rattle.call_steps.specs.Rows.{answers_leg, begins_by, counts, dialog_after, does, first_asker, first_leg, first_row, first_standing, fork_by, fork_row, late_by, late_row, later_dialog, leg_by, messages_of, offer_coming, offers_by, offers_row, put_with, refreshes, takes_by, takes_row}
+use Rattle.call_steps.specs.Rows.{answers_leg, begins_by, counts, dialog_after, does, first_asker, first_leg, first_row, first_standing, fork_by, fork_row, forked, late_by, late_row, later_dialog, leg_by, messages_of, offer_coming, offers_by, offers_row, put_with, refreshes, takes_by, takes_row}
 use Rattle.call_steps.specs.Scenes.{at_id, dialog_in, first_scene, fork_scene, fresh, passed_id, scene}
 use Rattle.call_steps.specs.Values.{AskerValue, ComingValue, without_offer}
 use Rattle.call_steps.specs.declared.occasion.Occasion.{Occasion}
@@ -169,7 +169,7 @@ first_sound reading calls o text r id source target offer read reached octets fe
 
 -- ---- a 2xx that no call takes
 
-alone_sound : (calls : Standing) (o : Occasion) (leg : Dialog) (actions : List Action) → SaysEnds leg → All HasSoundLegs calls.calls → SoundStep (with_messages (unchanged calls) (messages (fork_scene o leg) None actions))
+alone_sound : (calls : Standing) (o : Occasion) (leg : Dialog) (actions : List Action) → SaysEnds leg → All HasSoundLegs calls.calls → SoundStep (forked calls (messages (fork_scene o leg) None actions))
 alone_sound calls o leg actions says all = record { began = said_says (fork_scene o leg) None actions (record { caller = tt; callee = says; passed = tt }); calls = all }
 
 fork_by_sound : (calls : Standing) (o : Occasion) (asked : Parts) (r : Response) (contact : Option Uri) → SaysDialog asked → All HasSoundLegs calls.calls → SoundStep (fork_by calls o asked r contact)

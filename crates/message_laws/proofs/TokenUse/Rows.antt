@@ -41,7 +41,7 @@ use Rattle.plans.specs.declared.taken.Taken.{Taken}
 use Rattle.plans.specs.CallRows.{acks_again, counted, occasion, of_plan, okay_plan, puts_if, takes, takes_request, timer_input, with_step, without_call_timer}
 use Rattle.plans.specs.Effect.{Effect}
 use Rattle.plans.specs.Plan.{Plan, moves, nothing}
-use Rattle.plans.specs.Replies.{reply_row}
+use Rattle.plans.specs.Replies.{refuses_for}
 use Rattle.event_rows.specs.Rows.{no_source, setting, what_row}
 use Rattle.message_laws.specs.Entries.{EnterOwn, EntersOwn}
 use Rattle.message_laws.specs.Knowing.{KnowsCalls, KnowsTokens}
@@ -50,7 +50,7 @@ use Rattle.message_laws.proofs.TokenUse.Calls.{FitsLeg, changed_by}
 use Rattle.message_laws.proofs.QuietEvents.Growing.{calls_more, entries_append}
 use Rattle.message_laws.proofs.TokenUse.Slots.{own_at}
 use Rattle.message_laws.proofs.TokenUse.TaggedSteps.{OwnStep, answers_fits, counts_fits, first_own, fork_own, late_own, offers_own, refreshes_fits, takes_own}
-use Rattle.message_laws.proofs.Messages.Replying.{IsReply, okay_reply, responds_reply, row_reply}
+use Rattle.message_laws.proofs.Messages.Replying.{IsReply, okay_reply, refuses_reply, row_reply}
 use Rattle.message_laws.proofs.Messages.RequestViews.{RequestRow, asks_callee, cancelled, counted_alone, left, passed_on, refreshed, replied, unfit}
 use Rattle.message_laws.proofs.Messages.ResponseViews.{ResponseRow, ack_alone, again, answered, fork, provisional, refused, silent}
 use Rattle.message_laws.proofs.Messages.MessageViews.{MessageRow, acknowledged, begun_by, dropped, moved, requested, responded}
@@ -187,7 +187,7 @@ no_leg s place d there = tt
 
 request_rows : (s : Office) → KnowsTokens s → s.tokens < 2 ^ 63 → (e : Setting) (r : Request) (begun : List Entry) (id : ℕ) (x : Effect) → BeginsNone begun → RequestRow s e r begun id x → Owns s x
 request_rows s k few e r begun id x b (replied reply why is) = subst (Owns s) (sym is) (reply_owns s k begun id _ (row_reply s e r begun id reply) b)
-request_rows s k few e r begun id x b (unfit status low is) = subst (Owns s) (sym is) (reply_owns s k begun id _ (responds_reply s e r begun id status [] None) b)
+request_rows s k few e r begun id x b (unfit reason is) = subst (Owns s) (sym is) (reply_owns s k begun id _ (refuses_reply s e r begun id reason) b)
 request_rows s k few e r begun id x b (asks_callee to offer why is) =
     subst (Owns s) (sym is) (step_owns s begun None None _ b (first_own s.calls (occasion s e) r id e.source to offer (no_tag_text r.parts why.no_tag) few k.calls))
   where
@@ -199,7 +199,7 @@ request_rows s k few e r begun id x b (left place end rule_is is) =
     request_owns s k e r begun id place (inputs.Bye end) (counts s.calls.calls place end r.parts.cseq.number) _ b
     (λ d there. counts_fits s.tokens s.calls.calls place end r.parts.cseq.number d k.calls there)
     )
-request_rows s k few e r begun id x b (counted_alone place end reply why is) = subst (Owns s) (sym is) (counted_owns s k r place end (reply_row s e r begun id reply) (reply_own s begun id _ (row_reply s e r begun id reply) b))
+request_rows s k few e r begun id x b (counted_alone place end reason why is) = subst (Owns s) (sym is) (counted_owns s k r place end (refuses_for s e r begun id reason) (reply_own s begun id _ (refuses_reply s e r begun id reason) b))
 request_rows s k few e r begun id x b (passed_on place end c offer rule_is why is) =
     subst (Owns s) (sym is) (step_owns s begun None None _ b (offers_own s.calls s.table (occasion s e) place _ end r id e.source k.slots k.calls))
 request_rows s k few e r begun id x b (refreshed place end rule_is is) = subst (Owns s) (sym is) (refreshed_owns s k e r begun id place end b)
@@ -230,7 +230,7 @@ message_rows s k few e m begun send x b (responded r id t is up to row) =
 
 datagram_rows : (s : Office) → KnowsTokens s → s.tokens < 2 ^ 63 → (e : Setting) (bytes : List ℕ) (x : Effect) → DatagramRow s e bytes x → Owns s x
 datagram_rows s k few e bytes x (ignored taken is) = subst (Owns s) (sym is) (nothing_owns s k taken)
-datagram_rows s k few e bytes x (unreadable fault status parts unread can is) = subst (Owns s) (sym is) (plan_owns s k _ tt)
+datagram_rows s k few e bytes x (unreadable fault parts unread can is) = subst (Owns s) (sym is) (plan_owns s k _ tt)
 datagram_rows s k few e bytes x (unfit_branched r read is) = subst (Owns s) (sym is) (plan_owns s k _ tt)
 datagram_rows s k few e bytes x (was_received m read branch reached row) = message_rows s k few e m (begun_by s e m) _ x (λ n. (change_own s n m e.source, tt)) row
 

@@ -45,7 +45,7 @@ use Rattle.call_steps.specs.declared.occasion.Occasion.{Occasion}
 use Rattle.call_steps.specs.Effects as steps
 use Rattle.call_steps.specs.Effects.{no_effect}
 use Rattle.call_steps.specs.Messages.{given_up, is_abandon, messages}
-use Rattle.call_steps.specs.Rows.{answers_leg, begins_by, counts, counts_by, counts_in, dialog_after, does, first_asker, first_leg, first_row, first_standing, fork_by, fork_row, late_by, late_row, later_dialog, leg_at, leg_by, messages_of, offer_coming, offers_by, offers_row, put_with, refreshes, takes_by, takes_row}
+use Rattle.call_steps.specs.Rows.{answers_leg, begins_by, counts, counts_by, counts_in, dialog_after, does, first_asker, first_leg, first_row, first_standing, fork_by, fork_row, forked, late_by, late_row, later_dialog, leg_at, leg_by, messages_of, offer_coming, offers_by, offers_row, put_with, refreshes, takes_by, takes_row}
 use Rattle.call_steps.specs.Scenes.{at_id, dialog_in, first_scene, fork_scene, fresh, passed_id, scene}
 use Rattle.call_steps.specs.Values.{AskerValue, ComingValue, SceneValue, dressed_in, lent, lent_scene, without_offer}
 use Rattle.message_laws.specs.Entries.{EnterOwn}
@@ -290,7 +290,7 @@ first_own calls o r id source target offer e few all = begins_by_own calls o r i
 -- ---- a 2xx that no call takes
 
 alone_own : (calls : Standing) (o : Occasion) (leg : Dialog) (actions : List Action) → IsMade o.tokens leg.id.ours → KnowsCalls o.tokens calls.calls
-    → OwnStep o.tokens (steps.with_messages (Rattle.calls.specs.Changes.unchanged calls) (messages (fork_scene o leg) None actions))
+    → OwnStep o.tokens (forked calls (messages (fork_scene o leg) None actions))
 alone_own calls o leg actions tag all =
     let said = messages (fork_scene o leg) None actions in
     record {

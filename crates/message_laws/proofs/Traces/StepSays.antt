@@ -33,15 +33,13 @@ use Rattle.call_core.specs.Plans.{Step}
 use Rattle.call_core.specs.declared.action.Action.{Action}
 use Rattle.call_core.specs.declared.action.Action.TheVariants.{Ack, Bye}
 use Rattle.call_core.specs.declared.input.Input.{Input}
-use Rattle.calls.specs.Changes.{unchanged}
 use Rattle.calls.specs.State.{Standing}
 use Rattle.calls.specs.declared.change.LegDialog.{LegDialog}
 use Rattle.calls.specs.declared.standing_call.StandingCall.{StandingCall}
 use Rattle.call_messages.specs.Messages.{new_leg}
 use Rattle.call_steps.specs.Effects as steps
-use Rattle.call_steps.specs.Effects.{with_messages}
 use Rattle.call_steps.specs.Messages.{messages}
-use Rattle.call_steps.specs.Rows.{begins_by, counts, does, first_asker, first_leg, first_row, first_standing, fork_by, fork_row, late_by, late_row, later_dialog, offer_coming, offers_by, offers_row, takes_by, takes_row}
+use Rattle.call_steps.specs.Rows.{begins_by, counts, does, first_asker, first_leg, first_row, first_standing, fork_by, fork_row, forked, late_by, late_row, later_dialog, offer_coming, offers_by, offers_row, takes_by, takes_row}
 use Rattle.call_steps.specs.Scenes.{first_scene, fork_scene, passed_id, scene}
 use Rattle.call_steps.specs.Values.{AskerValue, ComingValue, without_offer}
 use Rattle.call_steps.specs.declared.occasion.Occasion.{Occasion}
@@ -181,7 +179,7 @@ first_says before calls table o r id source target offer k leg hops read = begin
 -- ---- a 2xx that no call takes
 
 alone_says : (before : List Sent) (calls : Standing) (o : Occasion) (leg : Dialog) (actions : List Action) → IsReached o.server → IsLeg leg
-    → SaysStep before o (with_messages (unchanged calls) (messages (fork_scene o leg) None actions))
+    → SaysStep before o (forked calls (messages (fork_scene o leg) None actions))
 alone_says before calls o leg actions server is =
     step_says before _ (fork_scene o leg) None actions (lent_writable before (fork_scene o leg) (record { server = server; caller = tt; callee = is; passed = tt; again = tt; hops = omega arith; short = tt })) (omega arith)
 

@@ -131,15 +131,14 @@ none_answerable bytes r parts reads is = by_line (is_asking_line (before_line_en
     by_line true asks e = line_asks bytes r reads asks
     by_line false asks e = none-some parts e
 
-unread_done : (s : Office) (e : Setting) (bytes : List ℕ) (fault : MessageError) (status : ℕ) (parts : Option Parts) (r : Response) → ReadsResponse bytes r → answerable_of bytes ≡ parts → IsDone (unread_by e fault status parts) → ⊥
-unread_done s e bytes fault status None r reads can done = cc
-unread_done s e bytes fault status (Some parts) r reads can done = none_answerable bytes r parts reads can
+unread_done : (s : Office) (e : Setting) (bytes : List ℕ) (fault : MessageError) (parts : Option Parts) (r : Response) → ReadsResponse bytes r → answerable_of bytes ≡ parts → IsDone (unread_by e fault parts) → ⊥
+unread_done s e bytes fault None r reads can done = cc
+unread_done s e bytes fault (Some parts) r reads can done = none_answerable bytes r parts reads can
 
 fault_done : (s : Office) (e : Setting) (bytes : List ℕ) (fault : MessageError) (r : Response) → ReadsResponse bytes r → IsDone (unread_row e bytes fault) → ⊥
 unfolding unread_row
 fault_done s e bytes faults.TooLong r reads done = cc
-fault_done s e bytes faults.Version r reads done = unread_done s e bytes faults.Version 505 (answerable_of bytes) r reads refl done
-fault_done s e bytes fault r reads done = unread_done s e bytes fault 400 (answerable_of bytes) r reads refl done
+fault_done s e bytes fault r reads done = unread_done s e bytes fault (answerable_of bytes) r reads refl done
 
 -- ---- a datagram
 

@@ -30,7 +30,7 @@ use Rattle.plans.specs.CallRows.{occasion, of_plan, offer_method, takes, takes_r
 use Rattle.plans.specs.Effect.{Effect}
 use Rattle.plans.specs.Office.{Office}
 use Rattle.plans.specs.Plan.{Plan, goes, moves, nothing}
-use Rattle.plans.specs.Replies.{reply_row, responds_in}
+use Rattle.plans.specs.Replies.{refuses_for, reply_row}
 use Rattle.plans.specs.declared.setting.Setting.{Setting}
 use Rattle.plans.specs.declared.taken.Taken.{Taken}
 use Rattle.event_rows.specs.Rows.{is_unreachable_message, no_source, only_counts, row, row_by, setting, what_row}
@@ -45,7 +45,7 @@ use Rattle.message_laws.proofs.Messages.MessageViews.{IsResponseTo, MessageRow, 
 use Rattle.message_laws.proofs.Messages.ReadBodies.{body_read, body_read_if}
 use Rattle.message_laws.proofs.StandingCalls.Reaching.{response_may_offer, response_reached}
 use Rattle.message_laws.proofs.StandingCalls.Reading.{Reading, reached_target}
-use Rattle.message_laws.proofs.Messages.Replying.{okay_reply, responds_reply, row_reply}
+use Rattle.message_laws.proofs.Messages.Replying.{okay_reply, refuses_reply, row_reply}
 use Rattle.message_laws.proofs.Messages.RequestViews.{RequestRow, asks_callee, cancelled, counted_alone, left, passed_on, refreshed, replied, unfit}
 use Rattle.message_laws.proofs.Messages.ResponseViews.{ResponseRow, ack_alone, again, answered, fork, provisional, refused, silent}
 use Rattle.message_laws.proofs.TokenUse.Rows.{answered_client}
@@ -118,9 +118,9 @@ module _ (reading : Reading) (describes : BodiesDescribe) (before : List Sent) (
   request_says what text r begun id x read new keeps calm (replied reply why is) =
       let reply_is = row_reply s e r begun id reply in
       subst (SaysEffect before s what) (sym is) (calm_plan before s what (reply_row s e r begun id reply) (says_reply before s.tokens begun id _ reply_is new keeps) (reply_calm begun id _ reply_is calm))
-  request_says what text r begun id x read new keeps calm (unfit status low is) =
-      let reply_is = responds_reply s e r begun id status [] None in
-      subst (SaysEffect before s what) (sym is) (calm_plan before s what (responds_in s e r begun id status [] None) (says_reply before s.tokens begun id _ reply_is new keeps) (reply_calm begun id _ reply_is calm))
+  request_says what text r begun id x read new keeps calm (unfit reason is) =
+      let reply_is = refuses_reply s e r begun id reason in
+      subst (SaysEffect before s what) (sym is) (calm_plan before s what (refuses_for s e r begun id reason) (says_reply before s.tokens begun id _ reply_is new keeps) (reply_calm begun id _ reply_is calm))
   request_says what text r begun id x read new keeps calm (asks_callee to offer why is) =
       subst (SaysEffect before s what) (sym is)
       (step_quietly what begun None (first_row s.calls (occasion s e) r id e.source to offer) new keeps calm
@@ -130,8 +130,8 @@ module _ (reading : Reading) (describes : BodiesDescribe) (before : List Sent) (
   request_says what text r begun id x read new keeps calm (cancelled other place named_is found is) = subst (SaysEffect before s what) (sym is) (asked_quietly what r begun id place inputs.Cancel None _ new keeps calm none_put tt)
   request_says what text r begun id x read new keeps calm (left place end rule_is is) =
       subst (SaysEffect before s what) (sym is) (asked_quietly what r begun id place (inputs.Bye end) _ _ new keeps calm (counts_put before s k place end r.parts.cseq.number) tt)
-  request_says what text r begun id x read new keeps calm (counted_alone place end reply why is) =
-      let reply_is = row_reply s e r begun id reply in
+  request_says what text r begun id x read new keeps calm (counted_alone place end reason why is) =
+      let reply_is = refuses_reply s e r begun id reason in
       subst (SaysEffect before s what) (sym is) (record { says = says_reply before s.tokens begun id _ reply_is new keeps; told = none (reply_calm begun id _ reply_is calm) })
   request_says what text r begun id x read new keeps calm (passed_on place end c offer rule_is why is) =
       subst (SaysEffect before s what) (sym is)
@@ -216,7 +216,7 @@ module _ (reading : Reading) (describes : BodiesDescribe) (before : List Sent) (
 
   datagram_says : (source : Addr) (bytes : List ℕ) (x : Effect) → DatagramRow s e bytes x → SaysEffect before s (whats.Datagram source bytes) x
   datagram_says source bytes x (ignored taken is) = subst (SaysEffect before s _) (sym is) (silent_says _ taken)
-  datagram_says source bytes x (unreadable fault status parts unread can is) = subst (SaysEffect before s _) (sym is) (calm_plan before s _ _ (says_response before s.tokens _ _) tt)
+  datagram_says source bytes x (unreadable fault parts unread can is) = subst (SaysEffect before s _) (sym is) (calm_plan before s _ _ (says_response before s.tokens _ _) tt)
   datagram_says source bytes x (unfit_branched r read is) = subst (SaysEffect before s _) (sym is) (calm_plan before s _ _ (says_response before s.tokens _ _) tt)
   datagram_says source bytes x (was_received m read branch reached row) = message_says source bytes m x read reached row
 

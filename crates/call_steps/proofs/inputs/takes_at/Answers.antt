@@ -11,7 +11,7 @@ returns-in-Ok-step_of-clause-row c = λ timers.
     let calls = with_timers timers (standing c.args.calls.now) in
     let row = rw c.pool.ensures at c.in-Ok.ensures.row in
     c.in-Ok-step_of.ensures.row calls c.args.occasion.now
-    ∙ does_as_planned calls c.args.table.now c.args.occasion c.args.place c.args.input.now (coming_value c.args.coming) c.args.call.now c.in-Ok.planned.plan c.in-Ok.planned.said c.requires.there row c.in-Ok.ensures.said
+    ∙ does_as_planned calls c.args.table.now c.args.occasion c.args.place c.args.input.now (coming_value c.args.coming) c.args.call.now c.in-Ok.planned.plan c.in-Ok.planned.said c.in-Ok.planned.note c.requires.there row c.in-Ok.ensures.said c.in-Ok.ensures.note
 
 pub returns-in-Err-clause-refused : goal.returns-in-Err-clause-refused
 returns-in-Err-clause-refused c = rw c.pool.ensures at c.in-Err.ensures.refused

@@ -1,5 +1,5 @@
 use Rattle.message_laws.proofs.Messages.ReadMessages.{message_reads, name_reads}
-use Rattle.media_laws.proofs.Scenes.RequestMoves.{counted_move, refreshed_move, refused_move, replied_move, unfit_branched_move, unfit_move, unreadable_move}
+use Rattle.media_laws.proofs.Scenes.RequestMoves.{refreshed_move, refused_move, replied_move, unfit_branched_move, unreadable_move}
 use Rattle.media_laws.proofs.requests.requests_move_none.Goals as goal
 
 pub returns-clause-unreadable : goal.returns-clause-unreadable
@@ -16,17 +16,11 @@ returns-clause-replied c = λ t ds taken bytes ms took s e from q read k begun i
     (record { message = message_reads; name = name_reads; callee = c.dialogs_are_sound.ensures.callee; contact = c.contacts_are_read.ensures })
 
 pub returns-clause-counted : goal.returns-clause-counted
-returns-clause-counted c = λ t ds taken bytes ms took s e from q read k begun id place end reply rule is.
-    counted_move (record { same = c.bytes_say_all.ensures.one; bytes = c.bytes_say_all.ensures.bytes; back = c.written_is_read.ensures }) t ds taken bytes ms took s e from q read k begun id
-    (record { message = message_reads; name = name_reads; callee = c.dialogs_are_sound.ensures.callee; contact = c.contacts_are_read.ensures }) place end reply rule is
-
-pub returns-clause-counted_refused : goal.returns-clause-counted_refused
-returns-clause-counted_refused c = λ t ds taken bytes ms took s e from q read k begun id place end status low high.
+returns-clause-counted c = λ t ds taken bytes ms took s e from q read k begun id place end.
     refused_move (record { same = c.bytes_say_all.ensures.one; bytes = c.bytes_say_all.ensures.bytes; back = c.written_is_read.ensures }) t ds taken bytes ms took s e from q read k begun id
-    (record { message = message_reads; name = name_reads; callee = c.dialogs_are_sound.ensures.callee; contact = c.contacts_are_read.ensures }) place end status low high
 
 pub returns-clause-unfit : goal.returns-clause-unfit
-returns-clause-unfit c = unfit_move (record { same = c.bytes_say_all.ensures.one; bytes = c.bytes_say_all.ensures.bytes; back = c.written_is_read.ensures })
+returns-clause-unfit c = refused_move (record { same = c.bytes_say_all.ensures.one; bytes = c.bytes_say_all.ensures.bytes; back = c.written_is_read.ensures })
 
 pub returns-clause-refreshed : goal.returns-clause-refreshed
 returns-clause-refreshed c = refreshed_move (record { same = c.bytes_say_all.ensures.one; bytes = c.bytes_say_all.ensures.bytes; back = c.written_is_read.ensures })

@@ -1,11 +1,11 @@
-use Rattle.message_laws.proofs.QuietEvents.QuietRules.{alone_quiet, offer_quiet, plain_other}
+use Rattle.message_laws.proofs.QuietEvents.QuietRules.{alone_quiet, plain_other, refusal_quiet}
 use Rattle.message_laws.proofs.quiet.rules_reply_quietly.Goals as goal
 
 pub returns-clause-alone : goal.returns-clause-alone
 returns-clause-alone c = alone_quiet
 
-pub returns-clause-offer : goal.returns-clause-offer
-returns-clause-offer c = offer_quiet
+pub returns-clause-refusal : goal.returns-clause-refusal
+returns-clause-refusal c = refusal_quiet
 
 pub returns-clause-plain : goal.returns-clause-plain
 returns-clause-plain c = plain_other

@@ -33,5 +33,5 @@ returns-in-Some-clause-row c =
     let call = c.args.call.now.call in
     let free = clear r c.args.end call c.requires.free in
     let why = rw (c.in-Err.is, c.requires.there) at c.offer_step-step.ensures.refused in
-    let is = sym c.refusal_reply.ensures ∙ c.in-Some.is in
-    effect_as c.refuses_in.result s.calls s.acks c.args.setting.now _ _ (refused_as s c.args.setting r c.args.begun.items c.args.id c.args.place c.args.end call c.args.offer c.in-Err.refusal c.in-Some.reply free.0 why is) c.refuses_in.ensures.row
+    let is = sym c.reason_of_refusal.ensures ∙ c.in-Some.is in
+    effect_as c.refuses_in.result s.calls s.acks c.args.setting.now _ _ (refused_as s c.args.setting r c.args.begun.items c.args.id c.args.place c.args.end call c.args.offer c.in-Err.refusal c.in-Some.reason free.0 why is) c.refuses_in.ensures.row
