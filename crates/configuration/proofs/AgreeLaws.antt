@@ -10,6 +10,7 @@ use Rattle.registrar.specs.Limits.{max_users}
 use Rattle.configuration.specs.Limits.{min_relay_port, max_relay_pairs, usual_workers}
 use Rattle.configuration.specs.Names.{is_user}
 use Rattle.configuration.specs.declared.config.Config.{Config}
+use Rattle.configuration.specs.declared.level.LogLevel.{LogLevel}
 use Rattle.configuration.specs.declared.numbers.Numbers.{Numbers}
 use Rattle.configuration.specs.declared.error.ConfigError.{ConfigError}
 use Rattle.configuration.specs.declared.error.ConfigError.TheVariants as rules
@@ -18,8 +19,8 @@ use Rattle.configuration.specs.declared.key.Key.TheVariants as keys
 use Rattle.configuration.specs.declared.flaw.Flaw.{Flaw}
 use Rattle.configuration.specs.declared.flaw.Flaw.TheVariants.{UnknownKey, Missing, OtherType, OutOfRange, Odd, PastLastPort, RelayPort, Malformed, RandomKey, UserCount, UserTwice}
 use Rattle.configuration.specs.Rules.{has_room_for_ports, is_relay_port, is_server_address, has_relay_ports, has_address, has_users, has_lifetime, has_domain, first_broken}
-use Rattle.configuration.specs.Files.{is_known_key, has_known_keys, few, natural, workers_in, workers_of, workers_at, number_at, numbers_at, text_at, octets_of, ip_at, key_of, key_at, domain_of, domain_at, texts_of, users_at, config_from, config_of, port_of, seconds_of}
-use Rattle.configuration.specs.Flaws.{rule_of, unknown_key, unknown_flaw, unless, number_flaw, count_flaw, workers_flaw, text_flaw, digits_flaw, random_key_flaw, domain_type_flaw, are_texts, list_flaw, users_type_flaw, said_flaw, said_number, relay_flaw, address_flaw, malformed_user, user_twice, users_flaw, lifetime_flaw, domain_flaw, rules_flaw, flaw_behind, flaw_in}
+use Rattle.configuration.specs.Files.{is_known_key, has_known_keys, few, natural, workers_in, workers_of, workers_at, number_at, numbers_at, text_at, octets_of, ip_at, key_of, key_at, domain_of, domain_at, texts_of, users_at, level_named, log_in, log_of, log_at, config_from, config_of, port_of, seconds_of}
+use Rattle.configuration.specs.Flaws.{rule_of, unknown_key, unknown_flaw, unless, has_type_of, required_flaw, optional_flaw, count_flaw, workers_flaw, digits_flaw, random_key_flaw, are_texts, list_flaw, users_type_flaw, word_flaw, log_flaw, said_flaw, said_number, relay_flaw, address_flaw, malformed_user, user_twice, users_flaw, lifetime_flaw, domain_flaw, rules_flaw, flaw_behind, flaw_in}
 
 -- ---- what is read
 
@@ -60,9 +61,17 @@ unknown (member key value rest) g v h = step (is_known_key key) (unknown rest g 
   step true below = below
   step false below = refl
 
-number : (key : Key) (o : Option Data) → Judges (number_flaw key o) (option_and_then as_integer o)
-number key None = refl
-number key (Some value) = judges_unless (as_integer value) (OtherType key) refl
+-- a value of the key's type, and its reading
+judges_type : {X : Type 0} (key : Key) (v : Option X) (b : Bool) → b ≡ is_some v → Judges (cond b None (Some (OtherType key))) v
+judges_type key None true h = absurd cc
+judges_type key None false h = refl
+judges_type key (Some x) true h = tt
+judges_type key (Some x) false h = absurd cc
+
+required : {X : Type 0} (key : Key) (read : Data → Option X) → ((value : Data) → has_type_of key value ≡ is_some (read value))
+    → (o : Option Data) → Judges (required_flaw key o) (option_and_then read o)
+required key read same None = refl
+required key read same (Some value) = judges_type key (read value) (has_type_of key value) (same value)
 
 workers : (o : Option Data) → Judges (workers_flaw o) (workers_of o)
 workers None = tt
@@ -71,10 +80,6 @@ workers (Some value) = count (as_integer value) where
   count None = refl
   count (Some z) = judges_unless (option_and_then few (natural 255 z)) (OutOfRange keys.Workers z) refl
 
-text : (key : Key) (o : Option Data) → Judges (text_flaw key o) (option_and_then as_str o)
-text key None = refl
-text key (Some value) = judges_unless (as_str value) (OtherType key) refl
-
 random_key : (o : Option Data) → Judges (random_key_flaw o) (option_and_then key_of (option_and_then as_str o))
 random_key None = refl
 random_key (Some value) = digits (as_str value) where
@@ -82,10 +87,10 @@ random_key (Some value) = digits (as_str value) where
   digits None = refl
   digits (Some t) = judges_unless (key_of t) (RandomKey (length t)) refl
 
-domain_type : (o : Option Data) → Judges (domain_type_flaw o) (domain_of o)
+domain_type : (o : Option Data) → Judges (optional_flaw keys.Domain o) (domain_of o)
 domain_type None = tt
 domain_type (Some value) =
-    judges_map (unless (as_str value) (OtherType keys.Domain)) (as_str value) (λ t. Some t) (judges_unless (as_str value) (OtherType keys.Domain) refl)
+    judges_map (optional_flaw keys.Domain (Some value)) (as_str value) (λ t. Some t) (judges_type keys.Domain (as_str value) (is_some (as_str value)) refl)
 
 texts : (items : Items) → Judges (list_flaw (Some items)) (texts_of items)
 texts no_items = tt
@@ -102,6 +107,13 @@ users_type (Some value) = list (as_array value) where
   list None = refl
   list (Some items) = texts items
 
+word : (o : Option Data) → Judges (log_flaw o) (log_of o)
+word None = tt
+word (Some value) = named (as_str value) where
+  named : (t : Option (List ℕ)) → Judges (word_flaw t) (option_and_then level_named t)
+  named None = refl
+  named (Some t) = judges_unless (level_named t) (Malformed keys.Log t) refl
+
 regrouped : (a b c d e rest : Option Flaw) → option_or (option_or a (option_or b (option_or c (option_or d e)))) rest
     ≡ option_or a (option_or b (option_or c (option_or d (option_or e rest))))
 regrouped (Some x) b c d e rest = refl
@@ -115,21 +127,21 @@ at flaw key ms = flaw (get_member key ms)
 
 abbrev numbers_flaw : Members → Option Flaw
 numbers_flaw ms =
-    option_or (at (number_flaw keys.RelayFirst) (codes "relay_first") ms) (option_or (at (number_flaw keys.RelayPairs) (codes "relay_pairs") ms)
-    (option_or (at (number_flaw keys.SipPort) (codes "sip_port") ms) (option_or (at (number_flaw keys.MinExpires) (codes "min_expires") ms) (at workers_flaw (codes "workers") ms))))
+    option_or (at (required_flaw keys.RelayFirst) (codes "relay_first") ms) (option_or (at (required_flaw keys.RelayPairs) (codes "relay_pairs") ms)
+    (option_or (at (required_flaw keys.SipPort) (codes "sip_port") ms) (option_or (at (required_flaw keys.MinExpires) (codes "min_expires") ms) (at workers_flaw (codes "workers") ms))))
 
 abbrev texts_flaw : Members → Option Flaw
 texts_flaw ms =
-    option_or (at (text_flaw keys.Ip) (codes "ip") ms) (option_or (at random_key_flaw (codes "random_key") ms)
-    (option_or (at domain_type_flaw (codes "domain") ms) (at users_type_flaw (codes "users") ms)))
+    option_or (at (required_flaw keys.Ip) (codes "ip") ms) (option_or (at random_key_flaw (codes "random_key") ms)
+    (option_or (at (optional_flaw keys.Domain) (codes "domain") ms) (option_or (at users_type_flaw (codes "users") ms) (at log_flaw (codes "log") ms))))
 
 numbers : (ms : Members) → Judges (numbers_flaw ms) (numbers_at ms)
 unfolding numbers_at
 numbers ms =
-    judges_then _ _ (number_at (codes "relay_first") ms) _ (number keys.RelayFirst (get_member (codes "relay_first") ms)) (λ first.
-    judges_then _ _ (number_at (codes "relay_pairs") ms) _ (number keys.RelayPairs (get_member (codes "relay_pairs") ms)) (λ pairs.
-    judges_then _ _ (number_at (codes "sip_port") ms) _ (number keys.SipPort (get_member (codes "sip_port") ms)) (λ port.
-    judges_then _ _ (number_at (codes "min_expires") ms) _ (number keys.MinExpires (get_member (codes "min_expires") ms)) (λ expires.
+    judges_then _ _ (number_at (codes "relay_first") ms) _ (required keys.RelayFirst as_integer (λ value. refl) (get_member (codes "relay_first") ms)) (λ first.
+    judges_then _ _ (number_at (codes "relay_pairs") ms) _ (required keys.RelayPairs as_integer (λ value. refl) (get_member (codes "relay_pairs") ms)) (λ pairs.
+    judges_then _ _ (number_at (codes "sip_port") ms) _ (required keys.SipPort as_integer (λ value. refl) (get_member (codes "sip_port") ms)) (λ port.
+    judges_then _ _ (number_at (codes "min_expires") ms) _ (required keys.MinExpires as_integer (λ value. refl) (get_member (codes "min_expires") ms)) (λ expires.
     judges_last _ (workers_at ms) _ (workers (get_member (codes "workers") ms))))))
 
 -- the configuration with these numbers
@@ -138,15 +150,17 @@ with_numbers ms n =
     option_and_then (λ ip.
     option_and_then (λ key.
     option_and_then (λ domain.
-    option_and_then (λ us. Some (config_from n ip key domain us))
-    (users_at ms)) (domain_at ms)) (key_at ms)) (ip_at ms)
+    option_and_then (λ us.
+    option_and_then (λ level. Some (config_from n ip key domain us level))
+    (log_at ms)) (users_at ms)) (domain_at ms)) (key_at ms)) (ip_at ms)
 
 rest : (ms : Members) (n : Numbers) → Judges (texts_flaw ms) (with_numbers ms n)
 rest ms n =
-    judges_then _ _ (ip_at ms) _ (judges_map _ (text_at (codes "ip") ms) octets_of (text keys.Ip (get_member (codes "ip") ms))) (λ ip.
+    judges_then _ _ (ip_at ms) _ (judges_map _ (text_at (codes "ip") ms) octets_of (required keys.Ip as_str (λ value. refl) (get_member (codes "ip") ms))) (λ ip.
     judges_then _ _ (key_at ms) _ (random_key (get_member (codes "random_key") ms)) (λ key.
     judges_then _ _ (domain_at ms) _ (domain_type (get_member (codes "domain") ms)) (λ domain.
-    judges_last _ (users_at ms) (λ us. config_from n ip key domain us) (users_type (get_member (codes "users") ms)))))
+    judges_then _ _ (users_at ms) _ (users_type (get_member (codes "users") ms)) (λ us.
+    judges_last _ (log_at ms) (λ level. config_from n ip key domain us level) (word (get_member (codes "log") ms))))))
 
 table : (ms : Members) → Judges (option_or (numbers_flaw ms) (texts_flaw ms)) (option_and_then (with_numbers ms) (numbers_at ms))
 table ms = judges_then (numbers_flaw ms) (texts_flaw ms) (numbers_at ms) (with_numbers ms) (numbers ms) (rest ms)
@@ -154,8 +168,8 @@ table ms = judges_then (numbers_flaw ms) (texts_flaw ms) (numbers_at ms) (with_n
 pub said : (ms : Members) → Judges (said_flaw ms) (config_of ms)
 unfolding said_flaw config_of
 said ms =
-    let same = regrouped (at (number_flaw keys.RelayFirst) (codes "relay_first") ms) (at (number_flaw keys.RelayPairs) (codes "relay_pairs") ms)
-    (at (number_flaw keys.SipPort) (codes "sip_port") ms) (at (number_flaw keys.MinExpires) (codes "min_expires") ms) (at workers_flaw (codes "workers") ms) (texts_flaw ms) in
+    let same = regrouped (at (required_flaw keys.RelayFirst) (codes "relay_first") ms) (at (required_flaw keys.RelayPairs) (codes "relay_pairs") ms)
+    (at (required_flaw keys.SipPort) (codes "sip_port") ms) (at (required_flaw keys.MinExpires) (codes "min_expires") ms) (at workers_flaw (codes "workers") ms) (texts_flaw ms) in
     let known = subst (λ (f : Option Flaw). Judges f (option_and_then (with_numbers ms) (numbers_at ms))) same (table ms) in
     unknown ms _ (option_and_then (with_numbers ms) (numbers_at ms)) known
 

@@ -6,9 +6,10 @@ use Rattle.toml.specs.Data.{Members}
 use Rattle.sip_uri.specs.Hosts.{ip4_of}
 use Rattle.configuration.specs.declared.config.Config.{Config}
 use Rattle.configuration.specs.declared.error.ConfigError.{ConfigError}
+use Rattle.configuration.specs.declared.level.LogLevel.{LogLevel}
 use Rattle.configuration.specs.declared.numbers.Numbers.{Numbers}
 use Rattle.configuration.specs.Rules.{is_server_address, KeepsRules}
-use Rattle.configuration.specs.Files.{has_known_keys, number_at, fitting, port_of, seconds_of, workers_at, numbers_at, text_at, octets_of, ip_at, key_at, domain_at, users_at, config_from, config_of}
+use Rattle.configuration.specs.Files.{has_known_keys, number_at, fitting, port_of, seconds_of, workers_at, numbers_at, text_at, octets_of, ip_at, key_at, domain_at, users_at, log_at, config_from, config_of}
 use Rattle.configuration.specs.Reading.{ReadsConfig, IsWritten, IsWrittenIn}
 use Rattle.configuration.proofs.RuleLaws.{kept}
 
@@ -38,12 +39,12 @@ abbrev numbers : ℤ → ℤ → ℤ → ℤ → ℕ → Numbers
 numbers first pairs port expires workers =
     record { relay_first = port_of first; relay_pairs = port_of pairs; sip_port = port_of port; min_expires = seconds_of expires; workers = workers }
 
-by_values : (ms : Members) (first pairs port expires : ℤ) (workers : ℕ) (text key : List ℕ) (domain : Option (List ℕ)) (users : List (List ℕ))
+by_values : (ms : Members) (first pairs port expires : ℤ) (workers : ℕ) (text key : List ℕ) (domain : Option (List ℕ)) (users : List (List ℕ)) (level : LogLevel)
     → number_at (codes "relay_first") ms ≡ Some first → number_at (codes "relay_pairs") ms ≡ Some pairs → number_at (codes "sip_port") ms ≡ Some port
     → number_at (codes "min_expires") ms ≡ Some expires → text_at (codes "ip") ms ≡ Some text
-    → KeepsRules (config_from (numbers first pairs port expires workers) (octets_of text) key domain users)
-    → IsWritten ms (config_from (numbers first pairs port expires workers) (octets_of text) key domain users)
-by_values ms first pairs port expires workers text key domain users a b c d e keeps = record {
+    → KeepsRules (config_from (numbers first pairs port expires workers) (octets_of text) key domain users level)
+    → IsWritten ms (config_from (numbers first pairs port expires workers) (octets_of text) key domain users level)
+by_values ms first pairs port expires workers text key domain users level a b c d e keeps = record {
   relay_first = a ∙ ap Some (fitting_is 65535 first (omega (arith, keeps.least)));
   relay_pairs = b ∙ ap Some (fitting_is 65535 pairs keeps.some_pairs);
   sip_port = c ∙ ap Some (fitting_is 65535 port keeps.port);
@@ -51,10 +52,10 @@ by_values ms first pairs port expires workers text key domain users a b c d e ke
   ip = (text, e, octets_are text keeps.address);
 }
 
-by_numbers : (ms : Members) (n : Numbers) (ip key : List ℕ) (domain : Option (List ℕ)) (users : List (List ℕ)) → numbers_at ms ≡ Some n → ip_at ms ≡ Some ip
-    → KeepsRules (config_from n ip key domain users) → IsWritten ms (config_from n ip key domain users)
+by_numbers : (ms : Members) (n : Numbers) (ip key : List ℕ) (domain : Option (List ℕ)) (users : List (List ℕ)) (level : LogLevel) → numbers_at ms ≡ Some n → ip_at ms ≡ Some ip
+    → KeepsRules (config_from n ip key domain users level) → IsWritten ms (config_from n ip key domain users level)
 unfolding numbers_at
-by_numbers ms n ip key domain users h i keeps =
+by_numbers ms n ip key domain users level h i keeps =
     let first = some_then (number_at (codes "relay_first") ms) _ n h in
     let pairs = some_then (number_at (codes "relay_pairs") ms) _ n first.2 in
     let port = some_then (number_at (codes "sip_port") ms) _ n pairs.2 in
@@ -62,25 +63,26 @@ by_numbers ms n ip key domain users h i keeps =
     let workers = some_then (workers_at ms) (λ w. Some (numbers first.0 pairs.0 port.0 expires.0 w)) n expires.2 in
     let text = mapped octets_of (text_at (codes "ip") ms) ip i in
     let same : numbers first.0 pairs.0 port.0 expires.0 workers.0 ≡ n = some_is _ _ workers.2 in
-    let at_text : KeepsRules (config_from n (octets_of text.0) key domain users) = subst (λ (os : List ℕ). KeepsRules (config_from n os key domain users)) (sym text.2) keeps in
-    let at_numbers = subst (λ (m : Numbers). KeepsRules (config_from m (octets_of text.0) key domain users)) (sym same) at_text in
-    let written = by_values ms first.0 pairs.0 port.0 expires.0 workers.0 text.0 key domain users first.1 pairs.1 port.1 expires.1 text.1 at_numbers in
-    subst (λ (os : List ℕ). IsWritten ms (config_from n os key domain users)) text.2
-    (subst (λ (m : Numbers). IsWritten ms (config_from m (octets_of text.0) key domain users)) same written)
+    let at_text : KeepsRules (config_from n (octets_of text.0) key domain users level) = subst (λ (os : List ℕ). KeepsRules (config_from n os key domain users level)) (sym text.2) keeps in
+    let at_numbers = subst (λ (m : Numbers). KeepsRules (config_from m (octets_of text.0) key domain users level)) (sym same) at_text in
+    let written = by_values ms first.0 pairs.0 port.0 expires.0 workers.0 text.0 key domain users level first.1 pairs.1 port.1 expires.1 text.1 at_numbers in
+    subst (λ (os : List ℕ). IsWritten ms (config_from n os key domain users level)) text.2
+    (subst (λ (m : Numbers). IsWritten ms (config_from m (octets_of text.0) key domain users level)) same written)
 
 by_table : (ms : Members) (c : Config) → config_of ms ≡ Some c → KeepsRules c → IsWritten ms c
 unfolding config_of
 by_table ms c h keeps = step (has_known_keys ms) h where
-  step : (b : Bool) → cond b (option_and_then (λ n. option_and_then (λ ip. option_and_then (λ key. option_and_then (λ domain. option_and_then (λ users. Some (config_from n ip key domain users)) (users_at ms)) (domain_at ms)) (key_at ms)) (ip_at ms)) (numbers_at ms)) None ≡ Some c → IsWritten ms c
+  step : (b : Bool) → cond b (option_and_then (λ n. option_and_then (λ ip. option_and_then (λ key. option_and_then (λ domain. option_and_then (λ users. option_and_then (λ level. Some (config_from n ip key domain users level)) (log_at ms)) (users_at ms)) (domain_at ms)) (key_at ms)) (ip_at ms)) (numbers_at ms)) None ≡ Some c → IsWritten ms c
   step false h = absurd cc
   step true h =
       let n = some_then (numbers_at ms) _ c h in
       let ip = some_then (ip_at ms) _ c n.2 in
       let key = some_then (key_at ms) _ c ip.2 in
       let domain = some_then (domain_at ms) _ c key.2 in
-      let users = some_then (users_at ms) (λ us. Some (config_from n.0 ip.0 key.0 domain.0 us)) c domain.2 in
-      let same : config_from n.0 ip.0 key.0 domain.0 users.0 ≡ c = some_is _ _ users.2 in
-      subst (λ (d : Config). IsWritten ms d) same (by_numbers ms n.0 ip.0 key.0 domain.0 users.0 n.1 ip.1 (subst (λ (d : Config). KeepsRules d) (sym same) keeps))
+      let users = some_then (users_at ms) _ c domain.2 in
+      let level = some_then (log_at ms) (λ l. Some (config_from n.0 ip.0 key.0 domain.0 users.0 l)) c users.2 in
+      let same : config_from n.0 ip.0 key.0 domain.0 users.0 level.0 ≡ c = some_is _ _ level.2 in
+      subst (λ (d : Config). IsWritten ms d) same (by_numbers ms n.0 ip.0 key.0 domain.0 users.0 level.0 n.1 ip.1 (subst (λ (d : Config). KeepsRules d) (sym same) keeps))
 
 pub written_at : (bytes : List ℕ) (r : Result Config ConfigError) → IfOk r (λ c. ReadsConfig bytes c) → IfOk r (λ c. IsWrittenIn bytes c)
 written_at bytes (Ok c) found = let says = found.says in (says.0, says.1, by_table says.0 c says.2 (kept c found.rules))

@@ -1,6 +1,7 @@
 -- The example office.
 use Rattle.std.specs.Prelude.{[], ◌∷◌, codes, Some, replicate}
 use Rattle.configuration.specs.declared.config.Config.{Config}
+use Rattle.configuration.specs.declared.level.LogLevel.TheVariants as levels
 
 -- users 100, 101 and 102 of office.example, at 192.0.2.1:5060, bound for a minute at least, with eight pairs of ports
 -- from 40000 on
@@ -15,4 +16,5 @@ example = record {
   domain = Some (codes "office.example");
   workers = 2;
   random_key = replicate 32 0;
+  log = levels.Calls;
 }

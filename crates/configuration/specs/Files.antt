@@ -7,6 +7,8 @@ use Rattle.hex.specs.Hex.{decode_sized}
 use Rattle.sip_uri.specs.Hosts.{ip4_of}
 use Rattle.configuration.specs.Limits.{max_workers, usual_workers}
 use Rattle.configuration.specs.declared.config.Config.{Config}
+use Rattle.configuration.specs.declared.level.LogLevel.{LogLevel}
+use Rattle.configuration.specs.declared.level.LogLevel.TheVariants as levels
 use Rattle.configuration.specs.declared.numbers.Numbers.{Numbers}
 
 -- ---- keys
@@ -18,7 +20,7 @@ abbrev pub is_known_key : List ℕ → Bool
 is_known_key key =
     is_same key (codes "relay_first") || is_same key (codes "relay_pairs") || is_same key (codes "ip") || is_same key (codes "sip_port")
     || is_same key (codes "users") || is_same key (codes "min_expires") || is_same key (codes "domain") || is_same key (codes "workers")
-    || is_same key (codes "random_key")
+    || is_same key (codes "random_key") || is_same key (codes "log")
 
 -- each key of the table is known
 abbrev pub has_known_keys : Members → Bool
@@ -116,10 +118,31 @@ array_at key ms = option_and_then as_array (get_member key ms)
 abbrev pub users_at : Members → Option (List (List ℕ))
 users_at ms = option_and_then texts_of (array_at (codes "users") ms)
 
+-- ---- how much is told
+
+abbrev pub level_named : List ℕ → Option LogLevel
+level_named word =
+    if is_same word (codes "none") then Some levels.Nothing
+    else if is_same word (codes "trouble") then Some levels.Trouble
+    else if is_same word (codes "calls") then Some levels.Calls
+    else if is_same word (codes "all") then Some levels.All
+    else None
+
+abbrev pub log_in : Data → Option LogLevel
+log_in value = option_and_then level_named (as_str value)
+
+-- the level, which may be missing
+abbrev pub log_of : Option Data → Option LogLevel
+log_of None = Some levels.Calls
+log_of (Some value) = log_in value
+
+abbrev pub log_at : Members → Option LogLevel
+log_at ms = log_of (get_member (codes "log") ms)
+
 -- ---- all of them
 
-abbrev pub config_from : Numbers → List ℕ → List ℕ → Option (List ℕ) → List (List ℕ) → Config
-config_from numbers ip key domain users = record {
+abbrev pub config_from : Numbers → List ℕ → List ℕ → Option (List ℕ) → List (List ℕ) → LogLevel → Config
+config_from numbers ip key domain users log = record {
   relay_first = numbers.relay_first;
   relay_pairs = numbers.relay_pairs;
   ip = ip;
@@ -129,6 +152,7 @@ config_from numbers ip key domain users = record {
   domain = domain;
   workers = numbers.workers;
   random_key = key;
+  log = log;
 }
 
 -- the configuration that a table says, whether or not it keeps the rules: none where a key is unknown, missing or of
@@ -140,6 +164,7 @@ config_of ms =
     option_and_then (λ ip.
     option_and_then (λ key.
     option_and_then (λ domain.
-    option_and_then (λ users. Some (config_from numbers ip key domain users))
-    (users_at ms)) (domain_at ms)) (key_at ms)) (ip_at ms)) (numbers_at ms)
+    option_and_then (λ users.
+    option_and_then (λ log. Some (config_from numbers ip key domain users log))
+    (log_at ms)) (users_at ms)) (domain_at ms)) (key_at ms)) (ip_at ms)) (numbers_at ms)
     else None

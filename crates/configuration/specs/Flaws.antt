@@ -9,7 +9,7 @@ use Rattle.registrar.specs.Limits.{max_users}
 use Rattle.configuration.specs.Limits.{min_relay_port, max_relay_pairs}
 use Rattle.configuration.specs.Names.{is_user}
 use Rattle.configuration.specs.Rules.{has_room_for_ports, is_relay_port, is_server_address, has_lifetime, has_domain}
-use Rattle.configuration.specs.Files.{is_known_key, few, natural, number_at, text_at, key_of, texts_of, config_of}
+use Rattle.configuration.specs.Files.{is_known_key, few, natural, number_at, text_at, key_of, level_named, config_of}
 use Rattle.configuration.specs.declared.config.Config.{Config}
 use Rattle.configuration.specs.declared.error.ConfigError.{ConfigError}
 use Rattle.configuration.specs.declared.error.ConfigError.TheVariants as rules
@@ -30,6 +30,7 @@ key_name keys.MinExpires = codes "min_expires"
 key_name keys.Domain = codes "domain"
 key_name keys.Workers = codes "workers"
 key_name keys.RandomKey = codes "random_key"
+key_name keys.Log = codes "log"
 
 -- the rule of a key's value
 abbrev pub key_rule : Key → ConfigError
@@ -42,6 +43,7 @@ key_rule keys.MinExpires = rules.MinExpires
 key_rule keys.Domain = rules.Domain
 key_rule keys.Workers = rules.File
 key_rule keys.RandomKey = rules.File
+key_rule keys.Log = rules.File
 
 -- the rule that a flaw breaks
 abbrev pub rule_of : Flaw → ConfigError
@@ -74,10 +76,30 @@ abbrev pub unless : {X : Type 0} → Option X → Flaw → Option Flaw
 unless None flaw = Some flaw
 unless (Some x) flaw = None
 
--- a whole number has to be there
-abbrev pub number_flaw : Key → Option Data → Option Flaw
-number_flaw key None = Some (Missing key)
-number_flaw key (Some value) = unless (as_integer value) (OtherType key)
+abbrev pub has_type_of : Key → Data → Bool
+has_type_of keys.RelayFirst value = is_some (as_integer value)
+has_type_of keys.RelayPairs value = is_some (as_integer value)
+has_type_of keys.Ip value = is_some (as_str value)
+has_type_of keys.SipPort value = is_some (as_integer value)
+has_type_of keys.Users value = is_some (as_array value)
+has_type_of keys.MinExpires value = is_some (as_integer value)
+has_type_of keys.Domain value = is_some (as_str value)
+has_type_of keys.Workers value = is_some (as_integer value)
+has_type_of keys.RandomKey value = is_some (as_str value)
+has_type_of keys.Log value = is_some (as_str value)
+
+abbrev pub type_flaw : Key → Data → Option Flaw
+type_flaw key value = if has_type_of key value then None else Some (OtherType key)
+
+-- a value of the key's type has to be there
+abbrev pub required_flaw : Key → Option Data → Option Flaw
+required_flaw key None = Some (Missing key)
+required_flaw key (Some value) = type_flaw key value
+
+-- one may be there
+abbrev pub optional_flaw : Key → Option Data → Option Flaw
+optional_flaw key None = None
+optional_flaw key (Some value) = type_flaw key value
 
 -- a number of workers may be there
 abbrev pub count_flaw : Option ℤ → Option Flaw
@@ -88,10 +110,6 @@ abbrev pub workers_flaw : Option Data → Option Flaw
 workers_flaw None = None
 workers_flaw (Some value) = count_flaw (as_integer value)
 
-abbrev pub text_flaw : Key → Option Data → Option Flaw
-text_flaw key None = Some (Missing key)
-text_flaw key (Some value) = unless (as_str value) (OtherType key)
-
 abbrev pub digits_flaw : Option (List ℕ) → Option Flaw
 digits_flaw None = Some (OtherType keys.RandomKey)
 digits_flaw (Some text) = unless (key_of text) (RandomKey (length text))
@@ -99,11 +117,6 @@ digits_flaw (Some text) = unless (key_of text) (RandomKey (length text))
 abbrev pub random_key_flaw : Option Data → Option Flaw
 random_key_flaw None = Some (Missing keys.RandomKey)
 random_key_flaw (Some value) = digits_flaw (as_str value)
-
--- a text may be there
-abbrev pub domain_type_flaw : Option Data → Option Flaw
-domain_type_flaw None = None
-domain_type_flaw (Some value) = unless (as_str value) (OtherType keys.Domain)
 
 abbrev pub are_texts : Items → Bool
 are_texts no_items = true
@@ -118,19 +131,29 @@ abbrev pub users_type_flaw : Option Data → Option Flaw
 users_type_flaw None = Some (Missing keys.Users)
 users_type_flaw (Some value) = list_flaw (as_array value)
 
+abbrev pub word_flaw : Option (List ℕ) → Option Flaw
+word_flaw None = Some (OtherType keys.Log)
+word_flaw (Some word) = unless (level_named word) (Malformed keys.Log word)
+
+-- a word of the log may be there
+abbrev pub log_flaw : Option Data → Option Flaw
+log_flaw None = None
+log_flaw (Some value) = word_flaw (as_str value)
+
 -- the first flaw for which a table says no configuration
 unfoldable pub said_flaw : Members → Option Flaw
 said_flaw ms =
     option_or (unknown_flaw (unknown_key ms))
-    (option_or (number_flaw keys.RelayFirst (get_member (codes "relay_first") ms))
-    (option_or (number_flaw keys.RelayPairs (get_member (codes "relay_pairs") ms))
-    (option_or (number_flaw keys.SipPort (get_member (codes "sip_port") ms))
-    (option_or (number_flaw keys.MinExpires (get_member (codes "min_expires") ms))
+    (option_or (required_flaw keys.RelayFirst (get_member (codes "relay_first") ms))
+    (option_or (required_flaw keys.RelayPairs (get_member (codes "relay_pairs") ms))
+    (option_or (required_flaw keys.SipPort (get_member (codes "sip_port") ms))
+    (option_or (required_flaw keys.MinExpires (get_member (codes "min_expires") ms))
     (option_or (workers_flaw (get_member (codes "workers") ms))
-    (option_or (text_flaw keys.Ip (get_member (codes "ip") ms))
+    (option_or (required_flaw keys.Ip (get_member (codes "ip") ms))
     (option_or (random_key_flaw (get_member (codes "random_key") ms))
-    (option_or (domain_type_flaw (get_member (codes "domain") ms))
-    (users_type_flaw (get_member (codes "users") ms))))))))))
+    (option_or (optional_flaw keys.Domain (get_member (codes "domain") ms))
+    (option_or (users_type_flaw (get_member (codes "users") ms))
+    (log_flaw (get_member (codes "log") ms)))))))))))
 
 -- ---- the rules
 

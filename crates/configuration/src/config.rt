@@ -2,6 +2,7 @@
 
 ghost use Rattle.std.specs.Prelude.{IfOk, ◌≡◌};
 
+use crate::level::LogLevel;
 use sip_uri::put_ip4;
 use std::alloc::{AllocError, Global};
 use text::{Text, Texts};
@@ -26,6 +27,8 @@ pub struct Config {
     pub workers: u8,
     /// The key of the random numbers that salts are taken from.
     pub random_key: [u8; 32],
+    /// How much is told of what the server does.
+    pub log: LogLevel,
 }
 
 impl Drop for Config {
@@ -40,6 +43,7 @@ impl Drop for Config {
             domain: _,
             workers: _,
             random_key: _,
+            log: _,
         } = self;
     }
 }

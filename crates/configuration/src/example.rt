@@ -4,6 +4,7 @@ ghost use Rattle.std.specs.Prelude.{◌≡◌, IfOk};
 ghost use Rattle.configuration.specs.Example.{example};
 
 use crate::config::Config;
+use crate::level::LogLevel;
 use std::alloc::{AllocError, Global};
 use text::{Text, Texts};
 
@@ -37,5 +38,6 @@ pub fn example_config(alloc: Global) -> Result<Config, AllocError>
         domain: Some(domain),
         workers: 2,
         random_key: [0; 32],
+        log: LogLevel::Calls,
     })
 }

@@ -3,11 +3,12 @@
 ghost use Rattle.std.specs.Prelude.{◌≡◌, option_and_then};
 ghost use Rattle.toml.specs.Data.{as_str};
 ghost use Rattle.toml.specs.View.{view, array_view, table_view};
-ghost use Rattle.configuration.specs.Files.{few, natural, workers_in, workers_at, numbers_at, octets_of, ip_at, key_of, key_at, domain_at, texts_of, users_at, config_of};
+ghost use Rattle.configuration.specs.Files.{few, natural, workers_in, workers_at, numbers_at, octets_of, ip_at, key_of, key_at, domain_at, texts_of, users_at, log_in, log_at, config_of};
 ghost use Rattle.configuration.specs.Reading.{Gives};
 
 use crate::config::Config;
 use crate::error::ConfigError;
+use crate::level::{LogLevel, USUAL_LEVEL, level_named};
 use crate::numbers::{Numbers, below_2_8, port_of, seconds_of};
 use crate::tables::{array_at, has_known_keys, number_at, text_at, value_at};
 use hex::FromHex;
@@ -135,6 +136,21 @@ fn users_at(alloc: Global, table: &Table) -> Result<Texts<'static>, ConfigError>
     }
 }
 
+fn log_in(value: &Value) -> Option<LogLevel>
+    ensures { result ≡ log_in (view value.now) }
+{
+    level_named(value.as_str()?.as_bytes())
+}
+
+fn log_at(table: &Table) -> Option<LogLevel>
+    ensures { result ≡ log_at (table_view table.now) }
+{
+    match value_at(table, "log") {
+        Some(value) => log_in(value),
+        None => Some(USUAL_LEVEL),
+    }
+}
+
 /// The configuration that a table says, whether or not it keeps the rules.
 #[tactic(auto, unfolding(crate::specs::Files::config_of))]
 pub(crate) fn config_of(alloc: Global, table: &Table) -> Result<Config, ConfigError>
@@ -148,6 +164,7 @@ pub(crate) fn config_of(alloc: Global, table: &Table) -> Result<Config, ConfigEr
     let key = key_at(table).ok_or(ConfigError::File)?;
     let domain = domain_at(alloc, table)?;
     let users = users_at(alloc, table)?;
+    let log = log_at(table).ok_or(ConfigError::File)?;
     Ok(Config {
         relay_first: numbers.relay_first,
         relay_pairs: numbers.relay_pairs,
@@ -158,5 +175,6 @@ pub(crate) fn config_of(alloc: Global, table: &Table) -> Result<Config, ConfigEr
         domain,
         workers: numbers.workers,
         random_key: key,
+        log,
     })
 }

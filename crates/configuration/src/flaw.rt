@@ -21,7 +21,7 @@ pub enum Flaw<'a> {
     PastLastPort(i64),
     /// The port for SIP is one of the relay's.
     RelayPort(i64),
-    /// The address, the domain or a user.
+    /// The address, the domain, a user or the word of the log.
     Malformed(Key, Text<'a>),
     /// The key of the random numbers has so many bytes, which are secret.
     RandomKey(usize),
@@ -41,7 +41,7 @@ fn key_rule(key: Key) -> ConfigError
         Key::Users => ConfigError::Users,
         Key::MinExpires => ConfigError::MinExpires,
         Key::Domain => ConfigError::Domain,
-        Key::Workers | Key::RandomKey => ConfigError::File,
+        Key::Workers | Key::RandomKey | Key::Log => ConfigError::File,
     }
 }
 

@@ -5,14 +5,15 @@ ghost use Rattle.std.specs.List.{list_any};
 ghost use Rattle.std.specs.Cmp.Lexicographic.{pointwise};
 ghost use Rattle.std.specs.Option.{option_copied};
 ghost use Rattle.toml.specs.Data.{get_member};
-ghost use Rattle.toml.specs.View.{table_view, array_view};
-ghost use Rattle.configuration.specs.Flaws.{key_name, unknown_key, unknown_flaw, number_flaw, count_flaw, workers_flaw, text_flaw, digits_flaw, random_key_flaw, domain_type_flaw, users_type_flaw, said_flaw, said_number, relay_flaw, address_flaw, are_texts, malformed_user, user_twice, users_flaw, lifetime_flaw, domain_flaw, rules_flaw, flaw_in};
+ghost use Rattle.toml.specs.View.{view, table_view, array_view};
+ghost use Rattle.configuration.specs.Flaws.{key_name, unknown_key, unknown_flaw, type_flaw, required_flaw, optional_flaw, count_flaw, workers_flaw, digits_flaw, random_key_flaw, users_type_flaw, word_flaw, log_flaw, said_flaw, said_number, relay_flaw, address_flaw, are_texts, malformed_user, user_twice, users_flaw, lifetime_flaw, domain_flaw, rules_flaw, flaw_in};
 
 use crate::config::Config;
 use crate::error::ConfigError;
 use crate::fields::{config_of, key_of, workers_of};
 use crate::flaw::Flaw;
 use crate::key::Key;
+use crate::level::level_named;
 use crate::names::{is_among, is_user};
 use crate::rules::{
     MAX_RELAY_PAIRS, MAX_USERS, MIN_RELAY_PORT, has_domain, has_lifetime, has_room_for_ports,
@@ -21,8 +22,8 @@ use crate::rules::{
 use crate::tables::{is_known_key, number_at, text_at, value_at};
 use std::alloc::{AllocError, Global};
 use text::Text;
-use toml::Table;
 use toml::value::Array;
+use toml::{Table, Value};
 
 /// The first key of a table that is none of a configuration.
 fn unknown_key(table: &Table) -> Option<&str>
@@ -45,15 +46,31 @@ fn unknown_flaw(table: &Table) -> Option<Flaw<'_>>
     }
 }
 
-fn number_flaw(table: &Table, key: Key) -> Option<Flaw<'_>>
-    ensures { result ≡ number_flaw key (get_member (key_name key) (table_view table.now)) }
+fn type_flaw<'t>(key: Key, value: &Value) -> Option<Flaw<'t>>
+    ensures { result ≡ type_flaw key (view value.now) }
+{
+    if key.has_type_of(value) {
+        None
+    } else {
+        Some(Flaw::OtherType(key))
+    }
+}
+
+fn required_flaw(table: &Table, key: Key) -> Option<Flaw<'_>>
+    ensures { result ≡ required_flaw key (get_member (key_name key) (table_view table.now)) }
 {
     match value_at(table, key.name()) {
-        Some(value) => match value.as_integer() {
-            Some(_) => None,
-            None => Some(Flaw::OtherType(key)),
-        },
+        Some(value) => type_flaw(key, value),
         None => Some(Flaw::Missing(key)),
+    }
+}
+
+fn optional_flaw(table: &Table, key: Key) -> Option<Flaw<'_>>
+    ensures { result ≡ optional_flaw key (get_member (key_name key) (table_view table.now)) }
+{
+    match value_at(table, key.name()) {
+        Some(value) => type_flaw(key, value),
+        None => None,
     }
 }
 
@@ -78,18 +95,6 @@ fn workers_flaw(table: &Table) -> Option<Flaw<'_>>
     }
 }
 
-fn text_flaw(table: &Table, key: Key) -> Option<Flaw<'_>>
-    ensures { result ≡ text_flaw key (get_member (key_name key) (table_view table.now)) }
-{
-    match value_at(table, key.name()) {
-        Some(value) => match value.as_str() {
-            Some(_) => None,
-            None => Some(Flaw::OtherType(key)),
-        },
-        None => Some(Flaw::Missing(key)),
-    }
-}
-
 fn digits_flaw<'t>(text: Option<&'t str>) -> Option<Flaw<'t>>
     ensures { result ≡ digits_flaw (option_copied text.entry) }
 {
@@ -108,18 +113,6 @@ fn random_key_flaw(table: &Table) -> Option<Flaw<'_>>
     match value_at(table, "random_key") {
         Some(value) => digits_flaw(value.as_str()),
         None => Some(Flaw::Missing(Key::RandomKey)),
-    }
-}
-
-fn domain_type_flaw(table: &Table) -> Option<Flaw<'_>>
-    ensures { result ≡ domain_type_flaw (get_member (codes "domain") (table_view table.now)) }
-{
-    match value_at(table, "domain") {
-        Some(value) => match value.as_str() {
-            Some(_) => None,
-            None => Some(Flaw::OtherType(Key::Domain)),
-        },
-        None => None,
     }
 }
 
@@ -146,21 +139,43 @@ fn users_type_flaw(table: &Table) -> Option<Flaw<'_>>
     }
 }
 
+fn word_flaw<'t>(word: Option<&'t str>) -> Option<Flaw<'t>>
+    ensures { result ≡ word_flaw (option_copied word.entry) }
+{
+    let Some(word) = word else {
+        return Some(Flaw::OtherType(Key::Log));
+    };
+    match level_named(word.as_bytes()) {
+        Some(_) => None,
+        None => Some(Flaw::Malformed(Key::Log, Text::lent(word.as_bytes()))),
+    }
+}
+
+fn log_flaw(table: &Table) -> Option<Flaw<'_>>
+    ensures { result ≡ log_flaw (get_member (codes "log") (table_view table.now)) }
+{
+    match value_at(table, "log") {
+        Some(value) => word_flaw(value.as_str()),
+        None => None,
+    }
+}
+
 /// The first flaw for which a table says no configuration.
 #[tactic(auto, unfolding(crate::specs::Flaws::said_flaw))]
 fn said_flaw(table: &Table) -> Option<Flaw<'_>>
     ensures { result ≡ said_flaw (table_view table.now) }
 {
     unknown_flaw(table)
-        .or(number_flaw(table, Key::RelayFirst))
-        .or(number_flaw(table, Key::RelayPairs))
-        .or(number_flaw(table, Key::SipPort))
-        .or(number_flaw(table, Key::MinExpires))
+        .or(required_flaw(table, Key::RelayFirst))
+        .or(required_flaw(table, Key::RelayPairs))
+        .or(required_flaw(table, Key::SipPort))
+        .or(required_flaw(table, Key::MinExpires))
         .or(workers_flaw(table))
-        .or(text_flaw(table, Key::Ip))
+        .or(required_flaw(table, Key::Ip))
         .or(random_key_flaw(table))
-        .or(domain_type_flaw(table))
+        .or(optional_flaw(table, Key::Domain))
         .or(users_type_flaw(table))
+        .or(log_flaw(table))
 }
 
 /// The number that a table says, which its field may have no room for.

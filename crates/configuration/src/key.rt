@@ -1,5 +1,7 @@
 //! The keys of a configuration's file.
 
+use toml::Value;
+
 /// A key of a configuration's file.
 #[derive(Clone, Copy, Debug)]
 pub enum Key {
@@ -12,11 +14,13 @@ pub enum Key {
     Domain,
     Workers,
     RandomKey,
+    Log,
 }
 
 impl Key {
     ghost use Rattle.std.specs.Prelude.{◌≡◌};
-    ghost use Rattle.configuration.specs.Flaws.{key_name};
+    ghost use Rattle.toml.specs.View.{view};
+    ghost use Rattle.configuration.specs.Flaws.{key_name, has_type_of};
 
     /// How a file spells it.
     pub fn name(self) -> &'static str
@@ -32,11 +36,24 @@ impl Key {
             Key::Domain => "domain",
             Key::Workers => "workers",
             Key::RandomKey => "random_key",
+            Key::Log => "log",
+        }
+    }
+
+    /// Whether a value is of the key's type.
+    pub(crate) fn has_type_of(self, value: &Value) -> bool
+        ensures { result ≡ has_type_of self (view value.now) }
+    {
+        match self {
+            Key::RelayFirst | Key::RelayPairs | Key::SipPort | Key::MinExpires | Key::Workers =>
+                value.as_integer().is_some(),
+            Key::Ip | Key::Domain | Key::RandomKey | Key::Log => value.as_str().is_some(),
+            Key::Users => value.as_array().is_some(),
         }
     }
 
     /// What is asked of its value, in words.
-    pub fn asked(self) -> &'static str {
+    pub(crate) fn asked(self) -> &'static str {
         match self {
             Key::RelayFirst => "an even port from 1024 to 65534",
             Key::RelayPairs => "a number from 1 to 2048 with no port above 65535",
@@ -49,6 +66,7 @@ impl Key {
             Key::Domain => "a host name",
             Key::Workers => "a number from 1 to 8",
             Key::RandomKey => "a text of 64 hexadecimal digits",
+            Key::Log => "\"none\", \"trouble\", \"calls\" or \"all\"",
         }
     }
 }

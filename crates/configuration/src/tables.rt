@@ -31,6 +31,7 @@ pub(crate) fn is_known_key(key: &[u8]) -> bool
         || is_same(key, b"domain")
         || is_same(key, b"workers")
         || is_same(key, b"random_key")
+        || is_same(key, b"log")
 }
 
 fn all_known(table: &Table) -> bool

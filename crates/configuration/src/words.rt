@@ -60,6 +60,7 @@ fn unfit(key: Key) -> &'static str {
     match key {
         Key::Ip => "is no address of a server",
         Key::Domain => "is no host name",
+        Key::Log => "is no word for the log",
         _ => "is no name of a user",
     }
 }

@@ -10,7 +10,7 @@ ghost use Rattle.live.specs.Turns.{HasTable};
 use crate::round::Round;
 use crate::signalling::Signalling;
 use crate::streaks::{End, Streaks};
-use crate::trouble::{Operator, tell_of};
+use crate::trouble::{Operator, tell_of, tell_of_event};
 use crate::wire::Wire;
 use media_laws::agents_stand;
 use std::sync::Wait;
@@ -37,7 +37,7 @@ fn one_less(turns: Option<u64>) -> Option<Option<u64>>
     }
 }
 
-// One round, of whose trouble the operator is told.
+// One round, of whose trouble and event the operator is told.
 fn go_on<W: Wire, C: Clock, O: Operator, R: Wait>(
     rt: &R,
     signalling: &mut Signalling<W>,
@@ -64,15 +64,17 @@ fn go_on<W: Wire, C: Clock, O: Operator, R: Wait>(
     ensures table { MatchOption (end_after streaks.new result) (HasTable signalling.new.board signalling.new.agent)
         (λ end. TableAt signalling.new.board signalling.new.agent end) }
 {
-    let round = signalling.round(rt, clock.now());
+    let now = clock.now();
+    let round = signalling.round(rt, now);
     let before = *streaks;
     *streaks = before.after(round);
     tell_of(operator, before.trouble_until(*streaks));
+    tell_of_event(operator, &signalling.agent, round, now);
     round
 }
 
 /// Makes rounds until as many are made as are asked for, until the flag is set, or until too many in a row fail. The
-/// operator is told of each kind of trouble as it begins.
+/// operator is told of each kind of trouble as it begins, and of each event once the agent took it.
 pub fn serve<W: Wire, C: Clock, O: Operator, R: Wait>(
     rt: &R,
     signalling: &mut Signalling<W>,

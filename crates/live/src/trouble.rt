@@ -1,11 +1,14 @@
-//! Trouble that an operator is told of, as it begins.
+//! Trouble that an operator is told of, as it begins, and what events were about.
 
 ghost use Rattle.std.specs.Prelude.{◌≡◌, Option, Some};
 ghost use Rattle.live.specs.Troubles.{trouble_between};
 ghost use Rattle.live.specs.Serving.{with_trouble};
 ghost use Rattle.live.specs.declared.trouble.Trouble as declared;
 
+use crate::round::Round;
 use crate::streaks::Streaks;
+use crate::turn::Turned;
+use agent::Agent;
 
 /// A kind of trouble.
 #[derive(Clone, Copy)]
@@ -24,6 +27,10 @@ pub trait Operator {
     /// A kind of trouble begins.
     fn tell(&mut self, trouble: Trouble)
         ensures told { told self.new ≡ Some trouble };
+
+    /// The agent took an event at this moment, in milliseconds. Its note says what that was about.
+    fn noted(&mut self, agent: &Agent, now: u64)
+        ensures told { told self.new ≡ told self.old };
 }
 
 impl Streaks {
@@ -48,5 +55,17 @@ pub(crate) fn tell_of<O: Operator>(operator: &mut O, trouble: Option<Trouble>)
 {
     if let Some(trouble) = trouble {
         operator.tell(trouble);
+    }
+}
+
+/// The operator is told of the event of a round, where the agent took one.
+pub(crate) fn tell_of_event<O: Operator>(operator: &mut O, agent: &Agent, round: Round, now: u64)
+    ensures { O.told operator.new ≡ O.told operator.old }
+{
+    match round {
+        Round::Fired(Turned::Done(_, _)) | Round::Took(Turned::Done(_, _)) => {
+            operator.noted(agent, now);
+        }
+        _ => {}
     }
 }

@@ -3,7 +3,11 @@
 #![tactic(auto)]
 
 mod announcement;
+mod counts;
 mod disk;
+mod event_log;
+mod limit;
+mod refusal;
 mod shared;
 mod telephony;
 mod troubles;
@@ -58,6 +62,7 @@ fn main(rt: HostRuntime) -> ExitCode {
     let mut telephony = Telephony {
         rt: &rt,
         request: None,
+        refusal: None,
     };
     let ending = ending(&rt, &mut telephony).unwrap_or_else(Ending::Refused);
     if let Some(help) = ending.help() {
@@ -68,6 +73,9 @@ fn main(rt: HostRuntime) -> ExitCode {
     }
     if let Some(reason) = ending.reason() {
         let _ = eprintln!(rt; "{reason}");
+    }
+    if let Some(refusal) = telephony.refusal {
+        let _ = eprintln!(rt; "{refusal}");
     }
     ExitCode::from(ending.status())
 }

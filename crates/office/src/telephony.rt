@@ -4,6 +4,8 @@ ghost use Rattle.std.specs.Prelude.{IfOk};
 ghost use Rattle.live.specs.Turns.{HasTable};
 
 use crate::announcement::{Announcement, Announcer, warn_of_zeros};
+use crate::counts::counts_line;
+use crate::refusal::{Refusal, lacks_descriptors};
 use crate::shared::Shared;
 use crate::troubles::Troubles;
 use crate::watch::Watch;
@@ -15,6 +17,7 @@ use relay::{Board, Unopened, Worker, serve_media};
 use server::{Host, HostFault};
 use sockets::{MediaSockets, Sockets, bind, worker_count, workers_of};
 use std::alloc::Global;
+use std::fs::Files;
 use std::net::Net;
 use std::rt::Clock;
 use std::snapshot::Snapshot;
@@ -34,6 +37,16 @@ pub(crate) struct Telephony<'a, R> {
     pub(crate) rt: &'a R,
     /// What was asked last. Only clauses read it.
     pub(crate) request: Option<(Snapshot<Config>, Option<u64>)>,
+    /// Why no sockets were opened, where none were.
+    pub(crate) refusal: Option<Refusal>,
+}
+
+/// All sockets of a configuration, or why there are none.
+fn open<R: Net + Files + AllocGlobal>(rt: &R, config: &Config) -> Result<Sockets, Refusal> {
+    match lacks_descriptors(rt, config) {
+        Some(refusal) => Err(refusal),
+        None => bind(rt, rt.alloc(), config).map_err(Refusal::Unbound),
+    }
 }
 
 fn host_fault(error: io::Error) -> HostFault {
@@ -45,9 +58,9 @@ fn host_fault(error: io::Error) -> HostFault {
 }
 
 /// The signalling until its end, which ends the workers too.
-fn signal<R: Wait, M: Moments, O: Operator>(
+fn signal<R: Wait, W: Wire, M: Moments, O: Operator>(
     rt: &R,
-    signalling: &mut Signalling<SipWire>,
+    signalling: &mut Signalling<W>,
     watch: &mut M,
     operator: &mut O,
     stop: &AtomicBool,
@@ -79,8 +92,8 @@ fn relay_media<R: Threads + Wait + Sync>(
 }
 
 /// Waits until so many workers have begun. Whether they have, in time: a thread that can't be made begins none.
-fn have_begun<M: Moments>(
-    wire: &mut SipWire,
+fn have_begun<W: Wire, M: Moments>(
+    wire: &mut W,
     watch: &mut M,
     begun: &AtomicUsize,
     count: usize,
@@ -109,24 +122,18 @@ fn outcome(end: End, refused: bool) -> Result<(), HostFault> {
 }
 
 /// A line that tells how events were answered.
-fn report<R: Eprint>(rt: &R, tally: Tally) {
-    let _ = eprint!(rt;
-        "office: done {} unread {} stray {} ack {}",
-        tally.done, tally.unread, tally.stray, tally.ack
-    );
-    let _ = eprint!(rt;
-        " no_branch {} clock {} spent {}",
-        tally.no_branch, tally.clock, tally.spent
-    );
-    let _ = eprintln!(rt; " shed {} idle {}", tally.shed, tally.idle);
+fn report<R: Eprint>(rt: &R, alloc: Global, tally: Tally) {
+    if let Ok(line) = counts_line(alloc, tally) {
+        let _ = eprint!(rt; "{line}");
+    }
 }
 
 /// Serves on a board to which nothing was published, once each worker has a thread, and ends it. Gives how events were
 /// answered, too.
-fn serve_on<R: Threads + Wait + Sync, A: Announcer, M: Moments, O: Operator>(
+fn serve_on<R: Threads + Wait + Sync, A: Announcer, W: Wire + Drop, M: Moments, O: Operator>(
     rt: &R,
     announcer: &A,
-    mut signalling: Signalling<SipWire>,
+    mut signalling: Signalling<W>,
     watch: &mut M,
     operator: &mut O,
     workers: Vec<Worker<MediaSockets>>,
@@ -156,13 +163,13 @@ fn serve_on<R: Threads + Wait + Sync, A: Announcer, M: Moments, O: Operator>(
 }
 
 /// The board with the rest of the signalling, and a worker for each viewer, where all sockets are open.
-fn parts_of<R: Wait>(
-    rt: &R,
+fn parts_of<'a, R: Wait>(
+    rt: &'a R,
     alloc: Global,
     config: &Config,
     sockets: Sockets,
     start: u64,
-) -> Result<(Signalling<SipWire>, Vec<Worker<MediaSockets>>), HostFault>
+) -> Result<(Signalling<SipWire<'a, R>>, Vec<Worker<MediaSockets>>), HostFault>
     ensures { IfOk result (λ parts. HasTable parts.0.board parts.0.agent) }
 {
     let Sockets { sip, relay } = sockets;
@@ -178,7 +185,11 @@ fn parts_of<R: Wait>(
         board.close(rt);
         return Err(HostFault::OutOfMemory);
     };
-    match Signalling::new(alloc, config, board, SipWire::new(sip), start) {
+    let Ok(wire) = SipWire::new(rt, alloc, config.log, sip) else {
+        board.close(rt);
+        return Err(HostFault::OutOfMemory);
+    };
+    match Signalling::new(alloc, config, board, wire, start) {
         Ok(signalling) => Ok((signalling, workers)),
         Err((board, _)) => {
             board.close(rt);
@@ -187,7 +198,7 @@ fn parts_of<R: Wait>(
     }
 }
 
-impl<R: Net + Clock + Threads + Wait + Sync + Shared + Print + Eprint + AllocGlobal> Host
+impl<R: Net + Files + Clock + Threads + Wait + Sync + Shared + Print + Eprint + AllocGlobal> Host
     for Telephony<'_, R> {
     ghost use Rattle.std.specs.Prelude.{option_map};
 
@@ -197,11 +208,17 @@ impl<R: Net + Clock + Threads + Wait + Sync + Shared + Print + Eprint + AllocGlo
         self.request = Some((Snapshot::of(config), turns));
         warn_of_zeros(self.rt, config);
         let alloc = self.rt.alloc();
-        let sockets = bind(self.rt, alloc, config).map_err(host_fault)?;
+        let sockets = match open(self.rt, config) {
+            Ok(sockets) => sockets,
+            Err(refusal) => {
+                self.refusal = Some(refusal);
+                return Err(refusal.fault());
+            }
+        };
         let mut watch = Watch::new(self.rt).map_err(host_fault)?;
         let start = self.rt.since_1970().map_err(host_fault)?.as_secs();
         let (signalling, workers) = parts_of(self.rt, alloc, config, sockets, start)?;
-        let mut troubles = Troubles::new(self.rt);
+        let mut troubles = Troubles::new(self.rt, alloc, config.log);
         let (tally, served) = serve_on(
             self.rt,
             &Announcement {
@@ -214,7 +231,7 @@ impl<R: Net + Clock + Threads + Wait + Sync + Shared + Print + Eprint + AllocGlo
             workers,
             turns,
         );
-        report(self.rt, tally);
+        report(self.rt, alloc, tally);
         served
     }
 }

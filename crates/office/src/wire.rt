@@ -1,29 +1,62 @@
 //! The socket for SIP, as the signalling has it.
 
+use configuration::LogLevel;
 use live::{NumberLog, Wire, WireFault};
 use sip_uri::Addr;
-use sockets::SipSocket;
+use sockets::{Refusal, Refusals, SipSocket};
+use std::alloc::{AllocError, Global};
 
-/// Hands what it is asked on to the socket.
+/// Hands what it is asked on to the socket. Where the system refuses to send to an address, a line on standard error
+/// tells it as that begins, and one as it ends.
 #[derive(Drop)]
-pub(crate) struct SipWire {
+pub(crate) struct SipWire<'a, R> {
+    rt: &'a R,
+    level: LogLevel,
+    refusals: Refusals,
     pub(crate) socket: SipSocket,
     /// The room for each datagram, and the waits that it was asked for. Only clauses read them.
     pub(crate) rooms: NumberLog,
     pub(crate) waited: NumberLog,
 }
 
-impl SipWire {
-    pub(crate) fn new(socket: SipSocket) -> SipWire {
-        SipWire {
+fn tell_begin<R: Eprint>(rt: &R, level: LogLevel, refusal: Refusal) {
+    if matches!(level, LogLevel::Nothing) {
+        return;
+    }
+    let Refusal { to, why } = refusal;
+    let Addr { ip, port } = to;
+    let [a, b, c, d] = ip;
+    let _ = eprintln!(rt; "office: trouble: sending to {a}.{b}.{c}.{d}:{port} is refused: {why}");
+}
+
+fn tell_end<R: Eprint>(rt: &R, level: LogLevel, refusal: Refusal) {
+    if matches!(level, LogLevel::Nothing) {
+        return;
+    }
+    let Addr { ip, port } = refusal.to;
+    let [a, b, c, d] = ip;
+    let _ = eprintln!(rt; "office: trouble is over: sending to {a}.{b}.{c}.{d}:{port}");
+}
+
+impl<'a, R> SipWire<'a, R> {
+    pub(crate) fn new(
+        rt: &'a R,
+        alloc: Global,
+        level: LogLevel,
+        socket: SipSocket,
+    ) -> Result<SipWire<'a, R>, AllocError> {
+        Ok(SipWire {
+            rt,
+            level,
+            refusals: Refusals::new(alloc)?,
             socket,
             rooms: NumberLog::new(),
             waited: NumberLog::new(),
-        }
+        })
     }
 }
 
-impl Wire for SipWire {
+impl<R: Eprint> Wire for SipWire<'_, R> {
     ghost use Rattle.std.specs.Prelude.{map};
 
     ghost seen = { λ s. record {
@@ -43,7 +76,20 @@ impl Wire for SipWire {
     }
 
     fn send(&mut self, to: Addr, bytes: &[u8]) -> Result<(), WireFault> {
-        self.socket.send(to, bytes).map_err(|_| WireFault)
+        match self.socket.send(to, bytes) {
+            Ok(()) => {
+                if let Some(refusal) = self.refusals.sent(to) {
+                    tell_end(self.rt, self.level, refusal);
+                }
+                Ok(())
+            }
+            Err(error) => {
+                if let Some(refusal) = self.refusals.refused(to, error.kind()) {
+                    tell_begin(self.rt, self.level, refusal);
+                }
+                Err(WireFault)
+            }
+        }
     }
 
     fn wait(&mut self, millis: u64) -> Result<(), WireFault> {

@@ -2,3 +2,4 @@ pub mod InputLaws
 pub mod WordLaws
 pub mod ReplayLaws
 pub mod StateLaws
+pub mod LineLaws

@@ -15,7 +15,7 @@ use Rattle.server.specs.declared.words.Asked.{Asked}
 use Rattle.server.specs.declared.words.Asked.TheVariants.{Once, Replay, Serve}
 use Rattle.server.specs.declared.words.CommandError.{CommandError}
 use Rattle.server.specs.declared.words.CommandError.TheVariants.{Words}
-use Rattle.server.specs.Words.{office_app, name_in, value_in, turns_in, IsReplay, IsServe, LacksServe, AsksIn, RefusesWords, entered_by}
+use Rattle.server.specs.Words.{office_app, name_in, value_in, is_set, turns_in, IsReplay, IsServe, LacksServe, AsksIn, RefusesWords, entered_by}
 
 pub office_is_simple : is_simple office_app ≡ true
 unfolding clap_on_literals
@@ -79,12 +79,18 @@ serve_is_not_once e =
     absurd (omega arith)
 
 pub asks_replay : (entered : Option (List ℕ × List Row)) (f : Found) (asked : Option Asked) → entered ≡ Some (codes "replay", rows_of f)
-    → IfSome asked (λ a. IsReplay (first_value f (codes "config")) (first_value f (codes "script")) a) → IfSome asked (λ a. AsksIn entered a)
+    → IfSome asked (λ a. IsReplay (first_value f (codes "config")) (first_value f (codes "script")) (first_value f (codes "notes")) a) → IfSome asked (λ a. AsksIn entered a)
 asks_replay entered f None e h = tt
 asks_replay entered f (Some Once) e h = absurd h
 asks_replay entered f (Some (Serve config turns)) e h = absurd h
-asks_replay entered f (Some (Replay config script)) e h =
-    (ap name_in e, (h.0 ∙ first_is f (codes "config") ∙ sym (ap (value_in (codes "config")) e), h.1 ∙ first_is f (codes "script") ∙ sym (ap (value_in (codes "script")) e)))
+asks_replay entered f (Some (Replay config script notes)) e h = (
+  ap name_in e,
+  (
+    h.0 ∙ first_is f (codes "config") ∙ sym (ap (value_in (codes "config")) e),
+    h.1 ∙ first_is f (codes "script") ∙ sym (ap (value_in (codes "script")) e),
+    h.2 ∙ ap is_set (first_is f (codes "notes") ∙ sym (ap (value_in (codes "notes")) e)),
+  ),
+)
 
 pub asks_nothing : (entered : Option (List ℕ × List Row)) (f : Found) (asked : Option Asked) → entered ≡ Some (codes "replay", rows_of f)
     → IfNone asked (first_value f (codes "script") ≡ None) → IfNone asked ((a : Asked) → AsksIn entered a → ⊥)
@@ -94,7 +100,7 @@ asks_nothing entered f None e h = go
     go : (a : Asked) → AsksIn entered a → ⊥
     go Once k = replay_is_not_once (sym (ap name_in e) ∙ k)
     go (Serve config turns) k = replay_is_not_serve (sym (ap name_in e) ∙ k.0)
-    go (Replay config script) k =
+    go (Replay config script notes) k =
         let none = k.1.1 ∙ ap (value_in (codes "script")) e ∙ sym (first_is f (codes "script")) ∙ h in
         cc
 
@@ -106,7 +112,7 @@ pub asks_serve : (entered : Option (List ℕ × List Row)) (f : Found) (asked : 
     → IfSome asked (λ a. IsServe (first_value f (codes "config")) (first_value f (codes "turns")) a) → IfSome asked (λ a. AsksIn entered a)
 asks_serve entered f None e h = tt
 asks_serve entered f (Some Once) e h = absurd h
-asks_serve entered f (Some (Replay config script)) e h = absurd h
+asks_serve entered f (Some (Replay config script notes)) e h = absurd h
 asks_serve entered f (Some (Serve config turns)) e h =
     (ap name_in e, (h.0 ∙ value_is entered f (codes "serve") (codes "config") e, h.1 ∙ ap turns_in (value_is entered f (codes "serve") (codes "turns") e)))
 
@@ -117,7 +123,7 @@ serves_nothing entered f None e h = go
   where
     go : (a : Asked) → AsksIn entered a → ⊥
     go Once k = serve_is_not_once (sym (ap name_in e) ∙ k)
-    go (Replay config script) k = replay_is_not_serve (sym k.0 ∙ ap name_in e)
+    go (Replay config script notes) k = replay_is_not_serve (sym k.0 ∙ ap name_in e)
     go (Serve config turns) k = lacks config turns k.1 h where
       lacks : (path : Bor (List ℕ)) (n : Option ℕ) → IsServe (value_in (codes "config") entered) (value_in (codes "turns") entered) (Serve path n)
           → LacksServe (first_value f (codes "config")) (first_value f (codes "turns")) → ⊥

@@ -40,16 +40,16 @@ Files = List ℕ → Option (List ℕ)
 -- what became of the bytes that the reader had left and the writer held, and what the host was asked, where it was done
 abbrev pub Does : Files → Asked → Option (List ℕ) → Option (List ℕ) → Option (List ℕ) → Option (List ℕ) → Request → Request → Type 0
 Does files Once left left_after held held_after host host_after = Answers left left_after held held_after × (host_after ≡ host)
-Does files (Replay config script) left left_after held held_after host host_after =
-    Keeps left left_after × Replays (option_map (λ path. files path.now) config) (files script.now) held held_after × (host_after ≡ host)
+Does files (Replay config script notes) left left_after held held_after host host_after =
+    Keeps left left_after × Replays notes (option_map (λ path. files path.now) config) (files script.now) held held_after × (host_after ≡ host)
 Does files (Serve config turns) left left_after held held_after host host_after =
     Keeps left left_after × Keeps held held_after × Serves (files config.now) turns host_after
 
 -- and where a fault ended it
 abbrev pub Breaks : Files → Asked → Fault → Option (List ℕ) → Option (List ℕ) → Request → Request → Type 0
 Breaks files Once fault held held_after host host_after = Leaves fault held held_after × (host_after ≡ host)
-Breaks files (Replay config script) fault held held_after host host_after =
-    ReplayLeaves (option_map (λ path. files path.now) config) (files script.now) fault held held_after × (host_after ≡ host)
+Breaks files (Replay config script notes) fault held held_after host host_after =
+    ReplayLeaves notes (option_map (λ path. files path.now) config) (files script.now) fault held held_after × (host_after ≡ host)
 Breaks files (Serve config turns) fault held held_after host host_after = Keeps held held_after × ServeLeaves (files config.now) turns host host_after fault
 
 -- what was asked, and what became of the bytes and of the host

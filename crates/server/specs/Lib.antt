@@ -3,6 +3,7 @@ pub mod Texts
 pub mod Leaves
 pub mod Once
 pub mod State
+pub mod Lines
 pub mod Replay
 pub mod Serve
 pub mod Turns

@@ -1,6 +1,6 @@
 -- What `replay` writes for a script: the text of all that the agent sends, event by event, on an office to which
 -- nothing has happened, and what stands at the end.
-use Rattle.std.specs.Prelude.{◌≡◌, ◌≢◌, ℕ, List, [], ◌∷◌, ◌++◌, ◌⊎◌, fold, Option, Some, None}
+use Rattle.std.specs.Prelude.{◌≡◌, ◌≢◌, ℕ, Bool, true, false, List, [], ◌∷◌, ◌++◌, ◌⊎◌, fold, Option, Some, None}
 use Rattle.std.specs.List.{flat_map}
 use Rattle.std.specs.Io.KnownBytes.{Appends, Keeps}
 use Rattle.configuration.specs.declared.config.Config.{Config}
@@ -13,6 +13,7 @@ use Rattle.scripts.specs.Writing.{sent_text}
 use Rattle.event_rows.specs.Rows.{after, row}
 use Rattle.event_rows.specs.State.{Contents, IsNew}
 use Rattle.server.specs.State.{state_text}
+use Rattle.server.specs.Lines.{IsSaid}
 use Rattle.server.specs.Texts.{HasText}
 use Rattle.server.specs.Leaves.{IsMalformed, IsWrongFile}
 use Rattle.server.specs.declared.fault.Fault.{Fault}
@@ -36,9 +37,27 @@ text_of sent = flat_map sent_text sent
 abbrev pub run_text : Contents → List Event → List ℕ
 run_text agent events = text_of (sends_of agent events)
 
--- the same, and behind it what stands at the end
-abbrev pub day_text : Contents → List Event → List ℕ
-day_text agent events = run_text agent events ++ state_text (after_all agent events)
+-- ---- what is told of events
+
+-- what is told of an event, where that is asked for
+abbrev pub IsNote : Bool → List ℕ → Type 0
+IsNote false note = note ≡ []
+IsNote true note = IsSaid note
+
+-- this was written behind what was there
+abbrev pub TellsIf : Bool → List ℕ → List ℕ → Type 0
+TellsIf notes before behind = (note : List ℕ) × IsNote notes note × (behind ≡ before ++ note)
+
+-- the text of what is sent, and behind that of each event what is told of it
+abbrev pub IsNotedRun : Contents → List Event → List ℕ → Type 0
+IsNotedRun agent [] text = text ≡ []
+IsNotedRun agent (e ∷ es) text =
+    (note : List ℕ) × (rest : List ℕ) × IsSaid note × IsNotedRun (after agent e) es rest × (text ≡ text_of (row agent e).plan.sends ++ note ++ rest)
+
+-- the same where that is asked for, and else the text of what is sent and nothing else
+abbrev pub IsRun : Bool → Contents → List Event → List ℕ → Type 0
+IsRun false agent events text = text ≡ run_text agent events
+IsRun true agent events text = IsNotedRun agent events text
 
 -- ---- what is read
 
@@ -62,15 +81,28 @@ pub record Day (config : Option (Option (List ℕ))) (script : Option (List ℕ)
   pub new : IsNew office agent
   pub told : IsScript script events
 
--- the text of all that is sent was written behind what the writer held, and behind it the lines of what stands at the
--- end
-abbrev pub Replays : Option (Option (List ℕ)) → Option (List ℕ) → Option (List ℕ) → Option (List ℕ) → Type 0
-Replays config script held held_after = (day : Day config script) × Appends held held_after (day_text day.agent day.events)
+-- the text of an event was written, and nothing else
+abbrev pub WritesEvent : Bool → Contents → Event → Option (List ℕ) → Option (List ℕ) → Type 0
+WritesEvent notes agent e held held_after =
+    (note : List ℕ) × IsNote notes note × Appends held held_after (text_of (row agent e).plan.sends ++ note)
 
--- the text of what is sent at the first of these events was written, and nothing else
-abbrev pub WritesFirst : Contents → List Event → Option (List ℕ) → Option (List ℕ) → Type 0
-WritesFirst agent events held held_after =
-    (done : List Event) × (rest : List Event) × (events ≡ done ++ rest) × Appends held held_after (run_text agent done)
+-- the text of these events was written, and nothing else
+abbrev pub WritesRun : Bool → Contents → List Event → Option (List ℕ) → Option (List ℕ) → Type 0
+WritesRun notes agent events held held_after = (text : List ℕ) × IsRun notes agent events text × Appends held held_after text
+
+-- the same, and behind it the lines of what stands at the end
+abbrev pub WritesDay : Bool → Contents → List Event → Option (List ℕ) → Option (List ℕ) → Type 0
+WritesDay notes agent events held held_after =
+    (text : List ℕ) × IsRun notes agent events text × Appends held held_after (text ++ state_text (after_all agent events))
+
+-- the text of all events was written behind what the writer held, and behind it the lines of what stands at the end
+abbrev pub Replays : Bool → Option (Option (List ℕ)) → Option (List ℕ) → Option (List ℕ) → Option (List ℕ) → Type 0
+Replays notes config script held held_after = (day : Day config script) × WritesDay notes day.agent day.events held held_after
+
+-- the text of the first of these events was written, and nothing else
+abbrev pub WritesFirst : Bool → Contents → List Event → Option (List ℕ) → Option (List ℕ) → Type 0
+WritesFirst notes agent events held held_after =
+    (done : List Event) × (rest : List Event) × (events ≡ done ++ rest) × WritesRun notes agent done held held_after
 
 -- what an event leaves that could not be taken or whose text could not be written
 abbrev pub EventLeaves : Fault → Option (List ℕ) → Option (List ℕ) → Type 0
@@ -82,21 +114,21 @@ EventLeaves Socket held held_after = ⊥
 EventLeaves OutOfMemory held held_after = Keeps held held_after
 
 -- what events leave of which one was not taken, or its text not written
-abbrev pub RunLeaves : Contents → List Event → Fault → Option (List ℕ) → Option (List ℕ) → Type 0
-RunLeaves agent events Input held held_after = ⊥
-RunLeaves agent events (Script at) held held_after = ⊥
-RunLeaves agent events (Wrong fault) held held_after = ⊥
-RunLeaves agent events Output held held_after = Unit {0}
-RunLeaves agent events Socket held held_after = ⊥
-RunLeaves agent events OutOfMemory held held_after = WritesFirst agent events held held_after
+abbrev pub RunLeaves : Bool → Contents → List Event → Fault → Option (List ℕ) → Option (List ℕ) → Type 0
+RunLeaves notes agent events Input held held_after = ⊥
+RunLeaves notes agent events (Script at) held held_after = ⊥
+RunLeaves notes agent events (Wrong fault) held held_after = ⊥
+RunLeaves notes agent events Output held held_after = Unit {0}
+RunLeaves notes agent events Socket held held_after = ⊥
+RunLeaves notes agent events OutOfMemory held held_after = WritesFirst notes agent events held held_after
 
 -- what a fault leaves of the output, and when it comes: one of the configuration only where a file was handed over for
 -- it, and one of the script only where there is an office
-abbrev pub ReplayLeaves : Option (Option (List ℕ)) → Option (List ℕ) → Fault → Option (List ℕ) → Option (List ℕ) → Type 0
-ReplayLeaves config script Input held held_after = (office : Config) × IsOffice config office × Keeps held held_after
-ReplayLeaves config script (Script at) held held_after = (office : Config) × IsOffice config office × IsMalformed script at × Keeps held held_after
-ReplayLeaves config script (Wrong fault) held held_after = (config ≢ None) × IsWrongFile config fault × Keeps held held_after
-ReplayLeaves config script Output held held_after = Day config script
-ReplayLeaves config script Socket held held_after = ⊥
-ReplayLeaves config script OutOfMemory held held_after =
-    Keeps held held_after ⊎ ((day : Day config script) × WritesFirst day.agent day.events held held_after)
+abbrev pub ReplayLeaves : Bool → Option (Option (List ℕ)) → Option (List ℕ) → Fault → Option (List ℕ) → Option (List ℕ) → Type 0
+ReplayLeaves notes config script Input held held_after = (office : Config) × IsOffice config office × Keeps held held_after
+ReplayLeaves notes config script (Script at) held held_after = (office : Config) × IsOffice config office × IsMalformed script at × Keeps held held_after
+ReplayLeaves notes config script (Wrong fault) held held_after = (config ≢ None) × IsWrongFile config fault × Keeps held held_after
+ReplayLeaves notes config script Output held held_after = Day config script
+ReplayLeaves notes config script Socket held held_after = ⊥
+ReplayLeaves notes config script OutOfMemory held held_after =
+    Keeps held held_after ⊎ ((day : Day config script) × WritesFirst notes day.agent day.events held held_after)

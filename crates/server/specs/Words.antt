@@ -1,5 +1,7 @@
 -- The command line, in the words of the parser.
-use Rattle.std.specs.Prelude.{◌≡◌, ℕ, Bool, List, [], true, codes, ◌⊎◌, Option, Some, None, option_map, option_and_then}
+use Rattle.std.specs.Prelude.{◌≡◌, ℕ, Bool, nat_eq, List, [], true, false, codes, ◌⊎◌, Option, Some, None, option_map, option_and_then}
+use Rattle.std.specs.Cmp.Lexicographic.{pointwise}
+use Rattle.clap.specs.declared.builder.action.ArgAction.TheVariants.{SetTrue}
 use Rattle.clap.specs.Simple.{App, Shape, new_app, new_rule, on_top, with_rule, with_subcommand, subcommand_of}
 use Rattle.clap.specs.Walk.{Row, Rule, first_of}
 use Rattle.clap.specs.Takes.{takes}
@@ -32,16 +34,20 @@ office_rule = record config_rule { required = true }
 abbrev pub turns_rule : Rule
 turns_rule = record (new_rule (codes "turns")) { long = Some (codes "turns") }
 
+-- `--notes`
+abbrev pub notes_rule : Rule
+notes_rule = record (new_rule (codes "notes")) { long = Some (codes "notes"); action = Some SetTrue }
+
 abbrev pub once_app : App
 once_app = new_app (codes "once")
 
 abbrev pub replay_app : App
-replay_app = with_rule (with_rule (new_app (codes "replay")) config_rule) script_rule
+replay_app = with_rule (with_rule (with_rule (new_app (codes "replay")) config_rule) script_rule) notes_rule
 
 abbrev pub serve_app : App
 serve_app = with_rule (with_rule (new_app (codes "serve")) office_rule) turns_rule
 
--- `office once`, `office replay [--config FILE] SCRIPT`, and `office serve --config FILE [--turns N]`
+-- `office once`, `office replay [--config FILE] [--notes] SCRIPT`, and `office serve --config FILE [--turns N]`
 abbrev pub office_app : App
 office_app =
     with_subcommand (with_subcommand (with_subcommand (on_top requiring (on_top versioned (new_app (codes "office")))) once_app.top) replay_app.top) serve_app.top
@@ -65,12 +71,17 @@ passes words = fault_of office_app words ≡ []
 unfoldable pub is_taken : List (List ℕ) → Bool
 is_taken words = takes office_app words
 
+-- a flag is set
+abbrev pub is_set : Option (List ℕ) → Bool
+is_set None = false
+is_set (Some value) = pointwise nat_eq value (codes "true")
+
 -- `replay` with these values of its arguments
-abbrev pub IsReplay : Option (List ℕ) → Option (List ℕ) → Asked → Type 0
-IsReplay config_text script_text Once = ⊥
-IsReplay config_text script_text (Serve config turns) = ⊥
-IsReplay config_text script_text (Replay config script) =
-    (option_map (λ path. path.now) config ≡ config_text) × (Some script.now ≡ script_text)
+abbrev pub IsReplay : Option (List ℕ) → Option (List ℕ) → Option (List ℕ) → Asked → Type 0
+IsReplay config_text script_text notes_text Once = ⊥
+IsReplay config_text script_text notes_text (Serve config turns) = ⊥
+IsReplay config_text script_text notes_text (Replay config script notes) =
+    (option_map (λ path. path.now) config ≡ config_text) × (Some script.now ≡ script_text) × (notes ≡ is_set notes_text)
 
 abbrev pub given_turns : Option ℕ → Option (Option ℕ)
 given_turns None = None
@@ -84,7 +95,7 @@ turns_in (Some text) = given_turns (turns_of text)
 -- `serve` with these values of its arguments
 abbrev pub IsServe : Option (List ℕ) → Option (List ℕ) → Asked → Type 0
 IsServe config_text turns_text Once = ⊥
-IsServe config_text turns_text (Replay config script) = ⊥
+IsServe config_text turns_text (Replay config script notes) = ⊥
 IsServe config_text turns_text (Serve config turns) = (Some config.now ≡ config_text) × (Some turns ≡ turns_in turns_text)
 
 -- no path, or no number of turns
@@ -94,8 +105,8 @@ LacksServe config_text turns_text = (config_text ≡ None) ⊎ (turns_in turns_t
 -- what a subcommand and its arguments ask
 abbrev pub AsksIn : Option (List ℕ × List Row) → Asked → Type 0
 AsksIn entered Once = name_in entered ≡ Some (codes "once")
-AsksIn entered (Replay config script) =
-    (name_in entered ≡ Some (codes "replay")) × IsReplay (value_in (codes "config") entered) (value_in (codes "script") entered) (Replay config script)
+AsksIn entered (Replay config script notes) =
+    (name_in entered ≡ Some (codes "replay")) × IsReplay (value_in (codes "config") entered) (value_in (codes "script") entered) (value_in (codes "notes") entered) (Replay config script notes)
 AsksIn entered (Serve config turns) =
     (name_in entered ≡ Some (codes "serve")) × IsServe (value_in (codes "config") entered) (value_in (codes "turns") entered) (Serve config turns)
 

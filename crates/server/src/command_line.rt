@@ -22,16 +22,17 @@ fn replay_files<F: Shelf, W: Write>(
     shelf: &F,
     config: Option<&str>,
     script: &str,
+    notes: bool,
     writer: &mut W,
 ) -> Result<(), Fault>
-    ensures written { OnOk result (Replays (option_map (λ path. F.contents shelf.now path.now) config.entry) (F.contents shelf.now script.now) (W.contents writer.old) (W.contents writer.new)) }
-    ensures refused { IfErr result (λ e. ReplayLeaves (option_map (λ path. F.contents shelf.now path.now) config.entry) (F.contents shelf.now script.now) e (W.contents writer.old) (W.contents writer.new)) }
+    ensures written { OnOk result (Replays notes (option_map (λ path. F.contents shelf.now path.now) config.entry) (F.contents shelf.now script.now) (W.contents writer.old) (W.contents writer.new)) }
+    ensures refused { IfErr result (λ e. ReplayLeaves notes (option_map (λ path. F.contents shelf.now path.now) config.entry) (F.contents shelf.now script.now) e (W.contents writer.old) (W.contents writer.new)) }
 {
     let config = match config {
         Some(path) => Some(shelf.open(path)),
         None => None,
     };
-    replay(alloc, config, shelf.open(script), writer)
+    replay(alloc, config, shelf.open(script), notes, writer)
 }
 
 /// `serve` over a file.
@@ -66,12 +67,16 @@ pub fn run<F: Shelf, H: Host, R: Read, W: Write>(
             Ok(()) => Ending::Done,
             Err(fault) => Ending::Broken(fault),
         },
-        Ok(Asked::Replay { config, script }) => {
-            match replay_files(alloc, shelf, config, script, writer) {
-                Ok(()) => Ending::Done,
-                Err(fault) => Ending::Broken(fault),
-            }
-        }
+        Ok(
+            Asked::Replay {
+                config,
+                script,
+                notes,
+            },
+        ) => match replay_files(alloc, shelf, config, script, notes, writer) {
+            Ok(()) => Ending::Done,
+            Err(fault) => Ending::Broken(fault),
+        },
         Ok(Asked::Serve { config, turns }) => {
             match serve_file(alloc, shelf, config, host, turns) {
                 Ok(()) => Ending::Done,

@@ -7,11 +7,13 @@ ghost use Rattle.event_rows.specs.Rows.{after, row};
 ghost use Rattle.server.specs.Faults.{unread_config};
 ghost use Rattle.server.specs.Leaves.{IsOfConfig, IsOfOffice, IsOfScript, IsRefusalOf, IsScriptFault};
 ghost use Rattle.server.specs.State.{state_text};
-ghost use Rattle.server.specs.Replay.{after_all, day_text, run_text, text_of, EventLeaves, IsOffice, IsScript, Replays, ReplayLeaves, RunLeaves};
+ghost use Rattle.server.specs.Replay.{after_all, text_of, EventLeaves, IsOffice, IsScript, Replays, ReplayLeaves, RunLeaves, TellsIf, WritesDay, WritesEvent, WritesRun};
 
 use crate::agents::agent_of;
 use crate::fault::Fault;
 use crate::input::read_whole;
+use crate::ledger::Ledger;
+use crate::notes::put_note;
 use crate::output::write_out;
 use crate::state::put_state;
 use agent::Agent;
@@ -104,36 +106,59 @@ fn text_of(alloc: Global, sent: &[Sent]) -> Result<Vec<u8>, AllocError>
     Ok(text)
 }
 
-/// Takes an event, and writes the text of what is sent.
+/// Writes what the last event was about behind what is there, where that is asked for.
+#[tactic(auto, using(crate::proofs::ReplayLaws::not_told, crate::proofs::ReplayLaws::told))]
+fn put_told(
+    out: &mut Vec<u8>,
+    alloc: Global,
+    notes: bool,
+    ledger: &mut Ledger,
+    agent: &Agent,
+    now: u64,
+) -> Result<(), AllocError>
+    ensures { OnOk result (TellsIf notes out.old.items out.new.items) }
+{
+    if !notes {
+        return Ok(());
+    }
+    put_note(out, alloc, ledger, agent, now)
+}
+
+/// Takes an event, and writes the text of what is sent, and what it was about, where that is asked for.
 fn play_event<W: Write>(
     alloc: Global,
     agent: &mut Agent,
     event: &Event,
+    notes: bool,
+    ledger: &mut Ledger,
     writer: &mut W,
 ) -> Result<(), Fault>
     ensures agent { OnOk result (agent.new ≡ after agent.old event.entry.now) }
-    ensures written { OnOk result (Appends (W.contents writer.old) (W.contents writer.new) (text_of (row agent.old event.entry.now).plan.sends)) }
+    ensures written { OnOk result (WritesEvent notes agent.old event.entry.now (W.contents writer.old) (W.contents writer.new)) }
     ensures refused { IfErr result (λ e. EventLeaves e (W.contents writer.old) (W.contents writer.new)) }
 {
     let mut sent = Vec::new(alloc);
     agent.step(event, &mut sent)?;
-    let text = text_of(alloc, &sent)?;
+    let mut text = text_of(alloc, &sent)?;
+    put_told(&mut text, alloc, notes, ledger, agent, event.now)?;
     write_out(writer, text.as_slice())
 }
 
-/// Takes the events in order, and writes the text of what is sent at each before the next is taken.
+/// Takes the events in order, and writes the text of each before the next is taken.
 fn play<W: Write>(
     alloc: Global,
     agent: &mut Agent,
     events: &[Event],
+    notes: bool,
     writer: &mut W,
 ) -> Result<(), Fault>
     ensures agent { OnOk result (agent.new ≡ after_all agent.old events.now) }
-    ensures written { OnOk result (Appends (W.contents writer.old) (W.contents writer.new) (run_text agent.old events.now)) }
-    ensures refused { IfErr result (λ e. RunLeaves agent.old events.now e (W.contents writer.old) (W.contents writer.new)) }
+    ensures written { OnOk result (WritesRun notes agent.old events.now (W.contents writer.old) (W.contents writer.new)) }
+    ensures refused { IfErr result (λ e. RunLeaves notes agent.old events.now e (W.contents writer.old) (W.contents writer.new)) }
 {
+    let mut ledger = Ledger::new(alloc);
     for event in events {
-        play_event(alloc, agent, event, writer)?;
+        play_event(alloc, agent, event, notes, &mut ledger, writer)?;
     }
     Ok(())
 }
@@ -148,34 +173,37 @@ fn write_state<W: Write>(alloc: Global, agent: &Agent, writer: &mut W) -> Result
     write_out(writer, text.as_slice())
 }
 
-/// Takes the events in order, writes the text of what is sent at each, and behind all what stands then.
+/// Takes the events in order, writes the text of each, and behind all what stands then.
 fn play_day<W: Write>(
     alloc: Global,
     agent: &mut Agent,
     events: &[Event],
+    notes: bool,
     writer: &mut W,
 ) -> Result<(), Fault>
-    ensures written { OnOk result (Appends (W.contents writer.old) (W.contents writer.new) (day_text agent.old events.now)) }
-    ensures refused { IfErr result (λ e. RunLeaves agent.old events.now e (W.contents writer.old) (W.contents writer.new)) }
+    ensures written { OnOk result (WritesDay notes agent.old events.now (W.contents writer.old) (W.contents writer.new)) }
+    ensures refused { IfErr result (λ e. RunLeaves notes agent.old events.now e (W.contents writer.old) (W.contents writer.new)) }
 {
-    play(alloc, agent, events, writer)?;
+    play(alloc, agent, events, notes, writer)?;
     write_state(alloc, agent, writer)
 }
 
 /// Reads a configuration, if there is a file of one, then a whole script, and writes the text of all that the office
 /// sends at its events, one event after the other, and behind it the calls that stand and the rows of the relay table.
-/// An event that memory is refused for ends the run behind what was sent before it.
+/// Behind the text of each event stands what it was about, where notes are asked for. An event that memory is refused
+/// for ends the run behind what was sent before it.
 pub fn replay<C: Read + Drop, S: Read + Drop, W: Write>(
     alloc: Global,
     config: Option<C>,
     script: S,
+    notes: bool,
     writer: &mut W,
 ) -> Result<(), Fault>
-    ensures written { OnOk result (Replays (option_map (λ f. C.remaining f) config) (S.remaining script) (W.contents writer.old) (W.contents writer.new)) }
-    ensures refused { IfErr result (λ e. ReplayLeaves (option_map (λ f. C.remaining f) config) (S.remaining script) e (W.contents writer.old) (W.contents writer.new)) }
+    ensures written { OnOk result (Replays notes (option_map (λ f. C.remaining f) config) (S.remaining script) (W.contents writer.old) (W.contents writer.new)) }
+    ensures refused { IfErr result (λ e. ReplayLeaves notes (option_map (λ f. C.remaining f) config) (S.remaining script) e (W.contents writer.old) (W.contents writer.new)) }
 {
     let office = office_of(alloc, config)?;
     let events = events_of(alloc, script)?;
     let mut agent = agent_of(alloc, &office)?;
-    play_day(alloc, &mut agent, &events, writer)
+    play_day(alloc, &mut agent, &events, notes, writer)
 }

@@ -4,12 +4,16 @@
 #![tactic(auto)]
 
 mod agents;
+mod call_notes;
 mod command_line;
 mod day;
 mod ending;
 mod fault;
 mod host;
 mod input;
+mod ledger;
+mod lines;
+mod notes;
 mod output;
 mod reason;
 mod service;
@@ -26,6 +30,8 @@ pub use ending::Ending;
 pub use fault::Fault;
 pub use host::{Host, HostFault};
 pub use input::read_datagram;
+pub use ledger::Ledger;
+pub use notes::{put_count, put_note};
 pub use reason::Reason;
 pub use service::serve;
 pub use shelf::Shelf;

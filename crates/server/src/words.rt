@@ -4,12 +4,12 @@ ghost use Rattle.std.specs.Prelude.{◌≡◌, map, codes, Some, None, option_ma
 ghost use Rattle.clap.specs.declared.builder.command.Command.{Command};
 ghost use Rattle.clap.specs.Simple.{with_subcommand};
 ghost use Rattle.clap.specs.Words.{AddsSubcommand, app_of, first_value, found_of, subcommand_rows_of};
-ghost use Rattle.server.specs.Words.{given_turns, office_app, once_app, passes, serve_app, turns_in, Asks, AsksIn, IsReplay, IsServe, LacksServe, RefusesWords};
+ghost use Rattle.server.specs.Words.{given_turns, is_set, office_app, once_app, passes, replay_app, serve_app, turns_in, Asks, AsksIn, IsReplay, IsServe, LacksServe, RefusesWords};
 
 use crate::turns::turns_of;
 use crate::version::VERSION;
 use clap::error::ErrorKind;
-use clap::{Arg, ArgMatches, Command};
+use clap::{Arg, ArgAction, ArgMatches, Command};
 use std::alloc::{AllocError, AllocFailed, Global};
 use std::fmt;
 use thiserror::Error;
@@ -19,10 +19,12 @@ use thiserror::Error;
 pub enum Asked<'a> {
     /// Answer one datagram of standard input on standard output.
     Once,
-    /// Run a script, on the office of a configuration or on the example office. Both are paths.
+    /// Run a script, on the office of a configuration or on the example office. Both are paths. What each event was
+    /// about may be written, too.
     Replay {
         config: Option<&'a str>,
         script: &'a str,
+        notes: bool,
     },
     /// Serve telephones on the sockets of a configuration, until so many turns are made, or without an end. It is a
     /// path.
@@ -130,36 +132,57 @@ fn once_words<'a>(alloc: Global) -> Command<'a>
     Command::new(alloc, "once").about("Answers one datagram of standard input")
 }
 
+/// The words of `replay`.
+fn replay_words<'a>(alloc: Global) -> Result<Command<'a>, AllocError>
+    ensures { IfOk result (λ c. (old new : Command) → AddsSubcommand old c new → app_of new ≡ with_subcommand (app_of old) replay_app.top) }
+{
+    let config = Arg::new(alloc, "config").long("config");
+    let script = Arg::new(alloc, "script").required(true);
+    let notes = Arg::new(alloc, "notes")
+        .long("notes")
+        .action(ArgAction::SetTrue);
+    Command::new(alloc, "replay")
+        .about("Writes what is sent at the events of a script")
+        .arg(config)?
+        .arg(script)?
+        .arg(notes)
+}
+
 /// The words that the program takes.
 fn office<'a>(alloc: Global) -> Result<Command<'a>, AllocError>
     ensures { IfOk result (λ c. app_of c ≡ office_app) }
 {
     let once = once_words(alloc);
-    let config = Arg::new(alloc, "config").long("config");
-    let script = Arg::new(alloc, "script").required(true);
-    let replay = Command::new(alloc, "replay")
-        .about("Writes what is sent at the events of a script")
-        .arg(config)?
-        .arg(script)?;
     let office = Command::new(alloc, "office")
         .about("The call server of an office")
         .version(VERSION)
         .subcommand_required(true);
     office
         .subcommand(once)?
-        .subcommand(replay)?
+        .subcommand(replay_words(alloc)?)?
         .subcommand(serve_words(alloc)?)
+}
+
+/// Whether a flag is set.
+fn is_set(value: Option<&str>) -> bool
+    ensures { result ≡ is_set (option_map (λ t. t.now) value.entry) }
+{
+    match value {
+        None => false,
+        Some(value) => value.as_bytes() == b"true".as_slice(),
+    }
 }
 
 /// What the arguments of `replay` ask.
 fn replay_by<'a>(matches: &ArgMatches<'a>) -> Option<Asked<'a>>
-    ensures some { IfSome result (λ a. IsReplay (first_value (found_of matches.now) (codes "config")) (first_value (found_of matches.now) (codes "script")) a) }
+    ensures some { IfSome result (λ a. IsReplay (first_value (found_of matches.now) (codes "config")) (first_value (found_of matches.now) (codes "script")) (first_value (found_of matches.now) (codes "notes")) a) }
     ensures none { IfNone result (first_value (found_of matches.now) (codes "script") ≡ None) }
 {
     let script = matches.get_str("script")?;
     Some(Asked::Replay {
         config: matches.get_str("config"),
         script,
+        notes: is_set(matches.get_str("notes")),
     })
 }
 

@@ -7,11 +7,15 @@ mod log;
 mod media;
 mod ports;
 mod ready;
+mod refusals;
 mod sip_socket;
 mod tries;
+mod unbound;
 mod workers;
 
 pub use media::MediaSockets;
 pub use ports::{RelaySockets, Sockets, bind, worker_count};
+pub use refusals::{Refusal, Refusals};
 pub use sip_socket::SipSocket;
+pub use unbound::Unbound;
 pub use workers::workers_of;

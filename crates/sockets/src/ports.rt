@@ -8,6 +8,7 @@ use crate::addresses::to_system;
 use crate::log::Log;
 use crate::sip_socket::SipSocket;
 use crate::tries::Tries;
+use crate::unbound::Unbound;
 use configuration::Config;
 use libc::net::{EPOLL_CTL_ADD, EPOLLIN};
 use mio::net::UdpSocket;
@@ -54,8 +55,12 @@ pub fn worker_count(config: &Config) -> usize
     usize::from(config.workers).max(1).min(8)
 }
 
-fn bind_at<R: Net>(rt: &R, ip: [u8; 4], port: u16) -> io::Result<UdpSocket> {
-    UdpSocket::bind(rt, to_system(Addr { ip, port }))
+fn bind_at<R: Net>(rt: &R, ip: [u8; 4], port: u16) -> Result<UdpSocket, Unbound> {
+    let place = Addr { ip, port };
+    match UdpSocket::bind(rt, to_system(place)) {
+        Ok(socket) => Ok(socket),
+        Err(error) => Err(Unbound::at(place, &error)),
+    }
 }
 
 /// Has the poll tell of the socket, by this number, for as long as a datagram is there. `mio` registers sockets of which
@@ -69,7 +74,7 @@ fn watch(poll: &Poll, socket: &UdpSocket, number: u64) -> io::Result<()> {
     }
 }
 
-fn bind_sip<R: Net>(rt: &R, alloc: Global, config: &Config) -> io::Result<SipSocket>
+fn bind_sip<R: Net>(rt: &R, alloc: Global, config: &Config) -> Result<SipSocket, Unbound>
     ensures { IfOk result (λ s. s ≡ no_traffic) }
 {
     let socket = bind_at(rt, config.ip, config.sip_port)?;
@@ -88,7 +93,7 @@ fn bind_sip<R: Net>(rt: &R, alloc: Global, config: &Config) -> io::Result<SipSoc
     })
 }
 
-fn polls_of<R: Net>(rt: &R, alloc: Global, count: usize) -> io::Result<Vec<Poll>>
+fn polls_of<R: Net>(rt: &R, alloc: Global, count: usize) -> Result<Vec<Poll>, Unbound>
     ensures { IfOk result (λ polls. length polls.items ≡ count) }
 {
     let mut polls = Vec::new(alloc);
@@ -104,7 +109,7 @@ fn bind_relay<R: Net>(
     config: &Config,
     polls: &[Poll],
     place: u16,
-) -> io::Result<UdpSocket> {
+) -> Result<UdpSocket, Unbound> {
     let socket = bind_at(rt, config.ip, config.relay_first.wrapping_add(place))?;
     let pair = usize::from(place / 2);
     if !polls.is_empty() {
@@ -118,7 +123,7 @@ fn bind_all<R: Net>(
     alloc: Global,
     config: &Config,
     polls: &[Poll],
-) -> io::Result<Vec<UdpSocket>>
+) -> Result<Vec<UdpSocket>, Unbound>
     ensures { IfOk result (λ sockets. length sockets.items ≡ min (config.now.relay_pairs * 2) (2 ^ 16 - 1)) }
 {
     let mut sockets = Vec::new(alloc);
@@ -130,7 +135,7 @@ fn bind_all<R: Net>(
 
 /// Opens the socket for SIP and those of all relay ports. Err where the system refuses one, or memory: those that were
 /// opened are closed then.
-pub fn bind<R: Net>(rt: &R, alloc: Global, config: &Config) -> io::Result<Sockets>
+pub fn bind<R: Net>(rt: &R, alloc: Global, config: &Config) -> Result<Sockets, Unbound>
     ensures sip { IfOk result (λ s. s.sip ≡ no_traffic) }
     ensures relay { IfOk result (λ s. s.relay ≡ relay_ports config.now) }
 {

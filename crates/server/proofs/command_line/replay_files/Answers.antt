@@ -10,4 +10,4 @@ returns-clause-written g c =
       | in-Some w ↦ ap (option_map g.F.File.Read.remaining) w.config-is ∙ ap (λ (o : Option (List ℕ)). Some o) w.open.ensures ∙ sym (ap (option_map (λ (path : Bor (List ℕ)). g.F.Shelf.contents c.args.shelf.now path.now)) w.in-Some.is)
       | in-None w ↦ ap (option_map g.F.File.Read.remaining) w.config-is ∙ sym (ap (option_map (λ (path : Bor (List ℕ)). g.F.Shelf.contents c.args.shelf.now path.now)) w.in-None.is)
     ] in
-    replayed_as c.replay.result _ _ _ _ _ _ config_is c.open-2.ensures c.replay.ensures.written
+    replayed_as c.replay.result c.args.notes _ _ _ _ _ _ config_is c.open-2.ensures c.replay.ensures.written

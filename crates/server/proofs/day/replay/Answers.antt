@@ -13,7 +13,7 @@ returns-clause-written g c =
       new = c.in_ok-agent.ensures.made;
       told = subst (IsScript (g.S.Read.remaining c.args.script)) (sym c.deref.ensures.value) c.in_ok-events.ensures.read;
     } in
-    replayed c.play_day.result _ _ (g.W.Write.contents c.args.writer.now) (g.W.Write.contents c.play_day.new.writer) day c.play_day.ensures.written
+    replayed c.play_day.result c.args.notes _ _ (g.W.Write.contents c.args.writer.now) (g.W.Write.contents c.play_day.new.writer) day c.play_day.ensures.written
 
 pub returns-clause-refused : goal.returns-clause-refused
 returns-clause-refused g c =
@@ -25,4 +25,4 @@ returns-clause-refused g c =
       new = c.in_ok-agent.ensures.made;
       told = subst (IsScript (g.S.Read.remaining c.args.script)) (sym c.deref.ensures.value) c.in_ok-events.ensures.read;
     } in
-    not_replayed c.play_day.result _ _ (g.W.Write.contents c.args.writer.now) (g.W.Write.contents c.play_day.new.writer) day c.play_day.ensures.refused
+    not_replayed c.play_day.result c.args.notes _ _ (g.W.Write.contents c.args.writer.now) (g.W.Write.contents c.play_day.new.writer) day c.play_day.ensures.refused

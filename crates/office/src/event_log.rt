@@ -1,0 +1,91 @@
+//! What events were about, as lines of the log.
+
+use crate::counts::{are_same, counts_line};
+use crate::limit::Limit;
+use agent::{Agent, Tally};
+use configuration::LogLevel;
+use plans::Note;
+use server::{Ledger, put_count, put_note};
+use std::alloc::{AllocError, Global};
+
+/// The counts go out so often, in milliseconds, where they changed.
+const BETWEEN_COUNTS: u64 = 600_000;
+
+/// Who is told of events, and how much.
+#[derive(Drop)]
+pub(crate) struct EventLog {
+    alloc: Global,
+    level: LogLevel,
+    ledger: Ledger,
+    limit: Limit,
+    /// The counts that went out last, and when the next may.
+    counted: Tally,
+    next_counts: u64,
+}
+
+/// Whether a level tells of this.
+fn tells(level: LogLevel, note: Note) -> bool {
+    match (level, note) {
+        (LogLevel::Nothing, _) | (_, Note::Quiet) => false,
+        (LogLevel::All, _) | (LogLevel::Trouble | LogLevel::Calls, Note::Shed) => true,
+        (LogLevel::Calls, Note::Dropped(_)) | (LogLevel::Trouble, _) => false,
+        (LogLevel::Calls, Note::Call(_) | Note::Registered | Note::Refused(_)) => true,
+    }
+}
+
+/// Whether anyone can cause as many of these as he likes.
+fn is_of_strangers(note: Note) -> bool {
+    matches!(note, Note::Refused(_) | Note::Dropped(_) | Note::Shed)
+}
+
+impl EventLog {
+    pub(crate) fn new(alloc: Global, level: LogLevel) -> EventLog {
+        EventLog {
+            alloc,
+            level,
+            ledger: Ledger::new(alloc),
+            limit: Limit::new(),
+            counted: Tally::none_counted(),
+            next_counts: BETWEEN_COUNTS,
+        }
+    }
+
+    /// The counts, where it is time for them and they changed.
+    fn put_counts(&mut self, out: &mut Vec<u8>, tally: Tally, now: u64) -> Result<(), AllocError> {
+        if now < self.next_counts || are_same(tally, self.counted) {
+            return Ok(());
+        }
+        let line = counts_line(self.alloc, tally)?;
+        out.extend_from_slice(line.as_bytes())?;
+        self.next_counts = now.saturating_add(BETWEEN_COUNTS);
+        self.counted = tally;
+        Ok(())
+    }
+
+    /// A line of how many were not told, if any were.
+    fn put_untold(&mut self, out: &mut Vec<u8>, now: u64) -> Result<(), AllocError> {
+        match self.limit.take_untold(now) {
+            0 => Ok(()),
+            untold => put_count(out, b"lines-left-out", untold),
+        }
+    }
+
+    /// Writes the lines that are due behind what is there: the agent took an event at this moment, in milliseconds.
+    pub(crate) fn put_lines(
+        &mut self,
+        out: &mut Vec<u8>,
+        agent: &Agent,
+        now: u64,
+    ) -> Result<(), AllocError> {
+        if matches!(self.level, LogLevel::Nothing) {
+            return Ok(());
+        }
+        self.put_untold(out, now)?;
+        self.put_counts(out, agent.tally(), now)?;
+        let note = agent.note();
+        if tells(self.level, note) && (!is_of_strangers(note) || self.limit.admits(now)) {
+            put_note(out, self.alloc, &mut self.ledger, agent, now)?;
+        }
+        Ok(())
+    }
+}

@@ -1,0 +1,69 @@
+//! Why no telephones are served, in words.
+
+use configuration::Config;
+use server::HostFault;
+use sockets::Unbound;
+use std::fs::Files;
+use std::io::ErrorKind;
+use std::{fmt, fs};
+
+/// Why no telephones are served.
+#[derive(Clone, Copy)]
+pub(crate) enum Refusal {
+    Unbound(Unbound),
+    /// The process may have so many file descriptors, and so many are needed.
+    Descriptors { limit: u64, needed: u64 },
+}
+
+impl Refusal {
+    /// What it is to the program.
+    pub(crate) fn fault(self) -> HostFault {
+        match self {
+            Refusal::Unbound(unbound) if unbound.kind == ErrorKind::OutOfMemory => {
+                HostFault::OutOfMemory
+            }
+            Refusal::Unbound(_) | Refusal::Descriptors { .. } => HostFault::Socket,
+        }
+    }
+}
+
+impl fmt::Display for Refusal {
+    fn fmt<W: fmt::Write>(&self, f: &mut fmt::Formatter<W>) -> fmt::Result {
+        match self {
+            Refusal::Unbound(unbound) => write!(f, "{unbound}"),
+            Refusal::Descriptors { limit, needed } => {
+                write!(f, "fd limit {limit}, {needed} are needed")
+            }
+        }
+    }
+}
+
+/// How many file descriptors the process may have, where Linux tells it.
+fn descriptor_limit<R: Files + AllocGlobal>(rt: &R) -> Option<u64> {
+    let told = fs::read(rt, "/proc/self/limits").ok()?;
+    let text = str::from_utf8(&told).ok()?;
+    let (_, behind) = text.split_once("Max open files")?;
+    behind.split_whitespace().next()?.parse::<u64>().ok()
+}
+
+/// A socket for SIP and one for each relay port, what each thread waits with, the standard streams, and one to spare.
+fn descriptors_needed(config: &Config) -> u64 {
+    u64::from(config.relay_pairs)
+        .saturating_mul(2)
+        .saturating_add(u64::from(config.workers))
+        .saturating_add(6)
+}
+
+/// That there are too few file descriptors, if so.
+pub(crate) fn lacks_descriptors<R: Files + AllocGlobal>(
+    rt: &R,
+    config: &Config,
+) -> Option<Refusal> {
+    let limit = descriptor_limit(rt)?;
+    let needed = descriptors_needed(config);
+    if limit.saturating_add(1) < needed {
+        Some(Refusal::Descriptors { limit, needed })
+    } else {
+        None
+    }
+}

@@ -1,0 +1,91 @@
+-- Lines for whoever watches the server: a word, and behind it keys with their values.
+use Rattle.std.specs.Prelude.{◌≡◌, ◌==◌, ◌≤◌, ◌⊎◌, ◌+◌, ◌/◌, ◌%◌, ℕ, Bool, true, not, ◌&&◌, nat_le, nat_lt, List, [], ◌∷◌, ◌++◌, length, take, codes, decimal, if◌then◌else◌}
+use Rattle.std.specs.List.{flat_map, list_all}
+use Rattle.text.specs.Class.{is_one_of}
+use Rattle.server.specs.declared.lines.Value.{Value}
+use Rattle.server.specs.declared.lines.Value.TheVariants.{Number, Text, Words, Time}
+use Rattle.server.specs.declared.lines.Field.{Field}
+
+-- ---- numbers
+
+-- so many bytes of a word, a key or a number are shown, and so many of another text
+abbrev pub max_word : ℕ
+max_word = 20
+
+abbrev pub max_shown : ℕ
+max_shown = 100
+
+abbrev pub max_fields : ℕ
+max_fields = 8
+
+-- the bytes of a line
+abbrev pub max_line : ℕ
+max_line = 4096
+
+-- ---- the escape
+
+-- it is no space, ends no value, and asks for no quotes
+abbrev pub is_plain : ℕ → Bool
+is_plain b = nat_lt 32 b && nat_lt b 127 && not (is_one_of (codes "\"'=\\`") b)
+
+-- the last hexadecimal digit of a number
+abbrev pub last_digit : ℕ → ℕ
+last_digit n = if nat_lt (n % 16) 10 then 48 + n % 16 else 87 + n % 16
+
+-- a byte as it is, or as \xHH
+abbrev pub shown_byte : ℕ → List ℕ
+shown_byte b = if is_plain b then b ∷ [] else codes "\\x" ++ last_digit (b / 16) ∷ last_digit b ∷ []
+
+-- so many bytes of a text at most, and a mark where there are more
+abbrev pub shown : ℕ → List ℕ → List ℕ
+shown most text = if nat_le (length text) most then flat_map shown_byte text else flat_map shown_byte (take most text) ++ codes "..."
+
+-- ---- the line
+
+-- milliseconds as seconds and tenths
+unfoldable pub seconds_text : ℕ → List ℕ
+seconds_text n = shown max_word (decimal (n / 1000)) ++ codes "." ++ shown max_word (decimal (n / 100 % 10)) ++ codes "s"
+
+-- a sign between words
+abbrev pub dashed : ℕ → ℕ
+dashed b = if b == 32 then 45 else b
+
+abbrev pub dashed_text : List ℕ → List ℕ
+dashed_text words = flat_map (λ b. shown_byte (dashed b)) words
+
+-- so many bytes at most
+abbrev pub words_text : ℕ → List ℕ → List ℕ
+words_text most words = if nat_le (length words) most then dashed_text words else dashed_text (take most words)
+
+abbrev pub value_text : Value → List ℕ
+value_text (Number n) = shown max_word (decimal n)
+value_text (Text text) = shown max_shown text.now
+value_text (Words words) = words_text max_shown words.now
+value_text (Time n) = seconds_text n
+
+-- ` key=value`
+unfoldable pub field_text : Field → List ℕ
+field_text field = codes " " ++ shown max_word field.key.now ++ codes "=" ++ value_text field.value
+
+unfoldable pub line_text : List ℕ → List Field → List ℕ
+line_text word fields = shown max_word word ++ flat_map field_text fields ++ codes "\n"
+
+-- ---- what a line is
+
+abbrev pub is_printable : ℕ → Bool
+is_printable b = nat_le 32 b && nat_le b 126
+
+-- printable ASCII and the line feed at its end, and not long
+pub record IsLine (text : List ℕ) : Type 0 where
+  pub body : List ℕ
+  pub ended : text ≡ body ++ 10 ∷ []
+  pub printable : list_all is_printable body ≡ true
+  pub bounded : length text ≤ max_line
+
+-- nothing, or one line
+abbrev pub IsSaid : List ℕ → Type 0
+IsSaid text = (text ≡ []) ⊎ IsLine text
+
+-- this was written behind what was there
+abbrev pub Tells : List ℕ → List ℕ → Type 0
+Tells before behind = (text : List ℕ) × IsSaid text × (behind ≡ before ++ text)

@@ -1,0 +1,294 @@
+//! What happened to a call, as a line.
+
+ghost use Rattle.std.specs.Prelude.{OnOk};
+ghost use Rattle.server.specs.Lines.{Tells};
+
+use crate::ledger::{Entry, Ledger, call_of};
+use crate::lines::{Field, Value, put_line};
+use call_core::{CallNote, End, NoteOfCall, OfferMethod};
+use call_media::Session;
+use calls::StandingCall;
+use sdp::{Description, Way, way_of};
+use std::alloc::{AllocError, Global};
+
+fn call(entry: &Entry) -> Field<'static> {
+    Field {
+        key: b"call",
+        value: Value::Number(entry.number),
+    }
+}
+
+fn from(entry: &Entry) -> Field<'_> {
+    Field {
+        key: b"from",
+        value: Value::Text(entry.from.as_bytes()),
+    }
+}
+
+fn to(entry: &Entry) -> Field<'_> {
+    Field {
+        key: b"to",
+        value: Value::Text(entry.to.as_bytes()),
+    }
+}
+
+/// Who did it.
+fn by(entry: &Entry, end: End) -> Field<'_> {
+    Field {
+        key: b"by",
+        value: Value::Text(entry.user(end)),
+    }
+}
+
+fn status(status: u16) -> Field<'static> {
+    Field {
+        key: b"status",
+        value: Value::Number(u64::from(status)),
+    }
+}
+
+fn why(words: &'static [u8]) -> Field<'static> {
+    Field {
+        key: b"why",
+        value: Value::Words(words),
+    }
+}
+
+/// How long it took since the call began.
+fn after(entry: &Entry, now: u64) -> Field<'static> {
+    Field {
+        key: b"after",
+        value: Value::Time(now.saturating_sub(entry.begun)),
+    }
+}
+
+/// How long the call stood.
+fn stood(entry: &Entry, now: u64) -> Field<'static> {
+    Field {
+        key: b"stood",
+        value: Value::Time(entry.stood(now)),
+    }
+}
+
+fn method(method: OfferMethod) -> Field<'static> {
+    let name = match method {
+        OfferMethod::Invite => b"INVITE",
+        OfferMethod::Update => b"UPDATE",
+    };
+    Field {
+        key: b"method",
+        value: Value::Text(name),
+    }
+}
+
+/// Whether a medium of a description goes both ways.
+fn goes_both_ways(description: &Description<'_>) -> bool {
+    for medium in description.media.as_slice() {
+        if matches!(way_of(description, medium), Way::SendReceive) {
+            return true;
+        }
+    }
+    false
+}
+
+/// Whether no medium of the session goes both ways.
+fn is_held(session: &Session) -> bool {
+    !goes_both_ways(session.offer_taken.get()) || !goes_both_ways(session.answer_taken.get())
+}
+
+/// An offer inside the call was answered: who offered, and whether the call is held from now on.
+fn put_change(out: &mut Vec<u8>, entry: &Entry, session: &Session) -> Result<(), AllocError>
+    ensures { OnOk result (Tells out.old.items out.new.items) }
+{
+    let fields = [call(entry), by(entry, session.offerer)];
+    if is_held(session) {
+        put_line(out, b"call-held", &fields)
+    } else if entry.is_held {
+        put_line(out, b"call-resumed", &fields)
+    } else {
+        put_line(out, b"call-changed", &fields)
+    }
+}
+
+#[tactic(auto, using(crate::proofs::LineLaws::tells_nothing))]
+fn put_reanswer(out: &mut Vec<u8>, entry: &Entry, calls: &[StandingCall]) -> Result<(), AllocError>
+    ensures { OnOk result (Tells out.old.items out.new.items) }
+{
+    let Some(standing) = call_of(calls, entry.number) else {
+        return Ok(());
+    };
+    match standing.call.session() {
+        Some(session) => put_change(out, entry, session),
+        None => Ok(()),
+    }
+}
+
+/// Before it is answered.
+#[tactic(auto, using(crate::proofs::LineLaws::tells_nothing))]
+fn put_early(out: &mut Vec<u8>, entry: &Entry, note: CallNote, now: u64) -> Result<(), AllocError>
+    ensures { OnOk result (Tells out.old.items out.new.items) }
+{
+    match note {
+        CallNote::Begun => put_line(out, b"call-begun", &[call(entry), from(entry), to(entry)]),
+        CallNote::Ringing(code) => put_line(out, b"call-ringing", &[call(entry), status(code)]),
+        CallNote::Answered => put_line(
+            out,
+            b"call-answered",
+            &[call(entry), from(entry), to(entry), after(entry, now)],
+        ),
+        CallNote::Refused(code) => put_line(
+            out,
+            b"call-refused",
+            &[call(entry), from(entry), to(entry), status(code)],
+        ),
+        CallNote::GivenUp => put_line(
+            out,
+            b"call-cancelled",
+            &[call(entry), from(entry), to(entry), after(entry, now)],
+        ),
+        _ => Ok(()),
+    }
+}
+
+/// An offer inside it.
+#[tactic(auto, using(crate::proofs::LineLaws::tells_nothing))]
+fn put_offer(
+    out: &mut Vec<u8>,
+    entry: &Entry,
+    calls: &[StandingCall],
+    note: CallNote,
+) -> Result<(), AllocError>
+    ensures { OnOk result (Tells out.old.items out.new.items) }
+{
+    match note {
+        CallNote::Offered(end, by_method) => put_line(
+            out,
+            b"call-offered",
+            &[call(entry), by(entry, end), method(by_method)],
+        ),
+        CallNote::Reanswered => put_reanswer(out, entry, calls),
+        CallNote::OfferRefused(code) => {
+            put_line(out, b"call-offer-refused", &[call(entry), status(code)])
+        }
+        CallNote::OfferGivenUp => put_line(out, b"call-offer-cancelled", &[call(entry)]),
+        _ => Ok(()),
+    }
+}
+
+/// Its end.
+#[tactic(auto, using(crate::proofs::LineLaws::tells_nothing))]
+fn put_end(out: &mut Vec<u8>, entry: &Entry, note: CallNote, now: u64) -> Result<(), AllocError>
+    ensures { OnOk result (Tells out.old.items out.new.items) }
+{
+    let (call, from, to) = (call(entry), from(entry), to(entry));
+    let stood = stood(entry, now);
+    match note {
+        CallNote::Left(end) => put_line(
+            out,
+            b"call-ended",
+            &[call, from, to, by(entry, end), why(b"bye"), stood],
+        ),
+        CallNote::Failed(code) => put_line(
+            out,
+            b"call-ended",
+            &[call, from, to, why(b"offer failed"), status(code), stood],
+        ),
+        CallNote::Unacknowledged => {
+            put_line(out, b"call-ended", &[call, from, to, why(b"no ack"), stood])
+        }
+        _ => Ok(()),
+    }
+}
+
+fn put_entry_note(
+    out: &mut Vec<u8>,
+    entry: &Entry,
+    calls: &[StandingCall],
+    note: CallNote,
+    now: u64,
+) -> Result<(), AllocError>
+    ensures { OnOk result (Tells out.old.items out.new.items) }
+{
+    match note {
+        CallNote::Begun
+        | CallNote::Ringing(_)
+        | CallNote::Answered
+        | CallNote::Refused(_)
+        | CallNote::GivenUp => put_early(out, entry, note, now),
+        CallNote::Offered(_, _)
+        | CallNote::Reanswered
+        | CallNote::OfferRefused(_)
+        | CallNote::OfferGivenUp => put_offer(out, entry, calls, note),
+        CallNote::Left(_) | CallNote::Failed(_) | CallNote::Unacknowledged => {
+            put_end(out, entry, note, now)
+        }
+    }
+}
+
+/// What the ledger knows of a call from now on.
+fn keep_note(ledger: &mut Ledger, calls: &[StandingCall], note: NoteOfCall, now: u64) {
+    let NoteOfCall { number, note } = note;
+    match note {
+        CallNote::Answered => ledger.answer(number, now),
+        CallNote::Reanswered => {
+            if let Some(standing) = call_of(calls, number)
+                && let Some(session) = standing.call.session()
+            {
+                ledger.hold(number, is_held(session));
+            }
+        }
+        CallNote::Refused(_)
+        | CallNote::GivenUp
+        | CallNote::Left(_)
+        | CallNote::Failed(_)
+        | CallNote::Unacknowledged => ledger.end(number),
+        _ => {}
+    }
+}
+
+/// The ledger has a call from its beginning on.
+fn begin_note(
+    ledger: &mut Ledger,
+    alloc: Global,
+    calls: &[StandingCall],
+    note: NoteOfCall,
+    now: u64,
+) -> Result<(), AllocError> {
+    match note.note {
+        CallNote::Begun => ledger.begin(alloc, calls, note.number, now),
+        _ => Ok(()),
+    }
+}
+
+#[tactic(auto, using(crate::proofs::LineLaws::tells_nothing))]
+fn put_known(
+    out: &mut Vec<u8>,
+    entry: Option<&Entry>,
+    calls: &[StandingCall],
+    note: CallNote,
+    now: u64,
+) -> Result<(), AllocError>
+    ensures { OnOk result (Tells out.old.items out.new.items) }
+{
+    match entry {
+        Some(entry) => put_entry_note(out, entry, calls, note, now),
+        None => Ok(()),
+    }
+}
+
+/// Writes the line of what happened to a call behind what is there.
+pub(crate) fn put_call_note(
+    out: &mut Vec<u8>,
+    alloc: Global,
+    ledger: &mut Ledger,
+    calls: &[StandingCall],
+    note: NoteOfCall,
+    now: u64,
+) -> Result<(), AllocError>
+    ensures { OnOk result (Tells out.old.items out.new.items) }
+{
+    begin_note(ledger, alloc, calls, note, now)?;
+    put_known(out, ledger.get(note.number), calls, note.note, now)?;
+    keep_note(ledger, calls, note, now);
+    Ok(())
+}
