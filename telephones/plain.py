@@ -77,11 +77,13 @@ class Plain:
                 continue
             except OSError:
                 return
-            text = data.decode("utf-8", "replace")
-            self.take(text)
-            with self.news:
-                self.messages.append(text)
-                self.news.notify_all()
+            self.take(data.decode("utf-8", "replace"))
+
+    def note(self, text):
+        """Whoever waits for a message learns of it."""
+        with self.news:
+            self.messages.append(text)
+            self.news.notify_all()
 
     def speak(self):
         second = tone_in_alaw(self.tone)
@@ -148,6 +150,10 @@ class Plain:
             self.hop = None if silent or port[1] == "0" else (address[1], int(port[1]))
 
     def take(self, text):
+        self.respond_to(text)
+        self.note(text)
+
+    def respond_to(self, text):
         """What has to be said at once."""
         line, body = text.split("\r\n")[0], text.partition("\r\n\r\n")[2]
         if line.startswith("INVITE ") and ";tag=" not in self.header(text, "To"):
@@ -197,7 +203,7 @@ class Plain:
         self.call_id, self.uri, to = f"c{random.randrange(1 << 40):x}", f"sip:{user}@{SERVER}", f"<sip:{user}@{SERVER}>"
         self.invite = self.request("INVITE", self.uri, to, self.call_id, self.tag, self.number, self.description(media), self.branch)
         self.send(self.invite)
-        final = self.wait(start, r"SIP/2\.0 [2-6]\d\d (?s:.*)CSeq: \d+ INVITE", 60)
+        final = self.wait(start, r"SIP/2\.0 [2-6]\d\d (?s:.*)CSeq: \d+ INVITE", 240)
         if not final or not self.runs:
             return
         to = self.header(final, "To")

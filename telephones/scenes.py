@@ -5,6 +5,8 @@ from audio import loudness, samples
 from network import SERVER
 
 PATIENCE = 6
+# On a bad line.
+LONG = 30
 
 
 class Failed(Exception):
@@ -220,6 +222,36 @@ def second_call(stage):
     stage.hear_each_other()
     stage.hang_up(stage.caller)
     return "rings" if status in ("180", "183") else status
+
+
+def rough_calls(stage):
+    """One of the two has a bad line: calls are made, both ends hear each other, and each end ends one."""
+    for phone in (stage.caller, stage.callee):
+        start = stage.watch.here()
+        stage.caller.dial(stage.callee.user)
+        stage.sip(start, "INVITE ", target=stage.callee, seconds=LONG)
+        stage.sip(start, "SIP/2.0 18", source=stage.callee, seconds=LONG)
+        time.sleep(1)
+        stage.callee.answer()
+        stage.sip(start, "SIP/2.0 200", target=stage.caller, method="INVITE", seconds=LONG)
+        stage.sip(start, "ACK ", source=stage.caller, seconds=LONG)
+        stage.sip(start, "ACK ", target=stage.callee, seconds=LONG)
+        time.sleep(2)
+        stage.hear_each_other()
+        start = stage.watch.here()
+        phone.hang_up()
+        stage.sip(start, "BYE ", target=stage.callee if phone is stage.caller else stage.caller, seconds=LONG)
+        time.sleep(5)
+
+
+def unanswered(stage):
+    """The callee rings until somebody gives up: the server after 180 s, if no telephone does before."""
+    start, begun = stage.ring(), time.time()
+    finals = ("SIP/2.0 4", "SIP/2.0 5", "SIP/2.0 6")
+    final = stage.watch.wait(start, lambda it: it.is_sip() and it.target == stage.caller.address and it.first_line().startswith(finals), 190)
+    if not final:
+        raise Failed("no final response in 190 s")
+    return f"{final.first_line()[8:11]} after {time.time() - begun:.0f} s"
 
 
 def gone_silent(stage):

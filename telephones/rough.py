@@ -1,0 +1,95 @@
+"""A telephone behind a bad line: a fifth of its SIP datagrams is lost each way, a fifth comes twice, and all are late. It sends again as RFC 3261 says."""
+import random
+import re
+import threading
+
+from plain import Plain
+
+LOST, DOUBLED, LATEST = 0.2, 0.2, 0.3
+T1, MOST = 0.5, 4.0
+
+
+def key_of(text):
+    """The top branch and the method of CSeq: what a request and its responses have in common (section 17.1.3)."""
+    branch = re.search(r"(?im)^Via\s*:.*?;branch=([^;\s]+)", text)
+    method = re.search(r"(?im)^CSeq\s*:\s*\d+\s+(\w+)", text)
+    return (branch[1] if branch else "", method[1] if method else "")
+
+
+def number_of(text):
+    """The Call-ID and the number of CSeq: what an INVITE's final response and its ACK have in common."""
+    return tuple(re.search(rf"(?im)^{name}\s*:\s*(\S+)", text)[1] for name in ("Call-ID", "CSeq"))
+
+
+class Rough(Plain):
+    kind = "rough"
+
+    def start(self):
+        self.fate = random.Random(self.user)
+        self.repeats, self.said, self.acks, self.seen = {}, {}, {}, set()
+        super().start()
+
+    def wait(self, start, pattern, seconds=30):
+        return super().wait(start, pattern, max(seconds, 30))
+
+    # ---- the line
+
+    def suffer(self, carry):
+        """What the line makes of a datagram: it may be lost, it may come twice, and it comes late."""
+        if self.fate.random() < LOST:
+            return
+        for _ in range(2 if self.fate.random() < DOUBLED else 1):
+            threading.Timer(self.fate.random() * LATEST, lambda: self.runs and carry()).start()
+
+    def put(self, text):
+        self.suffer(lambda: Plain.send(self, text))
+
+    def take(self, text):
+        """What reaches the line; what comes out of it is taken, and noted for whoever waits."""
+        self.suffer(lambda: self.take_late(text))
+
+    # ---- what goes again
+
+    def repeat(self, key, text, interval=T1, left=64 * T1):
+        self.put(text)
+        if left > 0 and self.runs:
+            again = lambda: key in self.repeats and self.repeat(key, text, min(2 * interval, MOST), left - interval)
+            self.repeats[key] = threading.Timer(interval, again)
+            self.repeats[key].start()
+
+    def stop(self, key):
+        timer = self.repeats.pop(key, None)
+        if timer:
+            timer.cancel()
+
+    def send(self, text):
+        """A request goes again until it is answered, an INVITE's final response until its ACK comes."""
+        status = re.match(r"SIP/2\.0 (\d+)", text)
+        if text.startswith("ACK "):
+            self.acks[number_of(text)] = text
+            self.put(text)
+        elif not status:
+            self.repeat(key_of(text), text)
+        else:
+            self.said[key_of(text)] = text
+            if int(status[1]) >= 200 and key_of(text)[1] == "INVITE":
+                self.repeat(number_of(text), text)
+            else:
+                self.put(text)
+
+    def take_late(self, text):
+        key = key_of(text)
+        if text.startswith("ACK "):
+            self.stop(number_of(text))
+        elif text.startswith("SIP/2.0"):
+            if text[8] != "1" or key[1] == "INVITE":
+                self.stop(key)
+            if text in self.seen:
+                if number_of(text) in self.acks and key[1] == "INVITE" and text[8] != "1":
+                    self.put(self.acks[number_of(text)])
+                return
+            self.seen.add(text)
+        elif key in self.said:
+            self.put(self.said[key])
+            return
+        Plain.take(self, text)
