@@ -17,7 +17,7 @@ use Rattle.call_core.specs.declared.refusal.CallRefusal.TheVariants.{OutOfMemory
 use Rattle.call_core.specs.Refusals.{RefusesInput}
 use Rattle.port_pool.specs.Pool.{Contents}
 use Rattle.call_core.specs.CallRows.{call_row, first_call_row}
-use Rattle.call_core.specs.Calls.{new_call}
+use Rattle.call_core.specs.Calls.{dialog_of, new_call}
 use Rattle.call_core.specs.Plans.{IsPlanned, Step, carried}
 use Rattle.calls.specs.State.{Standing}
 use Rattle.calls.specs.Changes.{carries}
@@ -27,19 +27,19 @@ use Rattle.call_core.specs.declared.note.NoteOfCall.{NoteOfCall}
 use Rattle.call_steps.specs.declared.messages.StepMessages.{StepMessages}
 use Rattle.call_steps.specs.declared.occasion.Occasion.{Occasion}
 use Rattle.call_steps.specs.Effects.{no_effect, with_messages}
-use Rattle.call_steps.specs.Rows.{begins_as, begins_with, begun, counts, does, first_messages, first_row, messages_of, offer_coming, offer_request, offers_row, put_with, standing_as, step_note, takes_by, takes_row}
+use Rattle.call_steps.specs.Rows.{begins_as, begins_with, begun, counts, counts_in, does, first_messages, first_row, leg_at, messages_of, offer_coming, offer_request, offers_row, put_with, refreshes, standing_as, step_note, takes_by, takes_row}
 use Rattle.call_steps.specs.Scenes.{fresh}
 use Rattle.call_steps.specs.Values.{AskerValue, ComingValue, without_offer}
 
 -- ---- a call that stands
 
 pub does_as_planned : (calls : Standing) (table : transactions.Contents) (o : Occasion) (place : ℕ) (input : Input) (w : ComingValue)
-    (c : StandingCall) (plan : Plan) (said : StepMessages) (note : Option NoteOfCall) → slice_get calls.calls place ≡ Some c
+    (c : StandingCall) (plan : Plan) (said : StepMessages) (told : Option NoteOfCall) → slice_get calls.calls place ≡ Some c
     → carried c.call calls.pool o.now plan ≡ call_row c.call input calls.pool o.now
-    → said ≡ messages_of table o w c (carried c.call calls.pool o.now plan) → note ≡ step_note c (carried c.call calls.pool o.now plan)
-    → with_messages (carries calls o.now place (put_with w said) plan (slice_get calls.calls place)) said note
+    → said ≡ messages_of table o w c (carried c.call calls.pool o.now plan) → told ≡ step_note c (carried c.call calls.pool o.now plan)
+    → with_messages (carries calls o.now place (put_with w said) plan (slice_get calls.calls place)) said told
     ≡ does calls table o place w c (call_row c.call input calls.pool o.now)
-does_as_planned calls table o place input w c plan said note at row says notes =
+does_as_planned calls table o place input w c plan said told at row says notes =
     rw (at, says, notes) (ap (λ (step : Step). does calls table o place w c step) row)
 
 pub takes_there : (calls : Standing) (table : transactions.Contents) (o : Occasion) (place : ℕ) (input : Input) (leg : Option LegDialog) (request : Option AskerValue)
@@ -62,10 +62,21 @@ pub offers_there : (calls : Standing) (table : transactions.Contents) (o : Occas
 unfolding offers_row
 offers_there calls table o place input end request id source c at = rw at refl
 
-pub offers_nothing : (calls : Standing) (table : transactions.Contents) (o : Occasion) (place : ℕ) (input : Input) (end : End) (request : Request) (id : ℕ) (source : Addr)
-    → slice_get calls.calls place ≡ None → no_effect calls ≡ offers_row calls table o place input end request id source
-unfolding offers_row
-offers_nothing calls table o place input end request id source none = rw none refl
+-- ---- the number of a request
+
+pub counts_there : (calls : List StandingCall) (place : ℕ) (end : End) (number : ℕ) (c : StandingCall) → slice_get calls place ≡ Some c
+    → counts_in end number (dialog_of end c.call) ≡ counts calls place end number
+unfolding counts
+counts_there calls place end number c at = rw at refl
+
+pub counts_nothing : (calls : List StandingCall) (place : ℕ) (end : End) (number : ℕ) → slice_get calls place ≡ None → None ≡ counts calls place end number
+unfolding counts
+counts_nothing calls place end number none = rw none refl
+
+pub refreshes_there : (calls : List StandingCall) (place : ℕ) (end : End) (r : Request) (leg : Option LegDialog) → leg ≡ counts calls place end r.parts.cseq.number
+    → leg_at (reached_at (contacts_of r.headers)) leg ≡ refreshes calls place end r
+unfolding refreshes
+refreshes_there calls place end r leg is = ap (leg_at (reached_at (contacts_of r.headers))) is
 
 -- a plan for the call that stands at a place is one for any call that stands there
 pub planned_there : (calls : Standing) (place now : ℕ) (c : StandingCall) (plan : Plan) → slice_get calls.calls place ≡ Some c → IsPlanned c.call calls.pool now plan

@@ -5,6 +5,18 @@ ghost use Rattle.call_steps.specs.Values.{asker_value, coming_value, without_off
 
 use call_messages::Asker;
 use calls::{LegDialog, TakenOffer};
+use sip_message::Request;
+use sip_uri::Addr;
+
+/// A request that was received.
+#[derive(Clone, Copy)]
+pub struct ReceivedRequest<'m, 'a> {
+    pub request: &'m Request<'a>,
+    /// The transaction that it began.
+    pub id: usize,
+    /// Where it came from.
+    pub source: Addr,
+}
 
 /// What comes with an event to a call.
 #[derive(Drop)]

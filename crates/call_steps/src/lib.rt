@@ -15,11 +15,12 @@ mod occasion;
 mod scene;
 
 pub use answer_dialog::answers_leg;
+pub use arrival::ReceivedRequest;
 pub use call_step::CallStep;
 pub use forks::{fork, late_ack};
 pub use inputs::takes;
 pub use later_offers::offers;
 pub use new_call::first_call;
-pub use numbers::{counts, refreshes};
+pub use numbers::{counts, counts_in_call, refreshes};
 pub use occasion::Occasion;
 pub use scene::offerer_tag;

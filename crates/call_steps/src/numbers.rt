@@ -1,8 +1,9 @@
 //! A request in a dialog counts its number there (RFC 3261 section 12.2.2).
 
-ghost use Rattle.std.specs.Prelude.{◌≡◌, IfOk};
+ghost use Rattle.std.specs.Prelude.{◌≡◌, ℕ, IfOk, List, Some, slice_get};
 ghost use Rattle.std.specs.Option.{option_copied};
-ghost use Rattle.call_steps.specs.Rows.{counts, counts_by, counts_in, leg_at, refreshes};
+ghost use Rattle.calls.specs.declared.standing_call.StandingCall.{StandingCall};
+ghost use Rattle.call_steps.specs.Rows.{counts, counts_in, leg_at, refreshes};
 
 use boxed::Boxed;
 use call_core::End;
@@ -29,23 +30,21 @@ fn counts_in(
     Ok(Some(LegDialog { end, dialog }))
 }
 
-fn counts_by(
+/// The dialog of this call with this end, once a request with this number was taken in it, whatever that is answered;
+/// none where the call has no such dialog. Nothing changes.
+pub fn counts_in_call(
     alloc: Global,
+    call: &StandingCall,
     end: End,
     number: u32,
-    call: Option<&StandingCall>,
 ) -> Result<Option<LegDialog>, AllocError>
-    ensures { IfOk result (λ leg. leg ≡ counts_by end number (option_copied call.entry)) }
+    // Wherever the call stands.
+    ensures { (calls : List StandingCall) (place : ℕ) → slice_get calls place ≡ Some call.now → IfOk result (λ leg. leg ≡ counts calls place end number) }
 {
-    match call {
-        None => Ok(None),
-        Some(call) => counts_in(alloc, end, number, call.call.dialog(end)),
-    }
+    counts_in(alloc, end, number, call.call.dialog(end))
 }
 
-/// The dialog of the call at this place with this end, once a request with this number was taken in it, whatever that
-/// is answered; none where no call stands, or has no such dialog. Nothing changes.
-#[tactic(auto, unfolding(crate::specs::Rows::counts))]
+/// The same, of the call at this place; none where no call stands.
 pub fn counts(
     alloc: Global,
     calls: &Calls,
@@ -55,7 +54,10 @@ pub fn counts(
 ) -> Result<Option<LegDialog>, AllocError>
     ensures { IfOk result (λ leg. leg ≡ counts calls.now.calls place end number) }
 {
-    counts_by(alloc, end, number, calls.get(place))
+    match calls.get(place) {
+        None => Ok(None),
+        Some(call) => counts_in_call(alloc, call, end, number),
+    }
 }
 
 /// The other side of this dialog is reached at this target.
@@ -70,20 +72,19 @@ fn leg_at(target: Option<Uri<'static>>, leg: Option<LegDialog>) -> Option<LegDia
     Some(leg)
 }
 
-/// The dialog of the call at this place with this end, once an UPDATE without an offer was taken in it: it counts the
-/// number, and its other side is reached from then on where the UPDATE says, if it says so (RFC 3311 section 5.1); none
-/// where no call stands, or has no such dialog. Nothing changes.
-#[tactic(auto, unfolding(crate::specs::Rows::refreshes))]
+/// The dialog of this call with this end, once an UPDATE without an offer was taken in it: it counts the number, and
+/// its other side is reached from then on where the UPDATE says, if it says so (RFC 3311 section 5.1); none where the
+/// call has no such dialog. Nothing changes.
 pub fn refreshes(
     alloc: Global,
-    calls: &Calls,
-    place: usize,
+    call: &StandingCall,
     end: End,
     request: &Request<'_>,
 ) -> Result<Option<LegDialog>, AllocError>
-    ensures { IfOk result (λ leg. leg ≡ refreshes calls.now.calls place end request.now) }
+    // Wherever the call stands.
+    ensures { (calls : List StandingCall) (place : ℕ) → slice_get calls place ≡ Some call.now → IfOk result (λ leg. leg ≡ refreshes calls place end request.now) }
 {
     let target = contact_uri(alloc, request.headers.as_slice())?;
-    let leg = counts(alloc, calls, place, end, request.parts.cseq.number)?;
+    let leg = counts_in_call(alloc, call, end, request.parts.cseq.number)?;
     Ok(leg_at(target, leg))
 }
