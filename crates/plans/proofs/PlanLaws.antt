@@ -3,14 +3,16 @@ use Rattle.std.proofs.Common.{◌≡◌, ◌∙◌, ℕ, ◌<◌, ◌≤◌, ◌
 use Rattle.transactions.specs.declared.change.Entry.{Entry}
 use Rattle.transactions.specs.declared.outcome.Outgoing.{Outgoing}
 use Rattle.calls.specs.State.{Standing}
-use Rattle.calls.specs.Changes.{FitsChange, entered}
+use Rattle.calls.specs.Changes.{FitsChange, entered, unchanged}
+use Rattle.calls.specs.declared.change.LegDialog.{LegDialog}
 use Rattle.call_steps.specs.Effects as steps
 use Rattle.call_steps.specs.declared.call_step.CallStep.{CallStep}
 use Rattle.plans.specs.declared.acks.KeptAck.{KeptAck}
 use Rattle.plans.specs.declared.effects_of_events.Doing.{Doing}
 use Rattle.sip_message.specs.declared.message.Request.{Request}
 use Rattle.plans.specs.declared.setting.Setting.{Setting}
-use Rattle.plans.specs.CallRows.{are_full, refuses_first, unless_full, with_step}
+use Rattle.plans.specs.CallRows.{are_full, puts_if, refuses_first, unless_full, with_step}
+use Rattle.plans.specs.Plan.{Plan}
 use Rattle.plans.specs.declared.reason.Reason.TheVariants.{TooManyCalls}
 use Rattle.plans.specs.Office.{Office}
 use Rattle.plans.specs.Effect.{CanEnter, Effect, effect}
@@ -28,6 +30,10 @@ stepped_as r calls acks now b b_as send send_as id id_as x y b_is send_is id_is 
 pub effect_as : {E : Type 0} (r : Result Doing E) (calls : Standing) (acks : List KeptAck) (now : ℕ) (x y : Effect) → x ≡ y
     → IfOk r (λ d. effect calls acks now d ≡ x) → IfOk r (λ d. effect calls acks now d ≡ y)
 effect_as r calls acks now x y same h = subst (λ e. IfOk r (λ d. effect calls acks now d ≡ e)) same h
+
+-- a dialog is put beside the call at a place, where there is one
+abbrev pub put_beside : Office → Plan → ℕ → Option LegDialog → Effect
+put_beside s plan place leg = record { plan = plan; calls = unchanged (puts_if s.calls place leg); acks = s.acks }
 
 -- a call more may stand
 pub not_full : (s : Office) (e : Setting) (r : Request) (begun : List Entry) (id : ℕ) (x : steps.Effect) → false ≡ are_full s

@@ -23,7 +23,7 @@ use crate::setting::Setting;
 use call_core::{CallRefusal, End, Input};
 use call_messages::Asker;
 use call_rules::body_description;
-use call_steps::{CallStep, counts, first_call, offerer_tag};
+use call_steps::{CallStep, counts, counts_in_call, first_call, offerer_tag};
 use calls::{LegDialog, StandingCall};
 use responses::STATELESS;
 use sdp::Description;
@@ -254,25 +254,21 @@ impl<'o> Office<'o> {
 
     // ---- a request in a dialog
 
-    /// The dialog of this request counts its number, whatever it is answered.
+    /// The dialog of this request of this call, which stands at this place, counts its number, whatever it is answered.
     #[inline(never)]
     pub(crate) fn counts_its_number(
         &self,
         request: &Request<'_>,
         place: usize,
         end: End,
+        call: &StandingCall,
         plan: Plan,
     ) -> Result<Doing, AllocError>
+        requires there { slice_get self.now.calls.calls place ≡ Some call.now }
         ensures row { (now : ℕ) → IfOk result (λ d. effect self.now.calls self.now.acks now d ≡ counted self.now request.now place end plan) }
         ensures fits { (now : ℕ) → IfOk result (Fits self.now.calls now) }
     {
-        let leg = counts(
-            self.alloc,
-            self.calls,
-            place,
-            end,
-            request.parts.cseq.number,
-        )?;
+        let leg = counts_in_call(self.alloc, call, end, request.parts.cseq.number)?;
         Ok(Doing::puts(plan, place, leg))
     }
 
@@ -357,7 +353,7 @@ impl<'o> Office<'o> {
                 self.offers(setting, request, begun, id, place, end, call)
             }
             CallRule::Refreshes(place, end, call) => {
-                self.refreshes_at(setting, request, begun, id, place, end, &call.call)
+                self.refreshes_at(setting, request, begun, id, place, end, call)
             }
         }
     }

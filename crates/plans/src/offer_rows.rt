@@ -8,7 +8,7 @@ ghost use Rattle.call_rules.specs.Offers.{offer_rule};
 ghost use Rattle.call_rules.specs.declared.offers.OfferRule.TheVariants.{Passes};
 ghost use Rattle.call_steps.specs.Effects as steps;
 ghost use Rattle.call_steps.specs.Effects.{with_timers};
-ghost use Rattle.call_steps.specs.Refusals.{MayTakeThere, RefusesTaken};
+ghost use Rattle.call_core.specs.Refusals.{MayTakeIn, RefusesInput};
 ghost use Rattle.call_steps.specs.Rows.{offers_row};
 ghost use Rattle.plans.specs.CallRows.{occasion, offer_method, offers, okay_plan, passes_if, passes_in, reason_of_clash, reason_of_content, reason_of_refusal, reason_of_rule, refreshes_at, refreshes_by, refuses};
 ghost use Rattle.plans.specs.Effect.{CanEnter, Fits, effect};
@@ -18,10 +18,10 @@ use crate::office::Office;
 use crate::plan::Plan;
 use crate::reason::Reason;
 use crate::setting::Setting;
-use call_core::{Call, CallRefusal, Clash, End, Input, OfferMethod};
+use call_core::{CallRefusal, Clash, End, Input, OfferMethod};
 use call_messages::contact_header;
 use call_rules::{ContentRule, OfferRule, body_description, offer_rule, plain_rule};
-use call_steps::{CallStep, refreshes};
+use call_steps::{CallStep, ReceivedRequest, refreshes};
 use calls::StandingCall;
 use responses::is_method;
 use sdp::Description;
@@ -106,19 +106,21 @@ impl<'o> Office<'o> {
         id: usize,
         place: usize,
         end: End,
+        call: &StandingCall,
         reason: Reason,
     ) -> Result<Doing, AllocError>
         requires moment { setting.now < 2 ^ 60 }
+        requires there { slice_get self.now.calls.calls place ≡ Some call.now }
         ensures row { IfOk result (λ d. effect self.now.calls self.now.acks setting.now d ≡ refuses self.now setting request.now begun.items id place end reason) }
         ensures fits { IfOk result (Fits self.now.calls setting.now) }
     {
         let plan = self.refuses_for(setting, request, begun, id, reason)?;
-        self.counts_its_number(request, place, end, plan)
+        self.counts_its_number(request, place, end, call, plan)
     }
 
     // ---- an offer
 
-    /// What the call at this place does for an offer, whatever timers the calls have.
+    /// What this call, which stands at this place, does for an offer, whatever timers the calls have.
     #[tactic(auto, using(crate::proofs::CallLaws::can_enter_offer))]
     #[inline(never)]
     fn offer_step(
@@ -128,27 +130,26 @@ impl<'o> Office<'o> {
         id: usize,
         place: usize,
         end: End,
+        call: &StandingCall,
         input: &Input<'_>,
     ) -> Result<CallStep, CallRefusal>
         requires few { self.now.tokens < 2 ^ 63 }
+        requires there { slice_get self.now.calls.calls place ≡ Some call.now }
         ensures row { (timers : List (Timer CallTimerId)) → IfOk result (λ step. steps.effect (with_timers timers self.now.calls) setting.now step
             ≡ offers_row (with_timers timers self.now.calls) self.now.table (occasion self.now setting) place input.now end request.now id setting.source) }
         ensures can { (timers : List (Timer CallTimerId)) → IfOk result (CanEnter (with_timers timers self.now.calls) setting.now) }
-        ensures may { OnOk result (MayTakeThere (slice_get self.now.calls.calls place) self.now.calls.pool input.now setting.now) }
-        ensures refused { IfErr result (RefusesTaken (slice_get self.now.calls.calls place) self.now.calls.pool input.now setting.now) }
+        ensures may { OnOk result (MayTakeIn call.now.call call.now.call.standing self.now.calls.pool input.now setting.now) }
+        ensures refused { IfErr result (RefusesInput call.now.call self.now.calls.pool input.now setting.now) }
     {
         let o = self.occasion(setting);
-        match call_steps::offers(
-            self.alloc,
-            self.calls,
-            self.table,
-            o,
-            place,
-            input,
-            end,
+        let source = setting.source;
+        let received = ReceivedRequest {
             request,
             id,
-            setting.source,
+            source,
+        };
+        match call_steps::offers(
+            self.alloc, self.calls, self.table, o, place, input, end, received, call,
         ) {
             Ok(step) => Ok(step),
             Err(refusal) => Err(refusal),
@@ -176,13 +177,15 @@ impl<'o> Office<'o> {
         ensures fits { IfOk result (Fits self.now.calls setting.now) }
     {
         let input = Input::Offer(end, offer_method(request), Some(offer));
-        let step = self.offer_step(setting, request, id, place, end, &input);
+        let step = self.offer_step(setting, request, id, place, end, call, &input);
         drop(input);
         match step {
             Ok(step) => Doing::of_step(Before::alone(begun), step),
             Err(refusal) => match reason_of_refusal(refusal) {
                 None => Err(AllocError),
-                Some(reason) => self.refuses_in(setting, request, begun, id, place, end, reason),
+                Some(reason) => self.refuses_in(
+                    setting, request, begun, id, place, end, call, reason,
+                ),
             },
         }
     }
@@ -208,7 +211,10 @@ impl<'o> Office<'o> {
     {
         let headers = request.headers.as_slice();
         match body_description(self.alloc, headers, request.body.as_bytes())? {
-            None => self.refuses_in(setting, request, begun, id, place, end, Reason::Undescribed),
+            None => {
+                let reason = Reason::Undescribed;
+                self.refuses_in(setting, request, begun, id, place, end, call, reason)
+            }
             Some(offer) => self.passes_if(setting, request, begun, id, place, end, call, offer),
         }
     }
@@ -234,7 +240,7 @@ impl<'o> Office<'o> {
     {
         let rule = offer_rule(self.alloc, request, end, &call.call)?;
         match reason_of_rule(rule) {
-            Some(reason) => self.refuses_in(setting, request, begun, id, place, end, reason),
+            Some(reason) => self.refuses_in(setting, request, begun, id, place, end, call, reason),
             None => self.passes_in(setting, request, begun, id, place, end, call),
         }
     }
@@ -265,16 +271,18 @@ impl<'o> Office<'o> {
         id: usize,
         place: usize,
         end: End,
+        call: &StandingCall,
     ) -> Result<Doing, AllocError>
+        requires there { slice_get self.now.calls.calls place ≡ Some call.now }
         ensures row { IfOk result (λ d. effect self.now.calls self.now.acks setting.now d ≡ refreshes_by self.now setting request.now begun.items id place end None) }
         ensures fits { IfOk result (Fits self.now.calls setting.now) }
     {
         let plan = self.okay_plan(setting, request, begun, id)?;
-        let leg = refreshes(self.alloc, self.calls, place, end, request)?;
+        let leg = refreshes(self.alloc, call, end, request)?;
         Ok(Doing::puts(plan, place, leg))
     }
 
-    /// What an UPDATE of this end of this call without an offer comes to.
+    /// What an UPDATE of this end of this call, which stands at this place, without an offer comes to.
     #[tactic(auto, unfolding(crate::specs::CallRows::refreshes_at))]
     #[inline(never)]
     pub(crate) fn refreshes_at(
@@ -285,16 +293,17 @@ impl<'o> Office<'o> {
         id: usize,
         place: usize,
         end: End,
-        call: &Call,
+        call: &StandingCall,
     ) -> Result<Doing, AllocError>
         requires moment { setting.now < 2 ^ 60 }
-        ensures row { IfOk result (λ d. effect self.now.calls self.now.acks setting.now d ≡ refreshes_at self.now setting request.now begun.items id place end call.now) }
+        requires there { slice_get self.now.calls.calls place ≡ Some call.now }
+        ensures row { IfOk result (λ d. effect self.now.calls self.now.acks setting.now d ≡ refreshes_at self.now setting request.now begun.items id place end call.now.call) }
         ensures fits { IfOk result (Fits self.now.calls setting.now) }
     {
-        let rule = plain_rule(self.alloc, request, end, call)?;
+        let rule = plain_rule(self.alloc, request, end, &call.call)?;
         match reason_of_rule(rule) {
-            Some(reason) => self.refuses_in(setting, request, begun, id, place, end, reason),
-            None => self.okays(setting, request, begun, id, place, end),
+            Some(reason) => self.refuses_in(setting, request, begun, id, place, end, call, reason),
+            None => self.okays(setting, request, begun, id, place, end, call),
         }
     }
 }

@@ -280,48 +280,15 @@ impl<'o> Office<'o> {
     {
         match refusal {
             Refusal::OutOfMemory => Err(AllocError),
-            Refusal::UnknownUser => self.refuses_for(
-                setting,
-                request,
-                begun,
-                id,
-                Reason::Register(refusal),
-            ),
-            Refusal::StarMisused => self.refuses_for(
-                setting,
-                request,
-                begun,
-                id,
-                Reason::Register(refusal),
-            ),
-            Refusal::TooBrief => self.refuses_for(
-                setting,
-                request,
-                begun,
-                id,
-                Reason::Register(refusal),
-            ),
-            Refusal::OutOfOrder => self.refuses_for(
-                setting,
-                request,
-                begun,
-                id,
-                Reason::Register(refusal),
-            ),
-            Refusal::TooManyBindings => self.refuses_for(
-                setting,
-                request,
-                begun,
-                id,
-                Reason::Register(refusal),
-            ),
-            Refusal::BadContact => self.refuses_for(
-                setting,
-                request,
-                begun,
-                id,
-                Reason::Register(refusal),
-            ),
+            Refusal::UnknownUser
+            | Refusal::StarMisused
+            | Refusal::TooBrief
+            | Refusal::OutOfOrder
+            | Refusal::TooManyBindings
+            | Refusal::BadContact => {
+                let reason = Reason::Register(refusal);
+                self.refuses_for(setting, request, begun, id, reason)
+            }
         }
     }
 

@@ -13,7 +13,7 @@ returns-in-Ok-clause-row c =
     let r = c.args.request.now in
     let call = c.args.call.now.call in
     let free = clear r c.args.end call c.requires.free in
-    let may = rw (c.in-Ok.is, c.requires.there, c.offer_method.ensures) at c.offer_step-step.ensures.may in
+    let may = rw (c.in-Ok.is, c.offer_method.ensures) at c.offer_step-step.ensures.may in
     let row = rw c.in-Ok.is at c.offer_step-step.ensures.row s.calls.timers in
     let step = row ∙ ap (λ (m : OfferMethod). offers_row s.calls s.table (occasion s c.args.setting) c.args.place (inputs.Offer c.args.end m (Some c.args.offer)) c.args.end r c.args.id c.args.setting.source) c.offer_method.ensures in
     effect_as c.of_step.result s.calls s.acks c.args.setting.now _ _ (passed_as s c.args.setting r c.args.begun.items c.args.id c.args.place c.args.end call c.args.offer free.1 may)
@@ -32,6 +32,6 @@ returns-in-Some-clause-row c =
     let r = c.args.request.now in
     let call = c.args.call.now.call in
     let free = clear r c.args.end call c.requires.free in
-    let why = rw (c.in-Err.is, c.requires.there) at c.offer_step-step.ensures.refused in
+    let why = rw c.in-Err.is at c.offer_step-step.ensures.refused in
     let is = sym c.reason_of_refusal.ensures ∙ c.in-Some.is in
     effect_as c.refuses_in.result s.calls s.acks c.args.setting.now _ _ (refused_as s c.args.setting r c.args.begun.items c.args.id c.args.place c.args.end call c.args.offer c.in-Err.refusal c.in-Some.reason free.0 why is) c.refuses_in.ensures.row
