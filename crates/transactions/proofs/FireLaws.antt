@@ -9,6 +9,7 @@ use Rattle.std.proofs.lemmas.List.Sums.{AllPass-from_list_all}
 use Rattle.timers.specs.declared.timers.Timer.{Timer}
 use Rattle.timers.specs.Queue.{put, without, moment}
 use Rattle.sip_uri.specs.declared.uri.Addr.{Addr}
+use Rattle.sip_message.specs.declared.message.Parts.{Parts}
 use Rattle.transaction_machines.specs.declared.input.Input.TheVariants as inputs
 use Rattle.transaction_machines.specs.declared.input.TimerKind.{TimerKind}
 use Rattle.transaction_machines.specs.declared.input.TimerKind.TheVariants.{A, B, D, E, F, G, H, I, J, K, L, M, N}
@@ -31,7 +32,8 @@ use Rattle.transactions.specs.Slots.{at, free_number}
 use Rattle.transaction_machines.specs.Inputs.{place_of}
 use Rattle.transactions.specs.Timing.{same_timer, timer_of, stopped_by, start, started}
 use Rattle.transactions.specs.Transactions.{went, latest, outgoing, sent}
-use Rattle.transactions.specs.Contents.{Contents, stepped, opened, placed, fired_by, fired_step, fired_of, has_come, is_due}
+use Rattle.transactions.specs.Waiting.{begins_dialog, limited, starts_within}
+use Rattle.transactions.specs.Contents.{Contents, opened, stepped, placed, placed_with, fired_by, fired_step, fired_of, has_come, is_due}
 use Rattle.transaction_machines.specs.Lines.{has_line, repeats, every_kind, is_stopped, runs_on, starts_with_lines, stops_every, starts_none, follows_to, follows}
 use Rattle.transactions.specs.Fireable.{has_line_at, has_sent, IsFireable}
 use Rattle.transactions.proofs.LastingLaws.{within, placed_other, placed_own}
@@ -222,7 +224,7 @@ pub fireable_carried : (slots slots_then : List (Option Transaction)) (timers re
     → IsFireable slots_then timers_then
 fireable_carried slots slots_then timers reserved left timers_then id step fresh now fireable some follow written e f g =
     let one = some_there (at slots id) some in
-    rw (written one.0 one.1, g, f, e) (fireable_stepped (record { slots = slots; timers = timers }) id one.0 step fresh now fireable one.1 (follow one.0 one.1))
+    rw (written one.0 one.1, g, f, e) (fireable_stepped (record { slots = slots; timers = timers; first_wait = 0 }) id one.0 step fresh now fireable one.1 (follow one.0 one.1))
 
 -- ---- a new transaction
 
@@ -239,10 +241,10 @@ placed_sent_by : (slots : List (Option Transaction)) (place : ℕ) (u : Transact
 placed_sent_by slots place u true h all = All-set (λ slot. has_sent slot ≡ true) slots place (Some u) h all
 placed_sent_by slots place u false h all = All-push (λ slot. has_sent slot ≡ true) slots (Some u) all h
 
-pub fireable_opened : (table : Contents) (u : Transaction) (ss : Starts) (now : ℕ) → IsFireable table.slots table.timers
+fireable_with : (table : Contents) (u : Transaction) (ss : Starts) (now : ℕ) → IsFireable table.slots table.timers
     → starts_with_lines u.state ss ≡ true → has_sent (Some u) ≡ true
-    → IsFireable (opened table u ss now).slots (opened table u ss now).timers
-fireable_opened table u ss now fireable lines sent_once =
+    → IsFireable (placed_with table u ss now).slots (placed_with table u ss now).timers
+fireable_with table u ss now fireable lines sent_once =
     let place = free_number table.slots in
     let slots = placed table.slots place u in
     record {
@@ -251,12 +253,32 @@ fireable_opened table u ss now fireable lines sent_once =
       sent = placed_sent_by table.slots place u (nat_lt place (length table.slots)) sent_once fireable.sent;
     }
 
+-- each timer has a line however soon it is due
+lines_limited : (wait : ℕ) (state : State) (ss : Starts) → starts_with_lines state ss ≡ true → starts_with_lines state (limited wait ss) ≡ true
+lines_limited wait state starts.NoTimer h = h
+lines_limited wait state (starts.One s) h = h
+lines_limited wait state (starts.Two s t) h = h
+
+pub lines_within : (wait : ℕ) (parts : Parts) (state : State) (ss : Starts) → starts_with_lines state ss ≡ true
+    → starts_with_lines state (starts_within wait parts ss) ≡ true
+unfolding starts_within
+lines_within wait parts state ss h = by (begins_dialog parts) where
+  by : (b : Bool) → starts_with_lines state (cond b (limited wait ss) ss) ≡ true
+  by true = lines_limited wait state ss h
+  by false = h
+
+pub fireable_opened : (table : Contents) (u : Transaction) (ss : Starts) (now : ℕ) → IsFireable table.slots table.timers
+    → starts_with_lines u.state ss ≡ true → has_sent (Some u) ≡ true
+    → IsFireable (opened table u ss now).slots (opened table u ss now).timers
+fireable_opened table u ss now fireable lines sent_once =
+    fireable_with table u (starts_within table.first_wait u.parts ss) now fireable (lines_within table.first_wait u.parts u.state ss lines) sent_once
+
 pub fireable_placed : (slots slots_then : List (Option Transaction)) (timers reserved timers_then : List (Timer TimerId)) (id : ℕ) (u : Transaction) (ss : Starts) (now : ℕ)
     → IsFireable slots timers → starts_with_lines u.state ss ≡ true → has_sent (Some u) ≡ true
     → id ≡ free_number slots → slots_then ≡ placed slots id u → reserved ≡ timers → timers_then ≡ started reserved id ss now
     → IsFireable slots_then timers_then
 fireable_placed slots slots_then timers reserved timers_then id u ss now fireable lines sent_once e f g h =
-    rw (f, h, g, e) (fireable_opened (record { slots = slots; timers = timers }) u ss now fireable lines sent_once)
+    rw (f, h, g, e) (fireable_with (record { slots = slots; timers = timers; first_wait = 0 }) u ss now fireable lines sent_once)
 
 -- ---- a timer that is due
 
@@ -314,12 +336,12 @@ pub due_fires : (table : Contents) (timer : TimerId) (now : ℕ) → IsFireable 
 due_fires table timer now fireable due =
     fires_at table.slots timer (at table.slots timer.id) refl (due_line table.slots table.timers timer now fireable.lines due) fireable.sent
 
-pub fires_then : (slots : List (Option Transaction)) (timers : List (Timer TimerId)) (table : Contents) (timer : TimerId) (now : ℕ)
-    → IsFireable slots timers → record { slots = slots; timers = timers } ≡ table → true ≡ is_due table timer now
+pub fires_then : (slots : List (Option Transaction)) (timers : List (Timer TimerId)) (wait : ℕ) (table : Contents) (timer : TimerId) (now : ℕ)
+    → IsFireable slots timers → record { slots = slots; timers = timers; first_wait = wait } ≡ table → true ≡ is_due table timer now
     → (found : Option Transaction) → found ≡ at slots timer.id → is_some (fired_of found timer.kind) ≡ true
-fires_then slots timers table timer now fireable view due found there =
+fires_then slots timers wait table timer now fireable view due found there =
     ap (λ o. is_some (fired_of o timer.kind)) there
-    ∙ due_fires (record { slots = slots; timers = timers }) timer now fireable (ap (λ v. is_due v timer now) view ∙ sym due)
+    ∙ due_fires (record { slots = slots; timers = timers; first_wait = wait }) timer now fireable (ap (λ v. is_due v timer now) view ∙ sym due)
 
 -- ---- what is fresh where it is asked for
 

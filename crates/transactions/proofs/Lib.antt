@@ -7,6 +7,7 @@ pub mod FireLaws
 pub mod ReplyLaws
 pub mod ServerLaws
 pub mod UntouchedLaws
+pub mod WaitLaws
 pub mod RepeatLaws
 pub mod KeyLaws
 pub mod SameBranchLaws

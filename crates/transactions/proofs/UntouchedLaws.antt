@@ -26,11 +26,12 @@ use Rattle.transactions.specs.declared.transaction.TimerId.{TimerId}
 use Rattle.transactions.specs.declared.transaction.Transaction.{Transaction}
 use Rattle.transactions.specs.Slots.{at, free_number, is_asked, is_answered}
 use Rattle.transactions.specs.Timing.{same_timer, timer_of, stopped_by, start, started}
+use Rattle.transactions.specs.Waiting.{starts_within}
 use Rattle.transactions.specs.Transactions.{served, asking, asking_timers}
 use Rattle.transactions.specs.Contents.{Contents, stepped_by, table_at, ack_at, input_of, response_input, answer_input}
 use Rattle.transactions.specs.Changes.{entered, request_change, response_change, change_of, after_message}
 use Rattle.transactions.specs.Calls as calls
-use Rattle.transactions.specs.Calls.{Call, after, noticed, tells}
+use Rattle.transactions.specs.Calls.{Call, tells}
 use Rattle.transactions.specs.Untouched.{is_told, own_timers, IsUntouched, LeavesOthers}
 use Rattle.transactions.proofs.LastingLaws.{not_free, other_left, placed_other}
 
@@ -111,7 +112,7 @@ begun_untouched : (table : Contents) (u : Transaction) (ss : Starts) (now id : �
 begun_untouched table u ss now id t true there = left_alone table id t there
 begun_untouched table u ss now id t false there = record {
   same = placed_other table.slots id u t there;
-  timers = own_started id (free_number table.slots) table.timers ss now (λ is. not_free table.slots id t there (sym is));
+  timers = own_started id (free_number table.slots) table.timers (starts_within table.first_wait u.parts ss) now (λ is. not_free table.slots id t there (sym is));
 }
 
 request_untouched : (table : Contents) (r : Request) (source : Addr) (now id : ℕ) (t : Transaction) (number : Option ℕ) → at table.slots id ≡ Some t

@@ -36,12 +36,15 @@ use Rattle.transaction_machines.specs.Machines.{row_of}
 use Rattle.transactions.specs.Slots.{at, free_number, is_asked, is_answered, is_merged, is_serving, serving}
 use Rattle.transactions.specs.Timing.{same_timer, stopped_by, started}
 use Rattle.transactions.specs.Transactions.{went, sent, outgoing}
+use Rattle.transactions.specs.Waiting.{starts_within}
 
 -- Place i of the slots has the transaction with the number i. The timers stand in the order in which they are due, each
--- key once: that is what `next`, `first_due` and `timer_count` say of every table.
+-- key once: that is what `next`, `first_due` and `timer_count` say of every table. An INVITE of the server's own that
+-- begins a dialog waits so many milliseconds for its first response.
 pub record Contents : Type 0 where
   pub slots : List (Option Transaction)
   pub timers : List (Timer TimerId)
+  pub first_wait : ℕ
 
 -- ---- a step, and a new transaction
 
@@ -50,6 +53,7 @@ abbrev pub stepped : Contents → ℕ → Transaction → Step → Option (List 
 stepped table id t step fresh now = record {
   slots = slice_set table.slots id (option_map (went t fresh) step.next);
   timers = started (stopped_by table.timers id step.stops) id step.starts now;
+  first_wait = table.first_wait;
 }
 
 abbrev pub stepped_by : Contents → ℕ → Transaction → Option (List ℕ) → ℕ → Option Step → Contents
@@ -82,12 +86,17 @@ takes_memory (Some step) = sends step.send || not (starts_none step.starts)
 abbrev pub placed : List (Option Transaction) → ℕ → Transaction → List (Option Transaction)
 placed slots id t = if nat_lt id (length slots) then slice_set slots id (Some t) else slots ++ Some t ∷ []
 
--- the table with a new transaction, under the least number that is free
-abbrev pub opened : Contents → Transaction → Starts → ℕ → Contents
-opened table t starts now = record {
+-- the table with a new transaction, under the least number that is free, and with these timers of its own
+abbrev pub placed_with : Contents → Transaction → Starts → ℕ → Contents
+placed_with table t starts now = record {
   slots = placed table.slots (free_number table.slots) t;
   timers = started table.timers (free_number table.slots) starts now;
+  first_wait = table.first_wait;
 }
+
+-- the same, where an INVITE that begins a dialog is given up sooner
+abbrev pub opened : Contents → Transaction → Starts → ℕ → Contents
+opened table t starts now = placed_with table t (starts_within table.first_wait t.parts starts) now
 
 -- ---- a message comes
 

@@ -17,4 +17,6 @@ pub mod Kinds
 pub mod Once
 pub mod Servers
 pub mod Untouched
+pub mod GivingUp
+pub mod Waiting
 pub mod Repeats

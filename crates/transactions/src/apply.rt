@@ -1,6 +1,6 @@
 //! Changes as they are entered: first the room that they take, which may be refused, then the changes, which cannot.
 
-ghost use Rattle.std.specs.Prelude.{◌≡◌, ◌+◌, ◌*◌, ◌<◌, ◌≤◌, ◌^◌, OnOk, OnErr, IfSome, IsTrue, IsSome, Some, None, is_some, true, length, option_map, slice_set, vec_len};
+ghost use Rattle.std.specs.Prelude.{ℕ, ◌≡◌, ◌+◌, ◌*◌, ◌<◌, ◌≤◌, ◌^◌, OnOk, OnErr, IfSome, IsTrue, IsSome, Some, None, is_some, true, length, option_map, slice_set, vec_len};
 ghost use Rattle.transactions.specs.declared.transaction.Transaction.{Transaction};
 ghost use Rattle.transaction_machines.specs.Lines.{follows, is_answer, starts_with_lines};
 ghost use Rattle.transactions.specs.Fireable.{IsFireable, has_sent};
@@ -16,6 +16,7 @@ use crate::slot::Slot;
 use crate::slots::transaction_at;
 use crate::timer_changes::{set_all, stop};
 use crate::transaction::{TimerId, Transaction};
+use crate::waiting::starts_within;
 use boxed::Boxed;
 use std::alloc::AllocError;
 use text::Text;
@@ -105,38 +106,48 @@ pub(crate) fn make_room(
     timers.reserve(most)
 }
 
-/// All changes, in order. There is room for them.
+/// All changes, in order. There is room for them. An INVITE that begins a dialog waits so many milliseconds at most for
+/// its first response.
 pub(crate) fn enter_all(
     places: &mut Places,
     timers: &mut Timers<TimerId>,
     changes: Vec<Change>,
+    first_wait: u64,
     now: u64,
 )
     requires moment { now < 2 ^ 60 }
     requires fireable { IsFireable places.old.slots timers.old.timers }
     requires places_room { length changes.items ≤ places.old.room }
     requires timers_room { 2 * length changes.items ≤ timers.old.room }
-    ensures table { record { slots = places.new.slots; timers = timers.new.timers } ≡ entered_all now (record { slots = places.old.slots; timers = timers.old.timers }) changes.items }
+    ensures table { record { slots = places.new.slots; timers = timers.new.timers; first_wait = first_wait } ≡ entered_all now (record { slots = places.old.slots; timers = timers.old.timers; first_wait = first_wait }) changes.items }
     ensures fireable { IsFireable places.new.slots timers.new.timers }
 {
     for change in changes {
-        enter(places, timers, change, now);
+        enter(places, timers, change, first_wait, now);
     }
 }
 
 /// One change. There is room for it.
-pub(crate) fn enter(places: &mut Places, timers: &mut Timers<TimerId>, change: Change, now: u64)
+pub(crate) fn enter(
+    places: &mut Places,
+    timers: &mut Timers<TimerId>,
+    change: Change,
+    first_wait: u64,
+    now: u64,
+)
     requires moment { now < 2 ^ 60 }
     requires fireable { IsFireable places.old.slots timers.old.timers }
     requires places_room { places_of change ≤ places.old.room }
     requires timers_room { timers_of places.old.slots change ≤ timers.old.room }
-    ensures table { record { slots = places.new.slots; timers = timers.new.timers } ≡ entered now (record { slots = places.old.slots; timers = timers.old.timers }) change }
+    ensures table { record { slots = places.new.slots; timers = timers.new.timers; first_wait = first_wait } ≡ entered now (record { slots = places.old.slots; timers = timers.old.timers; first_wait = first_wait }) change }
     ensures fireable { IsFireable places.new.slots timers.new.timers }
     ensures places_room { places.old.room ≤ places.new.room + 1 }
     ensures timers_room { timers.old.room ≤ timers.new.room + 2 }
 {
     match change.entry {
-        Entry::Opens(transaction, starts) => open(places, timers, transaction, starts, now),
+        Entry::Opens(transaction, starts) => {
+            open(places, timers, transaction, starts, first_wait, now);
+        }
         Entry::Tells(id, input, fresh) => tell(places, timers, id, input, fresh, now),
         Entry::Answers(id, class, bytes) => {
             tell(places, timers, id, Input::Answer(class), Some(bytes), now);
@@ -151,6 +162,7 @@ fn open(
     timers: &mut Timers<TimerId>,
     transaction: Boxed<Transaction>,
     starts: Starts,
+    first_wait: u64,
     now: u64,
 )
     requires moment { now < 2 ^ 60 }
@@ -160,13 +172,14 @@ fn open(
     requires fireable { IsFireable places.old.slots timers.old.timers }
     requires places_room { 0 < places.old.room }
     requires timers_room { starts_count starts ≤ timers.old.room }
-    ensures table { record { slots = places.new.slots; timers = timers.new.timers } ≡ opened (record { slots = places.old.slots; timers = timers.old.timers }) transaction starts now }
+    ensures table { record { slots = places.new.slots; timers = timers.new.timers; first_wait = first_wait } ≡ opened (record { slots = places.old.slots; timers = timers.old.timers; first_wait = first_wait }) transaction starts now }
     ensures fireable { IsFireable places.new.slots timers.new.timers }
     ensures places_room { places.old.room ≤ places.new.room + 1 }
     ensures timers_room { timers.old.room ≤ timers.new.room + 2 }
 {
+    let within = starts_within(first_wait, &transaction.get().parts, starts);
     let id = places.open(transaction);
-    set_all(timers, id, starts, now);
+    set_all(timers, id, within, now);
 }
 
 // A transaction is told something, with what it is to send. Where it has no line, or there is none, nothing is done.
@@ -182,7 +195,7 @@ fn tell(
     requires given { is_answer input ≡ true → is_some fresh ≡ true }
     requires fireable { IsFireable places.old.slots timers.old.timers }
     requires timers_room { line_timers places.old.slots id input ≤ timers.old.room }
-    ensures table { record { slots = places.new.slots; timers = timers.new.timers } ≡ table_at (record { slots = places.old.slots; timers = timers.old.timers }) id (at places.old.slots id) input fresh.entry now }
+    ensures table { (first_wait : ℕ) → record { slots = places.new.slots; timers = timers.new.timers; first_wait = first_wait } ≡ table_at (record { slots = places.old.slots; timers = timers.old.timers; first_wait = first_wait }) id (at places.old.slots id) input fresh.entry now }
     ensures fireable { IsFireable places.new.slots timers.new.timers }
     ensures places_room { places.old.room ≤ places.new.room + 1 }
     ensures timers_room { timers.old.room ≤ timers.new.room + 2 }
@@ -214,7 +227,7 @@ fn carry_out(
     requires follows { (t : Transaction) → at places.old.slots id ≡ Some t → IsTrue (follows t.state (is_some fresh) step) }
     requires fireable { IsFireable places.old.slots timers.old.timers }
     requires timers_room { starts_count step.starts ≤ timers.old.room }
-    ensures table { (t : Transaction) → at places.old.slots id ≡ Some t → record { slots = places.new.slots; timers = timers.new.timers } ≡ stepped (record { slots = places.old.slots; timers = timers.old.timers }) id t step fresh.entry now }
+    ensures table { (first_wait : ℕ) (t : Transaction) → at places.old.slots id ≡ Some t → record { slots = places.new.slots; timers = timers.new.timers; first_wait = first_wait } ≡ stepped (record { slots = places.old.slots; timers = timers.old.timers; first_wait = first_wait }) id t step fresh.entry now }
     ensures fireable { IsFireable places.new.slots timers.new.timers }
     ensures places_room { places.old.room ≤ places.new.room + 1 }
     ensures timers_room { timers.old.room ≤ timers.new.room + 2 }

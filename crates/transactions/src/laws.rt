@@ -11,6 +11,7 @@ ghost use Rattle.sip_writing.specs.Replies.{Replies};
 ghost use Rattle.transactions.specs.declared.change.Entry.{Entry};
 ghost use Rattle.transactions.specs.declared.transaction.Transaction.{Transaction};
 ghost use Rattle.transactions.specs.Calls.{Call, after_all};
+ghost use Rattle.transactions.specs.GivingUp.{GivesUp};
 ghost use Rattle.transactions.specs.Limits.{max_served};
 ghost use Rattle.transactions.specs.Repeats.{KeepsFinal, LeavesAnswer, KeepsOver, RepeatsAnswer, ResendsAnswer};
 ghost use Rattle.transactions.specs.Servers.{AreServers, MayEnter, WereDone};
@@ -74,4 +75,11 @@ pub fn answers_are_repeated()
     ensures over { (table : Contents) (calls : List Call) → KeepsOver table calls }
     ensures again { (table : Contents) (request : Request) → RepeatsAnswer table request }
     ensures timer { (transaction : Transaction) → ResendsAnswer transaction }
+{}
+
+/// A request of the server's own that is no ACK has the timer set at which it is given up: B of an INVITE, and F of
+/// another request, 64*T1 after it was sent (RFC 3261 sections 17.1.1.2 and 17.1.2.2). An INVITE that begins a dialog
+/// has it sooner, where the table is made so.
+pub fn requests_are_given_up()
+    ensures { (table : Contents) (request : Request) (to : Addr) (now : ℕ) → GivesUp table request to now }
 {}

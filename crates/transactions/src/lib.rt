@@ -21,11 +21,14 @@ mod table;
 mod timer_changes;
 mod transaction;
 mod verdicts;
+mod waiting;
 
 pub use change::{Change, Entry};
 pub use error::TableError;
 pub use foresee::{Foreseen, ForeseenFire};
-pub use laws::{answers_are_repeated, once, others_are_untouched, replies, servers};
+pub use laws::{
+    answers_are_repeated, once, others_are_untouched, replies, requests_are_given_up, servers,
+};
 pub use outcome::{Fired, Outgoing, Reception, Started, Verdict};
 pub use own_request::OwnRequest;
 pub use same_branch::{ack_of, cancel_of};

@@ -43,6 +43,8 @@ pub struct Table {
     pub(crate) alloc: Global,
     pub(crate) places: Places,
     pub(crate) timers: Timers<TimerId>,
+    /// So many milliseconds an INVITE of the server's own that begins a dialog waits for its first response.
+    pub(crate) first_wait: u64,
 }
 
 impl Drop for Table {
@@ -51,6 +53,7 @@ impl Drop for Table {
             alloc: _,
             places: _,
             timers: _,
+            first_wait: _,
         } = self;
     }
 }
@@ -61,23 +64,26 @@ impl Model for Table {
 
     ghost Value = { Contents };
 
-    ghost view = { λ t. record { slots = t.places.slots; timers = t.timers.timers } };
+    ghost view = { λ t. record { slots = t.places.slots; timers = t.timers.timers; first_wait = t.first_wait } };
 
     // So each timer that is due does something when it fires.
     ghost invariant = { λ t. IsFireable t.places.slots t.timers.timers };
 }
 
 impl Table {
-    /// A table without transactions, which are looked up by prints under this key. No result depends on the key. Takes
-    /// no memory.
-    pub fn new(alloc: Global, key: PrintKey) -> Self
+    /// A table without transactions, which are looked up by prints under this key. No result depends on the key. An
+    /// INVITE of the server's own that begins a dialog waits so many milliseconds for its first response, and 64*T1 at
+    /// most (timer B, RFC 3261 section 17.1.1.2). Takes no memory.
+    pub fn new(alloc: Global, key: PrintKey, first_wait: u64) -> Self
         ensures slots { result.slots ≡ [] }
         ensures timers { result.timers ≡ [] }
+        ensures first_wait { result.first_wait ≡ first_wait }
     {
         Table {
             alloc,
             places: Places::new(alloc, key),
             timers: Timers::new(alloc),
+            first_wait,
         }
     }
 
@@ -198,7 +204,13 @@ impl Table {
         ensures err { OnErr result (self.new ≡ self.old) }
     {
         make_room(&mut self.places, &mut self.timers, changes.as_slice().len())?;
-        enter_all(&mut self.places, &mut self.timers, changes, now);
+        enter_all(
+            &mut self.places,
+            &mut self.timers,
+            changes,
+            self.first_wait,
+            now,
+        );
         Ok(())
     }
 
@@ -297,7 +309,13 @@ impl Table {
         ensures needed { OnErr result (needs_room self.old.slots change ≡ true) }
     {
         make_room_for(&mut self.places, &mut self.timers, &change)?;
-        enter(&mut self.places, &mut self.timers, change, now);
+        enter(
+            &mut self.places,
+            &mut self.timers,
+            change,
+            self.first_wait,
+            now,
+        );
         Ok(())
     }
 }

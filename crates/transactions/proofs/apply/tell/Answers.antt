@@ -1,5 +1,8 @@
-use Rattle.std.proofs.Common.{is_some, ap, ◌∙◌}
+use Rattle.std.proofs.Common.{Option, is_some, sym, ap, ◌∙◌}
+use Rattle.transaction_machines.specs.declared.step.Step.{Step}
 use Rattle.transaction_machines.specs.Lines.{is_answer}
+use Rattle.transactions.specs.declared.transaction.Transaction.{Transaction}
+use Rattle.transactions.specs.Contents.{Contents, stepped_by, table_at}
 use Rattle.transactions.specs.Slots.{at}
 use Rattle.transactions.proofs.FireLaws.{follows_by}
 use Rattle.transactions.proofs.apply.tell.Goals as goal
@@ -10,3 +13,12 @@ carry_out-requires-clause-follows c =
     c.requires.given
     (c.in-Some.ensures ∙ ap (λ l. at l c.args.id) c.slots.ensures)
     c.in-Some-advance.ensures.follows
+
+pub returns-clause-table : goal.returns-clause-table
+returns-clause-table c = λ wait.
+    let t = c.in-Some.transaction.now in
+    let table : Contents = record { slots = c.args.places.now.slots; timers = c.args.timers.now.timers; first_wait = wait } in
+    let there = c.in-Some.ensures ∙ ap (λ l. at l c.args.id) c.slots.ensures in
+    c.carry_out.ensures.table wait t (sym there)
+    ∙ ap (λ (line : Option Step). stepped_by table c.args.id t c.args.fresh c.args.now line) c.in-Some-advance.ensures.row
+    ∙ ap (λ (found : Option Transaction). table_at table c.args.id found c.args.input c.args.fresh c.args.now) there

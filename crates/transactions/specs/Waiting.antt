@@ -1,0 +1,24 @@
+-- How long an INVITE of the server's own that begins a dialog waits for its first response.
+use Rattle.std.specs.Prelude.{ℕ, ◌&&◌, Bool, not, codes, is_some, min, if◌then◌else◌}
+use Rattle.sip_message.specs.declared.message.Parts.{Parts}
+use Rattle.sip_message.specs.Words.{is_method, tag_value}
+use Rattle.transaction_machines.specs.declared.step.Start.{Start}
+use Rattle.transaction_machines.specs.declared.step.Starts.{Starts}
+use Rattle.transaction_machines.specs.declared.step.Starts.TheVariants.{NoTimer, One, Two}
+
+-- outside a dialog To has no tag (RFC 3261 section 12.1)
+abbrev pub begins_dialog : Parts → Bool
+begins_dialog parts = is_method (codes "INVITE") parts && not (is_some (tag_value parts.to.params))
+
+-- after so many milliseconds at most
+abbrev pub sooner : ℕ → Start → Start
+sooner wait start = record { kind = start.kind; after = min wait start.after }
+
+-- the second of two timers is the one that gives up: timer B of an INVITE (section 17.1.1.2)
+abbrev pub limited : ℕ → Starts → Starts
+limited wait NoTimer = NoTimer
+limited wait (One start) = One start
+limited wait (Two start last) = Two start (sooner wait last)
+
+unfoldable pub starts_within : ℕ → Parts → Starts → Starts
+starts_within wait parts starts = if begins_dialog parts then limited wait starts else starts
