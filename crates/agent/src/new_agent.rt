@@ -3,7 +3,7 @@
 ghost use Rattle.std.specs.Prelude.{◌≡◌, [], IfOk, IfErr, OnOk};
 ghost use Rattle.configuration.specs.Rules.{KeepsRules};
 ghost use Rattle.registrar.specs.Registrar.{StandsAfter};
-ghost use Rattle.event_rows.specs.State.{IsNew, RefusesConfig, range_of, rules_by, server_of};
+ghost use Rattle.event_rows.specs.State.{IsNew, RefusesConfig, first_wait_of, range_of, rules_by, server_of};
 ghost use Rattle.media_laws.specs.Standing.{AgentStands};
 
 use crate::agent::Agent;
@@ -57,6 +57,13 @@ fn server_of(config: &Config) -> Addr
     }
 }
 
+/// How many milliseconds a callee's telephone has for its first response.
+fn first_wait_of(config: &Config) -> u64
+    ensures { result ≡ first_wait_of config.now }
+{
+    1_000 * u64::from(config.answer_within)
+}
+
 fn range_of(config: &Config) -> OwnRange
     requires { KeepsRules config.now }
     ensures { result ≡ range_of config.now }
@@ -96,7 +103,7 @@ impl Agent {
         Ok(Agent {
             alloc,
             registrar,
-            table: Table::new(alloc, key),
+            table: Table::new(alloc, key, first_wait_of(config)),
             calls,
             acks: Vec::new(alloc),
             changes: Vec::new(alloc),

@@ -7,7 +7,7 @@ use Rattle.std.specs.Cmp.Lexicographic.{pointwise}
 use Rattle.toml.specs.Data.{Data, Items, no_items, item, Members, no_members, member, as_integer, as_str, as_array, get_member}
 use Rattle.registrar.specs.Registering.{are_distinct}
 use Rattle.registrar.specs.Limits.{max_users}
-use Rattle.configuration.specs.Limits.{min_relay_port, max_relay_pairs, usual_workers}
+use Rattle.configuration.specs.Limits.{min_relay_port, max_answer_within, max_relay_pairs, max_workers, usual_workers}
 use Rattle.configuration.specs.Names.{is_user}
 use Rattle.configuration.specs.declared.config.Config.{Config}
 use Rattle.configuration.specs.declared.level.LogLevel.{LogLevel}
@@ -19,8 +19,8 @@ use Rattle.configuration.specs.declared.key.Key.TheVariants as keys
 use Rattle.configuration.specs.declared.flaw.Flaw.{Flaw}
 use Rattle.configuration.specs.declared.flaw.Flaw.TheVariants.{UnknownKey, Missing, OtherType, OutOfRange, Odd, PastLastPort, RelayPort, Malformed, RandomKey, UserCount, UserTwice}
 use Rattle.configuration.specs.Rules.{has_room_for_ports, is_relay_port, is_server_address, has_relay_ports, has_address, has_users, has_lifetime, has_domain, first_broken}
-use Rattle.configuration.specs.Files.{is_known_key, has_known_keys, few, natural, workers_in, workers_of, workers_at, number_at, numbers_at, text_at, octets_of, ip_at, key_of, key_at, domain_of, domain_at, texts_of, users_at, level_named, log_in, log_of, log_at, config_from, config_of, port_of, seconds_of}
-use Rattle.configuration.specs.Flaws.{rule_of, unknown_key, unknown_flaw, unless, has_type_of, required_flaw, optional_flaw, count_flaw, workers_flaw, digits_flaw, random_key_flaw, are_texts, list_flaw, users_type_flaw, word_flaw, log_flaw, said_flaw, said_number, relay_flaw, address_flaw, malformed_user, user_twice, users_flaw, lifetime_flaw, domain_flaw, rules_flaw, flaw_behind, flaw_in}
+use Rattle.configuration.specs.Files.{is_known_key, has_known_keys, few, few_of, natural, answer_within_at, workers_at, number_at, numbers_at, text_at, octets_of, ip_at, key_of, key_at, domain_of, domain_at, texts_of, users_at, level_named, log_in, log_of, log_at, config_from, config_of, port_of, seconds_of}
+use Rattle.configuration.specs.Flaws.{key_rule, rule_of, unknown_key, unknown_flaw, unless, has_type_of, required_flaw, optional_flaw, count_flaw, few_flaw, digits_flaw, random_key_flaw, are_texts, list_flaw, users_type_flaw, word_flaw, log_flaw, said_flaw, said_number, relay_flaw, address_flaw, malformed_user, user_twice, users_flaw, lifetime_flaw, domain_flaw, rules_flaw, flaw_behind, flaw_in}
 
 -- ---- what is read
 
@@ -73,12 +73,12 @@ required : {X : Type 0} (key : Key) (read : Data → Option X) → ((value : Dat
 required key read same None = refl
 required key read same (Some value) = judges_type key (read value) (has_type_of key value) (same value)
 
-workers : (o : Option Data) → Judges (workers_flaw o) (workers_of o)
-workers None = tt
-workers (Some value) = count (as_integer value) where
-  count : (z : Option ℤ) → Judges (count_flaw z) (option_and_then few (option_and_then (natural 255) z))
+number : (key : Key) (most usual : ℕ) (o : Option Data) → key_rule key ≡ rules.File → Judges (few_flaw key most o) (few_of most usual o)
+number key most usual None is = tt
+number key most usual (Some value) is = count (as_integer value) where
+  count : (z : Option ℤ) → Judges (count_flaw key most z) (option_and_then (few most) (option_and_then (natural 255) z))
   count None = refl
-  count (Some z) = judges_unless (option_and_then few (natural 255 z)) (OutOfRange keys.Workers z) refl
+  count (Some z) = judges_unless (option_and_then (few most) (natural 255 z)) (OutOfRange key z) is
 
 random_key : (o : Option Data) → Judges (random_key_flaw o) (option_and_then key_of (option_and_then as_str o))
 random_key None = refl
@@ -114,13 +114,14 @@ word (Some value) = named (as_str value) where
   named None = refl
   named (Some t) = judges_unless (level_named t) (Malformed keys.Log t) refl
 
-regrouped : (a b c d e rest : Option Flaw) → option_or (option_or a (option_or b (option_or c (option_or d e)))) rest
-    ≡ option_or a (option_or b (option_or c (option_or d (option_or e rest))))
-regrouped (Some x) b c d e rest = refl
-regrouped None (Some x) c d e rest = refl
-regrouped None None (Some x) d e rest = refl
-regrouped None None None (Some x) e rest = refl
-regrouped None None None None e rest = refl
+regrouped : (a b c d e f rest : Option Flaw) → option_or (option_or a (option_or b (option_or c (option_or d (option_or e f))))) rest
+    ≡ option_or a (option_or b (option_or c (option_or d (option_or e (option_or f rest)))))
+regrouped (Some x) b c d e f rest = refl
+regrouped None (Some x) c d e f rest = refl
+regrouped None None (Some x) d e f rest = refl
+regrouped None None None (Some x) e f rest = refl
+regrouped None None None None (Some x) f rest = refl
+regrouped None None None None None f rest = refl
 
 abbrev at : (Option Data → Option Flaw) → List ℕ → Members → Option Flaw
 at flaw key ms = flaw (get_member key ms)
@@ -128,7 +129,8 @@ at flaw key ms = flaw (get_member key ms)
 abbrev numbers_flaw : Members → Option Flaw
 numbers_flaw ms =
     option_or (at (required_flaw keys.RelayFirst) (codes "relay_first") ms) (option_or (at (required_flaw keys.RelayPairs) (codes "relay_pairs") ms)
-    (option_or (at (required_flaw keys.SipPort) (codes "sip_port") ms) (option_or (at (required_flaw keys.MinExpires) (codes "min_expires") ms) (at workers_flaw (codes "workers") ms))))
+    (option_or (at (required_flaw keys.SipPort) (codes "sip_port") ms) (option_or (at (required_flaw keys.MinExpires) (codes "min_expires") ms)
+    (option_or (at (few_flaw keys.Workers max_workers) (codes "workers") ms) (at (few_flaw keys.AnswerWithin max_answer_within) (codes "answer_within") ms)))))
 
 abbrev texts_flaw : Members → Option Flaw
 texts_flaw ms =
@@ -142,7 +144,8 @@ numbers ms =
     judges_then _ _ (number_at (codes "relay_pairs") ms) _ (required keys.RelayPairs as_integer (λ value. refl) (get_member (codes "relay_pairs") ms)) (λ pairs.
     judges_then _ _ (number_at (codes "sip_port") ms) _ (required keys.SipPort as_integer (λ value. refl) (get_member (codes "sip_port") ms)) (λ port.
     judges_then _ _ (number_at (codes "min_expires") ms) _ (required keys.MinExpires as_integer (λ value. refl) (get_member (codes "min_expires") ms)) (λ expires.
-    judges_last _ (workers_at ms) _ (workers (get_member (codes "workers") ms))))))
+    judges_then _ _ (workers_at ms) _ (number keys.Workers max_workers usual_workers (get_member (codes "workers") ms) refl) (λ workers.
+    judges_last _ (answer_within_at ms) _ (number keys.AnswerWithin max_answer_within max_answer_within (get_member (codes "answer_within") ms) refl))))))
 
 -- the configuration with these numbers
 abbrev with_numbers : Members → Numbers → Option Config
@@ -169,7 +172,8 @@ pub said : (ms : Members) → Judges (said_flaw ms) (config_of ms)
 unfolding said_flaw config_of
 said ms =
     let same = regrouped (at (required_flaw keys.RelayFirst) (codes "relay_first") ms) (at (required_flaw keys.RelayPairs) (codes "relay_pairs") ms)
-    (at (required_flaw keys.SipPort) (codes "sip_port") ms) (at (required_flaw keys.MinExpires) (codes "min_expires") ms) (at workers_flaw (codes "workers") ms) (texts_flaw ms) in
+    (at (required_flaw keys.SipPort) (codes "sip_port") ms) (at (required_flaw keys.MinExpires) (codes "min_expires") ms)
+    (at (few_flaw keys.Workers max_workers) (codes "workers") ms) (at (few_flaw keys.AnswerWithin max_answer_within) (codes "answer_within") ms) (texts_flaw ms) in
     let known = subst (λ (f : Option Flaw). Judges f (option_and_then (with_numbers ms) (numbers_at ms))) same (table ms) in
     unknown ms _ (option_and_then (with_numbers ms) (numbers_at ms)) known
 

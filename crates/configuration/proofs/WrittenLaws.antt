@@ -9,7 +9,7 @@ use Rattle.configuration.specs.declared.error.ConfigError.{ConfigError}
 use Rattle.configuration.specs.declared.level.LogLevel.{LogLevel}
 use Rattle.configuration.specs.declared.numbers.Numbers.{Numbers}
 use Rattle.configuration.specs.Rules.{is_server_address, KeepsRules}
-use Rattle.configuration.specs.Files.{has_known_keys, number_at, fitting, port_of, seconds_of, workers_at, numbers_at, text_at, octets_of, ip_at, key_at, domain_at, users_at, log_at, config_from, config_of}
+use Rattle.configuration.specs.Files.{has_known_keys, number_at, fitting, port_of, seconds_of, answer_within_at, workers_at, numbers_at, text_at, octets_of, ip_at, key_at, domain_at, users_at, log_at, config_from, config_of}
 use Rattle.configuration.specs.Reading.{ReadsConfig, IsWritten, IsWrittenIn}
 use Rattle.configuration.proofs.RuleLaws.{kept}
 
@@ -35,16 +35,22 @@ mapped : {A B : Type 0} (f : A → B) (o : Option A) (y : B) → option_map f o 
 mapped f (Some x) y h = (x, refl, some_is (f x) y h)
 mapped f None y h = absurd cc
 
-abbrev numbers : ℤ → ℤ → ℤ → ℤ → ℕ → Numbers
-numbers first pairs port expires workers =
-    record { relay_first = port_of first; relay_pairs = port_of pairs; sip_port = port_of port; min_expires = seconds_of expires; workers = workers }
+abbrev numbers : ℤ → ℤ → ℤ → ℤ → ℕ → ℕ → Numbers
+numbers first pairs port expires workers within = record {
+  relay_first = port_of first;
+  relay_pairs = port_of pairs;
+  sip_port = port_of port;
+  min_expires = seconds_of expires;
+  workers = workers;
+  answer_within = within;
+}
 
-by_values : (ms : Members) (first pairs port expires : ℤ) (workers : ℕ) (text key : List ℕ) (domain : Option (List ℕ)) (users : List (List ℕ)) (level : LogLevel)
+by_values : (ms : Members) (first pairs port expires : ℤ) (workers within : ℕ) (text key : List ℕ) (domain : Option (List ℕ)) (users : List (List ℕ)) (level : LogLevel)
     → number_at (codes "relay_first") ms ≡ Some first → number_at (codes "relay_pairs") ms ≡ Some pairs → number_at (codes "sip_port") ms ≡ Some port
     → number_at (codes "min_expires") ms ≡ Some expires → text_at (codes "ip") ms ≡ Some text
-    → KeepsRules (config_from (numbers first pairs port expires workers) (octets_of text) key domain users level)
-    → IsWritten ms (config_from (numbers first pairs port expires workers) (octets_of text) key domain users level)
-by_values ms first pairs port expires workers text key domain users level a b c d e keeps = record {
+    → KeepsRules (config_from (numbers first pairs port expires workers within) (octets_of text) key domain users level)
+    → IsWritten ms (config_from (numbers first pairs port expires workers within) (octets_of text) key domain users level)
+by_values ms first pairs port expires workers within text key domain users level a b c d e keeps = record {
   relay_first = a ∙ ap Some (fitting_is 65535 first (omega (arith, keeps.least)));
   relay_pairs = b ∙ ap Some (fitting_is 65535 pairs keeps.some_pairs);
   sip_port = c ∙ ap Some (fitting_is 65535 port keeps.port);
@@ -60,12 +66,13 @@ by_numbers ms n ip key domain users level h i keeps =
     let pairs = some_then (number_at (codes "relay_pairs") ms) _ n first.2 in
     let port = some_then (number_at (codes "sip_port") ms) _ n pairs.2 in
     let expires = some_then (number_at (codes "min_expires") ms) _ n port.2 in
-    let workers = some_then (workers_at ms) (λ w. Some (numbers first.0 pairs.0 port.0 expires.0 w)) n expires.2 in
+    let workers = some_then (workers_at ms) _ n expires.2 in
+    let within = some_then (answer_within_at ms) (λ w. Some (numbers first.0 pairs.0 port.0 expires.0 workers.0 w)) n workers.2 in
     let text = mapped octets_of (text_at (codes "ip") ms) ip i in
-    let same : numbers first.0 pairs.0 port.0 expires.0 workers.0 ≡ n = some_is _ _ workers.2 in
+    let same : numbers first.0 pairs.0 port.0 expires.0 workers.0 within.0 ≡ n = some_is _ _ within.2 in
     let at_text : KeepsRules (config_from n (octets_of text.0) key domain users level) = subst (λ (os : List ℕ). KeepsRules (config_from n os key domain users level)) (sym text.2) keeps in
     let at_numbers = subst (λ (m : Numbers). KeepsRules (config_from m (octets_of text.0) key domain users level)) (sym same) at_text in
-    let written = by_values ms first.0 pairs.0 port.0 expires.0 workers.0 text.0 key domain users level first.1 pairs.1 port.1 expires.1 text.1 at_numbers in
+    let written = by_values ms first.0 pairs.0 port.0 expires.0 workers.0 within.0 text.0 key domain users level first.1 pairs.1 port.1 expires.1 text.1 at_numbers in
     subst (λ (os : List ℕ). IsWritten ms (config_from n os key domain users level)) text.2
     (subst (λ (m : Numbers). IsWritten ms (config_from m (octets_of text.0) key domain users level)) same written)
 

@@ -15,6 +15,7 @@ example = record {
   min_expires = 60;
   domain = Some (codes "office.example");
   workers = 2;
+  answer_within = 32;
   random_key = replicate 32 0;
   log = levels.Calls;
 }

@@ -5,7 +5,7 @@ use Rattle.std.specs.Result.{result_ok}
 use Rattle.toml.specs.Data.{Data, Items, no_items, item, Members, no_members, member, as_integer, as_str, as_array, get_member}
 use Rattle.hex.specs.Hex.{decode_sized}
 use Rattle.sip_uri.specs.Hosts.{ip4_of}
-use Rattle.configuration.specs.Limits.{max_workers, usual_workers}
+use Rattle.configuration.specs.Limits.{max_answer_within, max_workers, usual_workers}
 use Rattle.configuration.specs.declared.config.Config.{Config}
 use Rattle.configuration.specs.declared.level.LogLevel.{LogLevel}
 use Rattle.configuration.specs.declared.level.LogLevel.TheVariants as levels
@@ -20,7 +20,7 @@ abbrev pub is_known_key : List ℕ → Bool
 is_known_key key =
     is_same key (codes "relay_first") || is_same key (codes "relay_pairs") || is_same key (codes "ip") || is_same key (codes "sip_port")
     || is_same key (codes "users") || is_same key (codes "min_expires") || is_same key (codes "domain") || is_same key (codes "workers")
-    || is_same key (codes "random_key") || is_same key (codes "log")
+    || is_same key (codes "random_key") || is_same key (codes "log") || is_same key (codes "answer_within")
 
 -- each key of the table is known
 abbrev pub has_known_keys : Members → Bool
@@ -47,36 +47,43 @@ port_of z = fitting 65535 z
 abbrev pub seconds_of : ℤ → ℕ
 seconds_of z = fitting 4294967295 z
 
-abbrev pub few : ℕ → Option ℕ
-few n = if nat_le 1 n && nat_le n max_workers then Some n else None
+abbrev pub few : ℕ → ℕ → Option ℕ
+few most n = if nat_le 1 n && nat_le n most then Some n else None
+
+-- a number from 1 to the most
+abbrev pub few_in : ℕ → Data → Option ℕ
+few_in most value = option_and_then (few most) (option_and_then (natural 255) (as_integer value))
+
+-- the usual number where the key is missing
+abbrev pub few_of : ℕ → ℕ → Option Data → Option ℕ
+few_of most usual None = Some usual
+few_of most usual (Some value) = few_in most value
 
 -- 1 to 8 workers
-abbrev pub workers_in : Data → Option ℕ
-workers_in value = option_and_then few (option_and_then (natural 255) (as_integer value))
-
--- the workers; the usual number where the key is missing
-abbrev pub workers_of : Option Data → Option ℕ
-workers_of None = Some usual_workers
-workers_of (Some value) = workers_in value
-
 abbrev pub workers_at : Members → Option ℕ
-workers_at ms = workers_of (get_member (codes "workers") ms)
+workers_at ms = few_of max_workers usual_workers (get_member (codes "workers") ms)
 
--- the numbers, each key of which but the workers' has to be there
+-- 1 to 32 seconds
+abbrev pub answer_within_at : Members → Option ℕ
+answer_within_at ms = few_of max_answer_within max_answer_within (get_member (codes "answer_within") ms)
+
+-- the numbers, each key of which has to be there but those of the workers and of the first response
 unfoldable pub numbers_at : Members → Option Numbers
 numbers_at ms =
     option_and_then (λ first.
     option_and_then (λ pairs.
     option_and_then (λ port.
     option_and_then (λ expires.
-    option_and_then (λ workers. Some (record {
+    option_and_then (λ workers.
+    option_and_then (λ within. Some (record {
       relay_first = port_of first;
       relay_pairs = port_of pairs;
       sip_port = port_of port;
       min_expires = seconds_of expires;
       workers = workers;
+      answer_within = within;
     }))
-    (workers_at ms)) (number_at (codes "min_expires") ms)) (number_at (codes "sip_port") ms)) (number_at (codes "relay_pairs") ms))
+    (answer_within_at ms)) (workers_at ms)) (number_at (codes "min_expires") ms)) (number_at (codes "sip_port") ms)) (number_at (codes "relay_pairs") ms))
     (number_at (codes "relay_first") ms)
 
 -- ---- texts
@@ -153,6 +160,7 @@ config_from numbers ip key domain users log = record {
   workers = numbers.workers;
   random_key = key;
   log = log;
+  answer_within = numbers.answer_within;
 }
 
 -- the configuration that a table says, whether or not it keeps the rules: none where a key is unknown, missing or of

@@ -6,7 +6,7 @@ use Rattle.std.specs.Option.{option_or}
 use Rattle.std.specs.Cmp.Lexicographic.{pointwise}
 use Rattle.toml.specs.Data.{Data, Items, no_items, item, Members, no_members, member, as_integer, as_str, as_array, get_member}
 use Rattle.registrar.specs.Limits.{max_users}
-use Rattle.configuration.specs.Limits.{min_relay_port, max_relay_pairs}
+use Rattle.configuration.specs.Limits.{min_relay_port, max_answer_within, max_relay_pairs, max_workers}
 use Rattle.configuration.specs.Names.{is_user}
 use Rattle.configuration.specs.Rules.{has_room_for_ports, is_relay_port, is_server_address, has_lifetime, has_domain}
 use Rattle.configuration.specs.Files.{is_known_key, few, natural, number_at, text_at, key_of, level_named, config_of}
@@ -31,6 +31,7 @@ key_name keys.Domain = codes "domain"
 key_name keys.Workers = codes "workers"
 key_name keys.RandomKey = codes "random_key"
 key_name keys.Log = codes "log"
+key_name keys.AnswerWithin = codes "answer_within"
 
 -- the rule of a key's value
 abbrev pub key_rule : Key → ConfigError
@@ -44,6 +45,7 @@ key_rule keys.Domain = rules.Domain
 key_rule keys.Workers = rules.File
 key_rule keys.RandomKey = rules.File
 key_rule keys.Log = rules.File
+key_rule keys.AnswerWithin = rules.File
 
 -- the rule that a flaw breaks
 abbrev pub rule_of : Flaw → ConfigError
@@ -87,6 +89,7 @@ has_type_of keys.Domain value = is_some (as_str value)
 has_type_of keys.Workers value = is_some (as_integer value)
 has_type_of keys.RandomKey value = is_some (as_str value)
 has_type_of keys.Log value = is_some (as_str value)
+has_type_of keys.AnswerWithin value = is_some (as_integer value)
 
 abbrev pub type_flaw : Key → Data → Option Flaw
 type_flaw key value = if has_type_of key value then None else Some (OtherType key)
@@ -101,14 +104,14 @@ abbrev pub optional_flaw : Key → Option Data → Option Flaw
 optional_flaw key None = None
 optional_flaw key (Some value) = type_flaw key value
 
--- a number of workers may be there
-abbrev pub count_flaw : Option ℤ → Option Flaw
-count_flaw None = Some (OtherType keys.Workers)
-count_flaw (Some z) = unless (option_and_then few (natural 255 z)) (OutOfRange keys.Workers z)
+-- a number from 1 to the most may be there
+abbrev pub count_flaw : Key → ℕ → Option ℤ → Option Flaw
+count_flaw key most None = Some (OtherType key)
+count_flaw key most (Some z) = unless (option_and_then (few most) (natural 255 z)) (OutOfRange key z)
 
-abbrev pub workers_flaw : Option Data → Option Flaw
-workers_flaw None = None
-workers_flaw (Some value) = count_flaw (as_integer value)
+abbrev pub few_flaw : Key → ℕ → Option Data → Option Flaw
+few_flaw key most None = None
+few_flaw key most (Some value) = count_flaw key most (as_integer value)
 
 abbrev pub digits_flaw : Option (List ℕ) → Option Flaw
 digits_flaw None = Some (OtherType keys.RandomKey)
@@ -148,12 +151,13 @@ said_flaw ms =
     (option_or (required_flaw keys.RelayPairs (get_member (codes "relay_pairs") ms))
     (option_or (required_flaw keys.SipPort (get_member (codes "sip_port") ms))
     (option_or (required_flaw keys.MinExpires (get_member (codes "min_expires") ms))
-    (option_or (workers_flaw (get_member (codes "workers") ms))
+    (option_or (few_flaw keys.Workers max_workers (get_member (codes "workers") ms))
+    (option_or (few_flaw keys.AnswerWithin max_answer_within (get_member (codes "answer_within") ms))
     (option_or (required_flaw keys.Ip (get_member (codes "ip") ms))
     (option_or (random_key_flaw (get_member (codes "random_key") ms))
     (option_or (optional_flaw keys.Domain (get_member (codes "domain") ms))
     (option_or (users_type_flaw (get_member (codes "users") ms))
-    (log_flaw (get_member (codes "log") ms)))))))))))
+    (log_flaw (get_member (codes "log") ms))))))))))))
 
 -- ---- the rules
 

@@ -21,3 +21,8 @@ max_workers = 8
 -- the workers where none are named
 abbrev pub usual_workers : ℕ
 usual_workers = 2
+
+-- the seconds that a callee's telephone has for its first response, at most and where none are named: 64*T1 (RFC 3261
+-- section 17.1.1.2)
+abbrev pub max_answer_within : ℕ
+max_answer_within = 32

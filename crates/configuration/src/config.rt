@@ -29,6 +29,8 @@ pub struct Config {
     pub random_key: [u8; 32],
     /// How much is told of what the server does.
     pub log: LogLevel,
+    /// The seconds that a callee's telephone has for its first response to an INVITE.
+    pub answer_within: u8,
 }
 
 impl Drop for Config {
@@ -44,6 +46,7 @@ impl Drop for Config {
             workers: _,
             random_key: _,
             log: _,
+            answer_within: _,
         } = self;
     }
 }

@@ -27,7 +27,8 @@ pub enum ConfigError {
     #[error("C5: domain")]
     Domain,
     /// The text is no TOML, has another key, lacks one, or has a value of another type; or the workers are not 1 to 8,
-    /// or the key of the random numbers is not 64 hexadecimal digits, or the word of the log is unknown.
+    /// or the seconds for a first response not 1 to 32, or the key of the random numbers is not 64 hexadecimal digits,
+    /// or the word of the log is unknown.
     #[error("C6: file")]
     File,
 }

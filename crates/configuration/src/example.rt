@@ -39,5 +39,6 @@ pub fn example_config(alloc: Global) -> Result<Config, AllocError>
         workers: 2,
         random_key: [0; 32],
         log: LogLevel::Calls,
+        answer_within: 32,
     })
 }

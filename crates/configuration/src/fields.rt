@@ -1,9 +1,9 @@
 //! The values of a configuration, as a table has them.
 
 ghost use Rattle.std.specs.Prelude.{◌≡◌, option_and_then};
-ghost use Rattle.toml.specs.Data.{as_str};
+ghost use Rattle.toml.specs.Data.{as_str, get_member};
 ghost use Rattle.toml.specs.View.{view, array_view, table_view};
-ghost use Rattle.configuration.specs.Files.{few, natural, workers_in, workers_at, numbers_at, octets_of, ip_at, key_of, key_at, domain_at, texts_of, users_at, log_in, log_at, config_of};
+ghost use Rattle.configuration.specs.Files.{few, few_in, few_of, natural, answer_within_at, workers_at, numbers_at, octets_of, ip_at, key_of, key_at, domain_at, texts_of, users_at, log_in, log_at, config_of};
 ghost use Rattle.configuration.specs.Reading.{Gives};
 
 use crate::config::Config;
@@ -18,41 +18,57 @@ use text::{Text, Texts};
 use toml::value::Array;
 use toml::{Table, Value};
 
-const MAX_WORKERS: u8 = 8;
+pub(crate) const MAX_WORKERS: u8 = 8;
 
 /// The workers where none are named.
 const USUAL_WORKERS: u8 = 2;
 
-fn few(number: u8) -> Option<u8>
-    ensures { result ≡ few number }
+/// The seconds that a callee's telephone has for its first response, at most and where none are named: 64*T1.
+pub(crate) const MAX_ANSWER_WITHIN: u8 = 32;
+
+fn few(most: u8, number: u8) -> Option<u8>
+    ensures { result ≡ few most number }
 {
-    if 1 <= number && number <= MAX_WORKERS {
+    if 1 <= number && number <= most {
         Some(number)
     } else {
         None
     }
 }
 
-/// A number of workers.
-pub(crate) fn workers_of(number: i64) -> Option<u8>
-    ensures { result ≡ option_and_then few (natural 255 number) }
+/// A number from 1 to the most.
+pub(crate) fn few_of(most: u8, number: i64) -> Option<u8>
+    ensures { result ≡ option_and_then (few most) (natural 255 number) }
 {
-    few(below_2_8(number)?)
+    few(most, below_2_8(number)?)
 }
 
-fn workers_in(value: &Value) -> Option<u8>
-    ensures { result ≡ workers_in (view value.now) }
+fn few_in(most: u8, value: &Value) -> Option<u8>
+    ensures { result ≡ few_in most (view value.now) }
 {
-    workers_of(value.as_integer()?)
+    few_of(most, value.as_integer()?)
+}
+
+/// A number from 1 to the most; the usual one where the key is missing.
+fn few_at(table: &Table, key: &str, most: u8, usual: u8) -> Option<u8>
+    ensures { result ≡ few_of most usual (get_member key.now (table_view table.now)) }
+{
+    match value_at(table, key) {
+        Some(value) => few_in(most, value),
+        None => Some(usual),
+    }
 }
 
 fn workers_at(table: &Table) -> Option<u8>
     ensures { result ≡ workers_at (table_view table.now) }
 {
-    match value_at(table, "workers") {
-        Some(value) => workers_in(value),
-        None => Some(USUAL_WORKERS),
-    }
+    few_at(table, "workers", MAX_WORKERS, USUAL_WORKERS)
+}
+
+fn answer_within_at(table: &Table) -> Option<u8>
+    ensures { result ≡ answer_within_at (table_view table.now) }
+{
+    few_at(table, "answer_within", MAX_ANSWER_WITHIN, MAX_ANSWER_WITHIN)
 }
 
 #[tactic(auto, unfolding(crate::specs::Files::numbers_at))]
@@ -64,12 +80,14 @@ fn numbers_at(table: &Table) -> Option<Numbers>
     let port = number_at(table, "sip_port")?;
     let expires = number_at(table, "min_expires")?;
     let workers = workers_at(table)?;
+    let answer_within = answer_within_at(table)?;
     Some(Numbers {
         relay_first: port_of(first),
         relay_pairs: port_of(pairs),
         sip_port: port_of(port),
         min_expires: seconds_of(expires),
         workers,
+        answer_within,
     })
 }
 
@@ -176,5 +194,6 @@ pub(crate) fn config_of(alloc: Global, table: &Table) -> Result<Config, ConfigEr
         workers: numbers.workers,
         random_key: key,
         log,
+        answer_within: numbers.answer_within,
     })
 }

@@ -41,7 +41,7 @@ fn key_rule(key: Key) -> ConfigError
         Key::Users => ConfigError::Users,
         Key::MinExpires => ConfigError::MinExpires,
         Key::Domain => ConfigError::Domain,
-        Key::Workers | Key::RandomKey | Key::Log => ConfigError::File,
+        Key::Workers | Key::RandomKey | Key::Log | Key::AnswerWithin => ConfigError::File,
     }
 }
 

@@ -6,11 +6,11 @@ ghost use Rattle.std.specs.Cmp.Lexicographic.{pointwise};
 ghost use Rattle.std.specs.Option.{option_copied};
 ghost use Rattle.toml.specs.Data.{get_member};
 ghost use Rattle.toml.specs.View.{view, table_view, array_view};
-ghost use Rattle.configuration.specs.Flaws.{key_name, unknown_key, unknown_flaw, type_flaw, required_flaw, optional_flaw, count_flaw, workers_flaw, digits_flaw, random_key_flaw, users_type_flaw, word_flaw, log_flaw, said_flaw, said_number, relay_flaw, address_flaw, are_texts, malformed_user, user_twice, users_flaw, lifetime_flaw, domain_flaw, rules_flaw, flaw_in};
+ghost use Rattle.configuration.specs.Flaws.{key_name, unknown_key, unknown_flaw, type_flaw, required_flaw, optional_flaw, count_flaw, few_flaw, digits_flaw, random_key_flaw, users_type_flaw, word_flaw, log_flaw, said_flaw, said_number, relay_flaw, address_flaw, are_texts, malformed_user, user_twice, users_flaw, lifetime_flaw, domain_flaw, rules_flaw, flaw_in};
 
 use crate::config::Config;
 use crate::error::ConfigError;
-use crate::fields::{config_of, key_of, workers_of};
+use crate::fields::{MAX_ANSWER_WITHIN, MAX_WORKERS, config_of, few_of, key_of};
 use crate::flaw::Flaw;
 use crate::key::Key;
 use crate::level::level_named;
@@ -74,23 +74,23 @@ fn optional_flaw(table: &Table, key: Key) -> Option<Flaw<'_>>
     }
 }
 
-fn count_flaw<'t>(number: Option<i64>) -> Option<Flaw<'t>>
-    ensures { result ≡ count_flaw number }
+fn count_flaw<'t>(key: Key, most: u8, number: Option<i64>) -> Option<Flaw<'t>>
+    ensures { result ≡ count_flaw key most number }
 {
     let Some(number) = number else {
-        return Some(Flaw::OtherType(Key::Workers));
+        return Some(Flaw::OtherType(key));
     };
-    match workers_of(number) {
+    match few_of(most, number) {
         Some(_) => None,
-        None => Some(Flaw::OutOfRange(Key::Workers, number)),
+        None => Some(Flaw::OutOfRange(key, number)),
     }
 }
 
-fn workers_flaw(table: &Table) -> Option<Flaw<'_>>
-    ensures { result ≡ workers_flaw (get_member (codes "workers") (table_view table.now)) }
+fn few_flaw(table: &Table, key: Key, most: u8) -> Option<Flaw<'_>>
+    ensures { result ≡ few_flaw key most (get_member (key_name key) (table_view table.now)) }
 {
-    match value_at(table, "workers") {
-        Some(value) => count_flaw(value.as_integer()),
+    match value_at(table, key.name()) {
+        Some(value) => count_flaw(key, most, value.as_integer()),
         None => None,
     }
 }
@@ -170,7 +170,8 @@ fn said_flaw(table: &Table) -> Option<Flaw<'_>>
         .or(required_flaw(table, Key::RelayPairs))
         .or(required_flaw(table, Key::SipPort))
         .or(required_flaw(table, Key::MinExpires))
-        .or(workers_flaw(table))
+        .or(few_flaw(table, Key::Workers, MAX_WORKERS))
+        .or(few_flaw(table, Key::AnswerWithin, MAX_ANSWER_WITHIN))
         .or(required_flaw(table, Key::Ip))
         .or(random_key_flaw(table))
         .or(optional_flaw(table, Key::Domain))

@@ -15,6 +15,7 @@ pub enum Key {
     Workers,
     RandomKey,
     Log,
+    AnswerWithin,
 }
 
 impl Key {
@@ -37,6 +38,7 @@ impl Key {
             Key::Workers => "workers",
             Key::RandomKey => "random_key",
             Key::Log => "log",
+            Key::AnswerWithin => "answer_within",
         }
     }
 
@@ -45,8 +47,12 @@ impl Key {
         ensures { result ≡ has_type_of self (view value.now) }
     {
         match self {
-            Key::RelayFirst | Key::RelayPairs | Key::SipPort | Key::MinExpires | Key::Workers =>
-                value.as_integer().is_some(),
+            Key::RelayFirst
+            | Key::RelayPairs
+            | Key::SipPort
+            | Key::MinExpires
+            | Key::Workers
+            | Key::AnswerWithin => value.as_integer().is_some(),
             Key::Ip | Key::Domain | Key::RandomKey | Key::Log => value.as_str().is_some(),
             Key::Users => value.as_array().is_some(),
         }
@@ -67,6 +73,7 @@ impl Key {
             Key::Workers => "a number from 1 to 8",
             Key::RandomKey => "a text of 64 hexadecimal digits",
             Key::Log => "\"none\", \"trouble\", \"calls\" or \"all\"",
+            Key::AnswerWithin => "a number of seconds from 1 to 32",
         }
     }
 }

@@ -11,6 +11,7 @@ pub(crate) struct Numbers {
     pub sip_port: u16,
     pub min_expires: u32,
     pub workers: u8,
+    pub answer_within: u8,
 }
 
 fn below_2_16(number: i64) -> Option<u16>

@@ -32,6 +32,7 @@ pub(crate) fn is_known_key(key: &[u8]) -> bool
         || is_same(key, b"workers")
         || is_same(key, b"random_key")
         || is_same(key, b"log")
+        || is_same(key, b"answer_within")
 }
 
 fn all_known(table: &Table) -> bool

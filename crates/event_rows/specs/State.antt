@@ -116,11 +116,16 @@ server_of c = record { ip = c.ip; port = c.sip_port }
 abbrev pub range_of : Config → OwnRange
 range_of c = record { ip = c.ip; first = c.relay_first; last = c.relay_first + (2 * c.relay_pairs - 1) }
 
+-- how many milliseconds a callee's telephone has for its first response
+abbrev pub first_wait_of : Config → ℕ
+first_wait_of c = 1000 * c.answer_within
+
 -- nothing has happened: no REGISTER was taken, no transaction stands, and no timer is set
 pub record IsNew (c : Config) (s : Contents) : Type 0 where
   pub registers : StandsAfter s.registrar (rules_by c) []
   pub slots : s.table.slots ≡ []
   pub timers : s.table.timers ≡ []
+  pub first_wait : s.table.first_wait ≡ first_wait_of c
   pub calls : s.calls.calls ≡ []
   pub begun : s.calls.begun ≡ 0
   pub call_timers : s.calls.timers ≡ []
