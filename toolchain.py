@@ -38,12 +38,20 @@ def toolchain(script, used):
 
 
 def look_up_once(kind):
-    """Has what is below a crate looked up once. The command goes down every way of the graph at each look, which takes it two minutes of a run."""
-    made = kind.below
+    """Has what is below a crate looked up once, and the stamp of its text taken once where none is written. The command goes down every way of the
+    graph at each look, which takes it minutes of a run."""
+    made, stamped, stamps = kind.below, kind.stamp, {}
 
     def below(crate):
         if "found_below" not in vars(crate):
             crate.found_below = made(crate)
         return [*crate.found_below]
 
-    kind.below = below
+    def stamp(crate):
+        if not crate.cuts_libraries:
+            return stamped(crate)
+        if crate.folder not in stamps:
+            stamps[crate.folder] = stamped(crate)
+        return stamps[crate.folder]
+
+    kind.below, kind.stamp = below, stamp
