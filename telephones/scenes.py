@@ -255,9 +255,9 @@ def unanswered(stage):
 
 
 def gone_silent(stage):
-    """The callee vanishes: the caller learns of it by 408, after 64*T1."""
+    """The callee vanishes: the caller learns of it by 408, after the configured seconds."""
     stage.callee.end()
     start, begun = stage.watch.here(), time.time()
     stage.caller.dial(stage.callee.user)
-    stage.sip(start, "SIP/2.0 408", target=stage.caller, method="INVITE", seconds=40)
+    stage.sip(start, "SIP/2.0 408", target=stage.caller, method="INVITE", seconds=6)
     return f"408 after {time.time() - begun:.0f} s"
