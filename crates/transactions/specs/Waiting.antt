@@ -6,7 +6,7 @@ use Rattle.transaction_machines.specs.declared.step.Start.{Start}
 use Rattle.transaction_machines.specs.declared.step.Starts.{Starts}
 use Rattle.transaction_machines.specs.declared.step.Starts.TheVariants.{NoTimer, One, Two}
 
--- outside a dialog To has no tag (RFC 3261 section 12.1)
+-- outside a dialog To has no tag (RFC 3261 section 8.1.1.2)
 abbrev pub begins_dialog : Parts → Bool
 begins_dialog parts = is_method (codes "INVITE") parts && not (is_some (tag_value parts.to.params))
 

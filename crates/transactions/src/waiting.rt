@@ -9,7 +9,7 @@ use crate::matches::has_to_tag;
 use sip_message::{Parts, is_method};
 use transaction_machines::{Start, Starts};
 
-// Whether it is an INVITE outside a dialog (RFC 3261 section 12.1).
+// Whether it is an INVITE outside a dialog (RFC 3261 section 8.1.1.2).
 fn begins_dialog(parts: &Parts) -> bool
     ensures { result ≡ begins_dialog parts.now }
 {
