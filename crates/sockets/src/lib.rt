@@ -1,8 +1,9 @@
 //! The sockets of a server: one for SIP and one at each relay port, what waits for them, and notes of what they took
-//! and sent, for clauses alone. It knows no messages and no calls.
+//! and sent, for clauses alone; and standard error, as a thread writes to it. It knows no messages and no calls.
 #![tactic(auto)]
 
 mod addresses;
+mod error_stream;
 mod log;
 mod media;
 mod ports;
@@ -13,6 +14,7 @@ mod tries;
 mod unbound;
 mod workers;
 
+pub use error_stream::ErrorStream;
 pub use media::MediaSockets;
 pub use ports::{RelaySockets, Sockets, bind, worker_count};
 pub use refusals::{Refusal, Refusals};
