@@ -85,6 +85,7 @@ fn receive<W: Wire>(
     let Some((source, length)) = wire.receive(buffer.bytes.as_mut_slice())? else {
         return Ok(None);
     };
+    buffer.source = Some(source);
     let bytes = &buffer.bytes.as_slice()[..length];
     Ok(Some(datagram(alloc, source, bytes)))
 }

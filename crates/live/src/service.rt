@@ -10,7 +10,7 @@ ghost use Rattle.live.specs.Turns.{HasTable};
 use crate::round::Round;
 use crate::signalling::Signalling;
 use crate::streaks::{End, Streaks};
-use crate::trouble::{Operator, tell_of, tell_of_event};
+use crate::trouble::{Operator, tell_of_change, tell_of_event};
 use crate::wire::Wire;
 use media_laws::agents_stand;
 use std::sync::Wait;
@@ -68,8 +68,9 @@ fn go_on<W: Wire, C: Clock, O: Operator, R: Wait>(
     let round = signalling.round(rt, now);
     let before = *streaks;
     *streaks = before.after(round);
-    tell_of(operator, before.trouble_until(*streaks));
-    tell_of_event(operator, &signalling.agent, round, now);
+    tell_of_change(operator, before, *streaks);
+    let source = signalling.buffer.source;
+    tell_of_event(operator, &signalling.agent, source, round, now);
     round
 }
 

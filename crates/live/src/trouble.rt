@@ -9,6 +9,7 @@ use crate::round::Round;
 use crate::streaks::Streaks;
 use crate::turn::Turned;
 use agent::Agent;
+use sip_uri::Addr;
 
 /// A kind of trouble.
 #[derive(Clone, Copy)]
@@ -28,8 +29,17 @@ pub trait Operator {
     fn tell(&mut self, trouble: Trouble)
         ensures told { told self.new ≡ Some trouble };
 
-    /// The agent took an event at this moment, in milliseconds. Its note says what that was about.
-    fn noted(&mut self, agent: &Agent, now: u64)
+    /// A kind of trouble is over.
+    fn tell_end(&mut self, trouble: Trouble)
+        ensures told { told self.new ≡ told self.old };
+
+    /// The agent took an event at this moment, in milliseconds: a datagram from this source, or a timer. Its note says
+    /// what that was about.
+    fn noted(&mut self, agent: &Agent, source: Option<Addr>, now: u64)
+        ensures told { told self.new ≡ told self.old };
+
+    /// A round took no event, at this moment, in milliseconds. One comes each tenth of a second where none are taken.
+    fn look(&mut self, agent: &Agent, now: u64)
         ensures told { told self.new ≡ told self.old };
 }
 
@@ -50,7 +60,7 @@ impl Streaks {
 }
 
 /// The operator is told, where there is any trouble.
-pub(crate) fn tell_of<O: Operator>(operator: &mut O, trouble: Option<Trouble>)
+fn tell_of<O: Operator>(operator: &mut O, trouble: Option<Trouble>)
     ensures { O.told operator.new ≡ with_trouble (O.told operator.old) trouble }
 {
     if let Some(trouble) = trouble {
@@ -58,14 +68,41 @@ pub(crate) fn tell_of<O: Operator>(operator: &mut O, trouble: Option<Trouble>)
     }
 }
 
-/// The operator is told of the event of a round, where the agent took one.
-pub(crate) fn tell_of_event<O: Operator>(operator: &mut O, agent: &Agent, round: Round, now: u64)
+/// The operator is told of the trouble that ended with a round before which these are the counts, and after which the
+/// others are.
+fn tell_of_ends<O: Operator>(operator: &mut O, before: Streaks, after: Streaks)
+    ensures { O.told operator.new ≡ O.told operator.old }
+{
+    if before.failed > 0 && after.failed == 0 {
+        operator.tell_end(Trouble::Socket);
+    }
+    if before.lost > 0 && after.lost == 0 {
+        operator.tell_end(Trouble::Memory);
+    }
+}
+
+/// The operator is told of the trouble that began or ended with a round.
+pub(crate) fn tell_of_change<O: Operator>(operator: &mut O, before: Streaks, after: Streaks)
+    ensures { O.told operator.new ≡ with_trouble (O.told operator.old) (trouble_between before after) }
+{
+    tell_of(operator, before.trouble_until(after));
+    tell_of_ends(operator, before, after);
+}
+
+/// The operator is told of the event of a round, where the agent took one: a timer, or the last datagram, which came
+/// from there.
+pub(crate) fn tell_of_event<O: Operator>(
+    operator: &mut O,
+    agent: &Agent,
+    source: Option<Addr>,
+    round: Round,
+    now: u64,
+)
     ensures { O.told operator.new ≡ O.told operator.old }
 {
     match round {
-        Round::Fired(Turned::Done(_, _)) | Round::Took(Turned::Done(_, _)) => {
-            operator.noted(agent, now);
-        }
-        _ => {}
+        Round::Fired(Turned::Done(_, _)) => operator.noted(agent, None, now),
+        Round::Took(Turned::Done(_, _)) => operator.noted(agent, source, now),
+        _ => operator.look(agent, now),
     }
 }

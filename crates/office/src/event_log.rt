@@ -2,10 +2,13 @@
 
 use crate::counts::{are_same, counts_line};
 use crate::limit::Limit;
+use crate::media_log::MediaLog;
 use agent::{Agent, Tally};
+use call_core::NoteOfCall;
 use configuration::LogLevel;
 use plans::Note;
 use server::{Ledger, put_count, put_note};
+use sip_uri::Addr;
 use std::alloc::{AllocError, Global};
 
 /// The counts go out so often, in milliseconds, where they changed.
@@ -17,6 +20,7 @@ pub(crate) struct EventLog {
     alloc: Global,
     level: LogLevel,
     ledger: Ledger,
+    media: MediaLog,
     limit: Limit,
     /// The counts that went out last, and when the next may.
     counted: Tally,
@@ -39,11 +43,12 @@ fn is_of_strangers(note: Note) -> bool {
 }
 
 impl EventLog {
-    pub(crate) fn new(alloc: Global, level: LogLevel) -> EventLog {
+    pub(crate) fn new(alloc: Global, level: LogLevel, media: MediaLog) -> EventLog {
         EventLog {
             alloc,
             level,
             ledger: Ledger::new(alloc),
+            media,
             limit: Limit::new(),
             counted: Tally::none_counted(),
             next_counts: BETWEEN_COUNTS,
@@ -70,8 +75,16 @@ impl EventLog {
         }
     }
 
-    /// Writes the lines that are due behind what is there: the agent took an event at this moment, in milliseconds.
-    pub(crate) fn put_lines(
+    /// What happened to a call: the media of the calls are counted by that, and told in the line of its end.
+    fn follow(&mut self, agent: &Agent, note: NoteOfCall, now: u64) {
+        let _ = self.media.follow(agent.calls(), note, now);
+        if let Some(counts) = self.media.end(note) {
+            self.ledger.count_media(note.number, counts);
+        }
+    }
+
+    /// Writes the lines that are due behind what is there, at this moment, in milliseconds.
+    pub(crate) fn put_due(
         &mut self,
         out: &mut Vec<u8>,
         agent: &Agent,
@@ -82,10 +95,26 @@ impl EventLog {
         }
         self.put_untold(out, now)?;
         self.put_counts(out, agent.tally(), now)?;
+        self.media.put_silent_ways(out, &self.ledger, now)
+    }
+
+    /// The same, and behind them the line of an event that the agent took then, which came from there, where it was a
+    /// datagram.
+    pub(crate) fn put_lines(
+        &mut self,
+        out: &mut Vec<u8>,
+        agent: &Agent,
+        source: Option<Addr>,
+        now: u64,
+    ) -> Result<(), AllocError> {
+        self.put_due(out, agent, now)?;
         let note = agent.note();
-        if tells(self.level, note) && (!is_of_strangers(note) || self.limit.admits(now)) {
-            put_note(out, self.alloc, &mut self.ledger, agent, now)?;
+        if !tells(self.level, note) || is_of_strangers(note) && !self.limit.admits(now) {
+            return Ok(());
         }
-        Ok(())
+        if let Note::Call(note) = note {
+            self.follow(agent, note, now);
+        }
+        put_note(out, self.alloc, &mut self.ledger, agent, source, now)
     }
 }

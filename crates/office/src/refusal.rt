@@ -46,12 +46,13 @@ fn descriptor_limit<R: Files + AllocGlobal>(rt: &R) -> Option<u64> {
     behind.split_whitespace().next()?.parse::<u64>().ok()
 }
 
-/// A socket for SIP and one for each relay port, what each thread waits with, the standard streams, and one to spare.
+/// A socket for SIP and one for each relay port, what each thread waits with, also that of the log, the standard
+/// streams, and one to spare.
 fn descriptors_needed(config: &Config) -> u64 {
     u64::from(config.relay_pairs)
         .saturating_mul(2)
         .saturating_add(u64::from(config.workers))
-        .saturating_add(6)
+        .saturating_add(7)
 }
 
 /// That there are too few file descriptors, if so.

@@ -5,6 +5,11 @@ ghost use Rattle.live.specs.Turns.{HasTable};
 
 use crate::announcement::{Announcement, Announcer, warn_of_zeros};
 use crate::counts::counts_line;
+use crate::event_log::EventLog;
+use crate::log_lines::LogLines;
+use crate::log_writer::LogWriter;
+use crate::media_log::MediaLog;
+use crate::port_counts::Counts;
 use crate::refusal::{Refusal, lacks_descriptors};
 use crate::shared::Shared;
 use crate::troubles::Troubles;
@@ -14,9 +19,10 @@ use agent::Tally;
 use configuration::Config;
 use live::{Clock as Moments, End, Operator, Signalling, Wire};
 use relay::{Board, Unopened, Worker, serve_media};
+use rtrb::RingBuffer;
 use server::{Host, HostFault};
-use sockets::{MediaSockets, Sockets, bind, worker_count, workers_of};
-use std::alloc::Global;
+use sockets::{ErrorStream, MediaSockets, Sockets, bind, worker_count, workers_of};
+use std::alloc::{AllocError, Global};
 use std::fs::Files;
 use std::net::Net;
 use std::rt::Clock;
@@ -30,6 +36,11 @@ use std::{io, thread};
 const TIME_TO_BEGIN: u64 = 5_000;
 
 const BETWEEN_LOOKS: u64 = 10;
+
+/// So many bytes of lines wait to be written at most: those of events, and those of the socket for SIP.
+const ROOM_OF_EVENTS: usize = 262_144;
+
+const ROOM_OF_SENDING: usize = 16_384;
 
 /// Serves by the sockets, the clock and the threads of a runtime.
 #[derive(Drop)]
@@ -91,7 +102,13 @@ fn relay_media<R: Threads + Wait + Sync>(
     }
 }
 
-/// Waits until so many workers have begun. Whether they have, in time: a thread that can't be made begins none.
+/// Writes the log until all else is over.
+fn write_log<R: Wait>(rt: &R, writer: LogWriter, begun: &AtomicUsize, is_over: &AtomicBool) {
+    begun.fetch_add(1, Ordering::SeqCst);
+    writer.run(rt, is_over);
+}
+
+/// Waits until so many threads have begun. Whether they have, in time: a thread that can't be made begins nothing.
 fn have_begun<W: Wire, M: Moments>(
     wire: &mut W,
     watch: &mut M,
@@ -128,6 +145,60 @@ fn report<R: Eprint>(rt: &R, alloc: Global, tally: Tally) {
     }
 }
 
+/// The log: the end for the lines of events, that for those of the socket for SIP, and what writes both.
+fn open_log<R: Net>(rt: &R, alloc: Global) -> Result<(LogLines, LogLines, LogWriter), HostFault> {
+    let stream = ErrorStream::new(rt, alloc).map_err(host_fault)?;
+    rings_to(alloc, stream).map_err(|_| HostFault::OutOfMemory)
+}
+
+/// The rings to what writes to this stream.
+fn rings_to(
+    alloc: Global,
+    stream: ErrorStream,
+) -> Result<(LogLines, LogLines, LogWriter), AllocError> {
+    let (events, events_out) = RingBuffer::new(alloc, ROOM_OF_EVENTS)?;
+    let (sending, sending_out) = RingBuffer::new(alloc, ROOM_OF_SENDING)?;
+    let writer = LogWriter::new(alloc, events_out, sending_out, stream)?;
+    Ok((
+        LogLines::new(alloc, events),
+        LogLines::new(alloc, sending),
+        writer,
+    ))
+}
+
+/// The signalling and the workers until their end: whether memory was refused to the workers, and how the signalling
+/// ended.
+fn serve_calls<R: Threads + Wait + Sync, A: Announcer, W: Wire, M: Moments, O: Operator>(
+    rt: &R,
+    announcer: &A,
+    signalling: &mut Signalling<W>,
+    watch: &mut M,
+    operator: &mut O,
+    workers: Vec<Worker<MediaSockets>>,
+    begun: &AtomicUsize,
+    turns: Option<u64>,
+) -> (bool, End)
+    requires { HasTable signalling.old.board signalling.old.agent }
+{
+    let stop = AtomicBool::new(false);
+    // The workers, and what writes the log.
+    let count = workers.len().saturating_add(1);
+    thread::join(
+        rt,
+        || relay_media(rt, workers, begun, &stop),
+        || -> End
+            requires { HasTable signalling.now.board signalling.now.agent }
+        {
+            if !have_begun(&mut signalling.wire, watch, begun, count) {
+                stop.store(true, Ordering::SeqCst);
+                return End::Memory;
+            }
+            announcer.announce();
+            signal(rt, signalling, watch, operator, &stop, turns)
+        },
+    )
+}
+
 /// Serves on a board to which nothing was published, once each worker has a thread, and ends it. Gives how events were
 /// answered, too.
 fn serve_on<R: Threads + Wait + Sync, A: Announcer, W: Wire + Drop, M: Moments, O: Operator>(
@@ -137,24 +208,30 @@ fn serve_on<R: Threads + Wait + Sync, A: Announcer, W: Wire + Drop, M: Moments, 
     watch: &mut M,
     operator: &mut O,
     workers: Vec<Worker<MediaSockets>>,
+    writer: LogWriter,
     turns: Option<u64>,
 ) -> (Tally, Result<(), HostFault>)
     requires { HasTable signalling.board signalling.agent }
 {
-    let (begun, stop) = (AtomicUsize::new(0), AtomicBool::new(false));
-    let count = workers.len();
-    let (refused, end) = thread::join(
+    let (begun, is_over) = (AtomicUsize::new(0), AtomicBool::new(false));
+    let (_, (refused, end)) = thread::join(
         rt,
-        || relay_media(rt, workers, &begun, &stop),
-        || -> End
+        || write_log(rt, writer, &begun, &is_over),
+        || -> (bool, End)
             requires { HasTable signalling.board signalling.agent }
         {
-            if !have_begun(&mut signalling.wire, watch, &begun, count) {
-                stop.store(true, Ordering::SeqCst);
-                return End::Memory;
-            }
-            announcer.announce();
-            signal(rt, &mut signalling, watch, operator, &stop, turns)
+            let ended = serve_calls(
+                rt,
+                announcer,
+                &mut signalling,
+                watch,
+                operator,
+                workers,
+                &begun,
+                turns,
+            );
+            is_over.store(true, Ordering::SeqCst);
+            ended
         },
     );
     let tally = signalling.agent.tally();
@@ -163,13 +240,14 @@ fn serve_on<R: Threads + Wait + Sync, A: Announcer, W: Wire + Drop, M: Moments, 
 }
 
 /// The board with the rest of the signalling, and a worker for each viewer, where all sockets are open.
-fn parts_of<'a, R: Wait>(
-    rt: &'a R,
+fn parts_of<R: Wait>(
+    rt: &R,
     alloc: Global,
     config: &Config,
     sockets: Sockets,
+    lines: LogLines,
     start: u64,
-) -> Result<(Signalling<SipWire<'a, R>>, Vec<Worker<MediaSockets>>), HostFault>
+) -> Result<(Signalling<SipWire>, Vec<Worker<MediaSockets>>), HostFault>
     ensures { IfOk result (λ parts. HasTable parts.0.board parts.0.agent) }
 {
     let Sockets { sip, relay } = sockets;
@@ -185,7 +263,7 @@ fn parts_of<'a, R: Wait>(
         board.close(rt);
         return Err(HostFault::OutOfMemory);
     };
-    let Ok(wire) = SipWire::new(rt, alloc, config.log, sip) else {
+    let Ok(wire) = SipWire::new(alloc, config.log, lines, sip) else {
         board.close(rt);
         return Err(HostFault::OutOfMemory);
     };
@@ -217,8 +295,15 @@ impl<R: Net + Files + Clock + Threads + Wait + Sync + Shared + Print + Eprint + 
         };
         let mut watch = Watch::new(self.rt).map_err(host_fault)?;
         let start = self.rt.since_1970().map_err(host_fault)?.as_secs();
-        let (signalling, workers) = parts_of(self.rt, alloc, config, sockets, start)?;
-        let mut troubles = Troubles::new(self.rt, alloc, config.log);
+        let (events, sending, writer) = open_log(self.rt, alloc)?;
+        let (signalling, workers) = parts_of(self.rt, alloc, config, sockets, sending, start)?;
+        let Ok(counts) = Counts::of_workers(alloc, &workers) else {
+            signalling.close(self.rt);
+            return Err(HostFault::OutOfMemory);
+        };
+        let media = MediaLog::new(alloc, counts);
+        let log = EventLog::new(alloc, config.log, media);
+        let mut troubles = Troubles::new(alloc, config.log, events, log);
         let (tally, served) = serve_on(
             self.rt,
             &Announcement {
@@ -229,6 +314,7 @@ impl<R: Net + Files + Clock + Threads + Wait + Sync + Shared + Print + Eprint + 
             &mut watch,
             &mut troubles,
             workers,
+            writer,
             turns,
         );
         report(self.rt, alloc, tally);

@@ -1,60 +1,77 @@
-//! Trouble of the signalling, and its events, as lines on standard error.
+//! Trouble of the signalling, and its events, as lines of the log.
+
+ghost use Rattle.std.specs.Prelude.{◌≡◌};
 
 use crate::event_log::EventLog;
+use crate::log_lines::LogLines;
 use agent::Agent;
 use configuration::LogLevel;
 use live::{Operator, Trouble};
+use sip_uri::Addr;
 use std::alloc::Global;
 
-/// Tells it to whoever reads the standard error.
+/// Tells it to whoever reads the log.
 #[derive(Drop)]
-pub(crate) struct Troubles<'a, R> {
-    rt: &'a R,
+pub(crate) struct Troubles {
     told: Option<Trouble>,
     level: LogLevel,
     alloc: Global,
+    lines: LogLines,
     log: EventLog,
 }
 
-impl<'a, R> Troubles<'a, R> {
-    pub(crate) fn new(rt: &'a R, alloc: Global, level: LogLevel) -> Troubles<'a, R> {
+impl Troubles {
+    pub(crate) fn new(alloc: Global, level: LogLevel, lines: LogLines, log: EventLog) -> Troubles {
         Troubles {
-            rt,
             told: None,
             level,
             alloc,
-            log: EventLog::new(alloc, level),
+            lines,
+            log,
+        }
+    }
+
+    fn put(&mut self, line: &[u8])
+        ensures { self.new.told ≡ self.old.told }
+    {
+        if !matches!(self.level, LogLevel::Nothing) {
+            self.lines.put(line);
         }
     }
 }
 
-/// Writes lines, which are ASCII.
-fn write<R: Eprint>(rt: &R, lines: &[u8]) {
-    if let Ok(text) = str::from_utf8(lines) {
-        let _ = eprint!(rt; "{text}");
-    }
-}
-
-impl<R: Eprint> Operator for Troubles<'_, R> {
+impl Operator for Troubles {
     ghost told = { λ t. t.told };
 
     fn tell(&mut self, trouble: Trouble) {
         self.told = Some(trouble);
-        if matches!(self.level, LogLevel::Nothing) {
-            return;
+        match trouble {
+            Trouble::Socket => self.put(b"office: trouble: the socket for SIP fails\n"),
+            Trouble::Memory => self.put(b"office: trouble: memory is refused for an event\n"),
         }
-        let _ = match trouble {
-            Trouble::Socket => eprintln!(self.rt; "office: trouble: the socket for SIP fails"),
-            Trouble::Memory => eprintln!(self.rt;
-                "office: trouble: memory is refused for an event"
-            ),
-        };
     }
 
-    fn noted(&mut self, agent: &Agent, now: u64) {
-        let mut lines = Vec::new(self.alloc);
-        if self.log.put_lines(&mut lines, agent, now).is_ok() && !lines.is_empty() {
-            write(self.rt, lines.as_slice());
+    fn tell_end(&mut self, trouble: Trouble) {
+        match trouble {
+            Trouble::Socket => self.put(b"office: trouble is over: the socket for SIP\n"),
+            Trouble::Memory => self.put(b"office: trouble is over: memory for events\n"),
         }
+    }
+
+    fn noted(&mut self, agent: &Agent, source: Option<Addr>, now: u64) {
+        let mut lines = Vec::new(self.alloc);
+        let put = self.log.put_lines(&mut lines, agent, source, now);
+        if put.is_ok() && !lines.is_empty() {
+            self.lines.put(lines.as_slice());
+        }
+    }
+
+    fn look(&mut self, agent: &Agent, now: u64) {
+        let mut lines = Vec::new(self.alloc);
+        let put = self.log.put_due(&mut lines, agent, now);
+        if put.is_ok() && !lines.is_empty() {
+            self.lines.put(lines.as_slice());
+        }
+        self.lines.tell_lost();
     }
 }

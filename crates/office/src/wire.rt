@@ -1,16 +1,21 @@
 //! The socket for SIP, as the signalling has it.
 
+ghost use Rattle.std.specs.Prelude.{◌≡◌};
+
+use crate::log_lines::LogLines;
 use configuration::LogLevel;
 use live::{NumberLog, Wire, WireFault};
 use sip_uri::Addr;
 use sockets::{Refusal, Refusals, SipSocket};
 use std::alloc::{AllocError, Global};
+use std::io::ErrorKind;
 
-/// Hands what it is asked on to the socket. Where the system refuses to send to an address, a line on standard error
-/// tells it as that begins, and one as it ends.
+/// Hands what it is asked on to the socket. Where the system refuses to send to an address, a line of the log tells it
+/// as that begins, and one as it ends.
 #[derive(Drop)]
-pub(crate) struct SipWire<'a, R> {
-    rt: &'a R,
+pub(crate) struct SipWire {
+    alloc: Global,
+    lines: LogLines,
     level: LogLevel,
     refusals: Refusals,
     pub(crate) socket: SipSocket,
@@ -19,34 +24,31 @@ pub(crate) struct SipWire<'a, R> {
     pub(crate) waited: NumberLog,
 }
 
-fn tell_begin<R: Eprint>(rt: &R, level: LogLevel, refusal: Refusal) {
-    if matches!(level, LogLevel::Nothing) {
-        return;
-    }
+/// The line of a refusal that begins.
+fn begin_line(alloc: Global, refusal: Refusal) -> Result<String, AllocError> {
     let Refusal { to, why } = refusal;
     let Addr { ip, port } = to;
     let [a, b, c, d] = ip;
-    let _ = eprintln!(rt; "office: trouble: sending to {a}.{b}.{c}.{d}:{port} is refused: {why}");
+    format!(in alloc; "office: trouble: sending to {a}.{b}.{c}.{d}:{port} is refused: {why}\n")
 }
 
-fn tell_end<R: Eprint>(rt: &R, level: LogLevel, refusal: Refusal) {
-    if matches!(level, LogLevel::Nothing) {
-        return;
-    }
+/// The line of one that ends.
+fn end_line(alloc: Global, refusal: Refusal) -> Result<String, AllocError> {
     let Addr { ip, port } = refusal.to;
     let [a, b, c, d] = ip;
-    let _ = eprintln!(rt; "office: trouble is over: sending to {a}.{b}.{c}.{d}:{port}");
+    format!(in alloc; "office: trouble is over: sending to {a}.{b}.{c}.{d}:{port}\n")
 }
 
-impl<'a, R> SipWire<'a, R> {
+impl SipWire {
     pub(crate) fn new(
-        rt: &'a R,
         alloc: Global,
         level: LogLevel,
+        lines: LogLines,
         socket: SipSocket,
-    ) -> Result<SipWire<'a, R>, AllocError> {
+    ) -> Result<SipWire, AllocError> {
         Ok(SipWire {
-            rt,
+            alloc,
+            lines,
             level,
             refusals: Refusals::new(alloc)?,
             socket,
@@ -54,9 +56,44 @@ impl<'a, R> SipWire<'a, R> {
             waited: NumberLog::new(),
         })
     }
+
+    /// Hands a line over, unless nothing is told.
+    fn put(&mut self, line: Result<String, AllocError>)
+        ensures socket { self.new.socket ≡ self.old.socket }
+        ensures rooms { self.new.rooms.entries ≡ self.old.rooms.entries }
+        ensures waited { self.new.waited.entries ≡ self.old.waited.entries }
+    {
+        if let Ok(line) = line
+            && !matches!(self.level, LogLevel::Nothing)
+        {
+            self.lines.put(line.as_bytes());
+        }
+    }
+
+    /// A datagram went to this address.
+    fn tell_sent(&mut self, to: Addr)
+        ensures socket { self.new.socket ≡ self.old.socket }
+        ensures rooms { self.new.rooms.entries ≡ self.old.rooms.entries }
+        ensures waited { self.new.waited.entries ≡ self.old.waited.entries }
+    {
+        if let Some(refusal) = self.refusals.sent(to) {
+            self.put(end_line(self.alloc, refusal));
+        }
+    }
+
+    /// The system refused to send one there.
+    fn tell_refused(&mut self, to: Addr, why: ErrorKind)
+        ensures socket { self.new.socket ≡ self.old.socket }
+        ensures rooms { self.new.rooms.entries ≡ self.old.rooms.entries }
+        ensures waited { self.new.waited.entries ≡ self.old.waited.entries }
+    {
+        if let Some(refusal) = self.refusals.refused(to, why) {
+            self.put(begin_line(self.alloc, refusal));
+        }
+    }
 }
 
-impl<R: Eprint> Wire for SipWire<'_, R> {
+impl Wire for SipWire {
     ghost use Rattle.std.specs.Prelude.{map};
 
     ghost seen = { λ s. record {
@@ -78,15 +115,11 @@ impl<R: Eprint> Wire for SipWire<'_, R> {
     fn send(&mut self, to: Addr, bytes: &[u8]) -> Result<(), WireFault> {
         match self.socket.send(to, bytes) {
             Ok(()) => {
-                if let Some(refusal) = self.refusals.sent(to) {
-                    tell_end(self.rt, self.level, refusal);
-                }
+                self.tell_sent(to);
                 Ok(())
             }
             Err(error) => {
-                if let Some(refusal) = self.refusals.refused(to, error.kind()) {
-                    tell_begin(self.rt, self.level, refusal);
-                }
+                self.tell_refused(to, error.kind());
                 Err(WireFault)
             }
         }

@@ -1,5 +1,5 @@
 -- A line is one line, printable and not long.
-use Rattle.std.proofs.Common.{◌≡◌, ◌≤◌, ◌<◌, ◌+◌, ◌*◌, ◌/◌, ◌%◌, ℕ, Bool, true, false, ◌&&◌, cond, List, [], ◌∷◌, ◌++◌, length, zero, suc, take, refl, Result, Ok, Err, OnOk, sym, inl, inr, ◌∙◌, arith, leb}
+use Rattle.std.proofs.Common.{◌≡◌, ◌≤◌, ◌<◌, ◌+◌, ◌*◌, ◌/◌, ◌%◌, ℕ, Bool, true, false, ◌&&◌, cond, List, [], ◌∷◌, ◌++◌, length, zero, suc, take, refl, subst, Result, Ok, Err, OnOk, sym, inl, inr, ◌∙◌, arith, leb}
 use Rattle.std.proofs.lemmas.Bool.{leb-true, ltb-true, le-leb}
 use Rattle.std.proofs.Math.Nat.{mod-lt}
 use Rattle.std.proofs.lemmas.List.{length-append, append-nil}
@@ -10,6 +10,7 @@ use Rattle.std.specs.declared.alloc.AllocError.{AllocError}
 use Rattle.server.specs.declared.lines.Value.{Value}
 use Rattle.server.specs.declared.lines.Value.TheVariants.{Number, Text, Words, Time}
 use Rattle.server.specs.declared.lines.Field.{Field}
+use Rattle.server.specs.Notes.{IsLineOf, Says}
 use Rattle.server.specs.Lines.{max_word, max_shown, max_fields, is_plain, last_digit, shown_byte, shown, dashed, dashed_text, words_text, seconds_text, value_text, field_text, line_text, is_printable, IsLine, Tells}
 
 -- printable, and so many bytes at most
@@ -141,5 +142,27 @@ pub tells_line : (r : Result (Unit {0}) AllocError) (before behind word : List �
 tells_line (Err e) before behind word fields few is = tt
 tells_line (Ok done) before behind word fields few is = (line_text word fields, inr (is_line word fields few), is)
 
-pub tells_nothing : (text : List ℕ) → Tells text text
-tells_nothing text = ([], inl refl, sym (append-nil text))
+pub says_line : (r : Result (Unit {0}) AllocError) (before behind word : List ℕ) (fields : List Field) → length fields ≤ max_fields
+    → OnOk r (behind ≡ before ++ line_text word fields) → OnOk r (Says (λ w. w ≡ word) before behind)
+says_line (Err e) before behind word fields few is = tt
+says_line (Ok done) before behind word fields few is = (line_text word fields, inr told, is) where
+  told : IsLineOf (λ w. w ≡ word) (line_text word fields)
+  told = record { word = word; fields = fields; named = refl; written = refl; line = is_line word fields few }
+
+pub says_nothing : (IsWord : List ℕ → Type 0) (text : List ℕ) → Says IsWord text text
+says_nothing IsWord text = ([], inl refl, sym (append-nil text))
+
+-- what says a line of a word says one of a word of this kind
+pub says_as : (IsWord : List ℕ → Type 0) (r : Result (Unit {0}) AllocError) (before behind word : List ℕ) → IsWord word
+    → OnOk r (Says (λ w. w ≡ word) before behind) → OnOk r (Says IsWord before behind)
+says_as IsWord (Err e) before behind word named is = tt
+says_as IsWord (Ok done) before behind word named (text, inl none, is) = (text, inl none, is)
+says_as IsWord (Ok done) before behind word named (text, inr said, is) = (text, inr told, is) where
+  told : IsLineOf IsWord text
+  told = record { word = said.word; fields = said.fields; named = subst IsWord (sym said.named) named; written = said.written; line = said.line }
+
+pub says_tells : (IsWord : List ℕ → Type 0) (r : Result (Unit {0}) AllocError) (before behind : List ℕ)
+    → OnOk r (Says IsWord before behind) → OnOk r (Tells before behind)
+says_tells IsWord (Err e) before behind is = tt
+says_tells IsWord (Ok done) before behind (text, inl none, is) = (text, inl none, is)
+says_tells IsWord (Ok done) before behind (text, inr said, is) = (text, inr said.line, is)

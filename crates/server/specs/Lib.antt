@@ -4,6 +4,7 @@ pub mod Leaves
 pub mod Once
 pub mod State
 pub mod Lines
+pub mod Notes
 pub mod Replay
 pub mod Serve
 pub mod Turns

@@ -1,10 +1,12 @@
 //! What happened to a call, as a line.
 
-ghost use Rattle.std.specs.Prelude.{OnOk};
-ghost use Rattle.server.specs.Lines.{Tells};
+ghost use Rattle.std.specs.Prelude.{◌≡◌, ◌≤◌, codes, length, OnOk};
+ghost use Rattle.call_core.specs.declared.note.CallNote.TheVariants as notes;
+ghost use Rattle.server.specs.Lines.{max_fields};
+ghost use Rattle.server.specs.Notes.{IsWordOfCall, Says};
 
-use crate::ledger::{Entry, Ledger, call_of};
-use crate::lines::{Field, Value, put_line};
+use crate::ledger::{Entry, Ledger, MediaCounts, call_of};
+use crate::lines::{Field, Value, put_line, put_line_without};
 use call_core::{CallNote, End, NoteOfCall, OfferMethod};
 use call_media::Session;
 use calls::StandingCall;
@@ -70,6 +72,33 @@ fn stood(entry: &Entry, now: u64) -> Field<'static> {
     }
 }
 
+/// How many datagrams of media came from the caller, and how many from the callee.
+fn media(entry: &Entry) -> (Field<'static>, Field<'static>) {
+    let counts = entry.media.unwrap_or(MediaCounts {
+        from_caller: 0,
+        from_callee: 0,
+    });
+    (
+        Field {
+            key: b"media-from-caller",
+            value: Value::Number(counts.from_caller),
+        },
+        Field {
+            key: b"media-from-callee",
+            value: Value::Number(counts.from_callee),
+        },
+    )
+}
+
+/// The line of an end of a call, whose last two fields are the counts of its media.
+fn put_ended(out: &mut Vec<u8>, entry: &Entry, fields: &[Field<'_>]) -> Result<(), AllocError>
+    requires { length fields.now ≤ max_fields }
+    ensures { OnOk result (Says (λ w. w ≡ codes "call-ended") out.old.items out.new.items) }
+{
+    let left_out = if entry.media.is_some() { 0 } else { 2 };
+    put_line_without(out, b"call-ended", fields, left_out)
+}
+
 fn method(method: OfferMethod) -> Field<'static> {
     let name = match method {
         OfferMethod::Invite => b"INVITE",
@@ -97,8 +126,9 @@ fn is_held(session: &Session) -> bool {
 }
 
 /// An offer inside the call was answered: who offered, and whether the call is held from now on.
+#[tactic(auto, using(crate::proofs::LineLaws::says_as))]
 fn put_change(out: &mut Vec<u8>, entry: &Entry, session: &Session) -> Result<(), AllocError>
-    ensures { OnOk result (Tells out.old.items out.new.items) }
+    ensures { OnOk result (Says (IsWordOfCall notes.Reanswered) out.old.items out.new.items) }
 {
     let fields = [call(entry), by(entry, session.offerer)];
     if is_held(session) {
@@ -110,9 +140,9 @@ fn put_change(out: &mut Vec<u8>, entry: &Entry, session: &Session) -> Result<(),
     }
 }
 
-#[tactic(auto, using(crate::proofs::LineLaws::tells_nothing))]
+#[tactic(auto, using(crate::proofs::LineLaws::says_nothing))]
 fn put_reanswer(out: &mut Vec<u8>, entry: &Entry, calls: &[StandingCall]) -> Result<(), AllocError>
-    ensures { OnOk result (Tells out.old.items out.new.items) }
+    ensures { OnOk result (Says (IsWordOfCall notes.Reanswered) out.old.items out.new.items) }
 {
     let Some(standing) = call_of(calls, entry.number) else {
         return Ok(());
@@ -124,9 +154,9 @@ fn put_reanswer(out: &mut Vec<u8>, entry: &Entry, calls: &[StandingCall]) -> Res
 }
 
 /// Before it is answered.
-#[tactic(auto, using(crate::proofs::LineLaws::tells_nothing))]
+#[tactic(auto, using(crate::proofs::LineLaws::says_nothing))]
 fn put_early(out: &mut Vec<u8>, entry: &Entry, note: CallNote, now: u64) -> Result<(), AllocError>
-    ensures { OnOk result (Tells out.old.items out.new.items) }
+    ensures { OnOk result (Says (IsWordOfCall note) out.old.items out.new.items) }
 {
     match note {
         CallNote::Begun => put_line(out, b"call-begun", &[call(entry), from(entry), to(entry)]),
@@ -151,14 +181,14 @@ fn put_early(out: &mut Vec<u8>, entry: &Entry, note: CallNote, now: u64) -> Resu
 }
 
 /// An offer inside it.
-#[tactic(auto, using(crate::proofs::LineLaws::tells_nothing))]
+#[tactic(auto, using(crate::proofs::LineLaws::says_nothing))]
 fn put_offer(
     out: &mut Vec<u8>,
     entry: &Entry,
     calls: &[StandingCall],
     note: CallNote,
 ) -> Result<(), AllocError>
-    ensures { OnOk result (Tells out.old.items out.new.items) }
+    ensures { OnOk result (Says (IsWordOfCall note) out.old.items out.new.items) }
 {
     match note {
         CallNote::Offered(end, by_method) => put_line(
@@ -176,25 +206,29 @@ fn put_offer(
 }
 
 /// Its end.
-#[tactic(auto, using(crate::proofs::LineLaws::tells_nothing))]
+#[tactic(auto, using(crate::proofs::LineLaws::says_nothing))]
 fn put_end(out: &mut Vec<u8>, entry: &Entry, note: CallNote, now: u64) -> Result<(), AllocError>
-    ensures { OnOk result (Tells out.old.items out.new.items) }
+    ensures { OnOk result (Says (IsWordOfCall note) out.old.items out.new.items) }
 {
     let (call, from, to) = (call(entry), from(entry), to(entry));
     let stood = stood(entry, now);
+    let (sent, heard) = media(entry);
     match note {
-        CallNote::Left(end) => put_line(
-            out,
-            b"call-ended",
-            &[call, from, to, by(entry, end), why(b"bye"), stood],
-        ),
-        CallNote::Failed(code) => put_line(
-            out,
-            b"call-ended",
-            &[call, from, to, why(b"offer failed"), status(code), stood],
-        ),
+        CallNote::Left(end) => {
+            let (by, why) = (by(entry, end), why(b"bye"));
+            put_ended(out, entry, &[call, from, to, by, why, stood, sent, heard])
+        }
+        CallNote::Failed(code) => {
+            let (why, status) = (why(b"offer failed"), status(code));
+            put_ended(
+                out,
+                entry,
+                &[call, from, to, why, status, stood, sent, heard],
+            )
+        }
         CallNote::Unacknowledged => {
-            put_line(out, b"call-ended", &[call, from, to, why(b"no ack"), stood])
+            let why = why(b"no ack");
+            put_ended(out, entry, &[call, from, to, why, stood, sent, heard])
         }
         _ => Ok(()),
     }
@@ -207,7 +241,7 @@ fn put_entry_note(
     note: CallNote,
     now: u64,
 ) -> Result<(), AllocError>
-    ensures { OnOk result (Tells out.old.items out.new.items) }
+    ensures { OnOk result (Says (IsWordOfCall note) out.old.items out.new.items) }
 {
     match note {
         CallNote::Begun
@@ -260,7 +294,7 @@ fn begin_note(
     }
 }
 
-#[tactic(auto, using(crate::proofs::LineLaws::tells_nothing))]
+#[tactic(auto, using(crate::proofs::LineLaws::says_nothing))]
 fn put_known(
     out: &mut Vec<u8>,
     entry: Option<&Entry>,
@@ -268,7 +302,7 @@ fn put_known(
     note: CallNote,
     now: u64,
 ) -> Result<(), AllocError>
-    ensures { OnOk result (Tells out.old.items out.new.items) }
+    ensures { OnOk result (Says (IsWordOfCall note) out.old.items out.new.items) }
 {
     match entry {
         Some(entry) => put_entry_note(out, entry, calls, note, now),
@@ -285,7 +319,7 @@ pub(crate) fn put_call_note(
     note: NoteOfCall,
     now: u64,
 ) -> Result<(), AllocError>
-    ensures { OnOk result (Tells out.old.items out.new.items) }
+    ensures { OnOk result (Says (IsWordOfCall note.note) out.old.items out.new.items) }
 {
     begin_note(ledger, alloc, calls, note, now)?;
     put_known(out, ledger.get(note.number), calls, note.note, now)?;

@@ -18,8 +18,9 @@ use crate::output::write_out;
 use crate::state::put_state;
 use agent::Agent;
 use configuration::{Config, ConfigError, example_config, fault_of, read_config};
-use events::{Event, Sent};
+use events::{Event, Sent, What};
 use scripts::{ScriptError, malformed_at, put_sent, read_script};
+use sip_uri::Addr;
 use std::alloc::{AllocError, Global};
 use std::io::{Read, Write};
 
@@ -106,6 +107,14 @@ fn text_of(alloc: Global, sent: &[Sent]) -> Result<Vec<u8>, AllocError>
     Ok(text)
 }
 
+/// Where an event came from; nowhere of a timer.
+fn source_of(event: &Event) -> Option<Addr> {
+    match &event.what {
+        What::Datagram { source, .. } => Some(*source),
+        What::Due => None,
+    }
+}
+
 /// Writes what the last event was about behind what is there, where that is asked for.
 #[tactic(auto, using(crate::proofs::ReplayLaws::not_told, crate::proofs::ReplayLaws::told))]
 fn put_told(
@@ -114,14 +123,14 @@ fn put_told(
     notes: bool,
     ledger: &mut Ledger,
     agent: &Agent,
-    now: u64,
+    event: &Event,
 ) -> Result<(), AllocError>
     ensures { OnOk result (TellsIf notes out.old.items out.new.items) }
 {
     if !notes {
         return Ok(());
     }
-    put_note(out, alloc, ledger, agent, now)
+    put_note(out, alloc, ledger, agent, source_of(event), event.now)
 }
 
 /// Takes an event, and writes the text of what is sent, and what it was about, where that is asked for.
@@ -140,7 +149,7 @@ fn play_event<W: Write>(
     let mut sent = Vec::new(alloc);
     agent.step(event, &mut sent)?;
     let mut text = text_of(alloc, &sent)?;
-    put_told(&mut text, alloc, notes, ledger, agent, event.now)?;
+    put_told(&mut text, alloc, notes, ledger, agent, event)?;
     write_out(writer, text.as_slice())
 }
 

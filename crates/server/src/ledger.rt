@@ -10,6 +10,13 @@ use text::Text;
 /// So many calls are remembered: no more stand at a time.
 const MAX_CALLS: usize = 256;
 
+/// How many datagrams of media were passed on from each end, reports apart.
+#[derive(Clone, Copy)]
+pub struct MediaCounts {
+    pub from_caller: u64,
+    pub from_callee: u64,
+}
+
 /// A call that stands: who called whom, and when it began and was answered, in milliseconds.
 #[derive(Drop)]
 pub(crate) struct Entry {
@@ -19,6 +26,8 @@ pub(crate) struct Entry {
     pub begun: u64,
     pub answered: Option<u64>,
     pub is_held: bool,
+    /// None where nobody counts them.
+    pub media: Option<MediaCounts>,
 }
 
 impl Entry {
@@ -64,6 +73,7 @@ fn entry_of(alloc: Global, call: &StandingCall, now: u64) -> Result<Option<Entry
         begun: now,
         answered: None,
         is_held: false,
+        media: None,
     }))
 }
 
@@ -130,6 +140,15 @@ impl Ledger {
         for at in 0..self.entries.len() {
             if self.entries[at].number == number {
                 self.entries[at].is_held = is_held;
+            }
+        }
+    }
+
+    /// So many datagrams of media were passed on in a call: its end tells it.
+    pub fn count_media(&mut self, number: u64, counts: MediaCounts) {
+        for at in 0..self.entries.len() {
+            if self.entries[at].number == number {
+                self.entries[at].media = Some(counts);
             }
         }
     }

@@ -4,6 +4,7 @@
 ghost use Rattle.std.specs.Prelude.{◌≡◌, ◌++◌, ◌≤◌, length, decimal, OnOk};
 ghost use Rattle.std.specs.List.{flat_map};
 ghost use Rattle.server.specs.Lines.{is_plain, last_digit, field_text, line_text, max_fields, max_word, seconds_text, shown, shown_byte, value_text, words_text, dashed, dashed_text, Tells};
+ghost use Rattle.server.specs.Notes.{Says};
 
 use itoa::Buffer;
 use std::alloc::AllocError;
@@ -175,6 +176,22 @@ pub(crate) fn put_line(
     ensures ok { OnOk result (out.new.items ≡ out.old.items ++ line_text word.now fields.now) }
     // It is one line, of signs that no terminal and no reader of lines takes for another thing, and not long.
     ensures tells { OnOk result (Tells out.old.items out.new.items) }
+    // It begins with the word.
+    ensures says { OnOk result (Says (λ w. w ≡ word.now) out.old.items out.new.items) }
 {
     put_whole(out, word, fields)
+}
+
+/// Writes a line without so many of the last fields.
+pub(crate) fn put_line_without(
+    out: &mut Vec<u8>,
+    word: &[u8],
+    fields: &[Field<'_>],
+    left_out: usize,
+) -> Result<(), AllocError>
+    requires { length fields.now ≤ max_fields }
+    ensures { OnOk result (Says (λ w. w ≡ word.now) out.old.items out.new.items) }
+{
+    let kept = fields.len().saturating_sub(left_out);
+    put_line(out, word, &fields[..kept])
 }

@@ -1,22 +1,52 @@
 //! What an event was about, as a line.
 
-ghost use Rattle.std.specs.Prelude.{OnOk};
+ghost use Rattle.std.specs.Prelude.{◌≡◌, codes, OnOk};
+ghost use Rattle.plans.specs.declared.note.Note.TheVariants.{Registered};
 ghost use Rattle.server.specs.Lines.{Tells};
+ghost use Rattle.server.specs.Notes.{IsWordOf, Says};
 
 use crate::call_notes::put_call_note;
-use crate::ledger::Ledger;
-use crate::lines::{Field, Value, put_line};
+use crate::ledger::{Entry, Ledger};
+use crate::lines::{Field, Value, put_line, put_line_without};
 use agent::Agent;
+use call_core::End;
 use plans::{Note, Reason, Why};
 use registrar::{Binding, Registrar};
-use sip_uri::{Uri, put_uri};
+use sip_uri::{Addr, Uri, put_uri};
 use std::alloc::{AllocError, Global};
 use text::Text;
 
-fn put_refusal(out: &mut Vec<u8>, alloc: Global, reason: Reason) -> Result<(), AllocError>
-    ensures { OnOk result (Tells out.old.items out.new.items) }
+/// A place, as `192.0.2.11:5060`.
+fn place_text(alloc: Global, place: Addr) -> Result<String, AllocError> {
+    let [a, b, c, d] = place.ip;
+    format!(in alloc; "{a}.{b}.{c}.{d}:{}", place.port)
+}
+
+/// Where a datagram came from; nothing of a timer.
+fn source_text(alloc: Global, source: Option<Addr>) -> Result<String, AllocError> {
+    match source {
+        Some(place) => place_text(alloc, place),
+        None => Ok(String::new(alloc)),
+    }
+}
+
+fn source_field(text: &str) -> Field<'_> {
+    Field {
+        key: b"source",
+        value: Value::Text(text.as_bytes()),
+    }
+}
+
+fn put_refusal(
+    out: &mut Vec<u8>,
+    alloc: Global,
+    reason: Reason,
+    source: Option<Addr>,
+) -> Result<(), AllocError>
+    ensures { OnOk result (Says (λ w. w ≡ codes "refused") out.old.items out.new.items) }
 {
     let words = format!(in alloc; "{reason}")?;
+    let text = source_text(alloc, source)?;
     let fields = [
         Field {
             key: b"status",
@@ -26,8 +56,9 @@ fn put_refusal(out: &mut Vec<u8>, alloc: Global, reason: Reason) -> Result<(), A
             key: b"reason",
             value: Value::Words(words.as_bytes()),
         },
+        source_field(&text),
     ];
-    put_line(out, b"refused", &fields)
+    put_line_without(out, b"refused", &fields, usize::from(source.is_none()))
 }
 
 /// Why an event was dropped, by the name of its count.
@@ -42,14 +73,31 @@ fn why_word(why: Why) -> &'static [u8] {
     }
 }
 
-fn put_drop(out: &mut Vec<u8>, why: Why) -> Result<(), AllocError>
-    ensures { OnOk result (Tells out.old.items out.new.items) }
+fn put_drop(
+    out: &mut Vec<u8>,
+    alloc: Global,
+    why: Why,
+    source: Option<Addr>,
+) -> Result<(), AllocError>
+    ensures { OnOk result (Says (λ w. w ≡ codes "dropped") out.old.items out.new.items) }
 {
-    let fields = [Field {
-        key: b"why",
-        value: Value::Words(why_word(why)),
-    }];
-    put_line(out, b"dropped", &fields)
+    let text = source_text(alloc, source)?;
+    let fields = [
+        Field {
+            key: b"why",
+            value: Value::Words(why_word(why)),
+        },
+        source_field(&text),
+    ];
+    put_line_without(out, b"dropped", &fields, usize::from(source.is_none()))
+}
+
+fn put_shed(out: &mut Vec<u8>, alloc: Global, source: Option<Addr>) -> Result<(), AllocError>
+    ensures { OnOk result (Says (λ w. w ≡ codes "shed") out.old.items out.new.items) }
+{
+    let text = source_text(alloc, source)?;
+    let fields = [source_field(&text)];
+    put_line_without(out, b"shed", &fields, usize::from(source.is_none()))
 }
 
 /// The seconds that the longest of the bindings lasts.
@@ -71,7 +119,7 @@ fn parted(text: &[u8], at: usize) -> (&[u8], &[u8]) {
 
 /// Of a text that says who is bound, and behind this place where.
 fn put_registered(out: &mut Vec<u8>, text: &[u8], at: usize, seconds: u64) -> Result<(), AllocError>
-    ensures { OnOk result (Tells out.old.items out.new.items) }
+    ensures { OnOk result (Says (λ w. w ≡ codes "registered") out.old.items out.new.items) }
 {
     let (user, contact) = parted(text, at);
     let fields = [
@@ -98,7 +146,7 @@ fn put_binding(
     uri: &Uri<'_>,
     seconds: u64,
 ) -> Result<(), AllocError>
-    ensures { OnOk result (Tells out.old.items out.new.items) }
+    ensures { OnOk result (Says (λ w. w ≡ codes "registered") out.old.items out.new.items) }
 {
     let mut text = Vec::new(alloc);
     text.extend_from_slice(user.as_bytes())?;
@@ -107,7 +155,7 @@ fn put_binding(
 }
 
 /// Where a user is from now on.
-#[tactic(auto, using(crate::proofs::LineLaws::tells_nothing))]
+#[tactic(auto, using(crate::proofs::LineLaws::says_nothing, crate::proofs::LineLaws::says_as))]
 fn put_registration(
     out: &mut Vec<u8>,
     alloc: Global,
@@ -115,7 +163,7 @@ fn put_registration(
     user: Option<&Text<'static>>,
     now: u64,
 ) -> Result<(), AllocError>
-    ensures { OnOk result (Tells out.old.items out.new.items) }
+    ensures { OnOk result (Says (IsWordOf Registered) out.old.items out.new.items) }
 {
     let Some(user) = user else {
         return Ok(());
@@ -132,33 +180,84 @@ fn put_registration(
 }
 
 /// Writes the line of what the last event was about behind what is there, if it is told. It was taken at this moment,
-/// in milliseconds.
-#[tactic(auto, using(crate::proofs::LineLaws::tells_nothing))]
+/// in milliseconds, and came from there, where it was a datagram.
+#[tactic(auto, using(crate::proofs::LineLaws::says_nothing, crate::proofs::LineLaws::says_tells))]
 pub fn put_note(
     out: &mut Vec<u8>,
     alloc: Global,
     ledger: &mut Ledger,
     agent: &Agent,
+    source: Option<Addr>,
     now: u64,
 ) -> Result<(), AllocError>
-    ensures { OnOk result (Tells out.old.items out.new.items) }
+    ensures tells { OnOk result (Tells out.old.items out.new.items) }
+    ensures says { OnOk result (Says (IsWordOf agent.now.note) out.old.items out.new.items) }
 {
     match agent.note() {
         Note::Quiet => Ok(()),
         Note::Call(note) => put_call_note(out, alloc, ledger, agent.calls(), note, now),
-        Note::Refused(reason) => put_refusal(out, alloc, reason),
+        Note::Refused(reason) => put_refusal(out, alloc, reason, source),
         Note::Registered => {
             let user = agent.registered_user();
             put_registration(out, alloc, agent.registrar(), user, now)
         }
-        Note::Dropped(why) => put_drop(out, why),
-        Note::Shed => put_line(out, b"shed", &[]),
+        Note::Dropped(why) => put_drop(out, alloc, why, source),
+        Note::Shed => put_shed(out, alloc, source),
+    }
+}
+
+/// The line of an end of a call, of which nothing is heard, and which was to send from there.
+fn put_silence(
+    out: &mut Vec<u8>,
+    alloc: Global,
+    entry: &Entry,
+    end: End,
+    expected: Addr,
+) -> Result<(), AllocError>
+    ensures { OnOk result (Says (λ w. w ≡ codes "call-silent-way") out.old.items out.new.items) }
+{
+    let place = place_text(alloc, expected)?;
+    let fields = [
+        Field {
+            key: b"call",
+            value: Value::Number(entry.number),
+        },
+        Field {
+            key: b"from",
+            value: Value::Text(entry.user(end)),
+        },
+        Field {
+            key: b"expected",
+            value: Value::Text(place.as_bytes()),
+        },
+    ];
+    put_line(out, b"call-silent-way", &fields)
+}
+
+/// Writes a line behind what is there of a call in which no media come from this end, whose description names this
+/// place. Nothing for a call that isn't known.
+#[tactic(auto, using(crate::proofs::LineLaws::says_nothing, crate::proofs::LineLaws::says_tells))]
+pub fn put_silent_way(
+    out: &mut Vec<u8>,
+    alloc: Global,
+    ledger: &Ledger,
+    number: u64,
+    end: End,
+    expected: Addr,
+) -> Result<(), AllocError>
+    ensures tells { OnOk result (Tells out.old.items out.new.items) }
+    ensures says { OnOk result (Says (λ w. w ≡ codes "call-silent-way") out.old.items out.new.items) }
+{
+    match ledger.get(number) {
+        Some(entry) => put_silence(out, alloc, entry, end, expected),
+        None => Ok(()),
     }
 }
 
 /// Writes a line of how many behind what is there.
 pub fn put_count(out: &mut Vec<u8>, word: &[u8], count: u64) -> Result<(), AllocError>
-    ensures { OnOk result (Tells out.old.items out.new.items) }
+    ensures tells { OnOk result (Tells out.old.items out.new.items) }
+    ensures says { OnOk result (Says (λ w. w ≡ word.now) out.old.items out.new.items) }
 {
     let fields = [Field {
         key: b"count",

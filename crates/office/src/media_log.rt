@@ -1,0 +1,262 @@
+//! The media of the calls that stand: how much came from each end, and from which end none comes.
+
+use crate::flow::Flow;
+use crate::port_counts::Counts;
+use call_core::{Call, CallNote, End, NoteOfCall};
+use call_media::{Seat, Session, seats_in_use};
+use calls::StandingCall;
+use offer_answer::destination;
+use sdp::{Description, Media, way_of};
+use server::{Ledger, MediaCounts, put_silent_way};
+use sip_uri::Addr;
+use std::alloc::{AllocError, Global};
+
+/// So many calls are remembered: no more stand at a time.
+const MAX_CALLS: usize = 256;
+
+/// It is looked for silent ends so often, in milliseconds.
+const BETWEEN_LOOKS: u64 = 1_000;
+
+/// The media of a call.
+#[derive(Drop)]
+struct CallFlows {
+    number: u64,
+    from_caller: Flow,
+    from_callee: Flow,
+}
+
+/// The media of the calls that stand.
+#[derive(Drop)]
+pub(crate) struct MediaLog {
+    alloc: Global,
+    counts: Counts,
+    calls: Vec<CallFlows>,
+    next_look: u64,
+}
+
+/// The ports that face each end of a call.
+#[derive(Drop)]
+struct Ports {
+    caller: Vec<u16>,
+    callee: Vec<u16>,
+}
+
+impl Ports {
+    fn push(&mut self, offerer: End, seats: &[Option<Seat>]) -> Result<(), AllocError> {
+        for seat in seats {
+            if let Some(seat) = seat {
+                let (caller, callee) = match offerer {
+                    End::Caller => (seat.offerer, seat.answerer),
+                    End::Callee => (seat.answerer, seat.offerer),
+                };
+                self.caller.push(caller)?;
+                self.callee.push(callee)?;
+            }
+        }
+        Ok(())
+    }
+}
+
+/// The ports of a call, those of an open offer too.
+fn ports_of(alloc: Global, call: &Call) -> Result<Ports, AllocError> {
+    let mut ports = Ports {
+        caller: Vec::new(alloc),
+        callee: Vec::new(alloc),
+    };
+    if let Some(offer) = call.open_offer() {
+        ports.push(offer.offerer, offer.seats.as_slice())?;
+    }
+    if let Some(session) = call.session() {
+        let seats = seats_in_use(
+            alloc,
+            session.offer_taken.get(),
+            session.answer_sent.get(),
+            session.offer_sent.get(),
+            session.answer_taken.get(),
+        )?;
+        ports.push(session.offerer, &seats)?;
+    }
+    Ok(ports)
+}
+
+/// Where a medium should come from that an end describes so, and the other end so.
+fn source_of(
+    own: &Description<'_>,
+    medium: &Media<'_>,
+    other: &Description<'_>,
+    other_medium: &Media<'_>,
+) -> Option<Addr> {
+    let is_used = medium.port != 0 && other_medium.port != 0;
+    let is_sent = way_of(own, medium).sends() && way_of(other, other_medium).receives();
+    if is_used && is_sent && destination(other, other_medium).is_some() {
+        destination(own, medium)
+    } else {
+        None
+    }
+}
+
+/// Where the media of an end should come from, by its description and that of the other end: that of the first medium
+/// that may come.
+fn expected(own: &Description<'_>, other: &Description<'_>) -> Option<Addr> {
+    let others = other.media.as_slice();
+    for (at, medium) in own.media.as_slice().iter().enumerate() {
+        if let Some(other_medium) = others.get(at)
+            && let Some(source) = source_of(own, medium, other, other_medium)
+        {
+            return Some(source);
+        }
+    }
+    None
+}
+
+/// Where the media of each end should come from, the caller's first.
+fn expected_of(session: &Session) -> (Option<Addr>, Option<Addr>) {
+    let (offer, answer) = (session.offer_taken.get(), session.answer_taken.get());
+    let (offerer, answerer) = (expected(offer, answer), expected(answer, offer));
+    match session.offerer {
+        End::Caller => (offerer, answerer),
+        End::Callee => (answerer, offerer),
+    }
+}
+
+fn call_of(calls: &[StandingCall], number: u64) -> Option<&Call> {
+    for standing in calls {
+        if standing.call.number() == number {
+            return Some(&standing.call);
+        }
+    }
+    None
+}
+
+fn is_end(note: CallNote) -> bool {
+    matches!(
+        note,
+        CallNote::Refused(_)
+            | CallNote::GivenUp
+            | CallNote::Left(_)
+            | CallNote::Failed(_)
+            | CallNote::Unacknowledged
+    )
+}
+
+impl CallFlows {
+    /// The ports of the call, and where its media should come from, as the call stands.
+    fn follow(
+        &mut self,
+        alloc: Global,
+        counts: &mut Counts,
+        call: &Call,
+        note: CallNote,
+        now: u64,
+    ) -> Result<(), AllocError> {
+        let ports = ports_of(alloc, call)?;
+        self.from_caller.take_ports(&ports.caller, counts)?;
+        self.from_callee.take_ports(&ports.callee, counts)?;
+        if matches!(note, CallNote::Answered | CallNote::Reanswered)
+            && let Some(session) = call.session()
+        {
+            let (caller, callee) = expected_of(session);
+            self.from_caller.expect(caller, now);
+            self.from_callee.expect(callee, now);
+        }
+        Ok(())
+    }
+
+    /// Lines of the ends that are silent.
+    fn put_silent_ways(
+        &mut self,
+        out: &mut Vec<u8>,
+        alloc: Global,
+        counts: &mut Counts,
+        ledger: &Ledger,
+        now: u64,
+    ) -> Result<(), AllocError> {
+        if let Some(place) = self.from_caller.silence(counts, now) {
+            put_silent_way(out, alloc, ledger, self.number, End::Caller, place)?;
+        }
+        if let Some(place) = self.from_callee.silence(counts, now) {
+            put_silent_way(out, alloc, ledger, self.number, End::Callee, place)?;
+        }
+        Ok(())
+    }
+}
+
+impl MediaLog {
+    pub(crate) fn new(alloc: Global, counts: Counts) -> MediaLog {
+        MediaLog {
+            alloc,
+            counts,
+            calls: Vec::new(alloc),
+            next_look: 0,
+        }
+    }
+
+    /// A call begins. Of too many the earliest is forgotten.
+    fn begin(&mut self, number: u64) -> Result<(), AllocError> {
+        if self.calls.len() >= MAX_CALLS {
+            drop(self.calls.remove(0));
+        }
+        self.calls.push(CallFlows {
+            number,
+            from_caller: Flow::new(self.alloc),
+            from_callee: Flow::new(self.alloc),
+        })?;
+        Ok(())
+    }
+
+    /// What happened to a call, which is over, or stands among these. Where memory is refused, some of its media are
+    /// not counted.
+    pub(crate) fn follow(
+        &mut self,
+        calls: &[StandingCall],
+        note: NoteOfCall,
+        now: u64,
+    ) -> Result<(), AllocError> {
+        let NoteOfCall { number, note } = note;
+        if matches!(note, CallNote::Begun) {
+            self.begin(number)?;
+        }
+        let Some(call) = call_of(calls, number) else {
+            return Ok(());
+        };
+        for flows in self.calls.iter_mut() {
+            if flows.number == number {
+                flows.follow(self.alloc, &mut self.counts, call, note, now)?;
+            }
+        }
+        Ok(())
+    }
+
+    /// How much came from each end of a call that is over by this. None where it is not, or isn't known.
+    pub(crate) fn end(&mut self, note: NoteOfCall) -> Option<MediaCounts> {
+        if !is_end(note.note) {
+            return None;
+        }
+        let at = self
+            .calls
+            .iter()
+            .position(|flows| flows.number == note.number)?;
+        let flows = self.calls.remove(at);
+        Some(MediaCounts {
+            from_caller: flows.from_caller.total(&mut self.counts),
+            from_callee: flows.from_callee.total(&mut self.counts),
+        })
+    }
+
+    /// Writes lines of the ends that are silent behind what is there, where it is time to look.
+    pub(crate) fn put_silent_ways(
+        &mut self,
+        out: &mut Vec<u8>,
+        ledger: &Ledger,
+        now: u64,
+    ) -> Result<(), AllocError> {
+        if now < self.next_look {
+            return Ok(());
+        }
+        self.next_look = now.saturating_add(BETWEEN_LOOKS);
+        for flows in self.calls.iter_mut() {
+            flows.put_silent_ways(out, self.alloc, &mut self.counts, ledger, now)?;
+        }
+        Ok(())
+    }
+}
