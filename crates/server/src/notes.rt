@@ -22,19 +22,47 @@ fn place_text(alloc: Global, place: Addr) -> Result<String, AllocError> {
     format!(in alloc; "{a}.{b}.{c}.{d}:{}", place.port)
 }
 
-/// Where a datagram came from; nothing of a timer.
-fn source_text(alloc: Global, source: Option<Addr>) -> Result<String, AllocError> {
-    match source {
-        Some(place) => place_text(alloc, place),
-        None => Ok(String::new(alloc)),
+/// A text, and behind it a place, if there is one: fields that borrow one text have one lifetime.
+fn with_place(alloc: Global, front: &[u8], place: Option<Addr>) -> Result<Vec<u8>, AllocError> {
+    let mut text = Vec::from_slice(alloc, front)?;
+    if let Some(place) = place {
+        text.extend_from_slice(place_text(alloc, place)?.as_bytes())?;
     }
+    Ok(text)
 }
 
-fn source_field(text: &str) -> Field<'_> {
-    Field {
-        key: b"source",
-        value: Value::Text(text.as_bytes()),
-    }
+/// A text up to a place, and from there on.
+fn parted(text: &[u8], at: usize) -> (&[u8], &[u8]) {
+    let at = at.min(text.len());
+    (&text[..at], &text[at..])
+}
+
+/// Of a text that says why, and behind this place from where.
+fn put_refused(
+    out: &mut Vec<u8>,
+    text: &[u8],
+    at: usize,
+    status: u16,
+    left_out: usize,
+) -> Result<(), AllocError>
+    ensures { OnOk result (Says (λ w. w ≡ codes "refused") out.old.items out.new.items) }
+{
+    let (why, source) = parted(text, at);
+    let fields = [
+        Field {
+            key: b"status",
+            value: Value::Number(u64::from(status)),
+        },
+        Field {
+            key: b"reason",
+            value: Value::Words(why),
+        },
+        Field {
+            key: b"source",
+            value: Value::Text(source),
+        },
+    ];
+    put_line_without(out, b"refused", &fields, left_out)
 }
 
 fn put_refusal(
@@ -46,19 +74,9 @@ fn put_refusal(
     ensures { OnOk result (Says (λ w. w ≡ codes "refused") out.old.items out.new.items) }
 {
     let words = format!(in alloc; "{reason}")?;
-    let text = source_text(alloc, source)?;
-    let fields = [
-        Field {
-            key: b"status",
-            value: Value::Number(u64::from(reason.status())),
-        },
-        Field {
-            key: b"reason",
-            value: Value::Words(words.as_bytes()),
-        },
-        source_field(&text),
-    ];
-    put_line_without(out, b"refused", &fields, usize::from(source.is_none()))
+    let text = with_place(alloc, words.as_bytes(), source)?;
+    let left_out = usize::from(source.is_none());
+    put_refused(out, &text, words.len(), reason.status(), left_out)
 }
 
 /// Why an event was dropped, by the name of its count.
@@ -73,6 +91,24 @@ fn why_word(why: Why) -> &'static [u8] {
     }
 }
 
+/// Of a text that says why, and behind this place from where.
+fn put_dropped(out: &mut Vec<u8>, text: &[u8], at: usize, left_out: usize) -> Result<(), AllocError>
+    ensures { OnOk result (Says (λ w. w ≡ codes "dropped") out.old.items out.new.items) }
+{
+    let (why, source) = parted(text, at);
+    let fields = [
+        Field {
+            key: b"why",
+            value: Value::Words(why),
+        },
+        Field {
+            key: b"source",
+            value: Value::Text(source),
+        },
+    ];
+    put_line_without(out, b"dropped", &fields, left_out)
+}
+
 fn put_drop(
     out: &mut Vec<u8>,
     alloc: Global,
@@ -81,22 +117,19 @@ fn put_drop(
 ) -> Result<(), AllocError>
     ensures { OnOk result (Says (λ w. w ≡ codes "dropped") out.old.items out.new.items) }
 {
-    let text = source_text(alloc, source)?;
-    let fields = [
-        Field {
-            key: b"why",
-            value: Value::Words(why_word(why)),
-        },
-        source_field(&text),
-    ];
-    put_line_without(out, b"dropped", &fields, usize::from(source.is_none()))
+    let word = why_word(why);
+    let text = with_place(alloc, word, source)?;
+    put_dropped(out, &text, word.len(), usize::from(source.is_none()))
 }
 
 fn put_shed(out: &mut Vec<u8>, alloc: Global, source: Option<Addr>) -> Result<(), AllocError>
     ensures { OnOk result (Says (λ w. w ≡ codes "shed") out.old.items out.new.items) }
 {
-    let text = source_text(alloc, source)?;
-    let fields = [source_field(&text)];
+    let text = with_place(alloc, b"", source)?;
+    let fields = [Field {
+        key: b"source",
+        value: Value::Text(&text),
+    }];
     put_line_without(out, b"shed", &fields, usize::from(source.is_none()))
 }
 
@@ -109,12 +142,6 @@ fn seconds_left(bindings: &[Binding], now: u64) -> u64 {
         }
     }
     most
-}
-
-/// A text up to a place, and from there on.
-fn parted(text: &[u8], at: usize) -> (&[u8], &[u8]) {
-    let at = at.min(text.len());
-    (&text[..at], &text[at..])
 }
 
 /// Of a text that says who is bound, and behind this place where.
@@ -206,6 +233,28 @@ pub fn put_note(
     }
 }
 
+/// Of a text that says from whom, and behind this place from where.
+fn put_silent(out: &mut Vec<u8>, number: u64, text: &[u8], at: usize) -> Result<(), AllocError>
+    ensures { OnOk result (Says (λ w. w ≡ codes "call-silent-way") out.old.items out.new.items) }
+{
+    let (user, place) = parted(text, at);
+    let fields = [
+        Field {
+            key: b"call",
+            value: Value::Number(number),
+        },
+        Field {
+            key: b"from",
+            value: Value::Text(user),
+        },
+        Field {
+            key: b"expected",
+            value: Value::Text(place),
+        },
+    ];
+    put_line(out, b"call-silent-way", &fields)
+}
+
 /// The line of an end of a call, of which nothing is heard, and which was to send from there.
 fn put_silence(
     out: &mut Vec<u8>,
@@ -216,22 +265,9 @@ fn put_silence(
 ) -> Result<(), AllocError>
     ensures { OnOk result (Says (λ w. w ≡ codes "call-silent-way") out.old.items out.new.items) }
 {
-    let place = place_text(alloc, expected)?;
-    let fields = [
-        Field {
-            key: b"call",
-            value: Value::Number(entry.number),
-        },
-        Field {
-            key: b"from",
-            value: Value::Text(entry.user(end)),
-        },
-        Field {
-            key: b"expected",
-            value: Value::Text(place.as_bytes()),
-        },
-    ];
-    put_line(out, b"call-silent-way", &fields)
+    let user = entry.user(end);
+    let text = with_place(alloc, user, Some(expected))?;
+    put_silent(out, entry.number, &text, user.len())
 }
 
 /// Writes a line behind what is there of a call in which no media come from this end, whose description names this
