@@ -7,7 +7,7 @@ use agent::{Agent, Tally};
 use call_core::NoteOfCall;
 use configuration::LogLevel;
 use plans::Note;
-use server::{Ledger, put_count, put_note};
+use server::{Ledger, MediaCounts, put_count, put_note};
 use sip_uri::Addr;
 use std::alloc::{AllocError, Global};
 
@@ -75,12 +75,10 @@ impl EventLog {
         }
     }
 
-    /// What happened to a call: the media of the calls are counted by that, and told in the line of its end.
-    fn follow(&mut self, agent: &Agent, note: NoteOfCall, now: u64) {
+    /// What happened to a call: the media of the calls are counted by that. How many it carried, where it is over.
+    fn follow(&mut self, agent: &Agent, note: NoteOfCall, now: u64) -> Option<MediaCounts> {
         let _ = self.media.follow(agent.calls(), note, now);
-        if let Some(counts) = self.media.end(note) {
-            self.ledger.count_media(note.number, counts);
-        }
+        self.media.end(note)
     }
 
     /// Writes the lines that are due behind what is there, at this moment, in milliseconds.
@@ -112,9 +110,10 @@ impl EventLog {
         if !tells(self.level, note) || is_of_strangers(note) && !self.limit.admits(now) {
             return Ok(());
         }
-        if let Note::Call(note) = note {
-            self.follow(agent, note, now);
-        }
-        put_note(out, self.alloc, &mut self.ledger, agent, source, now)
+        let media = match note {
+            Note::Call(note) => self.follow(agent, note, now),
+            _ => None,
+        };
+        put_note(out, self.alloc, &mut self.ledger, agent, source, media, now)
     }
 }

@@ -5,8 +5,9 @@ ghost use Rattle.call_core.specs.declared.note.CallNote.TheVariants as notes;
 ghost use Rattle.server.specs.Lines.{max_fields};
 ghost use Rattle.server.specs.Notes.{IsWordOfCall, Says};
 
-use crate::ledger::{Entry, Ledger, MediaCounts, call_of};
+use crate::ledger::{Entry, Ledger, call_of};
 use crate::lines::{Field, Value, put_line, put_line_without};
+use crate::media_counts::MediaCounts;
 use call_core::{CallNote, End, NoteOfCall, OfferMethod};
 use call_media::Session;
 use calls::StandingCall;
@@ -73,8 +74,8 @@ fn stood(entry: &Entry, now: u64) -> Field<'static> {
 }
 
 /// How many datagrams of media came from the caller, and how many from the callee.
-fn media(entry: &Entry) -> (Field<'static>, Field<'static>) {
-    let counts = entry.media.unwrap_or(MediaCounts {
+fn media_fields(media: Option<MediaCounts>) -> (Field<'static>, Field<'static>) {
+    let counts = media.unwrap_or(MediaCounts {
         from_caller: 0,
         from_callee: 0,
     });
@@ -90,12 +91,16 @@ fn media(entry: &Entry) -> (Field<'static>, Field<'static>) {
     )
 }
 
-/// The line of an end of a call, whose last two fields are the counts of its media.
-fn put_ended(out: &mut Vec<u8>, entry: &Entry, fields: &[Field<'_>]) -> Result<(), AllocError>
+/// The line of an end of a call, whose last two fields are the counts of its media, if anyone counts them.
+fn put_ended(
+    out: &mut Vec<u8>,
+    media: Option<MediaCounts>,
+    fields: &[Field<'_>],
+) -> Result<(), AllocError>
     requires { length fields.now ≤ max_fields }
     ensures { OnOk result (Says (λ w. w ≡ codes "call-ended") out.old.items out.new.items) }
 {
-    let left_out = if entry.media.is_some() { 0 } else { 2 };
+    let left_out = if media.is_some() { 0 } else { 2 };
     put_line_without(out, b"call-ended", fields, left_out)
 }
 
@@ -207,28 +212,34 @@ fn put_offer(
 
 /// Its end.
 #[tactic(auto, using(crate::proofs::LineLaws::says_nothing))]
-fn put_end(out: &mut Vec<u8>, entry: &Entry, note: CallNote, now: u64) -> Result<(), AllocError>
+fn put_end(
+    out: &mut Vec<u8>,
+    entry: &Entry,
+    note: CallNote,
+    media: Option<MediaCounts>,
+    now: u64,
+) -> Result<(), AllocError>
     ensures { OnOk result (Says (IsWordOfCall note) out.old.items out.new.items) }
 {
     let (call, from, to) = (call(entry), from(entry), to(entry));
     let stood = stood(entry, now);
-    let (sent, heard) = media(entry);
+    let (sent, heard) = media_fields(media);
     match note {
         CallNote::Left(end) => {
             let (by, why) = (by(entry, end), why(b"bye"));
-            put_ended(out, entry, &[call, from, to, by, why, stood, sent, heard])
+            put_ended(out, media, &[call, from, to, by, why, stood, sent, heard])
         }
         CallNote::Failed(code) => {
             let (why, status) = (why(b"offer failed"), status(code));
             put_ended(
                 out,
-                entry,
+                media,
                 &[call, from, to, why, status, stood, sent, heard],
             )
         }
         CallNote::Unacknowledged => {
             let why = why(b"no ack");
-            put_ended(out, entry, &[call, from, to, why, stood, sent, heard])
+            put_ended(out, media, &[call, from, to, why, stood, sent, heard])
         }
         _ => Ok(()),
     }
@@ -239,6 +250,7 @@ fn put_entry_note(
     entry: &Entry,
     calls: &[StandingCall],
     note: CallNote,
+    media: Option<MediaCounts>,
     now: u64,
 ) -> Result<(), AllocError>
     ensures { OnOk result (Says (IsWordOfCall note) out.old.items out.new.items) }
@@ -254,7 +266,7 @@ fn put_entry_note(
         | CallNote::OfferRefused(_)
         | CallNote::OfferGivenUp => put_offer(out, entry, calls, note),
         CallNote::Left(_) | CallNote::Failed(_) | CallNote::Unacknowledged => {
-            put_end(out, entry, note, now)
+            put_end(out, entry, note, media, now)
         }
     }
 }
@@ -300,12 +312,13 @@ fn put_known(
     entry: Option<&Entry>,
     calls: &[StandingCall],
     note: CallNote,
+    media: Option<MediaCounts>,
     now: u64,
 ) -> Result<(), AllocError>
     ensures { OnOk result (Says (IsWordOfCall note) out.old.items out.new.items) }
 {
     match entry {
-        Some(entry) => put_entry_note(out, entry, calls, note, now),
+        Some(entry) => put_entry_note(out, entry, calls, note, media, now),
         None => Ok(()),
     }
 }
@@ -317,12 +330,13 @@ pub(crate) fn put_call_note(
     ledger: &mut Ledger,
     calls: &[StandingCall],
     note: NoteOfCall,
+    media: Option<MediaCounts>,
     now: u64,
 ) -> Result<(), AllocError>
     ensures { OnOk result (Says (IsWordOfCall note.note) out.old.items out.new.items) }
 {
     begin_note(ledger, alloc, calls, note, now)?;
-    put_known(out, ledger.get(note.number), calls, note.note, now)?;
+    put_known(out, ledger.get(note.number), calls, note.note, media, now)?;
     keep_note(ledger, calls, note, now);
     Ok(())
 }

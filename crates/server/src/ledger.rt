@@ -10,13 +10,6 @@ use text::Text;
 /// So many calls are remembered: no more stand at a time.
 const MAX_CALLS: usize = 256;
 
-/// How many datagrams of media were passed on from each end, reports apart.
-#[derive(Clone, Copy)]
-pub struct MediaCounts {
-    pub from_caller: u64,
-    pub from_callee: u64,
-}
-
 /// A call that stands: who called whom, and when it began and was answered, in milliseconds.
 #[derive(Drop)]
 pub(crate) struct Entry {
@@ -26,8 +19,6 @@ pub(crate) struct Entry {
     pub begun: u64,
     pub answered: Option<u64>,
     pub is_held: bool,
-    /// None where nobody counts them.
-    pub media: Option<MediaCounts>,
 }
 
 impl Entry {
@@ -73,7 +64,6 @@ fn entry_of(alloc: Global, call: &StandingCall, now: u64) -> Result<Option<Entry
         begun: now,
         answered: None,
         is_held: false,
-        media: None,
     }))
 }
 
@@ -89,7 +79,9 @@ pub(crate) fn call_of(calls: &[StandingCall], number: u64) -> Option<&StandingCa
 
 impl Ledger {
     /// No call stands. Takes no memory.
-    pub fn new(alloc: Global) -> Ledger {
+    pub fn new(alloc: Global) -> Ledger
+        ensures { result.entries.items ≡ [] }
+    {
         Ledger {
             entries: Vec::new(alloc),
         }
@@ -140,15 +132,6 @@ impl Ledger {
         for at in 0..self.entries.len() {
             if self.entries[at].number == number {
                 self.entries[at].is_held = is_held;
-            }
-        }
-    }
-
-    /// So many datagrams of media were passed on in a call: its end tells it.
-    pub fn count_media(&mut self, number: u64, counts: MediaCounts) {
-        for at in 0..self.entries.len() {
-            if self.entries[at].number == number {
-                self.entries[at].media = Some(counts);
             }
         }
     }

@@ -8,6 +8,7 @@ ghost use Rattle.server.specs.Notes.{IsWordOf, Says};
 use crate::call_notes::put_call_note;
 use crate::ledger::{Entry, Ledger};
 use crate::lines::{Field, Value, put_line, put_line_without};
+use crate::media_counts::MediaCounts;
 use agent::Agent;
 use call_core::End;
 use plans::{Note, Reason, Why};
@@ -207,7 +208,8 @@ fn put_registration(
 }
 
 /// Writes the line of what the last event was about behind what is there, if it is told. It was taken at this moment,
-/// in milliseconds, and came from there, where it was a datagram.
+/// in milliseconds, and came from there, where it was a datagram. Where it ended a call, and anyone counts its media, it
+/// had carried so many.
 #[tactic(auto, using(crate::proofs::LineLaws::says_nothing, crate::proofs::LineLaws::says_tells))]
 pub fn put_note(
     out: &mut Vec<u8>,
@@ -215,6 +217,7 @@ pub fn put_note(
     ledger: &mut Ledger,
     agent: &Agent,
     source: Option<Addr>,
+    media: Option<MediaCounts>,
     now: u64,
 ) -> Result<(), AllocError>
     ensures tells { OnOk result (Tells out.old.items out.new.items) }
@@ -222,7 +225,7 @@ pub fn put_note(
 {
     match agent.note() {
         Note::Quiet => Ok(()),
-        Note::Call(note) => put_call_note(out, alloc, ledger, agent.calls(), note, now),
+        Note::Call(note) => put_call_note(out, alloc, ledger, agent.calls(), note, media, now),
         Note::Refused(reason) => put_refusal(out, alloc, reason, source),
         Note::Registered => {
             let user = agent.registered_user();
