@@ -37,7 +37,7 @@ impl Model for ErrorStream {
 fn write_all(bytes: &[u8]) {
     let mut rest = bytes;
     for _ in 0..bytes.len() {
-        let Ok(count) = usize::try_from(os::write_no_sigpipe(DESCRIPTOR, rest)) else {
+        let Ok(count) = usize::try_from(libc::write(DESCRIPTOR, rest)) else {
             return;
         };
         match rest.get(count..) {
