@@ -4,11 +4,13 @@ ghost use Rattle.std.specs.Prelude.{◌≡◌, ◌<◌, ◌≤◌, ◌^◌, ◌+
 ghost use Rattle.std.specs.Option.{option_copied};
 ghost use Rattle.call_trace.specs.declared.datagram.Datagram.{Datagram};
 ghost use Rattle.port_pool.specs.Holdings.{holder_at};
+ghost use Rattle.port_pool.specs.PairCounts.{pair_counts};
 ghost use Rattle.port_pool.specs.RelayTable.{changed_by};
 ghost use Rattle.plans.specs.Effect.{Fits, effect};
 ghost use Rattle.media_laws.specs.Keeping.{HoldsFor, RelaysLive};
 ghost use Rattle.media_laws.specs.Living.{ListsLive};
 ghost use Rattle.media_laws.specs.Standing.{AgentStands, SaysMessages, StandsOn};
+ghost use Rattle.transactions.specs.Slots.{serving};
 ghost use Rattle.event_rows.specs.Rows.{after, moment_after, next_due, only_counts, row, what_row};
 ghost use Rattle.event_rows.specs.State.{after_count, after_event, office};
 
@@ -23,7 +25,7 @@ use media_laws::agents_stand;
 use message_laws::event_comes_from_source;
 use offer_answer::OwnRange;
 use plans::{Doing, KeptAck, Note, Office, Plan, Taken};
-use port_pool::{Change, RelayTable};
+use port_pool::{Change, PairCounts, RelayTable};
 use registrar::Registrar;
 use sip_uri::Addr;
 use std::alloc::{AllocError, Global};
@@ -143,6 +145,21 @@ impl Agent {
         ensures { option_copied result ≡ self.now.registered }
     {
         self.registered.as_ref()
+    }
+
+    /// How many server transactions there are. Takes no memory.
+    pub fn serving_count(&self) -> usize
+        ensures { result ≡ serving self.now.table.slots }
+    {
+        self.table.serving_count()
+    }
+
+    /// How many pairs of relay ports calls hold at a moment, in milliseconds, how many rest, and how many are free.
+    /// Takes no memory.
+    pub fn pair_counts(&self, now: u64) -> PairCounts
+        ensures { result ≡ pair_counts now self.now.calls.pool.holdings }
+    {
+        self.calls.pool().pair_counts(now)
     }
 
     /// Who is bound where. Takes no memory.

@@ -2,7 +2,7 @@
 
 ghost use Rattle.std.specs.Prelude.{◌≡◌};
 ghost use Rattle.std.specs.Option.{option_copied};
-ghost use Rattle.offer_answer.specs.Formats.{is_attribute, text_for, rtpmap_in, first_rtpmap, maps_match, formats_match};
+ghost use Rattle.offer_answer.specs.Formats.{is_attribute, text_for, rtpmap_in, first_rtpmap, rtpmap_of, maps_match, formats_match};
 
 use sdp::{Line, Media};
 use text::{Text, cut};
@@ -41,6 +41,13 @@ fn first_rtpmap<'a>(lines: &'a [Line<'_>], format: &[u8]) -> Option<&'a [u8]>
     None
 }
 
+/// What the first `rtpmap` of a format says: its encoding, as `opus/48000/2` (RFC 4566 section 6). Takes no memory.
+pub fn rtpmap_of<'m>(medium: &'m Media<'_>, format: &[u8]) -> Option<&'m [u8]>
+    ensures { option_copied result ≡ rtpmap_of medium.now format.now }
+{
+    first_rtpmap(medium.after.as_slice(), format)
+}
+
 fn maps_match(a: Option<&[u8]>, b: Option<&[u8]>, same_token: bool) -> bool
     ensures { result ≡ maps_match (option_copied a.entry) (option_copied b.entry) same_token }
 {
@@ -56,7 +63,7 @@ fn maps_match(a: Option<&[u8]>, b: Option<&[u8]>, same_token: bool) -> bool
 pub(crate) fn formats_match(m: &Media<'_>, f: &Text<'_>, n: &Media<'_>, g: &Text<'_>) -> bool
     ensures { result ≡ formats_match m.now f.now n.now g.now }
 {
-    let a = first_rtpmap(m.after.as_slice(), f.as_bytes());
-    let b = first_rtpmap(n.after.as_slice(), g.as_bytes());
+    let a = rtpmap_of(m, f.as_bytes());
+    let b = rtpmap_of(n, g.as_bytes());
     maps_match(a, b, f == g)
 }

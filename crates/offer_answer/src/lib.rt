@@ -16,6 +16,7 @@ mod stream;
 pub use checks::{check_answer, check_offer};
 pub use direct::{destination, meaning};
 pub use fault::{AnswerFault, OfferFault};
+pub use formats::rtpmap_of;
 pub use laws::{
     alike_is_equivalence, fewer_rows, held_call, hold_passes, joined_is_direct, plain_call,
     relayed_is_direct, rows_lead, rows_of_session_stand, sent_is_read,

@@ -1,13 +1,15 @@
 //! All pairs of a pool, by rising port, and the calls that hold them.
 
-ghost use Rattle.std.specs.Prelude.{◌≡◌, ◌+◌, ◌*◌, ◌≤◌, IfOk, true, false, nat_lt, length, find, take};
+ghost use Rattle.std.specs.Prelude.{◌≡◌, ◌+◌, ◌*◌, ◌≤◌, IfOk, true, false, nat_lt, length, find, count_by, take};
 ghost use Rattle.std.specs.List.{position};
 ghost use Rattle.std.specs.List.Sorted.{IsPartitionPoint};
 ghost use Rattle.std.specs.Option.{option_copied};
 ghost use Rattle.port_pool.specs.Limits.{last_port};
+ghost use Rattle.port_pool.specs.PairCounts.{is_held, pair_counts, rests_unheld};
 ghost use Rattle.port_pool.specs.Holdings.{unheld_pairs, free_pairs, is_call, is_resting, is_free, pair_of, is_among, has_even, holder_of, PairsRise};
 
 use crate::pair::Pair;
+use crate::pair_counts::PairCounts;
 use std::alloc::{AllocError, Global};
 
 /// For how long a pair rests after it was freed, in milliseconds.
@@ -37,6 +39,53 @@ fn is_free(now: u64, holding: &Holding) -> bool
     ensures { result ≡ is_free now holding.now }
 {
     holding.holder.is_none() && !is_resting(now, holding)
+}
+
+fn is_held(holding: &Holding) -> bool
+    ensures { result ≡ is_held holding.now }
+{
+    holding.holder.is_some()
+}
+
+fn rests_unheld(now: u64, holding: &Holding) -> bool
+    ensures { result ≡ rests_unheld now holding.now }
+{
+    holding.holder.is_none() && is_resting(now, holding)
+}
+
+fn used_count(holdings: &[Holding]) -> usize
+    ensures { result ≡ count_by is_held holdings.now }
+{
+    holdings.iter().filter(|holding| is_held(holding)).count()
+}
+
+fn resting_count(holdings: &[Holding], now: u64) -> usize
+    ensures { result ≡ count_by (rests_unheld now) holdings.now }
+{
+    holdings
+        .iter()
+        .filter(|holding| rests_unheld(now, holding))
+        .count()
+}
+
+fn free_count(holdings: &[Holding], now: u64) -> usize
+    ensures { result ≡ count_by (is_free now) holdings.now }
+{
+    holdings
+        .iter()
+        .filter(|holding| is_free(now, holding))
+        .count()
+}
+
+/// How many pairs are held, rest, and are free.
+pub(crate) fn pair_counts(holdings: &[Holding], now: u64) -> PairCounts
+    ensures { result ≡ pair_counts now holdings.now }
+{
+    PairCounts {
+        used: used_count(holdings),
+        resting: resting_count(holdings, now),
+        free: free_count(holdings, now),
+    }
 }
 
 fn pair_of(holding: &Holding) -> Pair

@@ -5,13 +5,15 @@ ghost use Rattle.std.specs.FinMap as map;
 ghost use Rattle.port_pool.specs.Limits.{min_port, last_port, max_pairs};
 ghost use Rattle.port_pool.specs.Changes.{LeadFrom};
 ghost use Rattle.port_pool.specs.Holdings.{even_of, is_among, holder_of, holder_at, LeadsPair, AreRising, PairsRise};
+ghost use Rattle.port_pool.specs.PairCounts.{pair_counts};
 ghost use Rattle.port_pool.specs.Pool.{new_pool, lowest_free, AreLowestFree, AreFree, with_pairs, reserved, freed, RestsFrom, RefusesReserve, RefusesRelease, is_port_of, HasNoRow, AreOwn, StandOnce, row_after, changes_of, AreHeld, AreBareBut, with_changes, without_others, committed, without_call, RowsAreHeld, NeverMeet};
 
 use crate::changes::{Change, changes_of};
 use crate::error::PoolError;
-use crate::holdings::{holder_of, is_held_by, lowest_free};
+use crate::holdings::{holder_of, is_held_by, lowest_free, pair_counts};
 use crate::hop::Hop;
 use crate::pair::Pair;
+use crate::pair_counts::PairCounts;
 use crate::places::Places;
 use crate::relay_line::RelayLine;
 use crate::relay_table::RelayTable;
@@ -288,6 +290,14 @@ impl Pool {
         ensures { result ≡ holder_at self.now.holdings port }
     {
         holder_of(self.places.holdings(), port - port % 2)
+    }
+
+    /// How many pairs calls hold at the moment `now`, in milliseconds, how many rest, and how many are free. Takes no
+    /// memory.
+    pub fn pair_counts(&self, now: u64) -> PairCounts
+        ensures { result ≡ pair_counts now self.now.holdings }
+    {
+        pair_counts(self.places.holdings(), now)
     }
 
     /// The relay table. Takes no memory.

@@ -64,7 +64,7 @@ impl Binding {
 }
 
 /// Bindings, oldest first, which contracts see as a list.
-pub(crate) struct Bindings {
+pub struct Bindings {
     entries: Vec<Binding>,
 }
 
@@ -92,7 +92,8 @@ impl Bindings {
         Bindings { entries }
     }
 
-    pub(crate) fn as_slice(&self) -> &[Binding]
+    /// The bindings, lent. Takes no memory.
+    pub fn as_slice(&self) -> &[Binding]
         ensures { result.now ≡ self.now }
     {
         &self.entries

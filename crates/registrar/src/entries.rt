@@ -51,6 +51,13 @@ impl Entries {
         Ok(Entries { users, key, names })
     }
 
+    /// The entries, lent. Takes no memory.
+    pub(crate) fn as_slice(&self) -> &[UserBindings]
+        ensures { result.now ≡ self.now }
+    {
+        self.users.as_slice()
+    }
+
     /// Whether this is one of the users, and what the user is bound to; nothing for anyone unknown. Takes no memory.
     pub(crate) fn look_up(&self, user: &Text<'_>) -> (bool, &[Binding])
         ensures known { result.0 ≡ list_any (λ u. pointwise nat_eq u user.now) (map (λ e. e.user) self.now) }

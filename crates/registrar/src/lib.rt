@@ -17,9 +17,10 @@ mod registrar;
 mod targets;
 mod user_bindings;
 
-pub use binding::Binding;
+pub use binding::{Binding, Bindings};
 pub use laws::laws_of_bindings;
 pub use plan::Plan;
 pub use refusal::Refusal;
 pub use register::{Contact, Contacts, Register};
 pub use registrar::Registrar;
+pub use user_bindings::UserBindings;

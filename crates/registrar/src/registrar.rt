@@ -18,6 +18,7 @@ use crate::refusal::Refusal;
 use crate::register::Register;
 use crate::register_rules::{all_bindable, is_star_misused, is_star_stale};
 use crate::targets::target;
+use crate::user_bindings::UserBindings;
 use index::PrintKey;
 use sip_uri::{Host, Uri};
 use std::alloc::{AllocError, Global};
@@ -169,6 +170,13 @@ impl Registrar {
         ensures exact { IfOk result (λ bindings. bindings.items ≡ bindings_at self.now user.now now) }
     {
         present(self.alloc, self.look_up(user).1, now)
+    }
+
+    /// Each user with its bindings, in the order in which the users were given. Takes no memory.
+    pub fn users(&self) -> &[UserBindings]
+        ensures { result.now ≡ self.now.entries }
+    {
+        self.entries.as_slice()
     }
 
     /// Where a call to a user goes: the URI of the binding that was refreshed last, of those that are not over (RFC

@@ -7,8 +7,8 @@ use crate::binding::Bindings;
 use std::alloc::{AllocError, Global};
 use text::{Text, Texts};
 
-/// A user and its bindings.
-pub(crate) struct UserBindings {
+/// A user and its bindings, oldest first, those that are over too.
+pub struct UserBindings {
     pub user: Text<'static>,
     pub bindings: Bindings,
 }

@@ -233,6 +233,13 @@ impl Table {
         }
     }
 
+    /// How many server transactions there are (RFC 3261 section 17.2). Takes no memory.
+    pub fn serving_count(&self) -> usize
+        ensures { result ≡ serving self.now.slots }
+    {
+        self.places.serving_count()
+    }
+
     /// How many timers are set: each belongs to a transaction, and a transaction has one of a letter at most. Takes no
     /// memory.
     pub fn timer_count(&self) -> usize
