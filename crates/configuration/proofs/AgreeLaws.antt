@@ -4,7 +4,7 @@ use Rattle.std.specs.Prelude.{codes, ◌⊎◌, is_some, option_and_then, nat_le
 use Rattle.std.specs.Option.{option_or}
 use Rattle.std.specs.List.{list_all, list_any}
 use Rattle.std.specs.Cmp.Lexicographic.{pointwise}
-use Rattle.toml.specs.Data.{Data, Items, no_items, item, Members, no_members, member, as_integer, as_str, as_array, get_member}
+use Rattle.toml.specs.Data.{Data, Items, no_items, item, Members, no_members, member, as_integer, as_bool, as_str, as_array, get_member}
 use Rattle.registrar.specs.Registering.{are_distinct}
 use Rattle.registrar.specs.Limits.{max_users}
 use Rattle.configuration.specs.Limits.{min_relay_port, max_answer_within, max_relay_pairs, max_workers, usual_workers}
@@ -20,7 +20,8 @@ use Rattle.configuration.specs.declared.flaw.Flaw.{Flaw}
 use Rattle.configuration.specs.declared.flaw.Flaw.TheVariants.{UnknownKey, Missing, OtherType, OutOfRange, Odd, PastLastPort, RelayPort, Malformed, RandomKey, UserCount, UserTwice}
 use Rattle.configuration.specs.Rules.{has_room_for_ports, is_relay_port, is_server_address, has_relay_ports, has_address, has_users, has_lifetime, has_domain, first_broken}
 use Rattle.configuration.specs.Files.{is_known_key, has_known_keys, few, few_of, natural, answer_within_at, workers_at, number_at, numbers_at, text_at, octets_of, ip_at, key_of, key_at, domain_of, domain_at, texts_of, users_at, level_named, log_in, log_of, log_at, config_from, config_of, port_of, seconds_of}
-use Rattle.configuration.specs.Flaws.{key_rule, rule_of, unknown_key, unknown_flaw, unless, has_type_of, required_flaw, optional_flaw, count_flaw, few_flaw, digits_flaw, random_key_flaw, are_texts, list_flaw, users_type_flaw, word_flaw, log_flaw, said_flaw, said_number, relay_flaw, address_flaw, malformed_user, user_twice, users_flaw, lifetime_flaw, domain_flaw, rules_flaw, flaw_behind, flaw_in}
+use Rattle.configuration.specs.Status.{page_at, open_of, status_of, status_at}
+use Rattle.configuration.specs.Flaws.{key_rule, rule_of, unknown_key, unknown_flaw, unless, has_type_of, required_flaw, optional_flaw, count_flaw, few_flaw, digits_flaw, random_key_flaw, are_texts, list_flaw, users_type_flaw, word_flaw, log_flaw, page_text_flaw, page_flaw, status_flaw, said_flaw, said_number, relay_flaw, address_flaw, malformed_user, user_twice, users_flaw, lifetime_flaw, domain_flaw, rules_flaw, flaw_behind, flaw_in}
 
 -- ---- what is read
 
@@ -114,6 +115,21 @@ word (Some value) = named (as_str value) where
   named None = refl
   named (Some t) = judges_unless (level_named t) (Malformed keys.Log t) refl
 
+page : (is_open : Bool) (o : Option Data) → Judges (page_flaw is_open o) (status_of is_open o)
+page is_open None = tt
+page is_open (Some value) = judges_map _ (option_and_then (page_at is_open) (as_str value)) (λ addr. Some addr) (said_in (as_str value)) where
+  said_in : (t : Option (List ℕ)) → Judges (page_text_flaw is_open t) (option_and_then (page_at is_open) t)
+  said_in None = refl
+  said_in (Some t) = judges_unless (page_at is_open t) (Malformed keys.Status t) refl
+
+status : (o p : Option Data) → Judges (status_flaw o p) (option_and_then (λ is_open. status_of is_open p) (open_of o))
+status None p = page false p
+status (Some value) p = step (as_bool value) where
+  step : (b : Option Bool)
+      → Judges (option_or (cond (is_some b) None (Some (OtherType keys.StatusOpen))) (page_flaw (unwrap_or b false) p)) (option_and_then (λ is_open. status_of is_open p) b)
+  step None = refl
+  step (Some is_open) = page is_open p
+
 regrouped : (a b c d e f rest : Option Flaw) → option_or (option_or a (option_or b (option_or c (option_or d (option_or e f))))) rest
     ≡ option_or a (option_or b (option_or c (option_or d (option_or e (option_or f rest)))))
 regrouped (Some x) b c d e f rest = refl
@@ -135,7 +151,8 @@ numbers_flaw ms =
 abbrev texts_flaw : Members → Option Flaw
 texts_flaw ms =
     option_or (at (required_flaw keys.Ip) (codes "ip") ms) (option_or (at random_key_flaw (codes "random_key") ms)
-    (option_or (at (optional_flaw keys.Domain) (codes "domain") ms) (option_or (at users_type_flaw (codes "users") ms) (at log_flaw (codes "log") ms))))
+    (option_or (at (optional_flaw keys.Domain) (codes "domain") ms) (option_or (at users_type_flaw (codes "users") ms) (option_or (at log_flaw (codes "log") ms)
+    (status_flaw (get_member (codes "status_open") ms) (get_member (codes "status") ms))))))
 
 numbers : (ms : Members) → Judges (numbers_flaw ms) (numbers_at ms)
 unfolding numbers_at
@@ -154,8 +171,9 @@ with_numbers ms n =
     option_and_then (λ key.
     option_and_then (λ domain.
     option_and_then (λ us.
-    option_and_then (λ level. Some (config_from n ip key domain us level))
-    (log_at ms)) (users_at ms)) (domain_at ms)) (key_at ms)) (ip_at ms)
+    option_and_then (λ level.
+    option_and_then (λ status. Some (config_from n ip key domain us level status))
+    (status_at ms)) (log_at ms)) (users_at ms)) (domain_at ms)) (key_at ms)) (ip_at ms)
 
 rest : (ms : Members) (n : Numbers) → Judges (texts_flaw ms) (with_numbers ms n)
 rest ms n =
@@ -163,7 +181,8 @@ rest ms n =
     judges_then _ _ (key_at ms) _ (random_key (get_member (codes "random_key") ms)) (λ key.
     judges_then _ _ (domain_at ms) _ (domain_type (get_member (codes "domain") ms)) (λ domain.
     judges_then _ _ (users_at ms) _ (users_type (get_member (codes "users") ms)) (λ us.
-    judges_last _ (log_at ms) (λ level. config_from n ip key domain us level) (word (get_member (codes "log") ms))))))
+    judges_then _ _ (log_at ms) _ (word (get_member (codes "log") ms)) (λ level.
+    judges_last _ (status_at ms) (λ page. config_from n ip key domain us level page) (status (get_member (codes "status_open") ms) (get_member (codes "status") ms)))))))
 
 table : (ms : Members) → Judges (option_or (numbers_flaw ms) (texts_flaw ms)) (option_and_then (with_numbers ms) (numbers_at ms))
 table ms = judges_then (numbers_flaw ms) (texts_flaw ms) (numbers_at ms) (with_numbers ms) (numbers ms) (rest ms)

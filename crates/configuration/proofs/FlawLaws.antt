@@ -46,18 +46,19 @@ any_default (x ∷ xs) (suc i) d e less = any_default xs i d e (omega (arith, le
 -- ---- the first of some flaws
 
 -- however they are grouped
-pub grouped : (a b c d e f g h i j k l : Option Flaw)
-    → option_or (option_or (option_or (option_or (option_or (option_or (option_or (option_or (option_or (option_or (option_or a b) c) d) e) f) g) h) i) j) k) l
-    ≡ option_or a (option_or b (option_or c (option_or d (option_or e (option_or f (option_or g (option_or h (option_or i (option_or j (option_or k l))))))))))
-grouped (Some x) b c d e f g h i j k l = refl
-grouped None (Some x) c d e f g h i j k l = refl
-grouped None None (Some x) d e f g h i j k l = refl
-grouped None None None (Some x) e f g h i j k l = refl
-grouped None None None None (Some x) f g h i j k l = refl
-grouped None None None None None (Some x) g h i j k l = refl
-grouped None None None None None None (Some x) h i j k l = refl
-grouped None None None None None None None (Some x) i j k l = refl
-grouped None None None None None None None None (Some x) j k l = refl
-grouped None None None None None None None None None (Some x) k l = refl
-grouped None None None None None None None None None None (Some x) l = refl
-grouped None None None None None None None None None None None l = refl
+pub grouped : (a b c d e f g h i j k l m : Option Flaw)
+    → option_or (option_or (option_or (option_or (option_or (option_or (option_or (option_or (option_or (option_or (option_or (option_or a b) c) d) e) f) g) h) i) j) k) l) m
+    ≡ option_or a (option_or b (option_or c (option_or d (option_or e (option_or f (option_or g (option_or h (option_or i (option_or j (option_or k (option_or l m)))))))))))
+grouped (Some x) b c d e f g h i j k l m = refl
+grouped None (Some x) c d e f g h i j k l m = refl
+grouped None None (Some x) d e f g h i j k l m = refl
+grouped None None None (Some x) e f g h i j k l m = refl
+grouped None None None None (Some x) f g h i j k l m = refl
+grouped None None None None None (Some x) g h i j k l m = refl
+grouped None None None None None None (Some x) h i j k l m = refl
+grouped None None None None None None None (Some x) i j k l m = refl
+grouped None None None None None None None None (Some x) j k l m = refl
+grouped None None None None None None None None None (Some x) k l m = refl
+grouped None None None None None None None None None None (Some x) l m = refl
+grouped None None None None None None None None None None None (Some x) m = refl
+grouped None None None None None None None None None None None None m = refl

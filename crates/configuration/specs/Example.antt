@@ -1,5 +1,5 @@
 -- The example office.
-use Rattle.std.specs.Prelude.{[], ◌∷◌, codes, Some, replicate}
+use Rattle.std.specs.Prelude.{[], ◌∷◌, codes, Some, None, replicate}
 use Rattle.configuration.specs.declared.config.Config.{Config}
 use Rattle.configuration.specs.declared.level.LogLevel.TheVariants as levels
 
@@ -18,4 +18,5 @@ example = record {
   answer_within = 32;
   random_key = replicate 32 0;
   log = levels.Calls;
+  status = None;
 }

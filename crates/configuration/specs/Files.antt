@@ -5,7 +5,9 @@ use Rattle.std.specs.Result.{result_ok}
 use Rattle.toml.specs.Data.{Data, Items, no_items, item, Members, no_members, member, as_integer, as_str, as_array, get_member}
 use Rattle.hex.specs.Hex.{decode_sized}
 use Rattle.sip_uri.specs.Hosts.{ip4_of}
+use Rattle.sip_uri.specs.declared.uri.Addr.{Addr}
 use Rattle.configuration.specs.Limits.{max_answer_within, max_workers, usual_workers}
+use Rattle.configuration.specs.Status.{status_at}
 use Rattle.configuration.specs.declared.config.Config.{Config}
 use Rattle.configuration.specs.declared.level.LogLevel.{LogLevel}
 use Rattle.configuration.specs.declared.level.LogLevel.TheVariants as levels
@@ -21,6 +23,7 @@ is_known_key key =
     is_same key (codes "relay_first") || is_same key (codes "relay_pairs") || is_same key (codes "ip") || is_same key (codes "sip_port")
     || is_same key (codes "users") || is_same key (codes "min_expires") || is_same key (codes "domain") || is_same key (codes "workers")
     || is_same key (codes "random_key") || is_same key (codes "log") || is_same key (codes "answer_within")
+    || is_same key (codes "status") || is_same key (codes "status_open")
 
 -- each key of the table is known
 abbrev pub has_known_keys : Members → Bool
@@ -148,8 +151,8 @@ log_at ms = log_of (get_member (codes "log") ms)
 
 -- ---- all of them
 
-abbrev pub config_from : Numbers → List ℕ → List ℕ → Option (List ℕ) → List (List ℕ) → LogLevel → Config
-config_from numbers ip key domain users log = record {
+abbrev pub config_from : Numbers → List ℕ → List ℕ → Option (List ℕ) → List (List ℕ) → LogLevel → Option Addr → Config
+config_from numbers ip key domain users log status = record {
   relay_first = numbers.relay_first;
   relay_pairs = numbers.relay_pairs;
   ip = ip;
@@ -161,6 +164,7 @@ config_from numbers ip key domain users log = record {
   random_key = key;
   log = log;
   answer_within = numbers.answer_within;
+  status = status;
 }
 
 -- the configuration that a table says, whether or not it keeps the rules: none where a key is unknown, missing or of
@@ -173,6 +177,7 @@ config_of ms =
     option_and_then (λ key.
     option_and_then (λ domain.
     option_and_then (λ users.
-    option_and_then (λ log. Some (config_from numbers ip key domain users log))
-    (log_at ms)) (users_at ms)) (domain_at ms)) (key_at ms)) (ip_at ms)) (numbers_at ms)
+    option_and_then (λ log.
+    option_and_then (λ status. Some (config_from numbers ip key domain users log status))
+    (status_at ms)) (log_at ms)) (users_at ms)) (domain_at ms)) (key_at ms)) (ip_at ms)) (numbers_at ms)
     else None

@@ -1,15 +1,16 @@
 -- What is wrong with a configuration's file: the first flaw, in the order in which its values are read and the rules
 -- are looked at.
-use Rattle.std.specs.Prelude.{◌≡◌, ◌==◌, ◌%◌, ℕ, ℤ, pos, Bool, true, not, ◌&&◌, nat_eq, nat_le, List, [], ◌∷◌, length, codes, Option, Some, None, is_some, option_and_then, unwrap_or, if◌then◌else◌}
+use Rattle.std.specs.Prelude.{◌≡◌, ◌==◌, ◌%◌, ℕ, ℤ, pos, Bool, true, false, not, ◌&&◌, nat_eq, nat_le, List, [], ◌∷◌, length, codes, Option, Some, None, is_some, option_and_then, unwrap_or, if◌then◌else◌}
 use Rattle.std.specs.List.{list_any}
 use Rattle.std.specs.Option.{option_or}
 use Rattle.std.specs.Cmp.Lexicographic.{pointwise}
-use Rattle.toml.specs.Data.{Data, Items, no_items, item, Members, no_members, member, as_integer, as_str, as_array, get_member}
+use Rattle.toml.specs.Data.{Data, Items, no_items, item, Members, no_members, member, as_integer, as_str, as_bool, as_array, get_member}
 use Rattle.registrar.specs.Limits.{max_users}
 use Rattle.configuration.specs.Limits.{min_relay_port, max_answer_within, max_relay_pairs, max_workers}
 use Rattle.configuration.specs.Names.{is_user}
 use Rattle.configuration.specs.Rules.{has_room_for_ports, is_relay_port, is_server_address, has_lifetime, has_domain}
 use Rattle.configuration.specs.Files.{is_known_key, few, natural, number_at, text_at, key_of, level_named, config_of}
+use Rattle.configuration.specs.Status.{page_at, open_of}
 use Rattle.configuration.specs.declared.config.Config.{Config}
 use Rattle.configuration.specs.declared.error.ConfigError.{ConfigError}
 use Rattle.configuration.specs.declared.error.ConfigError.TheVariants as rules
@@ -32,6 +33,8 @@ key_name keys.Workers = codes "workers"
 key_name keys.RandomKey = codes "random_key"
 key_name keys.Log = codes "log"
 key_name keys.AnswerWithin = codes "answer_within"
+key_name keys.Status = codes "status"
+key_name keys.StatusOpen = codes "status_open"
 
 -- the rule of a key's value
 abbrev pub key_rule : Key → ConfigError
@@ -46,6 +49,8 @@ key_rule keys.Workers = rules.File
 key_rule keys.RandomKey = rules.File
 key_rule keys.Log = rules.File
 key_rule keys.AnswerWithin = rules.File
+key_rule keys.Status = rules.File
+key_rule keys.StatusOpen = rules.File
 
 -- the rule that a flaw breaks
 abbrev pub rule_of : Flaw → ConfigError
@@ -90,6 +95,8 @@ has_type_of keys.Workers value = is_some (as_integer value)
 has_type_of keys.RandomKey value = is_some (as_str value)
 has_type_of keys.Log value = is_some (as_str value)
 has_type_of keys.AnswerWithin value = is_some (as_integer value)
+has_type_of keys.Status value = is_some (as_str value)
+has_type_of keys.StatusOpen value = is_some (as_bool value)
 
 abbrev pub type_flaw : Key → Data → Option Flaw
 type_flaw key value = if has_type_of key value then None else Some (OtherType key)
@@ -143,6 +150,19 @@ abbrev pub log_flaw : Option Data → Option Flaw
 log_flaw None = None
 log_flaw (Some value) = word_flaw (as_str value)
 
+abbrev pub page_text_flaw : Bool → Option (List ℕ) → Option Flaw
+page_text_flaw is_open None = Some (OtherType keys.Status)
+page_text_flaw is_open (Some text) = unless (page_at is_open text) (Malformed keys.Status text)
+
+-- an address of the page may be there
+abbrev pub page_flaw : Bool → Option Data → Option Flaw
+page_flaw is_open None = None
+page_flaw is_open (Some value) = page_text_flaw is_open (as_str value)
+
+-- where both may be there: whether the page is open, and the page's address
+abbrev pub status_flaw : Option Data → Option Data → Option Flaw
+status_flaw is_open page = option_or (optional_flaw keys.StatusOpen is_open) (page_flaw (unwrap_or (open_of is_open) false) page)
+
 -- the first flaw for which a table says no configuration
 unfoldable pub said_flaw : Members → Option Flaw
 said_flaw ms =
@@ -157,7 +177,8 @@ said_flaw ms =
     (option_or (random_key_flaw (get_member (codes "random_key") ms))
     (option_or (optional_flaw keys.Domain (get_member (codes "domain") ms))
     (option_or (users_type_flaw (get_member (codes "users") ms))
-    (log_flaw (get_member (codes "log") ms))))))))))))
+    (option_or (log_flaw (get_member (codes "log") ms))
+    (status_flaw (get_member (codes "status_open") ms) (get_member (codes "status") ms)))))))))))))
 
 -- ---- the rules
 

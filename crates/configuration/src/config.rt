@@ -3,7 +3,7 @@
 ghost use Rattle.std.specs.Prelude.{IfOk, ◌≡◌};
 
 use crate::level::LogLevel;
-use sip_uri::put_ip4;
+use sip_uri::{Addr, put_ip4};
 use std::alloc::{AllocError, Global};
 use text::{Text, Texts};
 
@@ -31,6 +31,8 @@ pub struct Config {
     pub log: LogLevel,
     /// The seconds that a callee's telephone has for its first response to an INVITE.
     pub answer_within: u8,
+    /// Where the page is served that shows what the server does, if it is.
+    pub status: Option<Addr>,
 }
 
 impl Drop for Config {
@@ -47,6 +49,7 @@ impl Drop for Config {
             random_key: _,
             log: _,
             answer_within: _,
+            status: _,
         } = self;
     }
 }

@@ -40,5 +40,6 @@ pub fn example_config(alloc: Global) -> Result<Config, AllocError>
         random_key: [0; 32],
         log: LogLevel::Calls,
         answer_within: 32,
+        status: None,
     })
 }

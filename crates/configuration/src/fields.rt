@@ -10,6 +10,7 @@ use crate::config::Config;
 use crate::error::ConfigError;
 use crate::level::{LogLevel, USUAL_LEVEL, level_named};
 use crate::numbers::{Numbers, below_2_8, port_of, seconds_of};
+use crate::status::status_at;
 use crate::tables::{array_at, has_known_keys, number_at, text_at, value_at};
 use hex::FromHex;
 use sip_uri::ip4;
@@ -183,6 +184,7 @@ pub(crate) fn config_of(alloc: Global, table: &Table) -> Result<Config, ConfigEr
     let domain = domain_at(alloc, table)?;
     let users = users_at(alloc, table)?;
     let log = log_at(table).ok_or(ConfigError::File)?;
+    let status = status_at(table).ok_or(ConfigError::File)?;
     Ok(Config {
         relay_first: numbers.relay_first,
         relay_pairs: numbers.relay_pairs,
@@ -195,5 +197,6 @@ pub(crate) fn config_of(alloc: Global, table: &Table) -> Result<Config, ConfigEr
         random_key: key,
         log,
         answer_within: numbers.answer_within,
+        status,
     })
 }

@@ -21,7 +21,7 @@ pub enum Flaw<'a> {
     PastLastPort(i64),
     /// The port for SIP is one of the relay's.
     RelayPort(i64),
-    /// The address, the domain, a user or the word of the log.
+    /// The address, the domain, a user, the word of the log, or the address of the page.
     Malformed(Key, Text<'a>),
     /// The key of the random numbers has so many bytes, which are secret.
     RandomKey(usize),
@@ -41,7 +41,12 @@ fn key_rule(key: Key) -> ConfigError
         Key::Users => ConfigError::Users,
         Key::MinExpires => ConfigError::MinExpires,
         Key::Domain => ConfigError::Domain,
-        Key::Workers | Key::RandomKey | Key::Log | Key::AnswerWithin => ConfigError::File,
+        Key::Workers
+        | Key::RandomKey
+        | Key::Log
+        | Key::AnswerWithin
+        | Key::Status
+        | Key::StatusOpen => ConfigError::File,
     }
 }
 

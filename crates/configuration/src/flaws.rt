@@ -6,7 +6,7 @@ ghost use Rattle.std.specs.Cmp.Lexicographic.{pointwise};
 ghost use Rattle.std.specs.Option.{option_copied};
 ghost use Rattle.toml.specs.Data.{get_member};
 ghost use Rattle.toml.specs.View.{view, table_view, array_view};
-ghost use Rattle.configuration.specs.Flaws.{key_name, unknown_key, unknown_flaw, type_flaw, required_flaw, optional_flaw, count_flaw, few_flaw, digits_flaw, random_key_flaw, users_type_flaw, word_flaw, log_flaw, said_flaw, said_number, relay_flaw, address_flaw, are_texts, malformed_user, user_twice, users_flaw, lifetime_flaw, domain_flaw, rules_flaw, flaw_in};
+ghost use Rattle.configuration.specs.Flaws.{key_name, unknown_key, unknown_flaw, type_flaw, required_flaw, optional_flaw, count_flaw, few_flaw, digits_flaw, random_key_flaw, users_type_flaw, word_flaw, log_flaw, page_text_flaw, page_flaw, status_flaw, said_flaw, said_number, relay_flaw, address_flaw, are_texts, malformed_user, user_twice, users_flaw, lifetime_flaw, domain_flaw, rules_flaw, flaw_in};
 
 use crate::config::Config;
 use crate::error::ConfigError;
@@ -19,6 +19,7 @@ use crate::rules::{
     MAX_RELAY_PAIRS, MAX_USERS, MIN_RELAY_PORT, has_domain, has_lifetime, has_room_for_ports,
     is_relay_port, is_server_address,
 };
+use crate::status::{open_at, page_at};
 use crate::tables::{is_known_key, number_at, text_at, value_at};
 use std::alloc::{AllocError, Global};
 use text::Text;
@@ -160,6 +161,34 @@ fn log_flaw(table: &Table) -> Option<Flaw<'_>>
     }
 }
 
+fn page_text_flaw<'t>(is_open: bool, text: Option<&'t str>) -> Option<Flaw<'t>>
+    ensures { result ≡ page_text_flaw is_open (option_copied text.entry) }
+{
+    let Some(text) = text else {
+        return Some(Flaw::OtherType(Key::Status));
+    };
+    match page_at(is_open, text.as_bytes()) {
+        Some(_) => None,
+        None => Some(Flaw::Malformed(Key::Status, Text::lent(text.as_bytes()))),
+    }
+}
+
+fn page_flaw(table: &Table, is_open: bool) -> Option<Flaw<'_>>
+    ensures { result ≡ page_flaw is_open (get_member (codes "status") (table_view table.now)) }
+{
+    match value_at(table, "status") {
+        Some(value) => page_text_flaw(is_open, value.as_str()),
+        None => None,
+    }
+}
+
+fn status_flaw(table: &Table) -> Option<Flaw<'_>>
+    ensures { result ≡ status_flaw (get_member (codes "status_open") (table_view table.now)) (get_member (codes "status") (table_view table.now)) }
+{
+    let is_open = open_at(table).unwrap_or(false);
+    optional_flaw(table, Key::StatusOpen).or(page_flaw(table, is_open))
+}
+
 /// The first flaw for which a table says no configuration.
 #[tactic(auto, unfolding(crate::specs::Flaws::said_flaw))]
 fn said_flaw(table: &Table) -> Option<Flaw<'_>>
@@ -177,6 +206,7 @@ fn said_flaw(table: &Table) -> Option<Flaw<'_>>
         .or(optional_flaw(table, Key::Domain))
         .or(users_type_flaw(table))
         .or(log_flaw(table))
+        .or(status_flaw(table))
 }
 
 /// The number that a table says, which its field may have no room for.

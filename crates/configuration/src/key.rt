@@ -16,6 +16,8 @@ pub enum Key {
     RandomKey,
     Log,
     AnswerWithin,
+    Status,
+    StatusOpen,
 }
 
 impl Key {
@@ -39,6 +41,8 @@ impl Key {
             Key::RandomKey => "random_key",
             Key::Log => "log",
             Key::AnswerWithin => "answer_within",
+            Key::Status => "status",
+            Key::StatusOpen => "status_open",
         }
     }
 
@@ -53,7 +57,10 @@ impl Key {
             | Key::MinExpires
             | Key::Workers
             | Key::AnswerWithin => value.as_integer().is_some(),
-            Key::Ip | Key::Domain | Key::RandomKey | Key::Log => value.as_str().is_some(),
+            Key::Ip | Key::Domain | Key::RandomKey | Key::Log | Key::Status => {
+                value.as_str().is_some()
+            }
+            Key::StatusOpen => value.as_bool().is_some(),
             Key::Users => value.as_array().is_some(),
         }
     }
@@ -74,6 +81,8 @@ impl Key {
             Key::RandomKey => "a text of 64 hexadecimal digits",
             Key::Log => "\"none\", \"trouble\", \"calls\" or \"all\"",
             Key::AnswerWithin => "a number of seconds from 1 to 32",
+            Key::Status => "ADDRESS:PORT, with a loopback address unless status_open is true,",
+            Key::StatusOpen => "true or false",
         }
     }
 }

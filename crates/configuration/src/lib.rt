@@ -17,6 +17,7 @@ mod names;
 mod numbers;
 mod read;
 mod rules;
+mod status;
 mod tables;
 mod words;
 

@@ -33,6 +33,8 @@ pub(crate) fn is_known_key(key: &[u8]) -> bool
         || is_same(key, b"random_key")
         || is_same(key, b"log")
         || is_same(key, b"answer_within")
+        || is_same(key, b"status")
+        || is_same(key, b"status_open")
 }
 
 fn all_known(table: &Table) -> bool

@@ -61,6 +61,7 @@ fn unfit(key: Key) -> &'static str {
         Key::Ip => "is no address of a server",
         Key::Domain => "is no host name",
         Key::Log => "is no word for the log",
+        Key::Status => "is no address for the page",
         _ => "is no name of a user",
     }
 }

@@ -1,6 +1,6 @@
 use Rattle.std.proofs.Common.{◌≡◌, ◌∙◌, Option, ap₂}
 use Rattle.std.specs.Option.{option_or}
-use Rattle.configuration.specs.Flaws.{unknown_key, unknown_flaw, required_flaw, optional_flaw, few_flaw, random_key_flaw, users_type_flaw, log_flaw, said_flaw}
+use Rattle.configuration.specs.Flaws.{unknown_key, unknown_flaw, required_flaw, optional_flaw, few_flaw, random_key_flaw, users_type_flaw, log_flaw, status_flaw, said_flaw}
 use Rattle.configuration.specs.Limits.{max_answer_within, max_workers}
 use Rattle.configuration.specs.declared.key.Key.TheVariants as keys
 use Rattle.std.specs.Prelude.{codes}
@@ -23,8 +23,10 @@ returns c =
     let i = c.or-8.ensures ∙ ap₂ option_or h c.random_key_flaw.ensures in
     let j = c.or-9.ensures ∙ ap₂ option_or i c.optional_flaw.ensures in
     let k = c.or-10.ensures ∙ ap₂ option_or j c.users_type_flaw.ensures in
-    c.or-11.ensures ∙ ap₂ option_or k c.log_flaw.ensures ∙ grouped
+    let l = c.or-11.ensures ∙ ap₂ option_or k c.log_flaw.ensures in
+    c.or-12.ensures ∙ ap₂ option_or l c.status_flaw.ensures ∙ grouped
     (unknown_flaw (unknown_key ms)) (required_flaw keys.RelayFirst (get_member (codes "relay_first") ms)) (required_flaw keys.RelayPairs (get_member (codes "relay_pairs") ms))
     (required_flaw keys.SipPort (get_member (codes "sip_port") ms)) (required_flaw keys.MinExpires (get_member (codes "min_expires") ms)) (few_flaw keys.Workers max_workers (get_member (codes "workers") ms))
     (few_flaw keys.AnswerWithin max_answer_within (get_member (codes "answer_within") ms))
     (required_flaw keys.Ip (get_member (codes "ip") ms)) (random_key_flaw (get_member (codes "random_key") ms)) (optional_flaw keys.Domain (get_member (codes "domain") ms)) (users_type_flaw (get_member (codes "users") ms)) (log_flaw (get_member (codes "log") ms))
+    (status_flaw (get_member (codes "status_open") ms) (get_member (codes "status") ms))
