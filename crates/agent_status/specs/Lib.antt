@@ -1,0 +1,4 @@
+pub mod Calls
+pub mod Events
+pub mod Sessions
+pub mod Users

@@ -1,0 +1,10 @@
+//! What a server is at a moment, by what its agent knows.
+#![tactic(auto)]
+
+mod kinds;
+mod media;
+mod of_agent;
+mod standing_calls;
+mod users;
+
+pub use of_agent::status_of;
