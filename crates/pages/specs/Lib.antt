@@ -1,0 +1,13 @@
+pub mod Escape
+pub mod Pieces
+pub mod Words
+pub mod Start
+pub mod Users
+pub mod Calls
+pub mod Limits
+pub mod Page
+pub mod JsonUsers
+pub mod JsonCalls
+pub mod Json
+pub mod MetricCalls
+pub mod Metrics
