@@ -1,0 +1,23 @@
+//! A server of three pages over HTTP/1.1, which one thread runs. It knows nothing of what it serves: whoever runs it
+//! hands that in. It reads the heads of requests alone, answers one a connection, and keeps no connection long.
+#![tactic(auto)]
+
+mod answer;
+mod connection;
+mod connections;
+mod flow;
+mod head;
+mod path;
+mod refusal;
+mod request;
+mod response;
+mod server;
+mod source;
+mod stages;
+
+pub use head::{Head, judge};
+pub use path::Path;
+pub use refusal::Refusal;
+pub use response::{put_page, put_refusal};
+pub use server::PageServer;
+pub use source::PageSource;

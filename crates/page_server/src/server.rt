@@ -1,0 +1,134 @@
+//! The server.
+
+ghost use Rattle.std.specs.Prelude.{◌≡◌, ◌≤◌, [], length, All, IfOk, OnOk, OnErr};
+ghost use Rattle.page_server.specs.Held.{IsTimely, max_connections};
+
+use crate::connection::new_connection;
+use crate::connections::Connections;
+use crate::source::PageSource;
+use mio::net::{TcpListener, TcpStream};
+use mio::{Events, Interest, Poll, Token};
+use sip_uri::Addr;
+use std::alloc::Global;
+use std::io;
+use std::marker::Model;
+use std::net::{Ipv4Addr, Net, SocketAddr};
+use std::time::Duration;
+
+/// So many connections are taken or let go in a turn.
+const MAX_ARRIVALS: u32 = 256;
+
+/// So many events are told at once. All connections are tried in each turn, whatever the events say.
+const MAX_EVENTS: usize = 64;
+
+/// So many milliseconds a turn waits at most while a page is being made.
+const SHORT_WAIT: u64 = 10;
+
+const LISTENER: Token = Token(0);
+
+const CLIENT: Token = Token(1);
+
+/// A server of pages. Contracts see what it holds: each connection, with since when it is at its stage, and how long it
+/// may stay so.
+#[derive(Drop)]
+pub struct PageServer {
+    alloc: Global,
+    listener: TcpListener,
+    poll: Poll,
+    events: Events,
+    connections: Connections,
+}
+
+impl Model for PageServer {
+    ghost use Rattle.std.specs.Prelude.{◌≤◌, List, length};
+    ghost use Rattle.page_server.specs.Held.{Held, max_connections};
+
+    ghost Value = { List Held };
+
+    ghost view = { λ s. s.connections };
+
+    ghost invariant = { λ s. length s.connections ≤ max_connections };
+}
+
+fn to_system(addr: Addr) -> SocketAddr {
+    let [a, b, c, d] = addr.ip;
+    SocketAddr::from((Ipv4Addr::new(a, b, c, d), addr.port))
+}
+
+/// A connection joins, if there is room for it.
+fn admit(
+    alloc: Global,
+    poll: &Poll,
+    connections: &mut Connections,
+    mut stream: TcpStream,
+    now: u64,
+) {
+    if connections.are_full() {
+        return;
+    }
+    let both = Interest::READABLE | Interest::WRITABLE;
+    if poll.registry().register(&mut stream, CLIENT, both).is_ok() {
+        let _ = connections.add(new_connection(alloc, stream, now));
+    }
+}
+
+/// Takes the connections that wait. Those for which there is no room are let go at once.
+fn accept(
+    alloc: Global,
+    listener: &TcpListener,
+    poll: &Poll,
+    connections: &mut Connections,
+    now: u64,
+) {
+    for _ in 0..MAX_ARRIVALS {
+        let Ok((stream, _)) = listener.accept() else {
+            return;
+        };
+        admit(alloc, poll, connections, stream, now);
+    }
+}
+
+impl PageServer {
+    /// Listens at this address. Err is the system's refusal, or that memory is refused.
+    pub fn bind<R: Net>(rt: &R, alloc: Global, at: Addr) -> io::Result<PageServer>
+        ensures { IfOk result (λ server. server ≡ []) }
+    {
+        let mut listener = TcpListener::bind(rt, to_system(at))?;
+        let poll = Poll::new(rt)?;
+        poll.registry()
+            .register(&mut listener, LISTENER, Interest::READABLE)?;
+        Ok(PageServer {
+            alloc,
+            listener,
+            poll,
+            events: Events::with_capacity(alloc, MAX_EVENTS)?,
+            connections: Connections::new(alloc),
+        })
+    }
+
+    /// Waits until something can be done, so many milliseconds at most, and does it at each connection. The moment is
+    /// in milliseconds, and at most a turn old. Err is the system's refusal to wait: nothing was done then. Where
+    /// memory is refused, the connection that it was for is let go.
+    pub fn turn<S: PageSource>(
+        &mut self,
+        source: &mut S,
+        now: u64,
+        wait_millis: u64,
+    ) -> io::Result<()>
+        ensures timely { OnOk result (All (IsTimely now) self.new) }
+        ensures few { length self.new ≤ max_connections }
+        ensures err { OnErr result (self.new ≡ self.old) }
+    {
+        let most = if self.connections.are_waiting() {
+            SHORT_WAIT
+        } else {
+            wait_millis
+        };
+        let wait = Duration::from_millis(wait_millis.min(most));
+        self.poll.poll(&mut self.events, Some(wait))?;
+        let connections = &mut self.connections;
+        accept(self.alloc, &self.listener, &self.poll, connections, now);
+        self.connections.turn(self.alloc, source, now);
+        Ok(())
+    }
+}
