@@ -20,7 +20,7 @@ pub(crate) struct EventLog {
     alloc: Global,
     level: LogLevel,
     ledger: Ledger,
-    media: MediaLog,
+    pub(crate) media: MediaLog,
     limit: Limit,
     /// The counts that went out last, and when the next may.
     counted: Tally,
@@ -35,6 +35,11 @@ fn tells(level: LogLevel, note: Note) -> bool {
         (LogLevel::Calls, Note::Dropped(_)) | (LogLevel::Trouble, _) => false,
         (LogLevel::Calls, Note::Call(_) | Note::Registered | Note::Refused(_)) => true,
     }
+}
+
+/// Whether a level tells of calls.
+fn tells_of_calls(level: LogLevel) -> bool {
+    matches!(level, LogLevel::Calls | LogLevel::All)
 }
 
 /// Whether anyone can cause as many of these as he likes.
@@ -88,12 +93,16 @@ impl EventLog {
         agent: &Agent,
         now: u64,
     ) -> Result<(), AllocError> {
+        let looked = self.media.look(now);
         if matches!(self.level, LogLevel::Nothing) {
             return Ok(());
         }
         self.put_untold(out, now)?;
         self.put_counts(out, agent.tally(), now)?;
-        self.media.put_silent_ways(out, &self.ledger, now)
+        if looked && tells_of_calls(self.level) {
+            self.media.put_silent_ways(out, &self.ledger, now)?;
+        }
+        Ok(())
     }
 
     /// The same, and behind them the line of an event that the agent took then, which came from there, where it was a
@@ -107,13 +116,13 @@ impl EventLog {
     ) -> Result<(), AllocError> {
         self.put_due(out, agent, now)?;
         let note = agent.note();
-        if !tells(self.level, note) || is_of_strangers(note) && !self.limit.admits(now) {
-            return Ok(());
-        }
         let media = match note {
             Note::Call(note) => self.follow(agent, note, now),
             _ => None,
         };
+        if !tells(self.level, note) || is_of_strangers(note) && !self.limit.admits(now) {
+            return Ok(());
+        }
         put_note(out, self.alloc, &mut self.ledger, agent, source, media, now)
     }
 }

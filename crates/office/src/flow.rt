@@ -7,6 +7,9 @@ use std::alloc::{AllocError, Global};
 /// An end is silent from which nothing came for so many milliseconds.
 const SILENT: u64 = 10_000;
 
+/// So many looks are remembered, one a second.
+const LOOKS: usize = 10;
+
 /// A port that faces the end, and how often it was counted before the call had it.
 #[derive(Clone, Copy)]
 struct Gate {
@@ -26,6 +29,9 @@ pub(crate) struct Flow {
     came: u64,
     since: u64,
     is_told: bool,
+    /// How much had come at each of the last looks, and the place of the earliest.
+    looks: [u64; LOOKS],
+    earliest: usize,
 }
 
 impl Flow {
@@ -38,6 +44,8 @@ impl Flow {
             came: 0,
             since: 0,
             is_told: false,
+            looks: [0; LOOKS],
+            earliest: 0,
         }
     }
 
@@ -53,6 +61,24 @@ impl Flow {
             total = total.wrapping_add(came);
         }
         total
+    }
+
+    /// A second has gone by.
+    pub(crate) fn look(&mut self, counts: &mut Counts) {
+        let total = self.total(counts);
+        let at = self.earliest % LOOKS;
+        self.looks[at] = total;
+        self.earliest = (at + 1) % LOOKS;
+    }
+
+    /// How much came, and how much since the earliest look.
+    pub(crate) fn count(&self, counts: &mut Counts) -> status::Flow {
+        let total = self.total(counts);
+        let before = self.looks[self.earliest % LOOKS];
+        status::Flow {
+            recent: total.wrapping_sub(before),
+            total,
+        }
     }
 
     /// How much came at the ports that are none of these.

@@ -1,5 +1,7 @@
 //! The media of the calls that stand: how much came from each end, and from which end none comes.
 
+ghost use Rattle.std.specs.Prelude.{◌<◌, vec_len};
+
 use crate::flow::Flow;
 use crate::port_counts::Counts;
 use call_core::{Call, CallNote, End, NoteOfCall};
@@ -9,6 +11,7 @@ use offer_answer::destination;
 use sdp::{Description, Media, way_of};
 use server::{Ledger, MediaCounts, put_silent_way};
 use sip_uri::Addr;
+use status::{CallTraffic, DatagramCounts};
 use std::alloc::{AllocError, Global};
 
 /// So many calls are remembered: no more stand at a time.
@@ -21,6 +24,8 @@ const BETWEEN_LOOKS: u64 = 1_000;
 #[derive(Drop)]
 struct CallFlows {
     number: u64,
+    /// In milliseconds since the start.
+    begun: u64,
     from_caller: Flow,
     from_callee: Flow,
 }
@@ -31,6 +36,8 @@ pub(crate) struct MediaLog {
     alloc: Global,
     counts: Counts,
     calls: Vec<CallFlows>,
+    /// How much came in calls that are over.
+    past: DatagramCounts,
     next_look: u64,
 }
 
@@ -162,6 +169,33 @@ impl CallFlows {
         Ok(())
     }
 
+    /// A second has gone by.
+    fn look(&mut self, counts: &mut Counts) {
+        self.from_caller.look(counts);
+        self.from_callee.look(counts);
+    }
+
+    fn traffic(&self, counts: &mut Counts) -> CallTraffic {
+        CallTraffic {
+            number: self.number,
+            begun: self.begun,
+            from_caller: self.from_caller.count(counts),
+            from_callee: self.from_callee.count(counts),
+        }
+    }
+
+    /// How much came, beside what came in other calls.
+    fn add_to(&self, others: DatagramCounts, counts: &mut Counts) -> DatagramCounts {
+        let (caller, callee) = (
+            self.from_caller.total(counts),
+            self.from_callee.total(counts),
+        );
+        DatagramCounts {
+            from_callers: others.from_callers.wrapping_add(caller),
+            from_callees: others.from_callees.wrapping_add(callee),
+        }
+    }
+
     /// Lines of the ends that are silent.
     fn put_silent_ways(
         &mut self,
@@ -187,17 +221,31 @@ impl MediaLog {
             alloc,
             counts,
             calls: Vec::new(alloc),
+            past: DatagramCounts {
+                from_callers: 0,
+                from_callees: 0,
+            },
             next_look: 0,
         }
     }
 
-    /// A call begins. Of too many the earliest is forgotten.
-    fn begin(&mut self, number: u64) -> Result<(), AllocError> {
+    /// The call at a place is over, or forgotten.
+    fn take_out(&mut self, at: usize) -> CallFlows
+        requires { at < vec_len self.old.calls }
+    {
+        let flows = self.calls.remove(at);
+        self.past = flows.add_to(self.past, &mut self.counts);
+        flows
+    }
+
+    /// A call begins at this moment, in milliseconds. Of too many the earliest is forgotten.
+    fn begin(&mut self, number: u64, now: u64) -> Result<(), AllocError> {
         if self.calls.len() >= MAX_CALLS {
-            drop(self.calls.remove(0));
+            drop(self.take_out(0));
         }
         self.calls.push(CallFlows {
             number,
+            begun: now,
             from_caller: Flow::new(self.alloc),
             from_callee: Flow::new(self.alloc),
         })?;
@@ -214,7 +262,7 @@ impl MediaLog {
     ) -> Result<(), AllocError> {
         let NoteOfCall { number, note } = note;
         if matches!(note, CallNote::Begun) {
-            self.begin(number)?;
+            self.begin(number, now)?;
         }
         let Some(call) = call_of(calls, number) else {
             return Ok(());
@@ -236,24 +284,50 @@ impl MediaLog {
             .calls
             .iter()
             .position(|flows| flows.number == note.number)?;
-        let flows = self.calls.remove(at);
+        let flows = self.take_out(at);
         Some(MediaCounts {
             from_caller: flows.from_caller.total(&mut self.counts),
             from_callee: flows.from_callee.total(&mut self.counts),
         })
     }
 
-    /// Writes lines of the ends that are silent behind what is there, where it is time to look.
+    /// Looks at the calls, if it is time to. Whether it was.
+    pub(crate) fn look(&mut self, now: u64) -> bool {
+        if now < self.next_look {
+            return false;
+        }
+        self.next_look = now.saturating_add(BETWEEN_LOOKS);
+        for flows in self.calls.iter_mut() {
+            flows.look(&mut self.counts);
+        }
+        true
+    }
+
+    /// What was counted of each call, in the order in which they began.
+    pub(crate) fn traffic(&mut self) -> Result<Vec<CallTraffic>, AllocError> {
+        let mut traffic = Vec::with_capacity(self.alloc, self.calls.len())?;
+        for flows in &self.calls {
+            traffic.push(flows.traffic(&mut self.counts))?;
+        }
+        Ok(traffic)
+    }
+
+    /// How much came in all calls since the start.
+    pub(crate) fn datagrams(&mut self) -> DatagramCounts {
+        let mut datagrams = self.past;
+        for flows in &self.calls {
+            datagrams = flows.add_to(datagrams, &mut self.counts);
+        }
+        datagrams
+    }
+
+    /// Writes lines of the ends that are silent behind what is there.
     pub(crate) fn put_silent_ways(
         &mut self,
         out: &mut Vec<u8>,
         ledger: &Ledger,
         now: u64,
     ) -> Result<(), AllocError> {
-        if now < self.next_look {
-            return Ok(());
-        }
-        self.next_look = now.saturating_add(BETWEEN_LOOKS);
         for flows in self.calls.iter_mut() {
             flows.put_silent_ways(out, self.alloc, &mut self.counts, ledger, now)?;
         }

@@ -46,6 +46,9 @@ fn descriptor_limit<R: Files + AllocGlobal>(rt: &R) -> Option<u64> {
     behind.split_whitespace().next()?.parse::<u64>().ok()
 }
 
+/// What the page takes: its socket, what waits for it, and its connections.
+const FOR_THE_PAGE: u64 = 34;
+
 /// A socket for SIP and one for each relay port, what each thread waits with, also that of the log, the standard
 /// streams, and one to spare.
 fn descriptors_needed(config: &Config) -> u64 {
@@ -53,6 +56,11 @@ fn descriptors_needed(config: &Config) -> u64 {
         .saturating_mul(2)
         .saturating_add(u64::from(config.workers))
         .saturating_add(7)
+        .saturating_add(if config.status.is_some() {
+            FOR_THE_PAGE
+        } else {
+            0
+        })
 }
 
 /// That there are too few file descriptors, if so.

@@ -9,19 +9,23 @@ use crate::event_log::EventLog;
 use crate::log_lines::LogLines;
 use crate::log_writer::LogWriter;
 use crate::media_log::MediaLog;
+use crate::page_desk::{PageDesk, ROOM_OF_MOMENTS};
+use crate::page_thread::{Page, serve_page};
 use crate::port_counts::Counts;
 use crate::refusal::{Refusal, lacks_descriptors};
 use crate::shared::Shared;
+use crate::status_desk::StatusDesk;
 use crate::troubles::Troubles;
 use crate::watch::Watch;
 use crate::wire::SipWire;
 use agent::Tally;
 use configuration::Config;
 use live::{Clock as Moments, End, Operator, Signalling, Wire};
+use page_server::PageServer;
 use relay::{Board, Unopened, Worker, serve_media};
 use rtrb::RingBuffer;
 use server::{Host, HostFault};
-use sockets::{ErrorStream, MediaSockets, Sockets, bind, worker_count, workers_of};
+use sockets::{ErrorStream, MediaSockets, Sockets, Unbound, bind, worker_count, workers_of};
 use std::alloc::{AllocError, Global};
 use std::fs::Files;
 use std::net::Net;
@@ -41,6 +45,9 @@ const BETWEEN_LOOKS: u64 = 10;
 const ROOM_OF_EVENTS: usize = 262_144;
 
 const ROOM_OF_SENDING: usize = 16_384;
+
+/// So many bytes of lines wait for the page at most.
+const ROOM_OF_PAGE: usize = 65_536;
 
 /// Serves by the sockets, the clock and the threads of a runtime.
 #[derive(Drop)]
@@ -181,8 +188,8 @@ fn serve_calls<R: Threads + Wait + Sync, A: Announcer, W: Wire, M: Moments, O: O
     requires { HasTable signalling.old.board signalling.old.agent }
 {
     let stop = AtomicBool::new(false);
-    // The workers, and what writes the log.
-    let count = workers.len().saturating_add(1);
+    // The workers, what writes the log, and what serves the page.
+    let count = workers.len().saturating_add(2);
     thread::join(
         rt,
         || relay_media(rt, workers, begun, &stop),
@@ -199,6 +206,37 @@ fn serve_calls<R: Threads + Wait + Sync, A: Announcer, W: Wire, M: Moments, O: O
     )
 }
 
+/// The page's thread beside all of these.
+fn serve_beside_page<R: Threads + Wait + Sync, A: Announcer, W: Wire, M: Moments, O: Operator>(
+    rt: &R,
+    announcer: &A,
+    signalling: &mut Signalling<W>,
+    watch: &mut M,
+    operator: &mut O,
+    workers: Vec<Worker<MediaSockets>>,
+    page: Option<Page>,
+    begun: &AtomicUsize,
+    turns: Option<u64>,
+) -> (bool, End)
+    requires { HasTable signalling.old.board signalling.old.agent }
+{
+    let is_over = AtomicBool::new(false);
+    let (_, ended) = thread::join(
+        rt,
+        || serve_page(rt, page, begun, &is_over),
+        || -> (bool, End)
+            requires { HasTable signalling.now.board signalling.now.agent }
+        {
+            let ended = serve_calls(
+                rt, announcer, signalling, watch, operator, workers, begun, turns,
+            );
+            is_over.store(true, Ordering::SeqCst);
+            ended
+        },
+    );
+    ended
+}
+
 /// Serves on a board to which nothing was published, once each worker has a thread, and ends it. Gives how events were
 /// answered, too.
 fn serve_on<R: Threads + Wait + Sync, A: Announcer, W: Wire + Drop, M: Moments, O: Operator>(
@@ -209,6 +247,7 @@ fn serve_on<R: Threads + Wait + Sync, A: Announcer, W: Wire + Drop, M: Moments, 
     operator: &mut O,
     workers: Vec<Worker<MediaSockets>>,
     writer: LogWriter,
+    page: Option<Page>,
     turns: Option<u64>,
 ) -> (Tally, Result<(), HostFault>)
     requires { HasTable signalling.board signalling.agent }
@@ -220,13 +259,14 @@ fn serve_on<R: Threads + Wait + Sync, A: Announcer, W: Wire + Drop, M: Moments, 
         || -> (bool, End)
             requires { HasTable signalling.board signalling.agent }
         {
-            let ended = serve_calls(
+            let ended = serve_beside_page(
                 rt,
                 announcer,
                 &mut signalling,
                 watch,
                 operator,
                 workers,
+                page,
                 &begun,
                 turns,
             );
@@ -237,6 +277,45 @@ fn serve_on<R: Threads + Wait + Sync, A: Announcer, W: Wire + Drop, M: Moments, 
     let tally = signalling.agent.tally();
     signalling.close(rt);
     (tally, outcome(end, refused))
+}
+
+/// The socket of the page, if one is configured.
+fn open_page<R: Net + AllocGlobal>(rt: &R, config: &Config) -> Result<Option<PageServer>, Refusal> {
+    let Some(place) = config.status else {
+        return Ok(None);
+    };
+    match PageServer::bind(rt, rt.alloc(), place) {
+        Ok(server) => Ok(Some(server)),
+        Err(error) => Err(Refusal::Unbound(Unbound {
+            place: Some(place),
+            kind: error.kind(),
+            code: error.raw_os_error(),
+        })),
+    }
+}
+
+/// Both ends of what the page shows.
+fn desks(alloc: Global, started: u64) -> Result<(StatusDesk, PageDesk), AllocError> {
+    let (asks, asked) = RingBuffer::new(alloc, 1)?;
+    let (moments, moments_out) = RingBuffer::new(alloc, ROOM_OF_MOMENTS)?;
+    let (statuses, statuses_out) = RingBuffer::new(alloc, 1)?;
+    let (lines, lines_out) = RingBuffer::new(alloc, ROOM_OF_PAGE)?;
+    let page = PageDesk::new(alloc, started, asks, moments_out, statuses_out, lines_out)?;
+    let desk = StatusDesk::new(alloc, asked, moments, statuses, lines);
+    Ok((desk, page))
+}
+
+/// The end of the signalling, and what the page's thread has, where there is a page.
+fn page_of(
+    alloc: Global,
+    server: Option<PageServer>,
+    started: u64,
+) -> Result<(Option<StatusDesk>, Option<Page>), AllocError> {
+    let Some(server) = server else {
+        return Ok((None, None));
+    };
+    let (status, desk) = desks(alloc, started)?;
+    Ok((Some(status), Some(Page { server, desk })))
 }
 
 /// The board with the rest of the signalling, and a worker for each viewer, where all sockets are open.
@@ -293,9 +372,17 @@ impl<R: Net + Files + Clock + Threads + Wait + Sync + Shared + Print + Eprint + 
                 return Err(refusal.fault());
             }
         };
+        let server = match open_page(self.rt, config) {
+            Ok(server) => server,
+            Err(refusal) => {
+                self.refusal = Some(refusal);
+                return Err(refusal.fault());
+            }
+        };
         let mut watch = Watch::new(self.rt).map_err(host_fault)?;
         let start = self.rt.since_1970().map_err(host_fault)?.as_secs();
         let (events, sending, writer) = open_log(self.rt, alloc)?;
+        let (desk, page) = page_of(alloc, server, start).map_err(|_| HostFault::OutOfMemory)?;
         let (signalling, workers) = parts_of(self.rt, alloc, config, sockets, sending, start)?;
         let Ok(counts) = Counts::of_workers(alloc, &workers) else {
             signalling.close(self.rt);
@@ -303,7 +390,7 @@ impl<R: Net + Files + Clock + Threads + Wait + Sync + Shared + Print + Eprint + 
         };
         let media = MediaLog::new(alloc, counts);
         let log = EventLog::new(alloc, config.log, media);
-        let mut troubles = Troubles::new(alloc, config.log, events, log);
+        let mut troubles = Troubles::new(alloc, config.log, events, log, desk);
         let (tally, served) = serve_on(
             self.rt,
             &Announcement {
@@ -315,6 +402,7 @@ impl<R: Net + Files + Clock + Threads + Wait + Sync + Shared + Print + Eprint + 
             &mut troubles,
             workers,
             writer,
+            page,
             turns,
         );
         report(self.rt, alloc, tally);

@@ -4,6 +4,7 @@ ghost use Rattle.std.specs.Prelude.{◌≡◌};
 
 use crate::event_log::EventLog;
 use crate::log_lines::LogLines;
+use crate::status_desk::StatusDesk;
 use agent::Agent;
 use configuration::LogLevel;
 use live::{Operator, Trouble};
@@ -18,16 +19,25 @@ pub(crate) struct Troubles {
     alloc: Global,
     lines: LogLines,
     log: EventLog,
+    /// Where a page is served.
+    desk: Option<StatusDesk>,
 }
 
 impl Troubles {
-    pub(crate) fn new(alloc: Global, level: LogLevel, lines: LogLines, log: EventLog) -> Troubles {
+    pub(crate) fn new(
+        alloc: Global,
+        level: LogLevel,
+        lines: LogLines,
+        log: EventLog,
+        desk: Option<StatusDesk>,
+    ) -> Troubles {
         Troubles {
             told: None,
             level,
             alloc,
             lines,
             log,
+            desk,
         }
     }
 
@@ -35,7 +45,26 @@ impl Troubles {
         ensures { self.new.told ≡ self.old.told }
     {
         if !matches!(self.level, LogLevel::Nothing) {
-            self.lines.put(line);
+            self.hand_over(line);
+        }
+    }
+
+    /// Hands lines over, each with its end: to the log, and to the page, where there is one.
+    fn hand_over(&mut self, lines: &[u8])
+        ensures { self.new.told ≡ self.old.told }
+    {
+        self.lines.put(lines);
+        if let Some(desk) = &mut self.desk {
+            desk.put_lines(lines);
+        }
+    }
+
+    /// Tells the page what the server is, where somebody asked.
+    fn look_at(&mut self, agent: &Agent, now: u64)
+        ensures { self.new.told ≡ self.old.told }
+    {
+        if let Some(desk) = &mut self.desk {
+            desk.look(agent, &mut self.log.media, now);
         }
     }
 }
@@ -62,16 +91,18 @@ impl Operator for Troubles {
         let mut lines = Vec::new(self.alloc);
         let put = self.log.put_lines(&mut lines, agent, source, now);
         if put.is_ok() && !lines.is_empty() {
-            self.lines.put(lines.as_slice());
+            self.hand_over(lines.as_slice());
         }
+        self.look_at(agent, now);
     }
 
     fn look(&mut self, agent: &Agent, now: u64) {
         let mut lines = Vec::new(self.alloc);
         let put = self.log.put_due(&mut lines, agent, now);
         if put.is_ok() && !lines.is_empty() {
-            self.lines.put(lines.as_slice());
+            self.hand_over(lines.as_slice());
         }
         self.lines.tell_lost();
+        self.look_at(agent, now);
     }
 }

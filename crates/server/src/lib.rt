@@ -38,4 +38,5 @@ pub use reason::Reason;
 pub use service::serve;
 pub use shelf::Shelf;
 pub use single::once;
+pub use version::VERSION;
 pub use words::{Asked, CommandError, command};
