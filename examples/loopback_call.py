@@ -1,15 +1,17 @@
 #!/usr/bin/env python3
 """Two telephones on this computer: both register, one calls the other, each hears the other, one hangs up, and both leave.
 
-usage: loopback_call.py [SERVER_IP [SIP_PORT]]      as in examples/office.toml: 127.0.0.1 5060
+usage: loopback_call.py [SERVER_IP [SIP_PORT [SECONDS]]]      as in examples/office.toml: 127.0.0.1 5060; and how long both talk, or 0
 
 Each step is printed as it succeeds; the exit status is 1 where one does not."""
 import re
 import socket
 import sys
+import time
 
 SERVER = (sys.argv[1] if len(sys.argv) > 1 else "127.0.0.1", int(sys.argv[2]) if len(sys.argv) > 2 else 5060)
 DOMAIN = "office.example"
+SECONDS = float(sys.argv[3]) if len(sys.argv) > 3 else 0
 
 
 def udp():
@@ -91,6 +93,15 @@ def hears(name, one, there, other, bytes_sent):
     step(name, other.media.recv(65536) == bytes_sent)
 
 
+def talk(caller, there, callee, here):
+    """Both send media, fifty datagrams a second."""
+    end = time.monotonic() + SECONDS
+    while time.monotonic() < end:
+        for one, port in ((caller, there), (callee, here)):
+            one.media.sendto(b"talk" * 40, (SERVER[0], port))
+        time.sleep(0.02)
+
+
 def main():
     caller, callee = Telephone("100"), Telephone("101")
     caller.register()
@@ -108,6 +119,7 @@ def main():
     step("it is answered", True)
     hears("101 hears 100", caller, media_port(answer), callee, b"from 100" * 20)
     hears("100 hears 101", callee, media_port(invite), caller, b"from 101" * 20)
+    talk(caller, media_port(answer), callee, media_port(invite))
     caller.request("BYE", uri, call, header(answer, "To"), 2)
     bye = callee.take("BYE")
     callee.response(bye, 200, "OK")
