@@ -51,8 +51,8 @@ impl StatusDesk {
         }
     }
 
-    /// Tells what time it is, and hands a snapshot of this moment over, in milliseconds, where somebody asked and it is time for one. Where memory
-    /// is refused, none is made.
+    /// Tells what time it is, in milliseconds, and hands a snapshot of this moment over, where somebody asked and it is
+    /// time for one. Where memory is refused, none is made.
     pub(crate) fn look(&mut self, agent: &Agent, media: &mut MediaLog, now: u64) {
         let _ = self.moments.push(now);
         if now < self.next || self.asked.pop().is_err() {
