@@ -1,9 +1,9 @@
 -- Numbers in their order, where one is put.
-use Rattle.std.proofs.Common.{◌≡◌, ℕ, ◌+◌, Bool, true, false, cond, ltb, List, [], ◌∷◌, refl, ap, ◌∙◌, arith}
+use Rattle.std.proofs.Common.{◌≡◌, ℕ, ◌+◌, true, false, cond, ltb, List, [], ◌∷◌, refl, ap, ◌∙◌, arith}
 use Rattle.std.specs.List.{AllByRecursion, insert, prefix_len}
 use Rattle.std.proofs.lemmas.Bool.Decides.{nat_tests}
 use Rattle.timers.proofs.ByMoment.{insert_behind}
-use Rattle.timers.proofs.Halving.{AllFail, IsParted}
+use Rattle.timers.proofs.Halving.{IsParted}
 use Rattle.index.specs.Numbers.{put_number}
 use Rattle.transactions.specs.FreeNumbers.{NumbersRise}
 

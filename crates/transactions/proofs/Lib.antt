@@ -15,3 +15,4 @@ pub mod MemoryLaws
 pub mod PrintLaws
 pub mod NumberLaws
 pub mod PlaceLaws
+pub mod NotedLaws

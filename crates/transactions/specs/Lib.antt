@@ -7,6 +7,8 @@ pub mod OwnRequests
 pub mod Replies
 pub mod Slots
 pub mod Prints
+pub mod KeptPrints
+pub mod KnownPrints
 pub mod Places
 pub mod Timing
 pub mod Transactions

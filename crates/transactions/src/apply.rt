@@ -4,6 +4,7 @@ ghost use Rattle.std.specs.Prelude.{ℕ, ◌≡◌, ◌+◌, ◌*◌, ◌<◌, �
 ghost use Rattle.transactions.specs.declared.transaction.Transaction.{Transaction};
 ghost use Rattle.transaction_machines.specs.Lines.{follows, is_answer, starts_with_lines};
 ghost use Rattle.transactions.specs.Fireable.{IsFireable, has_sent};
+ghost use Rattle.transactions.specs.KnownPrints.{IsPrintOf};
 ghost use Rattle.transactions.specs.Slots.{at, free_number};
 ghost use Rattle.transaction_machines.specs.Steps.{IsShort};
 ghost use Rattle.transactions.specs.Transactions.{went};
@@ -12,6 +13,7 @@ ghost use Rattle.transactions.specs.Changes.{entered, entered_all, starts_count,
 
 use crate::change::{Change, Entry};
 use crate::places::Places;
+use crate::print::BranchPrint;
 use crate::slot::Slot;
 use crate::slots::transaction_at;
 use crate::timer_changes::{set_all, stop};
@@ -144,9 +146,10 @@ pub(crate) fn enter(
     ensures places_room { places.old.room ≤ places.new.room + 1 }
     ensures timers_room { timers.old.room ≤ timers.new.room + 2 }
 {
-    match change.entry {
+    let Change { entry, known } = change;
+    match entry {
         Entry::Opens(transaction, starts) => {
-            open(places, timers, transaction, starts, first_wait, now);
+            open(places, timers, transaction, known, starts, first_wait, now);
         }
         Entry::Tells(id, input, fresh) => tell(places, timers, id, input, fresh, now),
         Entry::Answers(id, class, bytes) => {
@@ -161,6 +164,7 @@ fn open(
     places: &mut Places,
     timers: &mut Timers<TimerId>,
     transaction: Boxed<Transaction>,
+    known: Option<BranchPrint>,
     starts: Starts,
     first_wait: u64,
     now: u64,
@@ -169,6 +173,7 @@ fn open(
     requires short { IsShort starts }
     requires lines { IsTrue (starts_with_lines transaction.state starts) }
     requires sent { IsTrue (has_sent (Some transaction)) }
+    requires known { IsPrintOf known transaction.parts.vias }
     requires fireable { IsFireable places.old.slots timers.old.timers }
     requires places_room { 0 < places.old.room }
     requires timers_room { starts_count starts ≤ timers.old.room }
@@ -178,7 +183,7 @@ fn open(
     ensures timers_room { timers.old.room ≤ timers.new.room + 2 }
 {
     let within = starts_within(first_wait, &transaction.get().parts, starts);
-    let id = places.open(transaction);
+    let id = places.open(transaction, known);
     set_all(timers, id, within, now);
 }
 

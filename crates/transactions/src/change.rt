@@ -8,11 +8,13 @@ ghost use Rattle.transactions.specs.declared.change.Entry.TheVariants.{Opens, Te
 ghost use Rattle.transaction_machines.specs.declared.input.Input.TheVariants as inputs;
 ghost use Rattle.transaction_machines.specs.declared.step.Starts.TheVariants.{NoTimer};
 ghost use Rattle.transactions.specs.Changes.{start_of, fire_of};
+ghost use Rattle.transactions.specs.Prints.{branch_print};
 ghost use Rattle.transaction_machines.specs.Lines.{is_answer};
 ghost use Rattle.transactions.specs.OwnRequests.{own_of};
 ghost use Rattle.transactions.specs.Transactions.{served};
 
 use crate::own_request::OwnRequest;
+use crate::print::BranchPrint;
 use crate::transaction::{
     TimerId, Transaction, asking_timers, client_transaction, server_transaction,
 };
@@ -42,17 +44,20 @@ pub enum Entry {
 #[derive(Drop)]
 pub struct Change {
     pub(crate) entry: Entry,
+    /// The print of the branch of a new transaction, where it is known.
+    pub(crate) known: Option<BranchPrint>,
 }
 
 impl Model for Change {
     ghost use Rattle.transactions.specs.declared.change.Entry.{Entry};
     ghost use Rattle.transactions.specs.Changes.{IsReady};
+    ghost use Rattle.transactions.specs.KnownPrints.{IsKnown};
 
     ghost Value = { Entry };
 
     ghost view = { λ c. c.entry };
 
-    ghost invariant = { λ c. IsReady c.entry };
+    ghost invariant = { λ c. IsReady c.entry × IsKnown c.known c.entry };
 }
 
 impl Change {
@@ -75,6 +80,7 @@ impl Change {
         let transaction = Boxed::new(alloc, client_transaction(request, to))?;
         Ok(Change {
             entry: Entry::Opens(transaction, timers),
+            known: None,
         })
     }
 
@@ -85,6 +91,7 @@ impl Change {
     {
         Change {
             entry: Entry::Answers(id, class, bytes),
+            known: None,
         }
     }
 
@@ -94,6 +101,7 @@ impl Change {
     {
         Change {
             entry: Entry::Tells(id, Input::Abandon, None),
+            known: None,
         }
     }
 
@@ -103,6 +111,7 @@ impl Change {
     {
         Change {
             entry: Entry::Tells(timer.id, Input::Fires(timer.kind), None),
+            known: None,
         }
     }
 
@@ -113,20 +122,24 @@ impl Change {
     {
         Change {
             entry: Entry::Tells(id, input, fresh),
+            known: None,
         }
     }
 
-    /// The request of another begins a transaction.
+    /// The request of another, whose branch has this print, begins a transaction.
     pub(crate) fn serves(
         alloc: Global,
         request: &Request,
         source: Addr,
+        branch: BranchPrint,
     ) -> Result<Change, AllocError>
+        requires { branch.print ≡ branch_print branch.key request.now.parts.vias }
         ensures { IfOk result (λ c. c ≡ Opens (served request.now source) NoTimer) }
     {
         let transaction = Boxed::new(alloc, server_transaction(alloc, request, source)?)?;
         Ok(Change {
             entry: Entry::Opens(transaction, Starts::NoTimer),
+            known: Some(branch),
         })
     }
 
@@ -136,6 +149,7 @@ impl Change {
     {
         Change {
             entry: Entry::Leaves,
+            known: None,
         }
     }
 }

@@ -9,10 +9,12 @@ ghost use Rattle.transaction_machines.specs.Lines.{is_answer};
 ghost use Rattle.transactions.specs.Slots.{at, serving};
 ghost use Rattle.transactions.specs.Contents.{stray, reception_at, reception_of, begun, ack_at, IsNew, RefusesMessage, RefusesBegun, fired_of, is_due, RefusesFire, line_in, response_input, takes_memory, message_takes};
 ghost use Rattle.transactions.specs.Changes.{change_of, request_change, fire_of};
+ghost use Rattle.transactions.specs.Prints.{branch_print};
 
 use crate::change::Change;
 use crate::error::TableError;
 use crate::outcome::{Fired, Reception, Verdict};
+use crate::print::{BranchPrint, branch_print};
 use crate::same_branch::ack_for;
 use crate::slot::Slot;
 use crate::slots::{client_place, server_place, transaction_at};
@@ -103,12 +105,14 @@ impl Table {
         ensures room { IfOk result (λ f. IsNew f.reception.verdict → serving self.now.slots < max_served) }
         ensures refused { IfErr result (RefusesMessage self.now (Kinds.Request request.now)) }
     {
-        match server_place(&self.places, &request.parts) {
+        let key = self.places.key();
+        let print = branch_print(key, &request.parts.vias);
+        match server_place(&self.places, &request.parts, print) {
             Some(id) => {
                 let input = input_of(&request.parts);
                 Ok(input_foreseen(self.places.slots(), id, input, None)?)
             }
-            None => self.foresee_begin(request, source),
+            None => self.foresee_begin(request, source, BranchPrint { key, print }),
         }
     }
 
@@ -130,8 +134,14 @@ impl Table {
         }
     }
 
-    // A request that belongs to no transaction.
-    fn foresee_begin(&self, request: &Request, source: Addr) -> Result<Foreseen, TableError>
+    // A request that belongs to no transaction, and whose branch has this print.
+    fn foresee_begin(
+        &self,
+        request: &Request,
+        source: Addr,
+        branch: BranchPrint,
+    ) -> Result<Foreseen, TableError>
+        requires { branch.print ≡ branch_print branch.key request.now.parts.vias }
         ensures reception { IfOk result (λ f. f.reception ≡ begun self.now request.now.parts) }
         ensures change { IfOk result (λ f. f.change ≡ request_change request.now source None) }
         ensures room { IfOk result (λ f. IsNew f.reception.verdict → serving self.now.slots < max_served) }
@@ -143,7 +153,7 @@ impl Table {
         if self.places.serving_count() >= MAX_SERVED {
             return Err(TableError::Full);
         }
-        let change = Change::serves(self.alloc, request, source)?;
+        let change = Change::serves(self.alloc, request, source, branch)?;
         let reception = Reception {
             verdict: Verdict::New(self.places.free_number()),
             before: None,

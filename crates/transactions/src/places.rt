@@ -5,12 +5,13 @@ ghost use Rattle.std.specs.Vec.{vec_capacity};
 ghost use Rattle.index.specs.Passing.{numbers_from};
 ghost use Rattle.transactions.specs.declared.transaction.Transaction.{Transaction};
 ghost use Rattle.transactions.specs.Contents.{placed};
+ghost use Rattle.transactions.specs.KnownPrints.{IsPrintOf};
 ghost use Rattle.transactions.specs.Places.{has_branch, has_call, has_tag};
 ghost use Rattle.transactions.specs.Slots.{at, free_number, serving};
 ghost use Rattle.transactions.specs.Transactions.{went};
 
 use crate::free_numbers::FreeNumbers;
-use crate::print::Prints;
+use crate::print::{BranchPrint, Prints};
 use crate::slot::Slot;
 use crate::transaction::Transaction;
 use boxed::Boxed;
@@ -27,6 +28,8 @@ const SPARE: usize = 16;
 #[derive(Drop)]
 pub(crate) struct Places {
     slots: Vec<Slot>,
+    /// The prints of each place, in the same order.
+    prints: Vec<Prints>,
     /// Of the prints.
     key: PrintKey,
     /// Under the print of the branch of the top Via.
@@ -45,6 +48,7 @@ pub(crate) struct Places {
 impl Model for Places {
     ghost use Rattle.std.specs.Prelude.{vec_len};
     ghost use Rattle.std.specs.Vec.{vec_capacity};
+    ghost use Rattle.transactions.specs.KeptPrints.{AreNoted};
     ghost use Rattle.transactions.specs.Places.{Placed, IsIndexed, HasRoom};
 
     ghost Value = { Placed };
@@ -52,7 +56,8 @@ impl Model for Places {
     ghost view = { λ p. record { slots = p.slots.items; key = p.key; room = p.room } };
 
     ghost invariant = { λ p. IsIndexed p.key p.slots.items p.branches.buckets p.calls.buckets p.tags.buckets p.free.numbers p.serving
-        × HasRoom (vec_len p.slots) (vec_capacity p.slots) p.branches p.calls p.tags p.free p.room };
+        × HasRoom (vec_len p.slots) (vec_capacity p.slots) p.branches p.calls p.tags p.free p.room
+        × AreNoted p.key p.slots.items p.prints.items (vec_len p.prints) (vec_capacity p.prints) p.room };
 }
 
 impl Places {
@@ -62,6 +67,7 @@ impl Places {
     {
         Places {
             slots: Vec::new(alloc),
+            prints: Vec::new(alloc),
             key,
             branches: Buckets::new(alloc),
             calls: Buckets::new(alloc),
@@ -141,6 +147,7 @@ impl Places {
         ensures room { self.old.room ≤ self.new.room }
     {
         self.slots.reserve(n)?;
+        self.prints.reserve(n)?;
         self.branches.reserve(n)?;
         self.calls.reserve(n)?;
         self.tags.reserve(n)?;
@@ -150,22 +157,28 @@ impl Places {
         Ok(())
     }
 
-    /// A new transaction, under the least number that is free. There is room for it.
-    pub(crate) fn open(&mut self, transaction: Boxed<Transaction>) -> usize
-        requires { 0 < self.old.room }
+    /// A new transaction, under the least number that is free. There is room for it. Its branch may have a known print.
+    pub(crate) fn open(
+        &mut self,
+        transaction: Boxed<Transaction>,
+        known: Option<BranchPrint>,
+    ) -> usize
+        requires room { 0 < self.old.room }
+        requires known { IsPrintOf known transaction.parts.vias }
         ensures number { result ≡ free_number self.old.slots }
         ensures slots { self.new.slots ≡ placed self.old.slots (free_number self.old.slots) transaction }
         ensures room { self.old.room ≤ self.new.room + 1 }
     {
         let number = self.free_number();
+        let prints = Prints::of(self.key, transaction.get(), known);
         let slot = Slot::of(transaction);
-        let prints = Prints::of(self.key, slot.transaction());
         self.branches.put(prints.branch, number);
         self.calls.put(prints.call, number);
         self.tags.put(prints.tag, number);
         self.serving += count_of(slot.is_serving());
         self.free.take_least();
         place(&mut self.slots, number, slot);
+        note(&mut self.prints, number, prints);
         self.room -= 1;
         number
     }
@@ -201,13 +214,13 @@ impl Places {
         ensures slots { self.new.slots ≡ slice_set self.old.slots id None }
         ensures room { self.old.room ≤ self.new.room }
     {
-        let slot = &self.slots[id];
-        let prints = Prints::of(self.key, slot.transaction());
-        self.serving -= count_of(slot.is_serving());
+        let prints = self.prints[id];
+        self.serving -= count_of(self.slots[id].is_serving());
         self.branches.remove(prints.branch, id);
         self.calls.remove(prints.call, id);
         self.tags.remove(prints.tag, id);
         self.slots[id] = Slot::free();
+        self.prints[id] = Prints::none();
         self.free.put(id);
     }
 }
@@ -231,4 +244,18 @@ fn place(slots: &mut Vec<Slot>, id: usize, slot: Slot)
         return;
     }
     let _ = slots.push(slot);
+}
+
+// The prints of a place, which may be one past the last. There is room for them.
+fn note(prints: &mut Vec<Prints>, id: usize, new: Prints)
+    requires { vec_len prints.old < vec_capacity prints.old }
+    ensures items { prints.new.items ≡ (if nat_lt id (length prints.old.items) then slice_set prints.old.items id new else prints.old.items ++ new ∷ []) }
+    ensures len { vec_len prints.new ≤ vec_len prints.old + 1 }
+    ensures capacity { vec_capacity prints.old ≤ vec_capacity prints.new }
+{
+    if id < prints.len() {
+        prints[id] = new;
+        return;
+    }
+    let _ = prints.push(new);
 }

@@ -1,7 +1,8 @@
 //! Numbers for what a transaction is looked up by: one with another print is passed by without a look at its parts.
 
-ghost use Rattle.std.specs.Prelude.{◌≡◌};
+ghost use Rattle.std.specs.Prelude.{◌≡◌, Some, None, IsTrue};
 ghost use Rattle.std.specs.Option.{option_copied};
+ghost use Rattle.transactions.specs.KnownPrints.{IsPrintOf};
 ghost use Rattle.transactions.specs.Prints.{print_by, branch_print, tag_print, prints_at};
 
 use crate::transaction::Transaction;
@@ -21,6 +22,13 @@ pub(crate) struct Prints {
     pub(crate) tag: u64,
 }
 
+/// A print of the branch of a top Via, with the key that it was made under.
+#[derive(Clone, Copy)]
+pub(crate) struct BranchPrint {
+    pub(crate) key: PrintKey,
+    pub(crate) print: u64,
+}
+
 fn print_by(key: PrintKey, text: Option<&Text<'_>>) -> u64
     ensures { result ≡ print_by key (option_copied text.entry) }
 {
@@ -37,6 +45,29 @@ pub(crate) fn branch_print(key: PrintKey, vias: &Vias<'_>) -> u64
     print_by(key, top_branch(vias))
 }
 
+fn is_same_key(a: PrintKey, b: PrintKey) -> bool
+    ensures { IsTrue result → a ≡ b }
+{
+    a.first == b.first && a.second == b.second
+}
+
+// The print of the branch of the top Via: the known one, where that was made under this key.
+fn known_or_made(key: PrintKey, vias: &Vias<'_>, known: Option<BranchPrint>) -> u64
+    requires { IsPrintOf known vias.now }
+    ensures { result ≡ branch_print key vias.now }
+{
+    match known {
+        None => branch_print(key, vias),
+        Some(branch) => {
+            if is_same_key(branch.key, key) {
+                branch.print
+            } else {
+                branch_print(key, vias)
+            }
+        }
+    }
+}
+
 /// The print of the tag among the parameters of From.
 fn tag_print(key: PrintKey, params: &[Param<'_>]) -> u64
     ensures { result ≡ tag_print key params.now }
@@ -45,20 +76,27 @@ fn tag_print(key: PrintKey, params: &[Param<'_>]) -> u64
 }
 
 impl Prints {
-    pub(crate) fn of(key: PrintKey, transaction: Option<&Transaction>) -> Prints
-        ensures { result ≡ prints_at key (option_copied transaction.entry) }
+    /// Of a place without a transaction.
+    pub(crate) fn none() -> Prints
+        ensures { (key : PrintKey) → result ≡ prints_at key None }
     {
-        match transaction {
-            None => Prints {
-                branch: 0,
-                call: 0,
-                tag: 0,
-            },
-            Some(Transaction { parts, .. }) => Prints {
-                branch: branch_print(key, &parts.vias),
-                call: key.print_of(parts.call_id.as_bytes()),
-                tag: tag_print(key, parts.from.params.as_slice()),
-            },
+        Prints {
+            branch: 0,
+            call: 0,
+            tag: 0,
+        }
+    }
+
+    /// Of a transaction, whose branch may have a known print.
+    pub(crate) fn of(key: PrintKey, transaction: &Transaction, known: Option<BranchPrint>) -> Prints
+        requires { IsPrintOf known transaction.now.parts.vias }
+        ensures { result ≡ prints_at key (Some transaction.now) }
+    {
+        let parts = &transaction.parts;
+        Prints {
+            branch: known_or_made(key, &parts.vias, known),
+            call: key.print_of(parts.call_id.as_bytes()),
+            tag: tag_print(key, parts.from.params.as_slice()),
         }
     }
 }

@@ -3,6 +3,7 @@
 ghost use Rattle.std.specs.Prelude.{◌≡◌, option_map, position};
 ghost use Rattle.std.specs.List.{find, list_any};
 ghost use Rattle.std.specs.Option.{option_copied};
+ghost use Rattle.transactions.specs.Prints.{branch_print};
 ghost use Rattle.transactions.specs.Slots.{at, is_asked, is_answered, is_named, is_named_invite, is_merged, is_waiting_invite, awaits_final, named, waiting_invite};
 
 use crate::matches::{is_copy, is_merged_with, is_reply, same_top};
@@ -45,11 +46,12 @@ fn first_asked(entries: &[Entry], slots: &[Slot], parts: &Parts) -> Option<usize
         .map(|entry| entry.number)
 }
 
-/// The server transaction that a request belongs to.
-pub(crate) fn server_place(places: &Places, parts: &Parts) -> Option<usize>
+/// The server transaction that a request belongs to, by the print of its branch.
+pub(crate) fn server_place(places: &Places, parts: &Parts, branch: u64) -> Option<usize>
+    requires { branch ≡ branch_print places.now.key parts.now.vias }
     ensures { result ≡ position (is_asked parts.now) places.now.slots }
 {
-    let entries = places.of_branch(branch_print(places.key(), &parts.vias));
+    let entries = places.of_branch(branch);
     first_asked(entries, places.slots(), parts)
 }
 

@@ -11,6 +11,6 @@ pub returns : goal.returns
 returns c =
     let slots = c.args.places.now.slots in
     let key = c.args.places.now.key in
-    let entries = subst (λ print. map (λ e. e.number) c.of_branch-entries.result.now ≡ numbers_from (has_branch key print) 0 slots) (c.branch_print.ensures ∙ ap (λ k. branch_print k c.args.parts.now.vias) c.key.ensures) c.of_branch-entries.ensures in
+    let entries = subst (λ print. map (λ e. e.number) c.of_branch-entries.result.now ≡ numbers_from (has_branch key print) 0 slots) c.requires c.of_branch-entries.ensures in
     c.first_asked.ensures
     ∙ first_found (is_asked c.args.parts.now) (has_branch key (branch_print key c.args.parts.now.vias)) (asked_has key c.args.parts.now) slots c.slots.result.now c.of_branch-entries.result.now c.slots.ensures entries

@@ -6,6 +6,7 @@ use Rattle.transactions.specs.Places.{Placed}
 use Rattle.transactions.specs.Slots.{at, is_serving}
 use Rattle.transactions.specs.Transactions.{went}
 use Rattle.transactions.proofs.LastingLaws.{within}
+use Rattle.transactions.proofs.NotedLaws.{advanced_noted}
 use Rattle.transactions.proofs.PlaceLaws.{advanced, counted, stands}
 use Rattle.transactions.proofs.places.Places.advance.Goals as goal
 
@@ -29,8 +30,11 @@ invariant_of-self c =
     c.index.ensures ∙ get_or_default slots id c.index.result.now c.index_mut.result.now less ∙ sym c.index_mut.ensures.value in
     let was : c.count_of.result ≡ cond (is_serving (get_or slots id c.index_mut.result.now)) 1 0 =
     c.count_of.ensures ∙ ap (λ b. cond b 1 0) (c.is_serving.ensures ∙ ap is_serving (same ∙ c.index_mut.ensures.value)) in
-    let is : c.count_of-2.result ≡ cond (is_server c.args.state) 1 0 = c.count_of-2.ensures ∙ ap (λ b. cond b 1 0) c.is_server.ensures in (
+    let is : c.count_of-2.result ≡ cond (is_server c.args.state) 1 0 = c.count_of-2.ensures ∙ ap (λ b. cond b 1 0) c.is_server.ensures in
+    let p = c.self.inside in
+    let next = c.advance.ensures ∙ ap (option_map (λ t. went t c.args.fresh c.args.state)) c.index_mut.ensures.value in (
       advanced c.self.inside.key slots c.self.inside.branches.buckets c.self.inside.calls.buckets c.self.inside.tags.buckets c.self.inside.free.numbers c.self.inside.serving id c.count_of.result c.count_of-2.result
-          c.index_mut.result.now c.advance.new.self c.args.fresh c.args.state c.self.invariant.0 some (c.advance.ensures ∙ ap (option_map (λ t. went t c.args.fresh c.args.state)) c.index_mut.ensures.value) was is,
+          c.index_mut.result.now c.advance.new.self c.args.fresh c.args.state c.self.invariant.0 some next was is,
       c.self.invariant.1,
+      advanced_noted p.key slots p.prints.items p.prints.len p.prints.cap p.room id c.index_mut.result.now c.advance.new.self c.args.fresh c.args.state c.self.invariant.2 next,
     )

@@ -1,4 +1,4 @@
-use Rattle.std.proofs.Common.{◌∙◌, ap, is_none, length, arith}
+use Rattle.std.proofs.Common.{ap, is_none, length, arith}
 use Rattle.index.proofs.NumberLaws.{numbers_few}
 use Rattle.transactions.proofs.places.Places.make_room.Goals as goal
 
