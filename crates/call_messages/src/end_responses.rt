@@ -3,9 +3,9 @@
 ghost use Rattle.std.specs.Prelude.{◌≡◌, IfOk};
 ghost use Rattle.sip_message.specs.declared.message.Message.TheVariants as Kinds;
 ghost use Rattle.sip_writing.specs.Writing.{message_text};
-ghost use Rattle.call_messages.specs.Messages.{answer, okay, okay_headers, provisional, refusal, response_to, retry_later, trying, with_body};
+ghost use Rattle.call_messages.specs.Messages.{answer, okay, provisional, refusal, response_to, retry_later, trying, with_body};
 
-use crate::fields::{contact_alone, description_headers, retry_alone};
+use crate::fields::{contact_header, description_headers, retry_alone};
 use crate::scene::Asker;
 use sdp::{Description, write_description};
 use sip_message::{Header, is_method};
@@ -64,7 +64,7 @@ pub fn provisional(
 ) -> Result<Text<'static>, AllocError>
     ensures provisional { IfOk result (λ t. t ≡ message_text (Kinds.Response (provisional server asker.now status))) }
 {
-    let further = contact_alone(alloc, server)?;
+    let further = [contact_header(alloc, server)?];
     response_to(alloc, asker, status, &further)
 }
 
@@ -103,25 +103,14 @@ pub fn retry_later(alloc: Global, asker: &Asker<'_, '_>) -> Result<Text<'static>
     response_to(alloc, asker, 500, &further)
 }
 
-fn okay_headers(
-    alloc: Global,
-    server: Addr,
-    asker: &Asker<'_, '_>,
-) -> Result<Vec<Header<'static>>, AllocError>
-    ensures { IfOk result (λ hs. hs.items ≡ okay_headers server asker.now) }
-{
-    if is_method(asker.parts, b"UPDATE") {
-        contact_alone(alloc, server)
-    } else {
-        Ok(Vec::new(alloc))
-    }
-}
-
 /// 200 without a body: to a BYE, a CANCEL, or an UPDATE without an offer, whose 2xx has the server's Contact (RFC 3311
 /// section 5.2).
 pub fn okay(alloc: Global, server: Addr, asker: &Asker<'_, '_>) -> Result<Text<'static>, AllocError>
     ensures okay { IfOk result (λ t. t ≡ message_text (Kinds.Response (okay server asker.now))) }
 {
-    let further = okay_headers(alloc, server, asker)?;
-    response_to(alloc, asker, 200, &further)
+    if is_method(asker.parts, b"UPDATE") {
+        let further = [contact_header(alloc, server)?];
+        return response_to(alloc, asker, 200, &further);
+    }
+    response_to(alloc, asker, 200, &[])
 }

@@ -33,15 +33,6 @@ pub fn retry_alone(alloc: Global) -> Result<Vec<Header<'static>>, AllocError>
     Ok(headers)
 }
 
-/// The Contact alone.
-pub(crate) fn contact_alone(alloc: Global, server: Addr) -> Result<Vec<Header<'static>>, AllocError>
-    ensures { IfOk result (λ hs. hs.items ≡ contact server ∷ []) }
-{
-    let mut headers = Vec::new(alloc);
-    headers.push(contact_header(alloc, server)?)?;
-    Ok(headers)
-}
-
 fn content_type() -> Header<'static>
     ensures { result ≡ content_type }
 {
@@ -55,10 +46,8 @@ fn content_type() -> Header<'static>
 pub(crate) fn description_headers(
     alloc: Global,
     server: Addr,
-) -> Result<Vec<Header<'static>>, AllocError>
-    ensures { IfOk result (λ hs. hs.items ≡ description_headers server) }
+) -> Result<[Header<'static>; 2], AllocError>
+    ensures { IfOk result (λ hs. hs ≡ description_headers server) }
 {
-    let mut headers = contact_alone(alloc, server)?;
-    headers.push(content_type())?;
-    Ok(headers)
+    Ok([contact_header(alloc, server)?, content_type()])
 }

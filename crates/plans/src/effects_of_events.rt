@@ -13,7 +13,7 @@ ghost use Rattle.plans.specs.Plan.{goes};
 
 use crate::acks::{AckChange, KeptAck};
 use crate::note::note_of_call;
-use crate::plan::{Plan, sends_of};
+use crate::plan::Plan;
 use crate::taken::Taken;
 use call_core::NoteOfCall;
 use call_messages::Dressed;
@@ -211,23 +211,32 @@ fn kept(id: Option<usize>, ack: Option<Sent>) -> AckChange
     }
 }
 
+/// What the transactions send by themselves, and behind it what a step sends.
+fn with_first(send: Option<Outgoing>, mut sends: Vec<Sent>) -> Result<Vec<Sent>, AllocError>
+    ensures { IfOk result (λ all. all.items ≡ goes send ++ sends.items) }
+{
+    if let Some(Outgoing { to, bytes }) = send {
+        sends.insert(0, Sent { to, bytes })?;
+    }
+    Ok(sends)
+}
+
 /// The plan of a step, behind what the transactions do.
 fn plan_of(
     mut begun: Vec<Change>,
     send: Option<Outgoing>,
     mut changes: Vec<Change>,
-    mut sends: Vec<Sent>,
+    sends: Vec<Sent>,
     note: Option<NoteOfCall>,
 ) -> Result<Plan, AllocError>
     ensures { IfOk result (λ p. p ≡ record { taken = Done; changes = begun.items ++ changes.items; sends = goes send ++ sends.items; registration = None; made = 0; note = note_of_call note }) }
 {
-    let mut all = sends_of(*begun.allocator(), send)?;
+    let sends = with_first(send, sends)?;
     begun.append(&mut changes)?;
-    all.append(&mut sends)?;
     Ok(Plan {
         taken: Taken::Done,
         changes: begun,
-        sends: all,
+        sends,
         registration: None,
         made: 0,
         note: note_of_call(note),

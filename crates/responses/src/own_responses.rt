@@ -10,7 +10,7 @@ ghost use Rattle.responses.specs.Tags.{joined_tags, required_tags};
 
 use crate::tags::join_required_tags;
 use registrar::{Binding, Refusal};
-use sip_message::{Header, Parts};
+use sip_message::{FieldValue, Header, Parts};
 use sip_uri::{Addr, put_uri};
 use sip_writing::{Reply, write_reply};
 use std::alloc::{AllocError, Global};
@@ -21,6 +21,9 @@ const ALLOW: &[u8] = b"INVITE, ACK, CANCEL, BYE, REGISTER, OPTIONS, UPDATE";
 
 /// The tag of To in a response that no transaction sends.
 pub const STATELESS: &[u8] = b"stateless";
+
+/// Bytes that most values of Contact have at most, so that their buffer grows seldom.
+const USUAL_CONTACT_BYTES: usize = 96;
 
 /// The bytes of a response without a body: what it repeats of the request, and further header fields.
 #[tactic(auto, unfolding(crate::specs::Responding::responds, sip_writing::specs::Reply::reply_of))]
@@ -77,11 +80,15 @@ fn contact_header(alloc: Global, binding: &Binding, now: u64) -> Result<Header<'
     requires { nat_lt now binding.now.expires_at ≡ true }
     ensures { IfOk result (λ h. h ≡ contact_header now binding.now) }
 {
-    let mut out = Vec::from_slice(alloc, b"<")?;
+    let mut out = Vec::with_capacity(alloc, USUAL_CONTACT_BYTES)?;
+    out.extend_from_slice(b"<")?;
     put_uri(&mut out, &binding.uri)?;
     out.extend_from_slice(b">;expires=")?;
     put_number(&mut out, binding.seconds_left(now))?;
-    Header::of(alloc, b"Contact", &out)
+    Ok(Header {
+        name: Text::lent(b"Contact"),
+        value: FieldValue::whole(Text::from_vec(out)),
+    })
 }
 
 /// A Contact header field for each binding, in order.
