@@ -2,5 +2,9 @@ pub mod PresentLaws
 pub mod EntryLaws
 pub mod PlaceLaws
 pub mod Standing
+pub mod RecentLaws
 pub mod RefreshLaws
 pub mod OrderLaws
+pub mod CountLaws
+pub mod LastingLaws
+pub mod RoomLaws

@@ -13,10 +13,10 @@ head_le false b imp = omega arith
 head_le true true imp = omega arith
 head_le true false imp = cc (imp refl)
 
-count-cons : {X : Type 0} (p : X → Bool) (x : X) (xs : List X) → count_by p (x ∷ xs) ≡ cond (p x) 1 0 + count_by p xs
+pub count-cons : {X : Type 0} (p : X → Bool) (x : X) (xs : List X) → count_by p (x ∷ xs) ≡ cond (p x) 1 0 + count_by p xs
 count-cons p x xs = sum_by-cons (λ y. cond (p y) 1 0) x xs
 
-count_le : (p q : Binding → Bool) (xs : List Binding) → ((x : Binding) → p x ≡ true → q x ≡ true) → count_by p xs ≤ count_by q xs
+pub count_le : (p q : Binding → Bool) (xs : List Binding) → ((x : Binding) → p x ≡ true → q x ≡ true) → count_by p xs ≤ count_by q xs
 count_le p q [] imp = omega arith
 count_le p q (x ∷ xs) imp =
     let first = head_le (p x) (q x) (imp x) in
@@ -24,11 +24,11 @@ count_le p q (x ∷ xs) imp =
     rw (count-cons p x xs, count-cons q x xs) (omega arith)
 
 -- it stands in the list
-abbrev IsIn : Binding → List Binding → Type 0
+abbrev pub IsIn : Binding → List Binding → Type 0
 IsIn b [] = ⊥
 IsIn b (x ∷ xs) = (x ≡ b) ⊎ IsIn b xs
 
-count_less : (p q : Binding → Bool) (xs : List Binding) (b : Binding) → ((x : Binding) → p x ≡ true → q x ≡ true) → IsIn b xs → p b ≡ false → q b ≡ true → count_by p xs < count_by q xs
+pub count_less : (p q : Binding → Bool) (xs : List Binding) (b : Binding) → ((x : Binding) → p x ≡ true → q x ≡ true) → IsIn b xs → p b ≡ false → q b ≡ true → count_by p xs < count_by q xs
 count_less p q [] b imp here fails passes = absurd here
 count_less p q (x ∷ xs) b imp (inl is) fails passes =
     let first : cond {A = ℕ} (p x) 1 0 ≡ 0 = rw is (rw fails refl) in
@@ -44,7 +44,7 @@ less_passes : (m n : ℕ) → m ≤ n → (x : Binding) → nat_lt x.refreshed m
 less_passes m n le x e = let less = ltb-true x.refreshed m e in lt-ltb x.refreshed n (omega arith)
 
 -- of two bindings of the list, the same one was refreshed later by the new numbers
-same_order : (bs : List Binding) (b c : Binding) → IsIn b bs → nat_le (rank bs c) (rank bs b) ≡ nat_le c.refreshed b.refreshed
+pub same_order : (bs : List Binding) (b c : Binding) → IsIn b bs → nat_le (rank bs c) (rank bs b) ≡ nat_le c.refreshed b.refreshed
 same_order bs b c here =
     elim (nat_le c.refreshed b.refreshed) as (λ v. nat_le c.refreshed b.refreshed ≡ v → nat_le (rank bs c) (rank bs b) ≡ v) [
       | true ↦ λ e.
@@ -59,7 +59,7 @@ same_order bs b c here =
 
 -- ---- the latest
 
-abbrev AllIn : List Binding → List Binding → Type 0
+abbrev pub AllIn : List Binding → List Binding → Type 0
 AllIn bs [] = Unit {0}
 AllIn bs (x ∷ xs) = IsIn x bs × AllIn bs xs
 
@@ -67,7 +67,7 @@ in_longer : (bs : List Binding) (b : Binding) (xs : List Binding) → AllIn bs x
 in_longer bs b [] h = tt
 in_longer bs b (x ∷ xs) h = (inr h.0, in_longer bs b xs h.1)
 
-in_itself : (bs : List Binding) → AllIn bs bs
+pub in_itself : (bs : List Binding) → AllIn bs bs
 in_itself [] = tt
 in_itself (b ∷ bs) = (inl refl, in_longer bs b bs (in_itself bs))
 

@@ -1,6 +1,7 @@
 -- The bindings that are not over, one by one.
 use Rattle.std.proofs.Common.{◌≡◌, ◌&&◌, ◌||◌, not, find, Some, ℕ, ◌<◌, ◌+◌, ◌∙◌, Bool, true, false, cond, List, [], ◌∷◌, ◌++◌, length, get_or, take, map, filter, nat_lt, ap, sym, refl, arith}
 use Prim.Native.Nat.{zero, suc}
+use Rattle.std.proofs.lemmas.List.{append-nil}
 use Rattle.std.proofs.lemmas.List.Elements.{filter_more}
 use Rattle.std.specs.List.{list_all, list_any}
 use Rattle.registrar.specs.declared.binding.Binding.{Binding}
@@ -13,11 +14,20 @@ map_more f [] i x within at = absurd (omega arith)
 map_more f (y ∷ ys) zero x within at = rw (sym at) refl
 map_more f (y ∷ ys) (suc i) x within at = ap (λ zs. f y ∷ zs) (map_more f ys i x (omega arith) at)
 
+-- one more that passes a test
+pub one_more : (p : Binding → Bool) (bs : List Binding) (i : ℕ) (b : Binding) → i < length bs → b ≡ get_or bs i b → p b ≡ true
+    → filter p (take (i + 1) bs) ≡ filter p (take i bs) ++ b ∷ []
+one_more p bs i b within at passes = filter_more p bs i b within ∙ rw (sym at) (rw passes refl)
+
+-- one more that fails it
+pub one_less : (p : Binding → Bool) (bs : List Binding) (i : ℕ) (b : Binding) → i < length bs → b ≡ get_or bs i b → p b ≡ false
+    → filter p (take (i + 1) bs) ≡ filter p (take i bs)
+one_less p bs i b within at fails = filter_more p bs i b within ∙ rw (sym at) (rw fails (append-nil (filter p (take i bs))))
+
 -- one more binding that is not over
 pub present_more : (now : ℕ) (bs : List Binding) (i : ℕ) (b : Binding) → i < length bs → b ≡ get_or bs i b → nat_lt now b.expires_at ≡ true
     → present now (take (i + 1) bs) ≡ present now (take i bs) ++ b ∷ []
-present_more now bs i b within at lasts =
-    filter_more (λ b. nat_lt now b.expires_at) bs i b within ∙ rw (sym at) (rw lasts refl)
+present_more now bs i b within at lasts = one_more (λ b. nat_lt now b.expires_at) bs i b within at lasts
 
 -- a test of all that pass another test
 pub list_all-filter : {X : Type 0} (p q : X → Bool) (xs : List X) → list_all p (filter q xs) ≡ list_all (λ x. not (q x) || p x) xs

@@ -9,7 +9,9 @@ use Rattle.std.proofs.Math.Dec.{eqb-suc-zero}
 use Rattle.std.proofs.lemmas.List.Quantifiers.{position-Some}
 use Rattle.sip_uri.specs.declared.uri.Uri.{Uri}
 use Rattle.registrar.specs.Limits.{max_bindings}
+use Rattle.registrar.specs.BindingRules.{granted, standing}
 use Rattle.registrar.specs.declared.binding.Binding.{Binding}
+use Rattle.registrar.specs.declared.binding_rules.BindingRules.{BindingRules}
 use Rattle.registrar.specs.declared.register.Contact.{Contact}
 use Rattle.registrar.specs.declared.register.Register.{Register}
 use Rattle.registrar.specs.declared.refusal.Refusal.{Refusal}
@@ -17,13 +19,14 @@ use Rattle.registrar.specs.declared.refusal.Refusal.TheVariants.{UnknownUser, St
 use Rattle.registrar.specs.Registering.{Rules, bindings_after_one, whole_refusal, unless_refused, present, first_number, rank, with_number, with_ranks, lifetime, is_of, is_too_brief, is_stale, binding_by, put, put_at, without, with_contact, with_contact_at, with_contacts, and_then, within_limit, is_star_misused, is_star_stale, is_bindable, is_zero, is_known, answer_for, answer_by}
 use Rattle.registrar.specs.Bound.{Event, is_latest, latest, target_of, names, or_as_before, step, fold_from, bindings_after, bound, answer_after, LastContactIsTarget, QueryKeepsTarget, FewBound}
 use Rattle.registrar.proofs.OrderLaws.{target-with_ranks}
+use Rattle.registrar.proofs.RecentLaws.{target-standing}
 
 -- each was refreshed before this number
-abbrev AllBelow : ℕ → List Binding → Type 0
+abbrev pub AllBelow : ℕ → List Binding → Type 0
 AllBelow n [] = Unit {0}
 AllBelow n (b ∷ bs) = (b.refreshed < n) × AllBelow n bs
 
-below_filter : (p : Binding → Bool) (n : ℕ) (bs : List Binding) → AllBelow n bs → AllBelow n (filter p bs)
+pub below_filter : (p : Binding → Bool) (n : ℕ) (bs : List Binding) → AllBelow n bs → AllBelow n (filter p bs)
 below_filter p n [] h = tt
 below_filter p n (b ∷ bs) h =
     elim (p b) as (λ v. AllBelow n (cond v (b ∷ filter p bs) (filter p bs))) [
@@ -85,7 +88,7 @@ latest_at bs new p (Some place) found h =
 
 -- ---- one contact
 
-one_of_three : (brief stale none : Bool) (gone kept after : List Binding) (P : List Binding → Type 0) → unless_refused (cond brief (Some TooBrief) (cond stale (Some OutOfOrder) None)) (Ok (cond none gone kept)) ≡ Ok after → P gone → P kept → P after
+pub one_of_three : (brief stale none : Bool) (gone kept after : List Binding) (P : List Binding → Type 0) → unless_refused (cond brief (Some TooBrief) (cond stale (Some OutOfOrder) None)) (Ok (cond none gone kept)) ≡ Ok after → P gone → P kept → P after
 one_of_three true stale none gone kept after P e g k = cc
 one_of_three false true none gone kept after P e g k = cc
 one_of_three false false true gone kept after P e g k = let same : gone ≡ after = cc in subst P same g
@@ -97,49 +100,49 @@ is_kept false true none gone kept after z e = cc
 is_kept false false true gone kept after z e = cc
 is_kept false false false gone kept after z e = cc
 
-below_at : (least : ℕ) (g : Register) (now : ℕ) (bs : List Binding) (n : ℕ) (c : Contact) (o : Option Uri) (after : List Binding) → AllBelow n bs → with_contact_at least g now bs n c o ≡ Ok after → AllBelow (n + 1) after
-below_at least g now bs n c None after h e = cc
-below_at least g now bs n c (Some uri) after h e =
+pub below_at : (rules : BindingRules) (g : Register) (now : ℕ) (bs : List Binding) (n : ℕ) (c : Contact) (o : Option Uri) (after : List Binding) → AllBelow n bs → with_contact_at rules g now bs n c o ≡ Ok after → AllBelow (n + 1) after
+below_at rules g now bs n c None after h e = cc
+below_at rules g now bs n c (Some uri) after h e =
     let more : AllBelow (n + 1) bs = below_more n (n + 1) bs (omega arith) h in
-    let new = binding_by g uri (lifetime g c) n now in
-    one_of_three (is_too_brief least (lifetime g c)) (is_stale g (find (is_of uri) bs)) (lifetime g c == 0) (without bs uri) (put bs new) after (AllBelow (n + 1)) e
+    let new = binding_by g uri (granted rules (lifetime g c)) n now in
+    one_of_three (is_too_brief rules.min_expires (lifetime g c)) (is_stale g (find (is_of uri) bs)) (granted rules (lifetime g c) == 0) (without bs uri) (put bs new) after (AllBelow (n + 1)) e
     (below_filter (λ b. not (is_of uri b)) (n + 1) bs more)
     (below_put_at (n + 1) bs new (position (is_of uri) bs) more (omega arith))
 
-latest_at_last : (least : ℕ) (g : Register) (now : ℕ) (bs : List Binding) (n : ℕ) (c : Contact) (uri : Uri) (o : Option Uri) (after : List Binding) → o ≡ Some uri → lifetime g c == 0 ≡ false → AllBelow n bs → with_contact_at least g now bs n c o ≡ Ok after → target_of after ≡ Some uri
+latest_at_last : (rules : BindingRules) (g : Register) (now : ℕ) (bs : List Binding) (n : ℕ) (c : Contact) (uri : Uri) (o : Option Uri) (after : List Binding) → o ≡ Some uri → granted rules (lifetime g c) == 0 ≡ false → AllBelow n bs → with_contact_at rules g now bs n c o ≡ Ok after → target_of after ≡ Some uri
 unfolding target_of
-latest_at_last least g now bs n c uri None after is lasts h e = cc
-latest_at_last least g now bs n c uri (Some u) after is lasts h e =
-    let new = binding_by g u (lifetime g c) n now in
+latest_at_last rules g now bs n c uri None after is lasts h e = cc
+latest_at_last rules g now bs n c uri (Some u) after is lasts h e =
+    let new = binding_by g u (granted rules (lifetime g c)) n now in
     let same : u ≡ uri = cc in
-    let kept : put bs new ≡ after = is_kept (is_too_brief least (lifetime g c)) (is_stale g (find (is_of u) bs)) (lifetime g c == 0) (without bs u) (put bs new) after lasts e in
+    let kept : put bs new ≡ after = is_kept (is_too_brief rules.min_expires (lifetime g c)) (is_stale g (find (is_of u) bs)) (granted rules (lifetime g c) == 0) (without bs u) (put bs new) after lasts e in
     ap (λ l. option_map (λ b. b.uri) (latest l)) (sym kept) ∙ ap (option_map (λ b. b.uri)) (latest_at bs new (is_of u) (position (is_of u) bs) refl h) ∙ ap Some same
 
 -- ---- all contacts
 
-record LastStep (least : ℕ) (g : Register) (now : ℕ) (c : Contact) (after : List Binding) : Type 0 where
+record LastStep (rules : BindingRules) (g : Register) (now : ℕ) (c : Contact) (after : List Binding) : Type 0 where
   bindings : List Binding
   number : ℕ
   below : AllBelow number bindings
-  gives : with_contact least g now bindings number c ≡ Ok after
+  gives : with_contact rules g now bindings number c ≡ Ok after
 
-to_last : (least : ℕ) (g : Register) (now : ℕ) (c : Contact) (after : List Binding) (others : List Contact) (n : ℕ) (bs : List Binding) → AllBelow n bs
-    → with_contacts least g now n (others ++ c ∷ []) bs ≡ Ok after → LastStep least g now c after
-to_last least g now c after [] n bs h e =
-    elim (with_contact least g now bs n c) as (λ r. with_contact least g now bs n c ≡ r → and_then r (λ kept. Ok kept) ≡ Ok after → LastStep least g now c after) [
+to_last : (rules : BindingRules) (g : Register) (now : ℕ) (c : Contact) (after : List Binding) (others : List Contact) (n : ℕ) (bs : List Binding) → AllBelow n bs
+    → with_contacts rules g now n (others ++ c ∷ []) bs ≡ Ok after → LastStep rules g now c after
+to_last rules g now c after [] n bs h e =
+    elim (with_contact rules g now bs n c) as (λ r. with_contact rules g now bs n c ≡ r → and_then r (λ kept. Ok kept) ≡ Ok after → LastStep rules g now c after) [
       | Ok kept ↦ λ is e'. record { bindings = bs; number = n; below = h; gives = is ∙ e' }
       | Err refusal ↦ λ is e'. cc
     ] refl e
-to_last least g now c after (o ∷ os) n bs h e =
-    elim (with_contact least g now bs n o) as (λ r. with_contact least g now bs n o ≡ r → and_then r (λ kept. with_contacts least g now (n + 1) (os ++ c ∷ []) kept) ≡ Ok after → LastStep least g now c after) [
-      | Ok kept ↦ λ is e'. to_last least g now c after os (n + 1) kept (below_at least g now bs n o o.uri kept h is) e'
+to_last rules g now c after (o ∷ os) n bs h e =
+    elim (with_contact rules g now bs n o) as (λ r. with_contact rules g now bs n o ≡ r → and_then r (λ kept. with_contacts rules g now (n + 1) (os ++ c ∷ []) kept) ≡ Ok after → LastStep rules g now c after) [
+      | Ok kept ↦ λ is e'. to_last rules g now c after os (n + 1) kept (below_at rules g now bs n o o.uri kept h is) e'
       | Err refusal ↦ λ is e'. cc
     ] refl e
 
 -- what a user is bound to is few, and numbered from 0
-record Sound (bs : List Binding) : Type 0 where
-  few : length bs ≤ max_bindings
-  below : AllBelow (first_number bs) bs
+pub record Sound (bs : List Binding) : Type 0 where
+  pub few : length bs ≤ max_bindings
+  pub below : AllBelow (first_number bs) bs
 
 below_ranks : (all bs : List Binding) → AllBelow (first_number all) (map (λ b. with_number (rank all b) b) bs)
 below_ranks all [] = tt
@@ -162,9 +165,9 @@ not_zero : (n : ℕ) → n ≢ 0 → (n == 0) ≡ false
 not_zero zero some = absurd (some refl)
 not_zero (suc n) some = eqb-suc-zero n
 
-record Limited (bs after : List Binding) : Type 0 where
-  few : length bs ≤ max_bindings
-  ranked : with_ranks bs ≡ after
+pub record Limited (bs after : List Binding) : Type 0 where
+  pub few : length bs ≤ max_bindings
+  pub ranked : with_ranks bs ≡ after
 
 is_limited : (bs after : List Binding) → within_limit bs ≡ Ok after → Limited bs after
 is_limited bs after e =
@@ -174,22 +177,22 @@ is_limited bs after e =
     ] refl e
 
 -- what the contacts of a REGISTER left
-record ByContacts (r : Result (List Binding) Refusal) (after : List Binding) : Type 0 where
-  kept : List Binding
-  gives : r ≡ Ok kept
-  limited : Limited kept after
+pub record ByContacts (rules : BindingRules) (r : Result (List Binding) Refusal) (after : List Binding) : Type 0 where
+  pub kept : List Binding
+  pub gives : r ≡ Ok kept
+  pub limited : Limited (standing rules kept) after
 
-by_limit : (r : Result (List Binding) Refusal) (after : List Binding) → and_then r within_limit ≡ Ok after → ByContacts r after
-by_limit (Ok bs) after e = record { kept = bs; gives = refl; limited = is_limited bs after e }
-by_limit (Err refusal) after e = cc
+pub by_limit : (rules : BindingRules) (r : Result (List Binding) Refusal) (after : List Binding) → and_then r (λ kept. within_limit (standing rules kept)) ≡ Ok after → ByContacts rules r after
+by_limit rules (Ok bs) after e = record { kept = bs; gives = refl; limited = is_limited (standing rules bs) after e }
+by_limit rules (Err refusal) after e = cc
 
-by_contacts : (star empty zero_seconds bindable stale : Bool) (r : Result (List Binding) Refusal) (after : List Binding) → (star && empty) ≡ false
-    → unless_refused (cond (star && not (empty && zero_seconds)) (Some StarMisused) (cond (not bindable) (Some BadContact) (cond stale (Some OutOfOrder) None))) (cond star (Ok []) (and_then r within_limit)) ≡ Ok after → ByContacts r after
-by_contacts true true zero_seconds bindable stale r after some e = cc
-by_contacts true false zero_seconds bindable stale r after some e = cc
-by_contacts false empty zero_seconds false stale r after some e = cc
-by_contacts false empty zero_seconds true true r after some e = cc
-by_contacts false empty zero_seconds true false r after some e = by_limit r after e
+by_contacts : (rules : BindingRules) (star empty zero_seconds bindable stale : Bool) (r : Result (List Binding) Refusal) (after : List Binding) → (star && empty) ≡ false
+    → unless_refused (cond (star && not (empty && zero_seconds)) (Some StarMisused) (cond (not bindable) (Some BadContact) (cond stale (Some OutOfOrder) None))) (cond star (Ok []) (and_then r (λ kept. within_limit (standing rules kept)))) ≡ Ok after → ByContacts rules r after
+by_contacts rules true true zero_seconds bindable stale r after some e = cc
+by_contacts rules true false zero_seconds bindable stale r after some e = cc
+by_contacts rules false empty zero_seconds false stale r after some e = cc
+by_contacts rules false empty zero_seconds true true r after some e = cc
+by_contacts rules false empty zero_seconds true false r after some e = by_limit rules r after e
 
 is_some_contact : (others : List Contact) (c : Contact) → (length (others ++ c ∷ []) == 0) ≡ false
 is_some_contact [] c = eqb-suc-zero 0
@@ -205,50 +208,49 @@ none_and false b e = refl
 
 -- what its contacts left, where it has some or no star
 steps_of : (rules : Rules) (g : Register) (now : ℕ) (bs after : List Binding) → (g.star && (length g.contacts == 0)) ≡ false → bindings_after_one rules g now bs ≡ Ok after
-    → ByContacts (with_contacts rules.min_expires g now (first_number bs) g.contacts (present now bs)) after
+    → ByContacts rules.binding_rules (with_contacts rules.binding_rules g now (first_number bs) g.contacts (present now bs)) after
 unfolding bindings_after_one whole_refusal
 steps_of rules g now bs after plain e =
-    by_contacts g.star (length g.contacts == 0) (is_zero g.expires) (list_all (is_bindable rules.ip rules.sip_port) g.contacts) (is_star_stale g (present now bs)) (with_contacts rules.min_expires g now (first_number bs) g.contacts (present now bs)) after plain e
+    by_contacts rules.binding_rules g.star (length g.contacts == 0) (is_zero g.expires) (list_all (is_bindable rules.ip rules.sip_port) g.contacts) (is_star_stale g (present now bs)) (with_contacts rules.binding_rules g now (first_number bs) g.contacts (present now bs)) after plain e
 
 -- a REGISTER that asks only, without contacts
 query_keeps : (rules : Rules) (g : Register) (now : ℕ) (bs after : List Binding)
     → g.contacts ≡ [] → g.star ≡ false → bindings_after_one rules g now bs ≡ Ok after → target_of after ≡ target_of (present now bs)
 query_keeps rules g now bs after none plain e =
     let steps = steps_of rules g now bs after (none_and g.star (length g.contacts == 0) plain) e in
-    let begun : Ok (present now bs) ≡ Ok steps.kept = subst (λ cs. with_contacts rules.min_expires g now (first_number bs) cs (present now bs) ≡ Ok steps.kept) none steps.gives in
+    let begun : Ok (present now bs) ≡ Ok steps.kept = subst (λ cs. with_contacts rules.binding_rules g now (first_number bs) cs (present now bs) ≡ Ok steps.kept) none steps.gives in
     let same : present now bs ≡ steps.kept = cc in
-    ap target_of (sym steps.limited.ranked) ∙ target-with_ranks steps.kept ∙ ap target_of (sym same)
+    ap target_of (sym steps.limited.ranked) ∙ target-with_ranks (standing rules.binding_rules steps.kept) ∙ target-standing rules.binding_rules steps.kept ∙ ap target_of (sym same)
 
 last_is_target : (rules : Rules) (g : Register) (now : ℕ) (bs : List Binding) (others : List Contact) (c : Contact) (uri : Uri) (after : List Binding) → Sound bs
-    → g.contacts ≡ others ++ c ∷ [] → c.uri ≡ Some uri → lifetime g c ≢ 0 → bindings_after_one rules g now bs ≡ Ok after → target_of after ≡ Some uri
+    → g.contacts ≡ others ++ c ∷ [] → c.uri ≡ Some uri → granted rules.binding_rules (lifetime g c) ≢ 0 → bindings_after_one rules g now bs ≡ Ok after → target_of after ≡ Some uri
 last_is_target rules g now bs others c uri after sound are is lasts e =
-    let least = rules.min_expires in
     let below : AllBelow (first_number bs) (present now bs) = below_filter (λ b. nat_lt now b.expires_at) (first_number bs) bs sound.below in
     let some : (length g.contacts == 0) ≡ false = subst (λ cs. (length cs == 0) ≡ false) (sym are) (is_some_contact others c) in
     let steps = steps_of rules g now bs after (some_and g.star (length g.contacts == 0) some) e in
-    let s = to_last least g now c steps.kept others (first_number bs) (present now bs) below (subst (λ cs. with_contacts least g now (first_number bs) cs (present now bs) ≡ Ok steps.kept) are steps.gives) in
-    ap target_of (sym steps.limited.ranked) ∙ target-with_ranks steps.kept
-    ∙ latest_at_last least g now s.bindings s.number c uri c.uri steps.kept is (not_zero (lifetime g c) lasts) s.below s.gives
+    let s = to_last rules.binding_rules g now c steps.kept others (first_number bs) (present now bs) below (subst (λ cs. with_contacts rules.binding_rules g now (first_number bs) cs (present now bs) ≡ Ok steps.kept) are steps.gives) in
+    ap target_of (sym steps.limited.ranked) ∙ target-with_ranks (standing rules.binding_rules steps.kept) ∙ target-standing rules.binding_rules steps.kept
+    ∙ latest_at_last rules.binding_rules g now s.bindings s.number c uri c.uri steps.kept is (not_zero (granted rules.binding_rules (lifetime g c)) lasts) s.below s.gives
 
 -- ---- few, and numbered from 0, at any time
 
-sound_none : Sound []
+pub sound_none : Sound []
 sound_none = record { few = omega arith; below = tt }
 
-sound_by : (misused bindable star stale : Bool) (r : Result (List Binding) Refusal) (after : List Binding)
-    → unless_refused (cond misused (Some StarMisused) (cond (not bindable) (Some BadContact) (cond stale (Some OutOfOrder) None))) (cond star (Ok []) (and_then r within_limit)) ≡ Ok after → Sound after
-sound_by true bindable star stale r after e = cc
-sound_by false false star stale r after e = cc
-sound_by false true star true r after e = cc
-sound_by false true true false r after e = let same : [] ≡ after = cc in subst Sound same sound_none
-sound_by false true false false r after e =
-    let steps = by_limit r after e in
-    subst Sound steps.limited.ranked (sound_ranks steps.kept steps.limited.few)
+sound_by : (rules : BindingRules) (misused bindable star stale : Bool) (r : Result (List Binding) Refusal) (after : List Binding)
+    → unless_refused (cond misused (Some StarMisused) (cond (not bindable) (Some BadContact) (cond stale (Some OutOfOrder) None))) (cond star (Ok []) (and_then r (λ kept. within_limit (standing rules kept)))) ≡ Ok after → Sound after
+sound_by rules true bindable star stale r after e = cc
+sound_by rules false false star stale r after e = cc
+sound_by rules false true star true r after e = cc
+sound_by rules false true true false r after e = let same : [] ≡ after = cc in subst Sound same sound_none
+sound_by rules false true false false r after e =
+    let steps = by_limit rules r after e in
+    subst Sound steps.limited.ranked (sound_ranks (standing rules steps.kept) steps.limited.few)
 
-sound_after_one : (rules : Rules) (g : Register) (now : ℕ) (bs after : List Binding) → bindings_after_one rules g now bs ≡ Ok after → Sound after
+pub sound_after_one : (rules : Rules) (g : Register) (now : ℕ) (bs after : List Binding) → bindings_after_one rules g now bs ≡ Ok after → Sound after
 unfolding bindings_after_one whole_refusal
 sound_after_one rules g now bs after e =
-    sound_by (is_star_misused g) (list_all (is_bindable rules.ip rules.sip_port) g.contacts) g.star (is_star_stale g (present now bs)) (with_contacts rules.min_expires g now (first_number bs) g.contacts (present now bs)) after e
+    sound_by rules.binding_rules (is_star_misused g) (list_all (is_bindable rules.ip rules.sip_port) g.contacts) g.star (is_star_stale g (present now bs)) (with_contacts rules.binding_rules g now (first_number bs) g.contacts (present now bs)) after e
 
 sound_or_before : (bs : List Binding) (r : Result (List Binding) Refusal) → Sound bs → ((after : List Binding) → r ≡ Ok after → Sound after) → Sound (or_as_before bs r)
 sound_or_before bs (Ok after) sound each = each after refl
@@ -276,7 +278,7 @@ abbrev all_after : Rules → List Event → List ℕ → List Binding
 all_after rules history user = bindings_after rules user history
 
 last_to : (rules : Rules) (history : List Event) (g : Register) (now : ℕ) (others : List Contact) (c : Contact) (uri : Uri) (after : List Binding) (o : Option (List ℕ))
-    → g.contacts ≡ others ++ c ∷ [] → c.uri ≡ Some uri → lifetime g c ≢ 0 → answer_for rules (all_after rules history) g now o ≡ Ok after → target_of after ≡ Some uri
+    → g.contacts ≡ others ++ c ∷ [] → c.uri ≡ Some uri → granted rules.binding_rules (lifetime g c) ≢ 0 → answer_for rules (all_after rules history) g now o ≡ Ok after → target_of after ≡ Some uri
 last_to rules history g now others c uri after None are is lasts e = cc
 last_to rules history g now others c uri after (Some user) are is lasts e =
     last_is_target rules g now (bindings_after rules user history) others c uri after (sound_from rules user [] history sound_none) are is lasts

@@ -7,6 +7,7 @@ use Rattle.std.specs.declared.alloc.Global.{Global}
 use Rattle.std.proofs.lemmas.List.Elements.{All-head, All-tail}
 use Rattle.text.proofs.Lists.{is_some-position}
 use Rattle.registrar.specs.declared.binding.Binding.{Binding}
+use Rattle.registrar.specs.declared.binding_rules.BindingRules.{BindingRules}
 use Rattle.registrar.specs.declared.register.Register.{Register}
 use Rattle.registrar.specs.declared.refusal.Refusal.{Refusal}
 use Rattle.registrar.specs.declared.refusal.Refusal.TheVariants.{UnknownUser}
@@ -21,10 +22,10 @@ fold_from-append rules user bs [] e = refl
 fold_from-append rules user bs (x ∷ es) e = fold_from-append rules user (step rules user bs x) es e
 
 -- a new registrar stands after no REGISTER
-pub stands_new : (users : List (List ℕ)) (ip : List ℕ) (sip_port : ℕ) (domain : List ℕ) (min_expires : ℕ)
-    → StandsAfter (made_of users ip sip_port domain min_expires) (rules_given users ip sip_port domain min_expires) []
-stands_new users ip sip_port domain min_expires = record {
-  rules_are = ap (λ us. rules_given us ip sip_port domain min_expires) (users-without_bindings users);
+pub stands_new : (users : List (List ℕ)) (ip : List ℕ) (sip_port : ℕ) (domain : List ℕ) (binding_rules : BindingRules)
+    → StandsAfter (made_of users ip sip_port domain binding_rules) (rules_given users ip sip_port domain binding_rules) []
+stands_new users ip sip_port domain binding_rules = record {
+  rules_are = ap (λ us. rules_given us ip sip_port domain binding_rules) (users-without_bindings users);
   each = λ user. none-without_bindings users user;
 }
 
@@ -75,7 +76,7 @@ each_for r g now v (Some user) = own_or_other r g now user v (is_known (rules_of
 -- ---- the rules stay
 
 rules_at : (r : Contents) (user : List ℕ) (answer : Result (List Binding) Refusal) → rules_of (registered_at r user answer) ≡ rules_of r
-rules_at r user (Ok bs) = ap (λ us. rules_given us r.ip r.sip_port r.domain r.min_expires) (same_users r.entries user bs)
+rules_at r user (Ok bs) = ap (λ us. rules_given us r.ip r.sip_port r.domain r.binding_rules) (same_users r.entries user bs)
 rules_at r user (Err refusal) = refl
 
 rules_for : (r : Contents) (named : Option (List ℕ)) (answer : Result (List Binding) Refusal) → rules_of (registered_for r named answer) ≡ rules_of r

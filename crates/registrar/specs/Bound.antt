@@ -4,6 +4,7 @@ use Rattle.std.specs.List.{list_all}
 use Rattle.std.specs.Cmp.Lexicographic.{pointwise}
 use Rattle.sip_uri.specs.declared.uri.Uri.{Uri}
 use Rattle.registrar.specs.Registering.{Rules, is_known, bindings_after_one, answer_by, present, lifetime}
+use Rattle.registrar.specs.BindingRules.{granted}
 use Rattle.registrar.specs.Limits.{max_bindings}
 use Rattle.registrar.specs.declared.register.Contact.{Contact}
 use Rattle.registrar.specs.declared.binding.Binding.{Binding}
@@ -67,7 +68,7 @@ FewBound = (rules : Rules) (history : List Event) (user : List ℕ) (now : ℕ) 
 -- where the last contact of a REGISTER is bound by it, that is where calls go then
 abbrev pub LastContactIsTarget : Type 0
 LastContactIsTarget = (rules : Rules) (history : List Event) (register : Register) (now : ℕ) (others : List Contact) (contact : Contact) (uri : Uri) (after : List Binding)
-    → register.contacts ≡ others ++ contact ∷ [] → contact.uri ≡ Some uri → lifetime register contact ≢ 0
+    → register.contacts ≡ others ++ contact ∷ [] → contact.uri ≡ Some uri → granted rules.binding_rules (lifetime register contact) ≢ 0
     → answer_after rules history register now ≡ Ok after → target_of after ≡ Some uri
 
 -- a REGISTER without contacts leaves the target as it was

@@ -1,5 +1,7 @@
 pub mod Limits
+pub mod BindingRules
 pub mod Registering
 pub mod Bound
 pub mod Registrar
+pub mod BindingLaws
 pub mod Entries

@@ -9,19 +9,21 @@ use Rattle.sip_uri.specs.declared.uri.Host.{Host}
 use Rattle.sip_uri.specs.declared.uri.Host.TheVariants.{Ip4, Name}
 use Rattle.sip_uri.specs.Address.{default_port}
 use Rattle.registrar.specs.Limits.{max_bindings, default_expires}
+use Rattle.registrar.specs.BindingRules.{granted, standing}
 use Rattle.registrar.specs.declared.binding.Binding.{Binding}
+use Rattle.registrar.specs.declared.binding_rules.BindingRules.{BindingRules}
 use Rattle.registrar.specs.declared.register.Contact.{Contact}
 use Rattle.registrar.specs.declared.register.Register.{Register}
 use Rattle.registrar.specs.declared.refusal.Refusal.{Refusal}
 use Rattle.registrar.specs.declared.refusal.Refusal.TheVariants.{UnknownUser, StarMisused, TooBrief, OutOfOrder, TooManyBindings, BadContact}
 
--- who may register, where the server is, its domain, and the seconds that a binding lasts at least
+-- who may register, where the server is, its domain, and the rules of bindings
 pub record Rules : Type 0 where
   pub users : List (List ℕ)
   pub ip : List ℕ
   pub sip_port : ℕ
   pub domain : List ℕ
-  pub min_expires : ℕ
+  pub binding_rules : BindingRules
 
 -- no user stands twice
 abbrev pub are_distinct : List (List ℕ) → Bool
@@ -113,13 +115,15 @@ refusal_of_uri least register bindings contact (Some uri) = uri_refusal least re
 abbrev pub contact_refusal : ℕ → Register → List Binding → Contact → Option Refusal
 contact_refusal least register bindings contact = refusal_of_uri least register bindings contact contact.uri
 
-abbrev pub with_contact_at : ℕ → Register → ℕ → List Binding → ℕ → Contact → Option Uri → Result (List Binding) Refusal
-with_contact_at least register now bindings number contact None = Err BadContact
-with_contact_at least register now bindings number contact (Some uri) =
-    unless_refused (uri_refusal least register bindings uri (lifetime register contact)) (Ok (with_uri register now bindings number uri (lifetime register contact)))
+-- the least lifetime is asked of what the contact asks for, and the greatest is granted in place of more
+abbrev pub with_contact_at : BindingRules → Register → ℕ → List Binding → ℕ → Contact → Option Uri → Result (List Binding) Refusal
+with_contact_at rules register now bindings number contact None = Err BadContact
+with_contact_at rules register now bindings number contact (Some uri) =
+    unless_refused (uri_refusal rules.min_expires register bindings uri (lifetime register contact))
+    (Ok (with_uri register now bindings number uri (granted rules (lifetime register contact))))
 
-abbrev pub with_contact : ℕ → Register → ℕ → List Binding → ℕ → Contact → Result (List Binding) Refusal
-with_contact least register now bindings number contact = with_contact_at least register now bindings number contact contact.uri
+abbrev pub with_contact : BindingRules → Register → ℕ → List Binding → ℕ → Contact → Result (List Binding) Refusal
+with_contact rules register now bindings number contact = with_contact_at rules register now bindings number contact contact.uri
 
 -- ---- all contacts of a REGISTER
 
@@ -132,10 +136,10 @@ abbrev pub first_number : List Binding → ℕ
 first_number bindings = length bindings + 1
 
 -- contact by contact, each refresh numbered after all before it
-abbrev pub with_contacts : ℕ → Register → ℕ → ℕ → List Contact → List Binding → Result (List Binding) Refusal
-with_contacts least register now number [] bindings = Ok bindings
-with_contacts least register now number (c ∷ cs) bindings =
-    and_then (with_contact least register now bindings number c) (λ kept. with_contacts least register now (number + 1) cs kept)
+abbrev pub with_contacts : BindingRules → Register → ℕ → ℕ → List Contact → List Binding → Result (List Binding) Refusal
+with_contacts rules register now number [] bindings = Ok bindings
+with_contacts rules register now number (c ∷ cs) bindings =
+    and_then (with_contact rules register now bindings number c) (λ kept. with_contacts rules register now (number + 1) cs kept)
 
 -- no more bindings than a user may have, numbered by the order of their refresh
 abbrev pub within_limit : List Binding → Result (List Binding) Refusal
@@ -182,8 +186,8 @@ abbrev pub bindings_by : Rules → Register → ℕ → List Binding → Result 
 bindings_by rules register now bindings =
     if register.star then Ok []
     else and_then
-    (with_contacts rules.min_expires register now (first_number bindings) register.contacts (present now bindings))
-    within_limit
+    (with_contacts rules.binding_rules register now (first_number bindings) register.contacts (present now bindings))
+    (λ kept. within_limit (standing rules.binding_rules kept))
 
 -- a user's bindings after a REGISTER, or why it is refused
 unfoldable pub bindings_after_one : Rules → Register → ℕ → List Binding → Result (List Binding) Refusal

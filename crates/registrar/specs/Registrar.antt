@@ -4,6 +4,7 @@ use Rattle.std.specs.Cmp.Lexicographic.{pointwise}
 use Rattle.std.specs.declared.vec.Vec.{Vec}
 use Rattle.std.specs.declared.alloc.Global.{Global}
 use Rattle.registrar.specs.declared.binding.Binding.{Binding}
+use Rattle.registrar.specs.declared.binding_rules.BindingRules.{BindingRules}
 use Rattle.registrar.specs.declared.register.Register.{Register}
 use Rattle.registrar.specs.declared.user_bindings.UserBindings.{UserBindings}
 use Rattle.registrar.specs.declared.refusal.Refusal.{Refusal}
@@ -17,14 +18,14 @@ pub record Contents : Type 0 where
   pub ip : List ℕ
   pub sip_port : ℕ
   pub domain : List ℕ
-  pub min_expires : ℕ
+  pub binding_rules : BindingRules
 
 abbrev pub rules_of : Contents → Rules
-rules_of r = record { users = map (λ l. l.user) r.entries; ip = r.ip; sip_port = r.sip_port; domain = r.domain; min_expires = r.min_expires }
+rules_of r = record { users = map (λ l. l.user) r.entries; ip = r.ip; sip_port = r.sip_port; domain = r.domain; binding_rules = r.binding_rules }
 
 -- the rules of a registrar that was made with these
-abbrev pub rules_given : List (List ℕ) → List ℕ → ℕ → List ℕ → ℕ → Rules
-rules_given users ip sip_port domain min_expires = record { users = users; ip = ip; sip_port = sip_port; domain = domain; min_expires = min_expires }
+abbrev pub rules_given : List (List ℕ) → List ℕ → ℕ → List ℕ → BindingRules → Rules
+rules_given users ip sip_port domain binding_rules = record { users = users; ip = ip; sip_port = sip_port; domain = domain; binding_rules = binding_rules }
 
 abbrev pub is_for : List ℕ → UserBindings → Bool
 is_for user entry = pointwise nat_eq entry.user user
@@ -79,9 +80,9 @@ abbrev pub without_bindings : List ℕ → UserBindings
 without_bindings user = record { user = user; bindings = [] }
 
 -- a registrar without bindings
-abbrev pub made_of : List (List ℕ) → List ℕ → ℕ → List ℕ → ℕ → Contents
-made_of users ip sip_port domain min_expires =
-    record { entries = map without_bindings users; ip = ip; sip_port = sip_port; domain = domain; min_expires = min_expires }
+abbrev pub made_of : List (List ℕ) → List ℕ → ℕ → List ℕ → BindingRules → Contents
+made_of users ip sip_port domain binding_rules =
+    record { entries = map without_bindings users; ip = ip; sip_port = sip_port; domain = domain; binding_rules = binding_rules }
 
 -- the first entry of this user has these bindings, the others as before
 abbrev pub entries_with : List ℕ → List Binding → List UserBindings → List UserBindings
@@ -92,7 +93,7 @@ entries_with user bindings (l ∷ ls) =
 -- the user has these bindings, and all others what they had
 abbrev pub with_user : Contents → List ℕ → List Binding → Contents
 with_user r user bindings =
-    record { entries = entries_with user bindings r.entries; ip = r.ip; sip_port = r.sip_port; domain = r.domain; min_expires = r.min_expires }
+    record { entries = entries_with user bindings r.entries; ip = r.ip; sip_port = r.sip_port; domain = r.domain; binding_rules = r.binding_rules }
 
 abbrev pub registered_at : Contents → List ℕ → Result (List Binding) Refusal → Contents
 registered_at r user (Ok bindings) = with_user r user bindings

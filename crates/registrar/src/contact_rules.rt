@@ -1,21 +1,21 @@
 //! What the contacts of a REGISTER do to the bindings of its user.
 
-ghost use Rattle.std.specs.Prelude.{◌≡◌, ◌≢◌, ℕ, true, nat_lt, List, ◌^◌, ◌<◌, ◌≤◌, None, Err, IfOk, IfSome, OnOk, position, length, find, option_copied};
+ghost use Rattle.std.specs.Prelude.{◌≡◌, ◌≢◌, ℕ, true, false, nat_lt, List, ◌^◌, ◌<◌, ◌≤◌, None, Err, IfOk, IfSome, OnErr, OnOk, position, length, find, option_copied};
+ghost use Rattle.registrar.specs.BindingRules.{standing};
 ghost use Rattle.registrar.specs.Limits.{max_bindings};
 ghost use Rattle.registrar.specs.Registering.{AllLast, lifetime, is_of, is_older_than, is_stale, binding_by, put, without, is_too_brief, uri_refusal, contact_refusal, with_uri, with_contact, with_contacts, within_limit};
 ghost use Rattle.registrar.specs.Registrar.{Gives};
 ghost use Rattle.registrar.specs.declared.refusal.Refusal.TheVariants as Refusal;
 
 use crate::binding::Binding;
-use crate::draft::{Draft, with_ranks};
+use crate::binding_rules::{BindingRules, MAX_BINDINGS};
+use crate::draft::{Draft, recent, with_ranks};
 use crate::refusal::Refusal;
 use crate::register::{Contact, Register};
 use sip_uri::{Uri, same_binding};
 use std::alloc::{AllocError, Global};
 
 const DEFAULT_EXPIRES: u32 = 3600;
-
-const MAX_BINDINGS: usize = 8;
 
 // The seconds that a binding of this contact is to last.
 fn lifetime(register: &Register<'_>, contact: &Contact<'_>) -> u32
@@ -156,24 +156,25 @@ fn with_uri(
 fn with_contact(
     alloc: Global,
     kept: Vec<Draft>,
-    min_expires: u32,
+    rules: BindingRules,
     register: &Register<'_>,
     contact: &Contact<'_>,
     number: u64,
     now: u64,
 ) -> Result<Vec<Draft>, Refusal>
     requires { now < 2 ^ 60 }
-    ensures answer { Gives result (with_contact min_expires register.now now kept.items number contact.now) }
-    ensures memory { result ≡ Err Refusal.OutOfMemory → contact_refusal min_expires register.now kept.items contact.now ≡ None }
+    ensures answer { Gives result (with_contact rules register.now now kept.items number contact.now) }
+    ensures memory { result ≡ Err Refusal.OutOfMemory → contact_refusal rules.min_expires register.now kept.items contact.now ≡ None }
     ensures last { IfOk result (λ after. AllLast now kept.items → AllLast now after.items) }
 {
     let Some(uri) = &contact.uri else {
         return Err(Refusal::BadContact);
     };
     let seconds = lifetime(register, contact);
-    if let Some(refusal) = uri_refusal(&kept, min_expires, register, uri, seconds) {
+    if let Some(refusal) = uri_refusal(&kept, rules.min_expires, register, uri, seconds) {
         return Err(refusal);
     }
+    let seconds = rules.granted(seconds);
     Ok(with_uri(alloc, kept, register, uri, seconds, number, now)?)
 }
 
@@ -181,33 +182,50 @@ fn with_contact(
 pub(crate) fn with_contacts(
     alloc: Global,
     bindings: Vec<Draft>,
-    min_expires: u32,
+    rules: BindingRules,
     register: &Register<'_>,
     first_number: u64,
     now: u64,
 ) -> Result<Vec<Draft>, Refusal>
     requires moment { now < 2 ^ 60 }
     requires numbers { first_number ≤ 2 ^ 63 }
-    ensures answer { Gives result (with_contacts min_expires register.now now first_number register.now.contacts bindings.items) }
+    ensures answer { Gives result (with_contacts rules register.now now first_number register.now.contacts bindings.items) }
     ensures last { IfOk result (λ after. AllLast now bindings.items → AllLast now after.items) }
 {
     let mut kept = bindings;
     let mut number = first_number;
     for contact in register.contacts.as_slice() {
-        kept = with_contact(alloc, kept, min_expires, register, contact, number, now)?;
+        kept = with_contact(alloc, kept, rules, register, contact, number, now)?;
         number += 1;
     }
     Ok(kept)
 }
 
-/// The bindings, numbered by the order of their refresh, if they are no more than a user may have.
-pub(crate) fn within_limit(alloc: Global, kept: &[Draft]) -> Result<Vec<Binding>, Refusal>
-    ensures answer { Gives result (within_limit kept.now) }
-    ensures memory { result ≡ Err Refusal.OutOfMemory → length kept.now ≤ max_bindings }
-    ensures last { IfOk result (λ after. (now : ℕ) → AllLast now kept.now → AllLast now after.items) }
+// The bindings that stand: the others leave.
+fn standing(alloc: Global, rules: BindingRules, kept: Vec<Draft>) -> Result<Vec<Draft>, AllocError>
+    ensures bindings { IfOk result (λ after. after.items ≡ standing rules kept.items) }
+    ensures memory { OnErr result (rules.oldest_leaves ≡ true) }
 {
-    if kept.len() > MAX_BINDINGS {
+    if rules.oldest_leaves && kept.len() > MAX_BINDINGS {
+        recent(alloc, &kept)
+    } else {
+        Ok(kept)
+    }
+}
+
+/// The bindings that stand, numbered by the order of their refresh, if they are no more than a user may have.
+pub(crate) fn within_limit(
+    alloc: Global,
+    rules: BindingRules,
+    kept: Vec<Draft>,
+) -> Result<Vec<Binding>, Refusal>
+    ensures answer { Gives result (within_limit (standing rules kept.items)) }
+    ensures memory { result ≡ Err Refusal.OutOfMemory → rules.oldest_leaves ≡ false → length kept.items ≤ max_bindings }
+    ensures last { IfOk result (λ after. (now : ℕ) → AllLast now kept.items → AllLast now after.items) }
+{
+    let standing = standing(alloc, rules, kept)?;
+    if standing.len() > MAX_BINDINGS {
         return Err(Refusal::TooManyBindings);
     }
-    Ok(with_ranks(alloc, kept)?)
+    Ok(with_ranks(alloc, &standing)?)
 }

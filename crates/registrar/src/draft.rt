@@ -1,10 +1,12 @@
 //! Bindings while a REGISTER is applied.
 
 ghost use Rattle.std.specs.Prelude.{◌≡◌, ◌≤◌, length, IfOk};
+ghost use Rattle.registrar.specs.BindingRules.{is_recent, later, recent};
 ghost use Rattle.registrar.specs.Limits.{max_bindings};
 ghost use Rattle.registrar.specs.Registering.{AllLast, present, rank, with_number, with_ranks, first_number};
 
 use crate::binding::Binding;
+use crate::binding_rules::MAX_BINDINGS;
 use std::alloc::{AllocError, Global};
 use std::marker::Model;
 
@@ -23,6 +25,18 @@ impl Model for Draft {
     ghost Value = { Binding };
 
     ghost view = { λ d. with_number d.number d.binding };
+}
+
+impl Draft {
+    /// The same draft. Takes memory for its texts alone.
+    fn copy(&self, alloc: Global) -> Result<Draft, AllocError>
+        ensures { IfOk result (λ copy. copy ≡ self.now) }
+    {
+        Ok(Draft {
+            binding: self.binding.copy(alloc)?,
+            number: self.number,
+        })
+    }
 }
 
 fn draft_of(alloc: Global, binding: &Binding) -> Result<Draft, AllocError>
@@ -91,4 +105,30 @@ pub(crate) fn with_ranks(alloc: Global, drafts: &[Draft]) -> Result<Vec<Binding>
         bindings.push(with_number(alloc, draft, rank(drafts, draft))?)?;
     }
     Ok(bindings)
+}
+
+fn count_after(drafts: &[Draft], draft: &Draft) -> usize
+    ensures { result ≡ later drafts.now draft.now }
+{
+    drafts.iter().filter(|d| draft.number < d.number).count()
+}
+
+fn is_recent(drafts: &[Draft], draft: &Draft) -> bool
+    ensures { result ≡ is_recent drafts.now draft.now }
+{
+    count_after(drafts, draft) < MAX_BINDINGS
+}
+
+/// As many as a user may have, those refreshed last, copied.
+pub(crate) fn recent(alloc: Global, drafts: &[Draft]) -> Result<Vec<Draft>, AllocError>
+    ensures { IfOk result (λ after. after.items ≡ recent drafts.now) }
+{
+    let mut recent = Vec::new(alloc);
+    for draft in drafts {
+        if !is_recent(drafts, draft) {
+            continue;
+        }
+        recent.push(draft.copy(alloc)?)?;
+    }
+    Ok(recent)
 }

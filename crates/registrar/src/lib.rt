@@ -4,6 +4,7 @@
 #![tactic(auto)]
 
 mod binding;
+mod binding_rules;
 mod contact_rules;
 mod copies;
 mod draft;
@@ -18,7 +19,8 @@ mod targets;
 mod user_bindings;
 
 pub use binding::{Binding, Bindings};
-pub use laws::laws_of_bindings;
+pub use binding_rules::BindingRules;
+pub use laws::{laws_of_binding_rules, laws_of_bindings};
 pub use plan::Plan;
 pub use refusal::Refusal;
 pub use register::{Contact, Contacts, Register};

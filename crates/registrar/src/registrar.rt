@@ -1,6 +1,6 @@
 //! The registrar.
 
-ghost use Rattle.std.specs.Prelude.{◌≡◌, ◌≢◌, ℕ, List, [], ◌∷◌, ◌++◌, ◌≤◌, ◌<◌, ◌^◌, length, None, Some, Err, OnErr, IfOk, IsTrue};
+ghost use Rattle.std.specs.Prelude.{◌≡◌, ◌≢◌, ℕ, List, [], ◌∷◌, ◌++◌, ◌≤◌, ◌<◌, ◌^◌, length, None, Some, Err, OnErr, IfOk, IfSome, IsTrue};
 ghost use Rattle.std.specs.Option.{option_copied};
 ghost use Rattle.registrar.specs.Limits.{max_users, max_min_expires};
 ghost use Rattle.registrar.specs.Registering.{Rules, AllLast, bindings_by, bindings_after_one, is_own_host, user_of, are_distinct, is_known, whole_refusal};
@@ -9,6 +9,7 @@ ghost use Rattle.registrar.specs.Registrar.{Gives, Counts, Plans};
 ghost use Rattle.registrar.specs.declared.refusal.Refusal.TheVariants as Refusal;
 
 use crate::binding::Binding;
+use crate::binding_rules::BindingRules;
 use crate::contact_rules::{with_contacts, within_limit};
 use crate::copies::{copy_all, present};
 use crate::draft::{drafts_of, first_number};
@@ -32,7 +33,7 @@ pub struct Registrar {
     ip: [u8; 4],
     sip_port: u16,
     domain: Text<'static>,
-    min_expires: u32,
+    binding_rules: BindingRules,
 }
 
 impl Drop for Registrar {
@@ -43,7 +44,7 @@ impl Drop for Registrar {
             ip: _,
             sip_port: _,
             domain: _,
-            min_expires: _,
+            binding_rules: _,
         } = self;
     }
 }
@@ -53,14 +54,14 @@ impl Model for Registrar {
 
     ghost Value = { Contents };
 
-    ghost view = { λ r. record { entries = r.entries; ip = r.ip; sip_port = r.sip_port; domain = r.domain; min_expires = r.min_expires } };
+    ghost view = { λ r. record { entries = r.entries; ip = r.ip; sip_port = r.sip_port; domain = r.domain; binding_rules = r.binding_rules } };
 }
 
 impl Registrar {
     ghost use Rattle.registrar.specs.Registrar.{StandsAfter, Contents, rules_of, answer_of, refusal_of, after_plan, bindings_of, bindings_at, event, registered, rules_given};
 
-    /// A registrar without bindings for these users of a server at this address, port and domain, which binds for
-    /// this number of seconds at least. It looks users up by prints under this key, on which no result depends.
+    /// A registrar without bindings for these users of a server at this address, port and domain, which binds by
+    /// these rules. It looks users up by prints under this key, on which no result depends.
     pub fn new(
         alloc: Global,
         key: PrintKey,
@@ -68,14 +69,15 @@ impl Registrar {
         ip: [u8; 4],
         sip_port: u16,
         domain: Text<'static>,
-        min_expires: u32,
+        binding_rules: BindingRules,
     ) -> Result<Registrar, AllocError>
         requires some { 1 ≤ length users }
         requires room { length users ≤ max_users }
         requires distinct { IsTrue (are_distinct users) }
-        requires least { 1 ≤ min_expires }
-        requires bounded { min_expires ≤ max_min_expires }
-        ensures { IfOk result (λ r. StandsAfter r (rules_given users.entry ip sip_port domain.entry min_expires) []) }
+        requires least { 1 ≤ binding_rules.min_expires }
+        requires bounded { binding_rules.min_expires ≤ max_min_expires }
+        requires most { IfSome binding_rules.max_expires (λ most. binding_rules.min_expires ≤ most) }
+        ensures { IfOk result (λ r. StandsAfter r (rules_given users.entry ip sip_port domain.entry binding_rules) []) }
     {
         let entries = Entries::new(alloc, key, users)?;
         Ok(Registrar {
@@ -84,7 +86,7 @@ impl Registrar {
             ip,
             sip_port,
             domain,
-            min_expires,
+            binding_rules,
         })
     }
 
@@ -265,11 +267,11 @@ impl Registrar {
         let kept = with_contacts(
             self.alloc,
             kept,
-            self.min_expires,
+            self.binding_rules,
             register,
             first_number,
             now,
         )?;
-        within_limit(self.alloc, &kept)
+        within_limit(self.alloc, self.binding_rules, kept)
     }
 }

@@ -5,6 +5,6 @@ use Rattle.registrar.proofs.registrar.Registrar.new.Goals as goal
 
 pub returns : goal.returns
 returns c =
-    subst (λ ls. StandsAfter (record { entries = ls; ip = c.args.ip; sip_port = c.args.sip_port; domain = c.args.domain; min_expires = c.args.min_expires }) (rules_given c.args.users c.args.ip c.args.sip_port c.args.domain c.args.min_expires) [])
+    subst (λ ls. StandsAfter (record { entries = ls; ip = c.args.ip; sip_port = c.args.sip_port; domain = c.args.domain; binding_rules = c.args.binding_rules }) (rules_given c.args.users c.args.ip c.args.sip_port c.args.domain c.args.binding_rules) [])
     (sym c.in_ok-entries.ensures)
-    (stands_new c.args.users c.args.ip c.args.sip_port c.args.domain c.args.min_expires)
+    (stands_new c.args.users c.args.ip c.args.sip_port c.args.domain c.args.binding_rules)
