@@ -10,17 +10,17 @@ use Rattle.registrar.specs.Limits.{max_users}
 use Rattle.configuration.specs.Limits.{min_relay_port, max_answer_within, max_relay_pairs, max_workers, usual_workers}
 use Rattle.configuration.specs.Names.{is_user}
 use Rattle.configuration.specs.declared.config.Config.{Config}
-use Rattle.configuration.specs.declared.level.LogLevel.{LogLevel}
 use Rattle.configuration.specs.declared.numbers.Numbers.{Numbers}
 use Rattle.configuration.specs.declared.error.ConfigError.{ConfigError}
 use Rattle.configuration.specs.declared.error.ConfigError.TheVariants as rules
 use Rattle.configuration.specs.declared.key.Key.{Key}
 use Rattle.configuration.specs.declared.key.Key.TheVariants as keys
 use Rattle.configuration.specs.declared.flaw.Flaw.{Flaw}
-use Rattle.configuration.specs.declared.flaw.Flaw.TheVariants.{UnknownKey, Missing, OtherType, OutOfRange, Odd, PastLastPort, RelayPort, Malformed, RandomKey, UserCount, UserTwice}
-use Rattle.configuration.specs.Rules.{has_room_for_ports, is_relay_port, is_server_address, has_relay_ports, has_address, has_users, has_lifetime, has_domain, first_broken}
-use Rattle.configuration.specs.Files.{is_known_key, has_known_keys, few, few_of, natural, answer_within_at, workers_at, number_at, numbers_at, text_at, octets_of, ip_at, key_of, key_at, domain_of, domain_at, texts_of, users_at, level_named, log_in, log_of, log_at, config_from, config_of, port_of, seconds_of}
-use Rattle.configuration.specs.Status.{page_at, open_of, status_of, status_at}
+use Rattle.configuration.specs.declared.flaw.Flaw.TheVariants.{OtherType, OutOfRange, Odd, PastLastPort, RelayPort, Malformed, RandomKey, UserCount, UserTwice}
+use Rattle.configuration.specs.Rules.{has_room_for_ports, is_relay_port, is_server_address, has_relay_ports, has_address, has_users, has_lifetime, has_longest_lifetime, has_domain, first_broken}
+use Rattle.configuration.specs.Files.{is_known_key, has_known_keys, few, few_of, natural, answer_within_at, workers_at, number_at, numbers_at, text_at, octets_of, ip_at, key_of, key_at, domain_of, domain_at, texts_of, users_at, level_named, log_of, log_at, config_from, config_of, max_expires_of, max_expires_at, oldest_leaves_at, seconds_of}
+use Rattle.configuration.specs.Flags.{flag_of}
+use Rattle.configuration.specs.Status.{page_at, status_of, status_at}
 use Rattle.configuration.specs.Flaws.{key_rule, rule_of, unknown_key, unknown_flaw, unless, has_type_of, required_flaw, optional_flaw, count_flaw, few_flaw, digits_flaw, random_key_flaw, are_texts, list_flaw, users_type_flaw, word_flaw, log_flaw, page_text_flaw, page_flaw, status_flaw, said_flaw, said_number, relay_flaw, address_flaw, malformed_user, user_twice, users_flaw, lifetime_flaw, domain_flaw, rules_flaw, flaw_behind, flaw_in}
 
 -- ---- what is read
@@ -108,6 +108,15 @@ users_type (Some value) = list (as_array value) where
   list None = refl
   list (Some items) = texts items
 
+most_type : (o : Option Data) → Judges (optional_flaw keys.MaxExpires o) (max_expires_of o)
+most_type None = tt
+most_type (Some value) =
+    judges_map (optional_flaw keys.MaxExpires (Some value)) (as_integer value) (λ z. Some (seconds_of z)) (judges_type keys.MaxExpires (as_integer value) (is_some (as_integer value)) refl)
+
+leaves_type : (o : Option Data) → Judges (optional_flaw keys.OldestLeaves o) (flag_of o)
+leaves_type None = tt
+leaves_type (Some value) = judges_type keys.OldestLeaves (as_bool value) (is_some (as_bool value)) refl
+
 word : (o : Option Data) → Judges (log_flaw o) (log_of o)
 word None = tt
 word (Some value) = named (as_str value) where
@@ -122,7 +131,7 @@ page is_open (Some value) = judges_map _ (option_and_then (page_at is_open) (as_
   said_in None = refl
   said_in (Some t) = judges_unless (page_at is_open t) (Malformed keys.Status t) refl
 
-status : (o p : Option Data) → Judges (status_flaw o p) (option_and_then (λ is_open. status_of is_open p) (open_of o))
+status : (o p : Option Data) → Judges (status_flaw o p) (option_and_then (λ is_open. status_of is_open p) (flag_of o))
 status None p = page false p
 status (Some value) p = step (as_bool value) where
   step : (b : Option Bool)
@@ -130,14 +139,15 @@ status (Some value) p = step (as_bool value) where
   step None = refl
   step (Some is_open) = page is_open p
 
-regrouped : (a b c d e f rest : Option Flaw) → option_or (option_or a (option_or b (option_or c (option_or d (option_or e f))))) rest
-    ≡ option_or a (option_or b (option_or c (option_or d (option_or e (option_or f rest)))))
-regrouped (Some x) b c d e f rest = refl
-regrouped None (Some x) c d e f rest = refl
-regrouped None None (Some x) d e f rest = refl
-regrouped None None None (Some x) e f rest = refl
-regrouped None None None None (Some x) f rest = refl
-regrouped None None None None None f rest = refl
+regrouped : (a b c d e f g rest : Option Flaw) → option_or (option_or a (option_or b (option_or c (option_or d (option_or e (option_or f g)))))) rest
+    ≡ option_or a (option_or b (option_or c (option_or d (option_or e (option_or f (option_or g rest))))))
+regrouped (Some x) b c d e f g rest = refl
+regrouped None (Some x) c d e f g rest = refl
+regrouped None None (Some x) d e f g rest = refl
+regrouped None None None (Some x) e f g rest = refl
+regrouped None None None None (Some x) f g rest = refl
+regrouped None None None None None (Some x) g rest = refl
+regrouped None None None None None None g rest = refl
 
 abbrev at : (Option Data → Option Flaw) → List ℕ → Members → Option Flaw
 at flaw key ms = flaw (get_member key ms)
@@ -146,13 +156,14 @@ abbrev numbers_flaw : Members → Option Flaw
 numbers_flaw ms =
     option_or (at (required_flaw keys.RelayFirst) (codes "relay_first") ms) (option_or (at (required_flaw keys.RelayPairs) (codes "relay_pairs") ms)
     (option_or (at (required_flaw keys.SipPort) (codes "sip_port") ms) (option_or (at (required_flaw keys.MinExpires) (codes "min_expires") ms)
-    (option_or (at (few_flaw keys.Workers max_workers) (codes "workers") ms) (at (few_flaw keys.AnswerWithin max_answer_within) (codes "answer_within") ms)))))
+    (option_or (at (optional_flaw keys.MaxExpires) (codes "max_expires") ms)
+    (option_or (at (few_flaw keys.Workers max_workers) (codes "workers") ms) (at (few_flaw keys.AnswerWithin max_answer_within) (codes "answer_within") ms))))))
 
 abbrev texts_flaw : Members → Option Flaw
 texts_flaw ms =
-    option_or (at (required_flaw keys.Ip) (codes "ip") ms) (option_or (at random_key_flaw (codes "random_key") ms)
+    option_or (at (optional_flaw keys.OldestLeaves) (codes "oldest_leaves") ms) (option_or (at (required_flaw keys.Ip) (codes "ip") ms) (option_or (at random_key_flaw (codes "random_key") ms)
     (option_or (at (optional_flaw keys.Domain) (codes "domain") ms) (option_or (at users_type_flaw (codes "users") ms) (option_or (at log_flaw (codes "log") ms)
-    (status_flaw (get_member (codes "status_open") ms) (get_member (codes "status") ms))))))
+    (status_flaw (get_member (codes "status_open") ms) (get_member (codes "status") ms)))))))
 
 numbers : (ms : Members) → Judges (numbers_flaw ms) (numbers_at ms)
 unfolding numbers_at
@@ -161,28 +172,31 @@ numbers ms =
     judges_then _ _ (number_at (codes "relay_pairs") ms) _ (required keys.RelayPairs as_integer (λ value. refl) (get_member (codes "relay_pairs") ms)) (λ pairs.
     judges_then _ _ (number_at (codes "sip_port") ms) _ (required keys.SipPort as_integer (λ value. refl) (get_member (codes "sip_port") ms)) (λ port.
     judges_then _ _ (number_at (codes "min_expires") ms) _ (required keys.MinExpires as_integer (λ value. refl) (get_member (codes "min_expires") ms)) (λ expires.
+    judges_then _ _ (max_expires_at ms) _ (most_type (get_member (codes "max_expires") ms)) (λ most.
     judges_then _ _ (workers_at ms) _ (number keys.Workers max_workers usual_workers (get_member (codes "workers") ms) refl) (λ workers.
-    judges_last _ (answer_within_at ms) _ (number keys.AnswerWithin max_answer_within max_answer_within (get_member (codes "answer_within") ms) refl))))))
+    judges_last _ (answer_within_at ms) _ (number keys.AnswerWithin max_answer_within max_answer_within (get_member (codes "answer_within") ms) refl)))))))
 
 -- the configuration with these numbers
 abbrev with_numbers : Members → Numbers → Option Config
 with_numbers ms n =
+    option_and_then (λ leaves.
     option_and_then (λ ip.
     option_and_then (λ key.
     option_and_then (λ domain.
     option_and_then (λ us.
     option_and_then (λ level.
-    option_and_then (λ status. Some (config_from n ip key domain us level status))
-    (status_at ms)) (log_at ms)) (users_at ms)) (domain_at ms)) (key_at ms)) (ip_at ms)
+    option_and_then (λ status. Some (config_from n leaves ip key domain us level status))
+    (status_at ms)) (log_at ms)) (users_at ms)) (domain_at ms)) (key_at ms)) (ip_at ms)) (oldest_leaves_at ms)
 
 rest : (ms : Members) (n : Numbers) → Judges (texts_flaw ms) (with_numbers ms n)
 rest ms n =
+    judges_then _ _ (oldest_leaves_at ms) _ (leaves_type (get_member (codes "oldest_leaves") ms)) (λ leaves.
     judges_then _ _ (ip_at ms) _ (judges_map _ (text_at (codes "ip") ms) octets_of (required keys.Ip as_str (λ value. refl) (get_member (codes "ip") ms))) (λ ip.
     judges_then _ _ (key_at ms) _ (random_key (get_member (codes "random_key") ms)) (λ key.
     judges_then _ _ (domain_at ms) _ (domain_type (get_member (codes "domain") ms)) (λ domain.
     judges_then _ _ (users_at ms) _ (users_type (get_member (codes "users") ms)) (λ us.
     judges_then _ _ (log_at ms) _ (word (get_member (codes "log") ms)) (λ level.
-    judges_last _ (status_at ms) (λ page. config_from n ip key domain us level page) (status (get_member (codes "status_open") ms) (get_member (codes "status") ms)))))))
+    judges_last _ (status_at ms) (λ page. config_from n leaves ip key domain us level page) (status (get_member (codes "status_open") ms) (get_member (codes "status") ms))))))))
 
 table : (ms : Members) → Judges (option_or (numbers_flaw ms) (texts_flaw ms)) (option_and_then (with_numbers ms) (numbers_at ms))
 table ms = judges_then (numbers_flaw ms) (texts_flaw ms) (numbers_at ms) (with_numbers ms) (numbers ms) (rest ms)
@@ -191,7 +205,7 @@ pub said : (ms : Members) → Judges (said_flaw ms) (config_of ms)
 unfolding said_flaw config_of
 said ms =
     let same = regrouped (at (required_flaw keys.RelayFirst) (codes "relay_first") ms) (at (required_flaw keys.RelayPairs) (codes "relay_pairs") ms)
-    (at (required_flaw keys.SipPort) (codes "sip_port") ms) (at (required_flaw keys.MinExpires) (codes "min_expires") ms)
+    (at (required_flaw keys.SipPort) (codes "sip_port") ms) (at (required_flaw keys.MinExpires) (codes "min_expires") ms) (at (optional_flaw keys.MaxExpires) (codes "max_expires") ms)
     (at (few_flaw keys.Workers max_workers) (codes "workers") ms) (at (few_flaw keys.AnswerWithin max_answer_within) (codes "answer_within") ms) (texts_flaw ms) in
     let known = subst (λ (f : Option Flaw). Judges f (option_and_then (with_numbers ms) (numbers_at ms))) same (table ms) in
     unknown ms _ (option_and_then (with_numbers ms) (numbers_at ms)) known
@@ -261,12 +275,15 @@ users c = parts (nat_le 1 (length c.users)) (nat_le (length c.users) max_users) 
   parts true false = refl
   parts false b = refl
 
-lifetime : (ms : Members) (c : Config) → option_map rule_of (lifetime_flaw ms c) ≡ broken_unless (has_lifetime c) rules.MinExpires
+lifetime : (ms : Members) (c : Config) → option_map rule_of (lifetime_flaw ms c) ≡ broken_unless (has_lifetime c && has_longest_lifetime c) rules.MinExpires
 unfolding lifetime_flaw
-lifetime ms c = parts (has_lifetime c) where
-  parts : (a : Bool) → option_map rule_of (cond a None (Some (OutOfRange keys.MinExpires (said_number ms keys.MinExpires)))) ≡ broken_unless a rules.MinExpires
-  parts true = refl
-  parts false = refl
+lifetime ms c = parts (has_lifetime c) (has_longest_lifetime c) where
+  parts : (a b : Bool)
+      → option_map rule_of (cond a (cond b None (Some (OutOfRange keys.MaxExpires (said_number ms keys.MaxExpires)))) (Some (OutOfRange keys.MinExpires (said_number ms keys.MinExpires))))
+      ≡ broken_unless (a && b) rules.MinExpires
+  parts true true = refl
+  parts true false = refl
+  parts false b = refl
 
 domain : (c : Config) → option_map rule_of (domain_flaw c) ≡ broken_unless (has_domain c) rules.Domain
 unfolding domain_flaw
@@ -282,7 +299,7 @@ rules_agree ms c =
     (map_or (address_flaw ms c) _ ∙ ap₂ option_or (address ms c)
     (map_or (users_flaw c) _ ∙ ap₂ option_or (users c)
     (map_or (lifetime_flaw ms c) (domain_flaw c) ∙ ap₂ option_or (lifetime ms c) (domain c))))
-    ∙ first (has_relay_ports c) (has_address c) (has_users c) (has_lifetime c) (has_domain c) where
+    ∙ first (has_relay_ports c) (has_address c) (has_users c) (has_lifetime c && has_longest_lifetime c) (has_domain c) where
       first : (a b d e f : Bool)
           → option_or (broken_unless a rules.RelayPorts) (option_or (broken_unless b rules.Address) (option_or (broken_unless d rules.Users) (option_or (broken_unless e rules.MinExpires) (broken_unless f rules.Domain))))
           ≡ cond a (cond b (cond d (cond e (cond f None (Some rules.Domain)) (Some rules.MinExpires)) (Some rules.Users)) (Some rules.Address)) (Some rules.RelayPorts)

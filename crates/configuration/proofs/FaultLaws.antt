@@ -14,7 +14,7 @@ use Rattle.configuration.specs.Files.{config_of}
 use Rattle.configuration.specs.Flaws.{rule_of, flaw_in}
 use Rattle.configuration.specs.Reading.{IsTextOf, Says, ReadsConfig, Refuses}
 use Rattle.configuration.specs.Lines.{line_behind}
-use Rattle.configuration.specs.FaultOf.{key_of_flaw, is_no_toml, IsKeyLine, HasNoTable, HasTableWith, IsFaultOf}
+use Rattle.configuration.specs.FaultOf.{key_of_flaw, is_no_toml, IsKeyLine, IsFaultOf}
 use Rattle.configuration.proofs.ReadingLaws.{refused_by_rule}
 use Rattle.configuration.proofs.AgreeLaws.{flawless, flawed}
 

@@ -1,10 +1,9 @@
 -- Lines, and what the texts of the first of them say of a key.
-use Rattle.std.proofs.Common.{◌≡◌, ◌≤◌, ◌<◌, ◌+◌, ℕ, Bool, true, false, List, [], ◌∷◌, length, take, take_all, Option, Some, None, inl, inr, leb, slice_index, refl, sym, ap, subst, ◌∙◌, arith}
+use Rattle.std.proofs.Common.{◌≡◌, ◌≤◌, ◌<◌, ◌+◌, ℕ, Bool, true, false, List, [], length, take, take_all, Some, None, inl, inr, leb, slice_index, refl, sym, ap, subst, ◌∙◌, arith}
 use Rattle.std.proofs.lemmas.Bool.{leb-true, leb-false, true≢false}
-use Rattle.toml.specs.Data.{Members, no_members}
+use Rattle.toml.specs.Data.{no_members}
 use Rattle.toml.specs.Parse.{parse_document}
 use Rattle.toml.proofs.OnLiterals.{toml_on_literals}
-use Rattle.configuration.specs.Reading.{IsTextOf}
 use Rattle.configuration.specs.Lines.{has_key, IsBehindFeed, IsLineEnd, NoLineEnds, SaysOf}
 
 -- no text that ends behind the first place, up to the second, has a table

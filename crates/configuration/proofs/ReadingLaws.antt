@@ -1,9 +1,9 @@
 -- What is read and why bytes are refused.
-use Rattle.std.proofs.Common.{◌≡◌, ℕ, Bool, true, false, cond, List, Some, None, Result, Ok, Err, IfOk, IfErr, MatchResult, refl, sym, ap, ◌∙◌}
+use Rattle.std.proofs.Common.{◌≡◌, ◌&&◌, ℕ, Bool, true, false, cond, List, Some, None, Result, Ok, Err, IfOk, IfErr, MatchResult, refl, sym, ap, ◌∙◌}
 use Rattle.configuration.specs.declared.config.Config.{Config}
 use Rattle.configuration.specs.declared.error.ConfigError.{ConfigError}
 use Rattle.configuration.specs.declared.error.ConfigError.TheVariants.{OutOfMemory, RelayPorts, Address, Users, MinExpires, Domain, File}
-use Rattle.configuration.specs.Rules.{has_relay_ports, has_address, has_users, has_lifetime, has_domain, first_broken, KeepsRules}
+use Rattle.configuration.specs.Rules.{has_relay_ports, has_address, has_users, has_lifetime, has_longest_lifetime, has_domain, first_broken, KeepsRules}
 use Rattle.configuration.specs.Files.{config_of}
 use Rattle.configuration.proofs.RuleLaws.{kept}
 use Rattle.configuration.specs.Reading.{Says, ReadsConfig, BreaksFirst, Refuses}
@@ -21,7 +21,7 @@ never_file false b c d e h = cc
 
 no_rule_of_files : (c : Config) → first_broken c ≡ Some File → ⊥
 unfolding first_broken
-no_rule_of_files c h = never_file (has_relay_ports c) (has_address c) (has_users c) (has_lifetime c) (has_domain c) h
+no_rule_of_files c h = never_file (has_relay_ports c) (has_address c) (has_users c) (has_lifetime c && has_longest_lifetime c) (has_domain c) h
 
 -- the bytes say one configuration at most
 pub one_said : (bytes : List ℕ) (c d : Config) → Says bytes c → Says bytes d → c ≡ d

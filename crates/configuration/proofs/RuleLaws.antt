@@ -1,9 +1,9 @@
 -- What the rules give that are kept.
-use Rattle.std.proofs.Common.{◌≡◌, ◌≢◌, ◌≤◌, ℕ, Bool, true, false, not, ◌&&◌, ◌==◌, cond, eqb, Some, None, refl, arith, List, [], ◌∷◌, subst}
+use Rattle.std.proofs.Common.{◌≡◌, ◌≢◌, ◌≤◌, ℕ, Bool, true, false, not, ◌&&◌, ◌==◌, cond, eqb, Option, Some, None, IfSome, refl, arith, List, [], ◌∷◌, subst}
 use Rattle.std.proofs.lemmas.Bool.{leb-true, eqb-true, eqb-false}
 use Rattle.configuration.specs.declared.config.Config.{Config}
 use Rattle.configuration.specs.declared.error.ConfigError.{ConfigError}
-use Rattle.configuration.specs.Rules.{is_server_address, has_relay_ports, has_address, has_users, has_lifetime, has_domain, first_broken, KeepsRules}
+use Rattle.configuration.specs.Rules.{is_server_address, has_relay_ports, has_address, has_users, has_lifetime, has_longest_lifetime, reaches, has_domain, first_broken, KeepsRules}
 
 -- no rule is broken where each is kept alone
 all_kept : (a b c d e : Bool) (u v w x y : ConfigError)
@@ -47,14 +47,19 @@ not_zero n h = step (eqb n 0) (λ e. eqb-false n 0 e) h where
 never_zero : is_server_address (0 ∷ 0 ∷ 0 ∷ 0 ∷ []) ≡ true → ⊥
 never_zero h = cc
 
+reached : (least : ℕ) (o : Option ℕ) → reaches least o ≡ true → IfSome o (λ most. least ≤ most)
+reached least None h = tt
+reached least (Some most) h = leb-true least most h
+
 pub kept : (c : Config) → first_broken c ≡ None → KeepsRules c
-unfolding first_broken has_relay_ports has_address has_users has_lifetime has_domain
+unfolding first_broken has_relay_ports has_address has_users has_lifetime has_longest_lifetime has_domain
 kept c h =
-    let rules = all_kept (has_relay_ports c) (has_address c) (has_users c) (has_lifetime c) (has_domain c) _ _ _ _ _ h in
+    let rules = all_kept (has_relay_ports c) (has_address c) (has_users c) (has_lifetime c && has_longest_lifetime c) (has_domain c) _ _ _ _ _ h in
     let ports = six _ _ _ _ _ _ rules.0 in
     let place = two _ _ rules.1 in
     let users = four _ _ _ _ rules.2 in
-    let lifetime = two _ _ rules.3 in
+    let lifetimes = two _ _ rules.3 in
+    let lifetime = two _ _ lifetimes.0 in
     record {
       even = eqb-true _ _ ports.0;
       least = leb-true _ _ ports.1;
@@ -72,5 +77,6 @@ kept c h =
       distinct = users.3;
       least_lifetime = leb-true _ _ lifetime.0;
       bounded_lifetime = leb-true _ _ lifetime.1;
+      longest_lifetime = reached c.min_expires c.max_expires lifetimes.1;
       domain = rules.4;
     }

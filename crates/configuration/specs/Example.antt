@@ -1,5 +1,5 @@
 -- The example office.
-use Rattle.std.specs.Prelude.{[], ◌∷◌, codes, Some, None, replicate}
+use Rattle.std.specs.Prelude.{[], ◌∷◌, codes, Some, None, false, replicate}
 use Rattle.configuration.specs.declared.config.Config.{Config}
 use Rattle.configuration.specs.declared.level.LogLevel.TheVariants as levels
 
@@ -13,6 +13,8 @@ example = record {
   sip_port = 5060;
   users = codes "100" ∷ codes "101" ∷ codes "102" ∷ [];
   min_expires = 60;
+  max_expires = None;
+  oldest_leaves = false;
   domain = Some (codes "office.example");
   workers = 2;
   answer_within = 32;

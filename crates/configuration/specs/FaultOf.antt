@@ -1,5 +1,5 @@
 -- Why a text is no configuration that keeps the rules, and where.
-use Rattle.std.specs.Prelude.{◌≡◌, ◌<◌, ◌≤◌, ◌⊎◌, ℕ, Bool, true, false, List, length, take, codes, Option, Some, None, IfSome, IfNone}
+use Rattle.std.specs.Prelude.{◌≡◌, ◌<◌, ◌≤◌, ◌⊎◌, ℕ, Bool, true, false, List, length, take, Option, Some, None, IfSome, IfNone}
 use Rattle.toml.specs.Data.{Members}
 use Rattle.configuration.specs.Reading.{IsTextOf}
 use Rattle.configuration.specs.Flaws.{key_name, flaw_in}

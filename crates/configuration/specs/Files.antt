@@ -7,6 +7,7 @@ use Rattle.hex.specs.Hex.{decode_sized}
 use Rattle.sip_uri.specs.Hosts.{ip4_of}
 use Rattle.sip_uri.specs.declared.uri.Addr.{Addr}
 use Rattle.configuration.specs.Limits.{max_answer_within, max_workers, usual_workers}
+use Rattle.configuration.specs.Flags.{flag_of}
 use Rattle.configuration.specs.Status.{status_at}
 use Rattle.configuration.specs.declared.config.Config.{Config}
 use Rattle.configuration.specs.declared.level.LogLevel.{LogLevel}
@@ -23,7 +24,7 @@ is_known_key key =
     is_same key (codes "relay_first") || is_same key (codes "relay_pairs") || is_same key (codes "ip") || is_same key (codes "sip_port")
     || is_same key (codes "users") || is_same key (codes "min_expires") || is_same key (codes "domain") || is_same key (codes "workers")
     || is_same key (codes "random_key") || is_same key (codes "log") || is_same key (codes "answer_within")
-    || is_same key (codes "status") || is_same key (codes "status_open")
+    || is_same key (codes "status") || is_same key (codes "status_open") || is_same key (codes "max_expires") || is_same key (codes "oldest_leaves")
 
 -- each key of the table is known
 abbrev pub has_known_keys : Members → Bool
@@ -70,23 +71,34 @@ workers_at ms = few_of max_workers usual_workers (get_member (codes "workers") m
 abbrev pub answer_within_at : Members → Option ℕ
 answer_within_at ms = few_of max_answer_within max_answer_within (get_member (codes "answer_within") ms)
 
--- the numbers, each key of which has to be there but those of the workers and of the first response
+-- the seconds that a binding lasts at most, a number that may be missing
+abbrev pub max_expires_of : Option Data → Option (Option ℕ)
+max_expires_of None = Some None
+max_expires_of (Some value) = option_map (λ z. Some (seconds_of z)) (as_integer value)
+
+abbrev pub max_expires_at : Members → Option (Option ℕ)
+max_expires_at ms = max_expires_of (get_member (codes "max_expires") ms)
+
+-- the numbers, each key of which has to be there but those of the greatest lifetime, of the workers and of the first
+-- response
 unfoldable pub numbers_at : Members → Option Numbers
 numbers_at ms =
     option_and_then (λ first.
     option_and_then (λ pairs.
     option_and_then (λ port.
     option_and_then (λ expires.
+    option_and_then (λ most.
     option_and_then (λ workers.
     option_and_then (λ within. Some (record {
       relay_first = port_of first;
       relay_pairs = port_of pairs;
       sip_port = port_of port;
       min_expires = seconds_of expires;
+      max_expires = most;
       workers = workers;
       answer_within = within;
     }))
-    (answer_within_at ms)) (workers_at ms)) (number_at (codes "min_expires") ms)) (number_at (codes "sip_port") ms)) (number_at (codes "relay_pairs") ms))
+    (answer_within_at ms)) (workers_at ms)) (max_expires_at ms)) (number_at (codes "min_expires") ms)) (number_at (codes "sip_port") ms)) (number_at (codes "relay_pairs") ms))
     (number_at (codes "relay_first") ms)
 
 -- ---- texts
@@ -151,14 +163,20 @@ log_at ms = log_of (get_member (codes "log") ms)
 
 -- ---- all of them
 
-abbrev pub config_from : Numbers → List ℕ → List ℕ → Option (List ℕ) → List (List ℕ) → LogLevel → Option Addr → Config
-config_from numbers ip key domain users log status = record {
+-- whether the bindings least recently refreshed leave
+abbrev pub oldest_leaves_at : Members → Option Bool
+oldest_leaves_at ms = flag_of (get_member (codes "oldest_leaves") ms)
+
+abbrev pub config_from : Numbers → Bool → List ℕ → List ℕ → Option (List ℕ) → List (List ℕ) → LogLevel → Option Addr → Config
+config_from numbers oldest_leaves ip key domain users log status = record {
   relay_first = numbers.relay_first;
   relay_pairs = numbers.relay_pairs;
   ip = ip;
   sip_port = numbers.sip_port;
   users = users;
   min_expires = numbers.min_expires;
+  max_expires = numbers.max_expires;
+  oldest_leaves = oldest_leaves;
   domain = domain;
   workers = numbers.workers;
   random_key = key;
@@ -173,11 +191,12 @@ unfoldable pub config_of : Members → Option Config
 config_of ms =
     if has_known_keys ms then
     option_and_then (λ numbers.
+    option_and_then (λ oldest_leaves.
     option_and_then (λ ip.
     option_and_then (λ key.
     option_and_then (λ domain.
     option_and_then (λ users.
     option_and_then (λ log.
-    option_and_then (λ status. Some (config_from numbers ip key domain users log status))
-    (status_at ms)) (log_at ms)) (users_at ms)) (domain_at ms)) (key_at ms)) (ip_at ms)) (numbers_at ms)
+    option_and_then (λ status. Some (config_from numbers oldest_leaves ip key domain users log status))
+    (status_at ms)) (log_at ms)) (users_at ms)) (domain_at ms)) (key_at ms)) (ip_at ms)) (oldest_leaves_at ms)) (numbers_at ms)
     else None

@@ -1,6 +1,6 @@
 -- What is wrong with a configuration's file: the first flaw, in the order in which its values are read and the rules
 -- are looked at.
-use Rattle.std.specs.Prelude.{◌≡◌, ◌==◌, ◌%◌, ℕ, ℤ, pos, Bool, true, false, not, ◌&&◌, nat_eq, nat_le, List, [], ◌∷◌, length, codes, Option, Some, None, is_some, option_and_then, unwrap_or, if◌then◌else◌}
+use Rattle.std.specs.Prelude.{◌==◌, ◌%◌, ℕ, ℤ, pos, Bool, true, false, ◌&&◌, nat_eq, nat_le, List, [], ◌∷◌, length, codes, Option, Some, None, is_some, option_and_then, unwrap_or, if◌then◌else◌}
 use Rattle.std.specs.List.{list_any}
 use Rattle.std.specs.Option.{option_or}
 use Rattle.std.specs.Cmp.Lexicographic.{pointwise}
@@ -8,9 +8,10 @@ use Rattle.toml.specs.Data.{Data, Items, no_items, item, Members, no_members, me
 use Rattle.registrar.specs.Limits.{max_users}
 use Rattle.configuration.specs.Limits.{min_relay_port, max_answer_within, max_relay_pairs, max_workers}
 use Rattle.configuration.specs.Names.{is_user}
-use Rattle.configuration.specs.Rules.{has_room_for_ports, is_relay_port, is_server_address, has_lifetime, has_domain}
+use Rattle.configuration.specs.Rules.{has_room_for_ports, is_relay_port, is_server_address, has_lifetime, has_longest_lifetime, has_domain}
 use Rattle.configuration.specs.Files.{is_known_key, few, natural, number_at, text_at, key_of, level_named, config_of}
-use Rattle.configuration.specs.Status.{page_at, open_of}
+use Rattle.configuration.specs.Flags.{flag_of}
+use Rattle.configuration.specs.Status.{page_at}
 use Rattle.configuration.specs.declared.config.Config.{Config}
 use Rattle.configuration.specs.declared.error.ConfigError.{ConfigError}
 use Rattle.configuration.specs.declared.error.ConfigError.TheVariants as rules
@@ -35,6 +36,8 @@ key_name keys.Log = codes "log"
 key_name keys.AnswerWithin = codes "answer_within"
 key_name keys.Status = codes "status"
 key_name keys.StatusOpen = codes "status_open"
+key_name keys.MaxExpires = codes "max_expires"
+key_name keys.OldestLeaves = codes "oldest_leaves"
 
 -- the rule of a key's value
 abbrev pub key_rule : Key → ConfigError
@@ -51,6 +54,8 @@ key_rule keys.Log = rules.File
 key_rule keys.AnswerWithin = rules.File
 key_rule keys.Status = rules.File
 key_rule keys.StatusOpen = rules.File
+key_rule keys.MaxExpires = rules.MinExpires
+key_rule keys.OldestLeaves = rules.File
 
 -- the rule that a flaw breaks
 abbrev pub rule_of : Flaw → ConfigError
@@ -97,6 +102,8 @@ has_type_of keys.Log value = is_some (as_str value)
 has_type_of keys.AnswerWithin value = is_some (as_integer value)
 has_type_of keys.Status value = is_some (as_str value)
 has_type_of keys.StatusOpen value = is_some (as_bool value)
+has_type_of keys.MaxExpires value = is_some (as_integer value)
+has_type_of keys.OldestLeaves value = is_some (as_bool value)
 
 abbrev pub type_flaw : Key → Data → Option Flaw
 type_flaw key value = if has_type_of key value then None else Some (OtherType key)
@@ -161,7 +168,7 @@ page_flaw is_open (Some value) = page_text_flaw is_open (as_str value)
 
 -- where both may be there: whether the page is open, and the page's address
 abbrev pub status_flaw : Option Data → Option Data → Option Flaw
-status_flaw is_open page = option_or (optional_flaw keys.StatusOpen is_open) (page_flaw (unwrap_or (open_of is_open) false) page)
+status_flaw is_open page = option_or (optional_flaw keys.StatusOpen is_open) (page_flaw (unwrap_or (flag_of is_open) false) page)
 
 -- the first flaw for which a table says no configuration
 unfoldable pub said_flaw : Members → Option Flaw
@@ -171,14 +178,16 @@ said_flaw ms =
     (option_or (required_flaw keys.RelayPairs (get_member (codes "relay_pairs") ms))
     (option_or (required_flaw keys.SipPort (get_member (codes "sip_port") ms))
     (option_or (required_flaw keys.MinExpires (get_member (codes "min_expires") ms))
+    (option_or (optional_flaw keys.MaxExpires (get_member (codes "max_expires") ms))
     (option_or (few_flaw keys.Workers max_workers (get_member (codes "workers") ms))
     (option_or (few_flaw keys.AnswerWithin max_answer_within (get_member (codes "answer_within") ms))
+    (option_or (optional_flaw keys.OldestLeaves (get_member (codes "oldest_leaves") ms))
     (option_or (required_flaw keys.Ip (get_member (codes "ip") ms))
     (option_or (random_key_flaw (get_member (codes "random_key") ms))
     (option_or (optional_flaw keys.Domain (get_member (codes "domain") ms))
     (option_or (users_type_flaw (get_member (codes "users") ms))
     (option_or (log_flaw (get_member (codes "log") ms))
-    (status_flaw (get_member (codes "status_open") ms) (get_member (codes "status") ms)))))))))))))
+    (status_flaw (get_member (codes "status_open") ms) (get_member (codes "status") ms)))))))))))))))
 
 -- ---- the rules
 
@@ -221,7 +230,10 @@ users_flaw c =
     else Some (UserCount (length c.users))
 
 unfoldable pub lifetime_flaw : Members → Config → Option Flaw
-lifetime_flaw ms c = if has_lifetime c then None else Some (OutOfRange keys.MinExpires (said_number ms keys.MinExpires))
+lifetime_flaw ms c =
+    if has_lifetime c
+    then (if has_longest_lifetime c then None else Some (OutOfRange keys.MaxExpires (said_number ms keys.MaxExpires)))
+    else Some (OutOfRange keys.MinExpires (said_number ms keys.MinExpires))
 
 unfoldable pub domain_flaw : Config → Option Flaw
 domain_flaw c = if has_domain c then None else Some (Malformed keys.Domain (unwrap_or c.domain []))

@@ -1,6 +1,7 @@
 pub mod Limits
 pub mod Domain
 pub mod Names
+pub mod Flags
 pub mod Status
 pub mod Rules
 pub mod Files

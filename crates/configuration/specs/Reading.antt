@@ -1,5 +1,5 @@
 -- Which configuration a file says, and why it is refused.
-use Rattle.std.specs.Prelude.{◌≡◌, ℕ, List, Option, Some, None, Result, Ok, Err, IsUtf8, pos, codes}
+use Rattle.std.specs.Prelude.{◌≡◌, ℕ, List, Option, Some, None, option_map, Result, Ok, Err, IsUtf8, pos, codes}
 use Rattle.toml.specs.Data.{Members}
 use Rattle.toml.specs.Parse.{parse_document}
 use Rattle.toml.specs.Errors.{IsMemory}
@@ -76,6 +76,7 @@ pub record IsWritten (ms : Members) (c : Config) : Type 0 where
   pub relay_pairs : number_at (codes "relay_pairs") ms ≡ Some (pos c.relay_pairs)
   pub sip_port : number_at (codes "sip_port") ms ≡ Some (pos c.sip_port)
   pub min_expires : number_at (codes "min_expires") ms ≡ Some (pos c.min_expires)
+  pub max_expires : number_at (codes "max_expires") ms ≡ option_map pos c.max_expires
   pub ip : (text : List ℕ) × (text_at (codes "ip") ms ≡ Some text) × (ip4_of text ≡ Some c.ip)
 
 abbrev pub IsWrittenIn : List ℕ → Config → Type 0

@@ -1,5 +1,5 @@
 -- The rules of a configuration, and the first that is broken.
-use Rattle.std.specs.Prelude.{◌≡◌, ◌≢◌, ◌==◌, ◌≤◌, ℕ, ◌+◌, ◌*◌, ◌%◌, Bool, not, ◌&&◌, nat_le, nat_lt, IsTrue, List, [], ◌∷◌, length, slice_index, Option, Some, None, if◌then◌else◌}
+use Rattle.std.specs.Prelude.{◌≡◌, ◌≢◌, ◌==◌, ◌≤◌, ℕ, ◌+◌, ◌*◌, ◌%◌, Bool, true, not, ◌&&◌, nat_le, nat_lt, IsTrue, IfSome, List, [], ◌∷◌, length, slice_index, Option, Some, None, if◌then◌else◌}
 use Rattle.std.specs.List.{list_all}
 use Rattle.text.specs.Class.{passes_if_there}
 use Rattle.registrar.specs.Registering.{are_distinct}
@@ -47,6 +47,14 @@ has_users c = nat_le 1 (length c.users) && nat_le (length c.users) max_users && 
 unfoldable pub has_lifetime : Config → Bool
 has_lifetime c = nat_le 1 c.min_expires && nat_le c.min_expires max_min_expires
 
+-- it is no less, where there is one
+abbrev pub reaches : ℕ → Option ℕ → Bool
+reaches least None = true
+reaches least (Some most) = nat_le least most
+
+unfoldable pub has_longest_lifetime : Config → Bool
+has_longest_lifetime c = reaches c.min_expires c.max_expires
+
 -- ---- the domain
 
 -- a name, where one is configured
@@ -61,7 +69,7 @@ first_broken c =
     if has_relay_ports c
     then (if has_address c
     then (if has_users c
-    then (if has_lifetime c
+    then (if has_lifetime c && has_longest_lifetime c
     then (if has_domain c then None else Some Domain)
     else Some MinExpires)
     else Some Users)
@@ -86,4 +94,5 @@ pub record KeepsRules (c : Config) : Type 0 where
   pub distinct : IsTrue (are_distinct c.users)
   pub least_lifetime : 1 ≤ c.min_expires
   pub bounded_lifetime : c.min_expires ≤ max_min_expires
+  pub longest_lifetime : IfSome c.max_expires (λ most. c.min_expires ≤ most)
   pub domain : IsTrue (passes_if_there is_domain c.domain)

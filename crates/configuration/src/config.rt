@@ -21,6 +21,10 @@ pub struct Config {
     pub users: Texts<'static>,
     /// The seconds that a binding lasts at least.
     pub min_expires: u32,
+    /// The seconds that a binding lasts at most; none where as long as is asked for.
+    pub max_expires: Option<u32>,
+    /// Whether the bindings least recently refreshed leave where a user would have too many.
+    pub oldest_leaves: bool,
     /// The office's domain. Where none is named, it is the server's address.
     pub domain: Option<Text<'static>>,
     /// How many threads carry media.
@@ -44,6 +48,8 @@ impl Drop for Config {
             sip_port: _,
             users: _,
             min_expires: _,
+            max_expires: _,
+            oldest_leaves: _,
             domain: _,
             workers: _,
             random_key: _,

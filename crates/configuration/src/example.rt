@@ -35,6 +35,8 @@ pub fn example_config(alloc: Global) -> Result<Config, AllocError>
         sip_port: 5060,
         users,
         min_expires: 60,
+        max_expires: None,
+        oldest_leaves: false,
         domain: Some(domain),
         workers: 2,
         random_key: [0; 32],

@@ -3,7 +3,7 @@
 ghost use Rattle.std.specs.Prelude.{◌≡◌, option_and_then};
 ghost use Rattle.toml.specs.Data.{as_str, get_member};
 ghost use Rattle.toml.specs.View.{view, array_view, table_view};
-ghost use Rattle.configuration.specs.Files.{few, few_in, few_of, natural, answer_within_at, workers_at, numbers_at, octets_of, ip_at, key_of, key_at, domain_at, texts_of, users_at, log_in, log_at, config_of};
+ghost use Rattle.configuration.specs.Files.{few, few_in, few_of, natural, answer_within_at, workers_at, max_expires_at, numbers_at, octets_of, ip_at, key_of, key_at, domain_at, texts_of, users_at, log_in, log_at, config_of};
 ghost use Rattle.configuration.specs.Reading.{Gives};
 
 use crate::config::Config;
@@ -11,7 +11,7 @@ use crate::error::ConfigError;
 use crate::level::{LogLevel, USUAL_LEVEL, level_named};
 use crate::numbers::{Numbers, below_2_8, port_of, seconds_of};
 use crate::status::status_at;
-use crate::tables::{array_at, has_known_keys, number_at, text_at, value_at};
+use crate::tables::{array_at, flag_at, has_known_keys, number_at, text_at, value_at};
 use hex::FromHex;
 use sip_uri::ip4;
 use std::alloc::Global;
@@ -72,6 +72,16 @@ fn answer_within_at(table: &Table) -> Option<u8>
     few_at(table, "answer_within", MAX_ANSWER_WITHIN, MAX_ANSWER_WITHIN)
 }
 
+/// The seconds that a binding lasts at most, where the key is there.
+fn max_expires_at(table: &Table) -> Option<Option<u32>>
+    ensures { result ≡ max_expires_at (table_view table.now) }
+{
+    match value_at(table, "max_expires") {
+        Some(value) => Some(Some(seconds_of(value.as_integer()?))),
+        None => Some(None),
+    }
+}
+
 #[tactic(auto, unfolding(crate::specs::Files::numbers_at))]
 fn numbers_at(table: &Table) -> Option<Numbers>
     ensures { result ≡ numbers_at (table_view table.now) }
@@ -80,6 +90,7 @@ fn numbers_at(table: &Table) -> Option<Numbers>
     let pairs = number_at(table, "relay_pairs")?;
     let port = number_at(table, "sip_port")?;
     let expires = number_at(table, "min_expires")?;
+    let max_expires = max_expires_at(table)?;
     let workers = workers_at(table)?;
     let answer_within = answer_within_at(table)?;
     Some(Numbers {
@@ -87,6 +98,7 @@ fn numbers_at(table: &Table) -> Option<Numbers>
         relay_pairs: port_of(pairs),
         sip_port: port_of(port),
         min_expires: seconds_of(expires),
+        max_expires,
         workers,
         answer_within,
     })
@@ -179,6 +191,7 @@ pub(crate) fn config_of(alloc: Global, table: &Table) -> Result<Config, ConfigEr
         return Err(ConfigError::File);
     }
     let numbers = numbers_at(table).ok_or(ConfigError::File)?;
+    let oldest_leaves = flag_at(table, "oldest_leaves").ok_or(ConfigError::File)?;
     let ip = ip_at(table).ok_or(ConfigError::File)?;
     let key = key_at(table).ok_or(ConfigError::File)?;
     let domain = domain_at(alloc, table)?;
@@ -192,6 +205,8 @@ pub(crate) fn config_of(alloc: Global, table: &Table) -> Result<Config, ConfigEr
         sip_port: numbers.sip_port,
         users,
         min_expires: numbers.min_expires,
+        max_expires: numbers.max_expires,
+        oldest_leaves,
         domain,
         workers: numbers.workers,
         random_key: key,

@@ -39,14 +39,15 @@ fn key_rule(key: Key) -> ConfigError
         Key::RelayFirst | Key::RelayPairs => ConfigError::RelayPorts,
         Key::Ip | Key::SipPort => ConfigError::Address,
         Key::Users => ConfigError::Users,
-        Key::MinExpires => ConfigError::MinExpires,
+        Key::MinExpires | Key::MaxExpires => ConfigError::MinExpires,
         Key::Domain => ConfigError::Domain,
         Key::Workers
         | Key::RandomKey
         | Key::Log
         | Key::AnswerWithin
         | Key::Status
-        | Key::StatusOpen => ConfigError::File,
+        | Key::StatusOpen
+        | Key::OldestLeaves => ConfigError::File,
     }
 }
 

@@ -16,11 +16,11 @@ use crate::key::Key;
 use crate::level::level_named;
 use crate::names::{is_among, is_user};
 use crate::rules::{
-    MAX_RELAY_PAIRS, MAX_USERS, MIN_RELAY_PORT, has_domain, has_lifetime, has_room_for_ports,
-    is_relay_port, is_server_address,
+    MAX_RELAY_PAIRS, MAX_USERS, MIN_RELAY_PORT, has_domain, has_lifetime, has_longest_lifetime,
+    has_room_for_ports, is_relay_port, is_server_address,
 };
-use crate::status::{open_at, page_at};
-use crate::tables::{is_known_key, number_at, text_at, value_at};
+use crate::status::page_at;
+use crate::tables::{flag_at, is_known_key, number_at, text_at, value_at};
 use std::alloc::{AllocError, Global};
 use text::Text;
 use toml::value::Array;
@@ -185,7 +185,7 @@ fn page_flaw(table: &Table, is_open: bool) -> Option<Flaw<'_>>
 fn status_flaw(table: &Table) -> Option<Flaw<'_>>
     ensures { result ≡ status_flaw (get_member (codes "status_open") (table_view table.now)) (get_member (codes "status") (table_view table.now)) }
 {
-    let is_open = open_at(table).unwrap_or(false);
+    let is_open = flag_at(table, "status_open").unwrap_or(false);
     optional_flaw(table, Key::StatusOpen).or(page_flaw(table, is_open))
 }
 
@@ -199,8 +199,10 @@ fn said_flaw(table: &Table) -> Option<Flaw<'_>>
         .or(required_flaw(table, Key::RelayPairs))
         .or(required_flaw(table, Key::SipPort))
         .or(required_flaw(table, Key::MinExpires))
+        .or(optional_flaw(table, Key::MaxExpires))
         .or(few_flaw(table, Key::Workers, MAX_WORKERS))
         .or(few_flaw(table, Key::AnswerWithin, MAX_ANSWER_WITHIN))
+        .or(optional_flaw(table, Key::OldestLeaves))
         .or(required_flaw(table, Key::Ip))
         .or(random_key_flaw(table))
         .or(optional_flaw(table, Key::Domain))
@@ -298,11 +300,13 @@ fn users_flaw(config: &Config) -> Option<Flaw<'_>>
 fn lifetime_flaw<'t>(table: &'t Table, config: &Config) -> Option<Flaw<'t>>
     ensures { result ≡ lifetime_flaw (table_view table.now) config.now }
 {
-    if has_lifetime(config) {
-        None
-    } else {
-        Some(Flaw::OutOfRange(Key::MinExpires, said_number(table, Key::MinExpires)))
+    if !has_lifetime(config) {
+        return Some(Flaw::OutOfRange(Key::MinExpires, said_number(table, Key::MinExpires)));
     }
+    if !has_longest_lifetime(config) {
+        return Some(Flaw::OutOfRange(Key::MaxExpires, said_number(table, Key::MaxExpires)));
+    }
+    None
 }
 
 #[tactic(auto, unfolding(crate::specs::Flaws::domain_flaw))]

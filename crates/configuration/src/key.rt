@@ -18,6 +18,8 @@ pub enum Key {
     AnswerWithin,
     Status,
     StatusOpen,
+    MaxExpires,
+    OldestLeaves,
 }
 
 impl Key {
@@ -43,6 +45,8 @@ impl Key {
             Key::AnswerWithin => "answer_within",
             Key::Status => "status",
             Key::StatusOpen => "status_open",
+            Key::MaxExpires => "max_expires",
+            Key::OldestLeaves => "oldest_leaves",
         }
     }
 
@@ -55,12 +59,13 @@ impl Key {
             | Key::RelayPairs
             | Key::SipPort
             | Key::MinExpires
+            | Key::MaxExpires
             | Key::Workers
             | Key::AnswerWithin => value.as_integer().is_some(),
             Key::Ip | Key::Domain | Key::RandomKey | Key::Log | Key::Status => {
                 value.as_str().is_some()
             }
-            Key::StatusOpen => value.as_bool().is_some(),
+            Key::StatusOpen | Key::OldestLeaves => value.as_bool().is_some(),
             Key::Users => value.as_array().is_some(),
         }
     }
@@ -82,7 +87,8 @@ impl Key {
             Key::Log => "\"none\", \"trouble\", \"calls\" or \"all\"",
             Key::AnswerWithin => "a number of seconds from 1 to 32",
             Key::Status => "ADDRESS:PORT, with a loopback address unless status_open is true,",
-            Key::StatusOpen => "true or false",
+            Key::StatusOpen | Key::OldestLeaves => "true or false",
+            Key::MaxExpires => "a number of seconds from min_expires to 4294967295",
         }
     }
 }

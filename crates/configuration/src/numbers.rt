@@ -10,6 +10,7 @@ pub(crate) struct Numbers {
     pub relay_pairs: u16,
     pub sip_port: u16,
     pub min_expires: u32,
+    pub max_expires: Option<u32>,
     pub workers: u8,
     pub answer_within: u8,
 }

@@ -2,7 +2,7 @@
 
 ghost use Rattle.std.specs.Prelude.{◌≡◌, ◌==◌, None, Some, MatchResult, OnOk};
 ghost use Rattle.std.specs.List.{list_all};
-ghost use Rattle.configuration.specs.Rules.{is_relay_port, has_room_for_ports, has_relay_ports, is_server_address, has_address, has_users, has_lifetime, has_domain, first_broken, KeepsRules};
+ghost use Rattle.configuration.specs.Rules.{is_relay_port, has_room_for_ports, has_relay_ports, is_server_address, has_address, has_users, has_lifetime, has_longest_lifetime, has_domain, first_broken, KeepsRules};
 
 use crate::config::Config;
 use crate::error::ConfigError;
@@ -82,6 +82,17 @@ pub(crate) fn has_lifetime(config: &Config) -> bool
     1 <= config.min_expires && config.min_expires <= MAX_MIN_EXPIRES
 }
 
+/// Whether the greatest lifetime of a binding, where there is one, is no less than the least.
+#[tactic(auto, unfolding(crate::specs::Rules::has_longest_lifetime))]
+pub(crate) fn has_longest_lifetime(config: &Config) -> bool
+    ensures { result ≡ has_longest_lifetime config.now }
+{
+    match config.max_expires {
+        Some(most) => config.min_expires <= most,
+        None => true,
+    }
+}
+
 #[tactic(auto, unfolding(crate::specs::Rules::has_domain))]
 pub(crate) fn has_domain(config: &Config) -> bool
     ensures { result ≡ has_domain config.now }
@@ -105,7 +116,7 @@ fn first_broken(config: &Config) -> Option<ConfigError>
     if !has_users(config) {
         return Some(ConfigError::Users);
     }
-    if !has_lifetime(config) {
+    if !(has_lifetime(config) && has_longest_lifetime(config)) {
         return Some(ConfigError::MinExpires);
     }
     if !has_domain(config) {

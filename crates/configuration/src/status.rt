@@ -3,9 +3,9 @@
 ghost use Rattle.std.specs.Prelude.{◌≡◌, codes, option_and_then};
 ghost use Rattle.toml.specs.Data.{as_str, get_member};
 ghost use Rattle.toml.specs.View.{view, table_view};
-ghost use Rattle.configuration.specs.Status.{page_port, page_addr, is_loopback, page_at, open_of, status_of, status_at};
+ghost use Rattle.configuration.specs.Status.{page_port, page_addr, is_loopback, page_at, status_of, status_at};
 
-use crate::tables::value_at;
+use crate::tables::{flag_at, value_at};
 use sip_uri::{Addr, ip4};
 use text::{cut, number_upto};
 use toml::{Table, Value};
@@ -50,16 +50,6 @@ pub(crate) fn page_at(is_open: bool, text: &[u8]) -> Option<Addr>
     }
 }
 
-/// Whether the page may have an address other than of loopback; none where the value is of another type.
-pub(crate) fn open_at(table: &Table) -> Option<bool>
-    ensures { result ≡ open_of (get_member (codes "status_open") (table_view table.now)) }
-{
-    match value_at(table, "status_open") {
-        Some(value) => value.as_bool(),
-        None => Some(false),
-    }
-}
-
 fn page_in(is_open: bool, value: &Value) -> Option<Addr>
     ensures { result ≡ option_and_then (page_at is_open) (as_str (view value.now)) }
 {
@@ -79,5 +69,5 @@ fn status_of(table: &Table, is_open: bool) -> Option<Option<Addr>>
 pub(crate) fn status_at(table: &Table) -> Option<Option<Addr>>
     ensures { result ≡ status_at (table_view table.now) }
 {
-    status_of(table, open_at(table)?)
+    status_of(table, flag_at(table, "status_open")?)
 }

@@ -6,6 +6,7 @@ ghost use Rattle.std.specs.Map.{keys_of};
 ghost use Rattle.std.specs.Option.{option_copied};
 ghost use Rattle.toml.specs.Data.{get_member};
 ghost use Rattle.toml.specs.View.{view, array_view, table_view};
+ghost use Rattle.configuration.specs.Flags.{flag_of};
 ghost use Rattle.configuration.specs.Files.{is_same, is_known_key, has_known_keys, number_at, text_at, array_at};
 
 use toml::value::Array;
@@ -35,6 +36,8 @@ pub(crate) fn is_known_key(key: &[u8]) -> bool
         || is_same(key, b"answer_within")
         || is_same(key, b"status")
         || is_same(key, b"status_open")
+        || is_same(key, b"max_expires")
+        || is_same(key, b"oldest_leaves")
 }
 
 fn all_known(table: &Table) -> bool
@@ -56,6 +59,16 @@ pub(crate) fn value_at<'t>(table: &'t Table, key: &str) -> Option<&'t Value>
     ensures { option_map (λ value. view value.now) result ≡ get_member key.now (table_view table.now) }
 {
     table.get(key)
+}
+
+/// Whether a key is true, which it is not where it is missing; none where the value is of another type.
+pub(crate) fn flag_at(table: &Table, key: &str) -> Option<bool>
+    ensures { result ≡ flag_of (get_member key.now (table_view table.now)) }
+{
+    match value_at(table, key) {
+        Some(value) => value.as_bool(),
+        None => Some(false),
+    }
 }
 
 /// The whole number at a key.

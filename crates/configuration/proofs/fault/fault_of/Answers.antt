@@ -1,5 +1,5 @@
 use Rattle.toml.specs.View.{table_view}
-use Rattle.configuration.proofs.FaultLaws.{found_in, rule_in, none_in, no_table_found, no_table_rule}
+use Rattle.configuration.proofs.FaultLaws.{found_in, rule_in, none_in}
 use Rattle.configuration.proofs.fault.fault_of.Goals as goal
 
 pub returns-in-Ok-clause-found : goal.returns-in-Ok-clause-found

@@ -1,4 +1,4 @@
-use Rattle.std.proofs.Common.{◌≡◌, ◌≤◌, ◌-◌, length, take, Some, false}
+use Rattle.std.proofs.Common.{◌≤◌, ◌-◌, length, take, Some, false}
 use Rattle.configuration.specs.Lines.{SaysOf}
 use Rattle.configuration.proofs.LineLaws.{NoneBetween}
 use Rattle.configuration.proofs.lines.place_of.Given as goal
