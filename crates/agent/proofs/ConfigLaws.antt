@@ -1,9 +1,9 @@
 -- Which faults a configuration can have.
-use Rattle.std.proofs.Common.{◌≡◌, Bool, true, false, cond, Some, None, subst}
+use Rattle.std.proofs.Common.{◌≡◌, ◌&&◌, Bool, true, false, cond, Some, None, subst}
 use Rattle.configuration.specs.declared.config.Config.{Config}
 use Rattle.configuration.specs.declared.error.ConfigError.{ConfigError}
 use Rattle.configuration.specs.declared.error.ConfigError.TheVariants.{OutOfMemory, RelayPorts, Address, Users, MinExpires, Domain, File}
-use Rattle.configuration.specs.Rules.{has_relay_ports, has_address, has_users, has_lifetime, has_domain, first_broken}
+use Rattle.configuration.specs.Rules.{has_relay_ports, has_address, has_users, has_lifetime, has_longest_lifetime, has_domain, first_broken}
 use Rattle.event_rows.specs.State.{RefusesConfig}
 
 -- a rule is broken, and neither memory is out nor a file ill formed
@@ -30,7 +30,7 @@ told true true true true true e h = absurd cc
 
 broken : (c : Config) (e : ConfigError) → first_broken c ≡ Some e → IsRule e
 unfolding first_broken
-broken c e h = told (has_relay_ports c) (has_address c) (has_users c) (has_lifetime c) (has_domain c) e h
+broken c e h = told (has_relay_ports c) (has_address c) (has_users c) (has_lifetime c && has_longest_lifetime c) (has_domain c) e h
 
 pub refuses : (c : Config) (e : ConfigError) → first_broken c ≡ Some e → RefusesConfig c e
 refuses c OutOfMemory h = absurd (broken c OutOfMemory h)

@@ -3,7 +3,7 @@
 ghost use Rattle.std.specs.Prelude.{◌≡◌, [], IfOk, IfErr, OnOk};
 ghost use Rattle.configuration.specs.Rules.{KeepsRules};
 ghost use Rattle.registrar.specs.Registrar.{StandsAfter};
-ghost use Rattle.event_rows.specs.State.{IsNew, RefusesConfig, first_wait_of, range_of, rules_by, server_of};
+ghost use Rattle.event_rows.specs.State.{IsNew, RefusesConfig, binding_rules_of, first_wait_of, range_of, rules_by, server_of};
 ghost use Rattle.media_laws.specs.Standing.{AgentStands};
 
 use crate::agent::Agent;
@@ -15,7 +15,7 @@ use media_laws::agents_stand;
 use message_laws::configuration_names_an_address;
 use offer_answer::OwnRange;
 use plans::Note;
-use registrar::Registrar;
+use registrar::{BindingRules, Registrar};
 use sip_uri::Addr;
 use std::alloc::{AllocError, Global};
 use text::{Text, Texts};
@@ -31,6 +31,16 @@ fn kept_texts(alloc: Global, texts: &[Text<'static>]) -> Result<Texts<'static>, 
     Ok(Texts::from_vec(kept))
 }
 
+fn binding_rules_of(config: &Config) -> BindingRules
+    ensures { result ≡ binding_rules_of config.now }
+{
+    BindingRules {
+        min_expires: config.min_expires,
+        max_expires: config.max_expires,
+        oldest_leaves: config.oldest_leaves,
+    }
+}
+
 fn registrar_of(alloc: Global, key: PrintKey, config: &Config) -> Result<Registrar, AllocError>
     requires { KeepsRules config.now }
     ensures { IfOk result (λ r. StandsAfter r (rules_by config.now) []) }
@@ -44,7 +54,7 @@ fn registrar_of(alloc: Global, key: PrintKey, config: &Config) -> Result<Registr
         config.ip,
         config.sip_port,
         domain,
-        config.min_expires,
+        binding_rules_of(config),
     )
 }
 

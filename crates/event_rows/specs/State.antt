@@ -6,6 +6,7 @@ use Rattle.configuration.specs.declared.error.ConfigError.TheVariants.{OutOfMemo
 use Rattle.configuration.specs.Domain.{domain_text}
 use Rattle.configuration.specs.Rules.{first_broken}
 use Rattle.registrar.specs.Registering.{Rules}
+use Rattle.registrar.specs.declared.binding_rules.BindingRules.{BindingRules}
 use Rattle.registrar.specs.Registrar.{after_plan, PlanContents, StandsAfter, rules_given}
 use Rattle.registrar.specs.Registrar as registrar
 use Rattle.transactions.specs.Contents as transactions
@@ -106,8 +107,11 @@ after_count s now taken = record s { changes = []; moment = now; tally = counted
 
 -- ---- the agent of a configuration
 
+abbrev pub binding_rules_of : Config → BindingRules
+binding_rules_of c = record { min_expires = c.min_expires; max_expires = c.max_expires; oldest_leaves = c.oldest_leaves }
+
 abbrev pub rules_by : Config → Rules
-rules_by c = rules_given c.users c.ip c.sip_port (domain_text c) c.min_expires
+rules_by c = rules_given c.users c.ip c.sip_port (domain_text c) (binding_rules_of c)
 
 abbrev pub server_of : Config → Addr
 server_of c = record { ip = c.ip; port = c.sip_port }

@@ -5,6 +5,9 @@ use Rattle.std.specs.Prelude.{◌==◌, not}
 use Rattle.std.proofs.lemmas.Bool.{cond_both, eqb-false, lt-ltb}
 use Rattle.std.proofs.lemmas.List.Elements.{All-append, All-cons, All-filter, All-head, All-map, All-nil, All-set, All-tail, filter_passes}
 use Rattle.sip_uri.specs.declared.uri.Uri.{Uri}
+use Rattle.registrar.specs.BindingRules.{granted, standing}
+use Rattle.registrar.specs.declared.binding_rules.BindingRules.{BindingRules}
+use Rattle.registrar.proofs.RecentLaws.{standing_all}
 use Rattle.registrar.specs.Registering.{AllLast, Rules, and_then, binding_by, bindings_after_one, bindings_by, first_number, is_of, lifetime, present, put, put_at, rank, unless_refused, uri_refusal, whole_refusal, with_contact, with_contact_at, with_contacts, with_number, with_uri, within_limit, without}
 use Rattle.registrar.specs.declared.binding.Binding.{Binding}
 use Rattle.registrar.specs.declared.refusal.Refusal.{Refusal}
@@ -51,21 +54,21 @@ uri_lasts register now bs number uri seconds h =
     cond_both (seconds == 0) (without bs uri) (put bs new) (AllLast now) (λ zero. All-filter (λ b. not (is_of uri b)) (Lasts now) bs h)
     (λ some. put_lasts now bs new (position (is_of uri) bs) h (lt-ltb now (now + seconds * 1000) (later now seconds (eqb-false seconds 0 some))))
 
-contact_lasts : (least : ℕ) (register : Register) (now : ℕ) (bs : List Binding) (number : ℕ) (contact : Contact) (uri : Option Uri) (after : List Binding) → AllLast now bs
-    → with_contact_at least register now bs number contact uri ≡ Ok after → AllLast now after
-contact_lasts least register now bs number contact None after h is = cc
-contact_lasts least register now bs number contact (Some uri) after h is =
-    let new = with_uri register now bs number uri (lifetime register contact) in
-    subst (AllLast now) (same_Ok new after (unless_none (uri_refusal least register bs uri (lifetime register contact)) (Ok new) after is))
-    (uri_lasts register now bs number uri (lifetime register contact) h)
+contact_lasts : (rules : BindingRules) (register : Register) (now : ℕ) (bs : List Binding) (number : ℕ) (contact : Contact) (uri : Option Uri) (after : List Binding) → AllLast now bs
+    → with_contact_at rules register now bs number contact uri ≡ Ok after → AllLast now after
+contact_lasts rules register now bs number contact None after h is = cc
+contact_lasts rules register now bs number contact (Some uri) after h is =
+    let new = with_uri register now bs number uri (granted rules (lifetime register contact)) in
+    subst (AllLast now) (same_Ok new after (unless_none (uri_refusal rules.min_expires register bs uri (lifetime register contact)) (Ok new) after is))
+    (uri_lasts register now bs number uri (granted rules (lifetime register contact)) h)
 
 -- ---- all of them
 
-contacts_last : (least : ℕ) (register : Register) (now number : ℕ) (contacts : List Contact) (bs after : List Binding) → AllLast now bs → with_contacts least register now number contacts bs ≡ Ok after → AllLast now after
-contacts_last least register now number [] bs after h is = subst (AllLast now) (same_Ok bs after is) h
-contacts_last least register now number (c ∷ cs) bs after h is =
-    let both = then_by (with_contact least register now bs number c) (λ kept. with_contacts least register now (number + 1) cs kept) after is in
-    contacts_last least register now (number + 1) cs both.kept after (contact_lasts least register now bs number c c.uri both.kept h both.first) both.then
+contacts_last : (rules : BindingRules) (register : Register) (now number : ℕ) (contacts : List Contact) (bs after : List Binding) → AllLast now bs → with_contacts rules register now number contacts bs ≡ Ok after → AllLast now after
+contacts_last rules register now number [] bs after h is = subst (AllLast now) (same_Ok bs after is) h
+contacts_last rules register now number (c ∷ cs) bs after h is =
+    let both = then_by (with_contact rules register now bs number c) (λ kept. with_contacts rules register now (number + 1) cs kept) after is in
+    contacts_last rules register now (number + 1) cs both.kept after (contact_lasts rules register now bs number c c.uri both.kept h both.first) both.then
 
 limit_by : (now : ℕ) (bs after : List Binding) (many : Bool) (refusal : Refusal) → AllLast now bs → cond many (Err refusal) (Ok (map (λ b. with_number (rank bs b) b) bs)) ≡ Ok after → AllLast now after
 limit_by now bs after true refusal h is = cc
@@ -76,13 +79,14 @@ limit_lasts : (now : ℕ) (bs after : List Binding) → AllLast now bs → withi
 limit_lasts now bs after h is = limit_by now bs after _ _ h is
 
 by_star : (rules : Rules) (register : Register) (now : ℕ) (bs after : List Binding) (star : Bool)
-    → cond star (Ok []) (and_then (with_contacts rules.min_expires register now (first_number bs) register.contacts (present now bs)) within_limit) ≡ Ok after → AllLast now after
+    → cond star (Ok []) (and_then (with_contacts rules.binding_rules register now (first_number bs) register.contacts (present now bs)) (λ kept. within_limit (standing rules.binding_rules kept))) ≡ Ok after → AllLast now after
 by_star rules register now bs after true is = subst (AllLast now) (same_Ok [] after is) (All-nil (Lasts now))
 by_star rules register now bs after false is =
-    let contacts = with_contacts rules.min_expires register now (first_number bs) register.contacts (present now bs) in
-    let both = then_by contacts within_limit after is in
-    limit_lasts now both.kept after
-    (contacts_last rules.min_expires register now (first_number bs) register.contacts (present now bs) both.kept (filter_passes (λ b. nat_lt now b.expires_at) bs) both.first) both.then
+    let contacts = with_contacts rules.binding_rules register now (first_number bs) register.contacts (present now bs) in
+    let both = then_by contacts (λ kept. within_limit (standing rules.binding_rules kept)) after is in
+    limit_lasts now (standing rules.binding_rules both.kept) after
+    (standing_all (Lasts now) rules.binding_rules both.kept
+    (contacts_last rules.binding_rules register now (first_number bs) register.contacts (present now bs) both.kept (filter_passes (λ b. nat_lt now b.expires_at) bs) both.first)) both.then
 
 pub answer_lasts : (rules : Rules) (register : Register) (now : ℕ) (bs after : List Binding) → bindings_after_one rules register now bs ≡ Ok after → AllLast now after
 unfolding bindings_after_one

@@ -17,6 +17,9 @@ use Rattle.sip_message.specs.declared.contact.ContactValue.{ContactValue}
 use Rattle.sip_message.specs.declared.contact.ContactValue.TheVariants.{Address, Star, Unreadable}
 use Rattle.sip_message.specs.declared.headers.Header.{Header}
 use Rattle.sip_message.specs.declared.message.Request.{Request}
+use Rattle.registrar.specs.BindingRules.{granted, standing}
+use Rattle.registrar.specs.declared.binding_rules.BindingRules.{BindingRules}
+use Rattle.registrar.proofs.RecentLaws.{standing_all}
 use Rattle.registrar.specs.Bound.{is_latest, latest, target_of}
 use Rattle.registrar.specs.Registering.{Rules, and_then, answer_by, answer_for, binding_by, bindings_after_one, bindings_by, first_number, is_bindable, is_bindable_at, is_bindable_uri, is_known, is_star_misused, is_star_stale, is_of, lifetime, present, put, put_at, rank, unless_refused, uri_refusal, whole_refusal, with_contact, with_contact_at, with_contacts, with_number, with_ranks, with_uri, within_limit, without}
 use Rattle.registrar.specs.Registrar.{Contents, PlanContents, answer_of, bindings_at, bindings_of, entries_with, is_for, plan_of, rules_of, with_bindings}
@@ -133,18 +136,18 @@ uri_bound register now bindings number uri seconds is all = by_zero (seconds == 
     by_zero true = All-filter (λ b. not (is_of uri b)) IsBound bindings all
     by_zero false = put_bound_at bindings new (position (is_of uri) bindings) is all
 
-contact_bound : (least : ℕ) (register : Register) (now : ℕ) (bindings : List Binding) (number : ℕ) (contact : Contact) (uri : Option Uri) → IsTargetIf uri → All IsBound bindings
-    → LeavesBound (with_contact_at least register now bindings number contact uri)
-contact_bound least register now bindings number contact None is all = tt
-contact_bound least register now bindings number contact (Some uri) is all =
-    unless_bound (uri_refusal least register bindings uri (lifetime register contact)) (Ok (with_uri register now bindings number uri (lifetime register contact)))
-    (λ none. uri_bound register now bindings number uri (lifetime register contact) is all)
+contact_bound : (rules : BindingRules) (register : Register) (now : ℕ) (bindings : List Binding) (number : ℕ) (contact : Contact) (uri : Option Uri) → IsTargetIf uri → All IsBound bindings
+    → LeavesBound (with_contact_at rules register now bindings number contact uri)
+contact_bound rules register now bindings number contact None is all = tt
+contact_bound rules register now bindings number contact (Some uri) is all =
+    unless_bound (uri_refusal rules.min_expires register bindings uri (lifetime register contact)) (Ok (with_uri register now bindings number uri (granted rules (lifetime register contact))))
+    (λ none. uri_bound register now bindings number uri (granted rules (lifetime register contact)) is all)
 
-contacts_bound : (least : ℕ) (register : Register) (now number : ℕ) (cs : List Contact) (bindings : List Binding) → AreTargets cs → All IsBound bindings → LeavesBound (with_contacts least register now number cs bindings)
-contacts_bound least register now number [] bindings targets all = all
-contacts_bound least register now number (c ∷ cs) bindings targets all =
-    then_bound (with_contact least register now bindings number c) (λ kept. with_contacts least register now (number + 1) cs kept) (contact_bound least register now bindings number c c.uri targets.0 all)
-    (λ kept each. contacts_bound least register now (number + 1) cs kept targets.1 each)
+contacts_bound : (rules : BindingRules) (register : Register) (now number : ℕ) (cs : List Contact) (bindings : List Binding) → AreTargets cs → All IsBound bindings → LeavesBound (with_contacts rules register now number cs bindings)
+contacts_bound rules register now number [] bindings targets all = all
+contacts_bound rules register now number (c ∷ cs) bindings targets all =
+    then_bound (with_contact rules register now bindings number c) (λ kept. with_contacts rules register now (number + 1) cs kept) (contact_bound rules register now bindings number c c.uri targets.0 all)
+    (λ kept each. contacts_bound rules register now (number + 1) cs kept targets.1 each)
 
 limit_bound : (bindings : List Binding) → All IsBound bindings → LeavesBound (within_limit bindings)
 limit_bound bindings all = by_limit (nat_lt 8 (length bindings))
@@ -156,9 +159,10 @@ limit_bound bindings all = by_limit (nat_lt 8 (length bindings))
 all_bound : (rules : Rules) (register : Register) (now : ℕ) (bindings : List Binding) → AreTargets register.contacts → All IsBound bindings → LeavesBound (bindings_by rules register now bindings)
 all_bound rules register now bindings targets all = by_star register.star
   where
-    by_star : (b : Bool) → LeavesBound (cond b (Ok []) (and_then (with_contacts rules.min_expires register now (first_number bindings) register.contacts (present now bindings)) within_limit))
+    by_star : (b : Bool) → LeavesBound (cond b (Ok []) (and_then (with_contacts rules.binding_rules register now (first_number bindings) register.contacts (present now bindings)) (λ kept. within_limit (standing rules.binding_rules kept))))
     by_star true = All-nil IsBound
-    by_star false = then_bound _ within_limit (contacts_bound rules.min_expires register now _ register.contacts (present now bindings) targets (All-filter _ IsBound bindings all)) limit_bound
+    by_star false = then_bound _ (λ kept. within_limit (standing rules.binding_rules kept)) (contacts_bound rules.binding_rules register now _ register.contacts (present now bindings) targets (All-filter _ IsBound bindings all))
+        (λ kept each. limit_bound (standing rules.binding_rules kept) (standing_all IsBound rules.binding_rules kept each))
 
 -- where it is not refused as a whole, each contact may be bound
 whole_bindable : (misused bindable stale : Bool) → cond misused (Some StarMisused) (cond (not bindable) (Some BadContact) (cond stale (Some OutOfOrder) None)) ≡ None → bindable ≡ true
