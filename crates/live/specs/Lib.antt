@@ -3,6 +3,7 @@ pub mod Rounds
 pub mod Salts
 pub mod Sending
 pub mod Serving
+pub mod Starts
 pub mod States
 pub mod Traces
 pub mod Troubles

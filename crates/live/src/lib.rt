@@ -16,7 +16,9 @@ mod wire;
 pub use buffer::{DatagramBuffer, datagram_buffer};
 pub use number_log::NumberLog;
 pub use round::Round;
-pub use salt::{next_print_key, next_salt, salts_have_their_own_places, salts_of};
+pub use salt::{
+    next_print_key, next_salt, salts_have_their_own_places, salts_of, starts_have_their_own_places,
+};
 pub use service::{Clock, serve};
 pub use signalling::Signalling;
 pub use streaks::{End, Streaks};

@@ -1,20 +1,28 @@
 //! The salts of events, drawn from the configured key.
 
-ghost use Rattle.std.specs.Prelude.{◌≡◌, ◌≢◌, ◌<◌, ◌^◌, ℕ};
-ghost use Rattle.rand_chacha.specs.ChaCha.{ChaCha, key_of};
+ghost use Rattle.std.specs.Prelude.{◌≡◌, ◌≢◌, ◌<◌, ◌/◌, ◌^◌, ℕ, List};
+ghost use Rattle.std.specs.Duration.{as_nanos};
+ghost use Rattle.rand_chacha.specs.ChaCha.{ChaCha};
 ghost use Rattle.live.specs.Salts.{after_salt, behind_salts, next_place, salt_at};
+ghost use Rattle.live.specs.Starts.{begun_at};
 
 use index::PrintKey;
 use rand_chacha::ChaCha20Rng;
 use rand_core::SeedableRng;
 use rand_core::utils::next_u64_via_u32;
+use std::time::Duration;
 
-/// The generator of a key: its stream is the second of the start. Takes no memory.
-pub fn salts_of(key: [u8; 32], start: u64) -> ChaCha20Rng
-    ensures { result ≡ record { key = key_of key; stream = start; word_pos = 0 } }
+/// Words of a stream that each microsecond of a second has.
+const WORDS_A_MICROSECOND: u128 = 1 << 48;
+
+/// The generator of a key at a start, which is so long after 1970: its stream is the second, and its first place the
+/// microsecond's. Takes no memory.
+pub fn salts_of(key: [u8; 32], start: Duration) -> ChaCha20Rng
+    ensures { result ≡ begun_at key (as_nanos start) }
 {
     let mut salts = ChaCha20Rng::from_seed(key);
-    salts.set_stream(start);
+    salts.set_stream(start.as_secs());
+    salts.set_word_pos(u128::from(start.subsec_micros()) * WORDS_A_MICROSECOND);
     salts
 }
 
@@ -40,4 +48,11 @@ pub fn next_print_key(salts: &mut ChaCha20Rng) -> PrintKey
 /// Of fewer than 2^67 salts each has its own place in the stream.
 pub fn salts_have_their_own_places()
     ensures { (g : ChaCha) (m n : ℕ) → m < n → n < 2 ^ 67 → (behind_salts g m).word_pos ≢ (behind_salts g n).word_pos }
+{}
+
+/// Two starts at different microseconds have none of their first 2^47 salts at one place of one stream.
+pub fn starts_have_their_own_places()
+    ensures { (key : List ℕ) (a b m n : ℕ) → a / 1_000 ≢ b / 1_000 → m < 2 ^ 47 → n < 2 ^ 47
+        → (behind_salts (begun_at key a) m).stream ≡ (behind_salts (begun_at key b) n).stream
+        → (behind_salts (begun_at key a) m).word_pos ≢ (behind_salts (begun_at key b) n).word_pos }
 {}

@@ -3,8 +3,9 @@
 ghost use Rattle.std.specs.Prelude.{◌≡◌, [], IfErr, IfOk};
 ghost use Rattle.event_rows.specs.State.{IsNew};
 ghost use Rattle.media_laws.specs.Standing.{AgentStands};
-ghost use Rattle.rand_chacha.specs.ChaCha.{key_of};
+ghost use Rattle.std.specs.Duration.{as_nanos};
 ghost use Rattle.live.specs.Salts.{after_salt};
+ghost use Rattle.live.specs.Starts.{begun_at};
 ghost use Rattle.live.specs.Turns.{HasTable};
 
 use crate::buffer::{DatagramBuffer, datagram_buffer};
@@ -15,6 +16,7 @@ use rand_chacha::ChaCha20Rng;
 use relay::Board;
 use std::alloc::Global;
 use std::sync::Wait;
+use std::time::Duration;
 
 /// The agent with its board, its socket, its salts and a buffer for one datagram. It is not `Drop`, since the board is
 /// not: end it by `close`.
@@ -29,14 +31,14 @@ pub struct Signalling<W> {
 
 impl<W> Signalling<W> {
     /// The signalling of a configuration, to which nothing has happened, on a board and a wire: its salts are those of
-    /// the configured key in the stream of the second of the start, behind the key of prints. The board comes back
+    /// the configured key at the start, which is so long after 1970, behind the key of prints. The board comes back
     /// where it can't be made.
     pub fn new(
         alloc: Global,
         config: &Config,
         board: Board,
         wire: W,
-        start: u64,
+        start: Duration,
     ) -> Result<Signalling<W>, (Board, ConfigError)>
     where
         W: Drop,
@@ -45,7 +47,7 @@ impl<W> Signalling<W> {
         ensures board { IfOk result (λ signalling. signalling.board ≡ board) }
         ensures wire { IfOk result (λ signalling. signalling.wire ≡ wire) }
         ensures salts { IfOk result (λ signalling. signalling.salts
-            ≡ after_salt (after_salt (record { key = key_of config.now.random_key; stream = start; word_pos = 0 }))) }
+            ≡ after_salt (after_salt (begun_at config.now.random_key (as_nanos start)))) }
         ensures table { board ≡ [] → IfOk result (λ signalling. HasTable signalling.board signalling.agent) }
         ensures err { IfErr result (λ refused. refused.0 ≡ board) }
     {

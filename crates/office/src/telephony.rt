@@ -34,6 +34,7 @@ use std::snapshot::Snapshot;
 use std::sync::Wait;
 use std::sync::atomic::{AtomicBool, AtomicUsize, Ordering};
 use std::thread::Threads;
+use std::time::Duration;
 use std::{io, thread};
 
 /// So many milliseconds the signalling waits for the workers to begin, and so many between two looks.
@@ -325,7 +326,7 @@ fn parts_of<R: Wait>(
     config: &Config,
     sockets: Sockets,
     lines: LogLines,
-    start: u64,
+    start: Duration,
 ) -> Result<(Signalling<SipWire>, Vec<Worker<MediaSockets>>), HostFault>
     ensures { IfOk result (λ parts. HasTable parts.0.board parts.0.agent) }
 {
@@ -380,9 +381,10 @@ impl<R: Net + Files + Clock + Threads + Wait + Sync + Shared + Print + Eprint + 
             }
         };
         let mut watch = Watch::new(self.rt).map_err(host_fault)?;
-        let start = self.rt.since_1970().map_err(host_fault)?.as_secs();
+        let start = self.rt.since_1970().map_err(host_fault)?;
         let (events, sending, writer) = open_log(self.rt, alloc)?;
-        let (desk, page) = page_of(alloc, server, start).map_err(|_| HostFault::OutOfMemory)?;
+        let second = start.as_secs();
+        let (desk, page) = page_of(alloc, server, second).map_err(|_| HostFault::OutOfMemory)?;
         let (signalling, workers) = parts_of(self.rt, alloc, config, sockets, sending, start)?;
         let Ok(counts) = Counts::of_workers(alloc, &workers) else {
             signalling.close(self.rt);
