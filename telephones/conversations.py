@@ -1,0 +1,283 @@
+"""Calls of many kinds between two telephones, as chance has it: how each goes, and why one fails."""
+import re
+
+from talking import T1, T2, WHOLE, header, key_of, status_of
+
+KINDS = ("talked", "held", "busy", "declined", "cancelled")
+REFUSALS = {"busy": 486, "declined": 603}
+# So long an end rings, talks and holds at most, in seconds; and so often it speaks.
+RINGS, TALKS, HOLDS, SPEAKS = 1.0, 2.0, 1.0, 4
+# No call takes so long, whatever the line loses.
+STUCK = 300
+
+
+def media_port(description):
+    found = re.search(r"m=audio (\d+)", description)
+    return int(found[1]) if found else 0
+
+
+def number_of(message):
+    return int(header(message, "CSeq").split()[0])
+
+
+def first_uri(contact):
+    return re.search(r"<(.*?)>", contact)[1]
+
+
+class Leg:
+    """What an end knows of its dialog: the tag of its own, the Call-ID, the number of its last request, and where the other end is."""
+
+    def __init__(self, tag, call=""):
+        self.tag, self.call, self.number = tag, call, 1
+        self.to = self.contact = self.invite = ""
+        # The server's port for its media; the numbers of INVITEs that the other end acknowledged; whether a CANCEL is sent.
+        self.hop, self.acknowledged, self.cancels = 0, set(), False
+
+    def learn(self, to, message):
+        self.to, self.contact, self.hop = to, first_uri(header(message, "Contact")), media_port(message)
+
+
+class Conversation:
+    """One call, from its INVITE until both ends know that it is over."""
+
+    def __init__(self, loop, fate, number, caller, callee, over):
+        self.loop, self.fate, self.number, self.over = loop, fate, number, over
+        self.caller, self.callee = caller, callee
+        self.kind = fate.choice(KINDS)
+        self.word = f"call {number}".encode()
+        self.fault, self.is_over, self.heard = "", False, set()
+        self.left = {caller, callee}
+        self.ends = {caller: Leg(f"a{number}", f"c{number}.{fate.getrandbits(40):x}"), callee: Leg(f"b{number}")}
+        self.stop_answer = lambda: None
+        for it in self.left:
+            it.forget()
+        self.stuck = loop.after(STUCK, lambda: self.fail("stuck"))
+        callee.takes, caller.takes = self.called, self.told
+        caller.hears = lambda data: self.hear(caller, data)
+        callee.hears = lambda data: self.hear(callee, data)
+        uri = f"sip:{callee.user}@{caller.domain}"
+        self.invite = caller.ask("INVITE", uri, f"<{uri}>", self.ends[caller].call, 1, self.ends[caller].tag, self.answered, self.unheard, caller.description())
+
+    # ---- how it ends
+
+    def leave(self, end):
+        """This end knows that the call is over."""
+        self.left.discard(end)
+        if not self.left and not self.is_over:
+            self.finish()
+
+    def finish(self):
+        self.is_over = True
+        self.stop_answer()
+        self.stuck()
+        self.over(self)
+
+    def fail(self, fault):
+        self.fault = self.fault or fault
+        self.left.clear()
+        if not self.is_over:
+            self.finish()
+
+    def unheard(self, asked):
+        """No response came: the line's fault, or the server's."""
+        whose = "the line's" if asked.telephone.line.is_to_blame(asked.key) else "the server's"
+        self.fail(f"no response to {asked.key[1]}, {whose}")
+
+    # ---- the caller
+
+    def answered(self, response):
+        """A response to the first INVITE, or its 2xx again."""
+        status, end = status_of(response), self.ends[self.caller]
+        if status < 200:
+            if self.kind == "cancelled" and not end.cancels:
+                end.cancels = True
+                self.loop.after(self.fate.random() * RINGS, self.cancel)
+            return
+        if status >= 300:
+            self.acknowledge_refusal(self.caller, self.invite, response)
+            self.refused(status)
+            return
+        is_first = not end.contact
+        end.learn(header(response, "To"), response)
+        self.acknowledge(self.caller, 1)
+        if is_first:
+            if self.kind not in ("talked", "held"):
+                self.fail(f"answered, though {self.kind}")
+                return
+            self.talk(self.caller)
+
+    def refused(self, status):
+        wanted = REFUSALS.get(self.kind, 487 if self.kind == "cancelled" else 0)
+        if status != wanted and not self.fault:
+            self.fail(f"{status} where {wanted or 200} is due")
+        self.leave(self.caller)
+
+    def cancel(self):
+        if self.invite.is_over or self.is_over:
+            return
+        uri = f"sip:{self.callee.user}@{self.caller.domain}"
+        end = self.ends[self.caller]
+        self.caller.ask("CANCEL", uri, f"<{uri}>", end.call, 1, end.tag, lambda response: None, self.unheard, branch=self.invite.key[0])
+
+    def acknowledge_refusal(self, telephone, asked, response):
+        """The ACK of a refusal is of the INVITE's branch (section 17.1.1.3)."""
+        end, uri = self.ends[telephone], asked.text.split()[1]
+        telephone.put(telephone.request("ACK", uri, header(response, "To"), end.call, number_of(response), end.tag, branch=asked.key[0]))
+
+    def acknowledge(self, telephone, number):
+        end = self.ends[telephone]
+        telephone.put(telephone.request("ACK", end.contact, end.to, end.call, number, end.tag))
+
+    # ---- the callee
+
+    def called(self, request):
+        """A request that came to the callee."""
+        method, call = request.split()[0], self.ends[self.callee].call
+        if method == "INVITE" and not call and ";tag=" not in header(request, "To"):
+            self.ring(request)
+        elif header(request, "Call-ID") != call:
+            self.disown(self.callee, request)
+        elif method == "CANCEL":
+            self.callee.respond(request, 200, self.ends[self.callee].tag)
+            if self.kind == "cancelled":
+                self.refuse(487)
+        else:
+            self.take_inside(self.callee, request)
+
+    def ring(self, request):
+        end = self.ends[self.callee]
+        end.call, end.invite = header(request, "Call-ID"), request
+        end.learn(header(request, "From"), request)
+        self.callee.respond(request, 180, end.tag)
+        if self.kind != "cancelled":
+            self.stop_answer = self.loop.after(self.fate.random() * RINGS, self.answer)
+
+    def answer(self):
+        if self.kind in REFUSALS:
+            self.refuse(REFUSALS[self.kind])
+        else:
+            self.accept(self.callee, self.ends[self.callee].invite, self.callee.description())
+            self.speak(self.callee)
+
+    def refuse(self, status):
+        end = self.ends[self.callee]
+        self.callee.respond(end.invite, status, end.tag)
+        self.repeat(self.callee, end.invite)
+        self.leave(self.callee)
+
+    def accept(self, telephone, invite, description):
+        telephone.respond(invite, 200, self.ends[telephone].tag, description)
+        self.repeat(telephone, invite)
+
+    def repeat(self, telephone, invite, interval=T1, left=WHOLE):
+        """A final response to an INVITE goes again until its ACK comes (sections 13.3.1.4 and 17.2.1)."""
+
+        def again():
+            if number_of(invite) in self.ends[telephone].acknowledged or left <= 0:
+                return
+            said, _ = telephone.said.get(key_of(invite), ("", 0))
+            if said:
+                telephone.put(said)
+                self.repeat(telephone, invite, min(2 * interval, T2), left - interval)
+
+        self.loop.after(interval, again)
+
+    # ---- both
+
+    def told(self, request):
+        """A request that came to the caller."""
+        if header(request, "Call-ID") == self.ends[self.caller].call:
+            self.take_inside(self.caller, request)
+        else:
+            self.disown(self.caller, request)
+
+    @staticmethod
+    def disown(telephone, request):
+        """A request of another call."""
+        if request.split()[0] != "ACK":
+            telephone.respond(request, 481, "none")
+
+    def take_inside(self, telephone, request):
+        method, end = request.split()[0], self.ends[telephone]
+        if method == "ACK":
+            end.acknowledged.add(number_of(request))
+        elif method == "BYE":
+            telephone.respond(request, 200, end.tag)
+            self.leave(telephone)
+        elif method == "INVITE":
+            end.hop = media_port(request)
+            self.accept(telephone, request, telephone.description("recvonly" if "a=sendonly" in request else "sendrecv"))
+        else:
+            telephone.respond(request, 405, end.tag)
+
+    def talk(self, telephone):
+        """Both speak; then an end holds, where one does; then an end hangs up."""
+        self.speak(telephone)
+        if self.kind == "held":
+            self.loop.after(self.fate.random() * TALKS, self.hold)
+        else:
+            self.loop.after(self.fate.random() * TALKS, self.hang_up)
+
+    def speak(self, telephone, left=SPEAKS):
+        hop = self.ends[telephone].hop
+        if hop and not self.is_over and left:
+            telephone.media.sendto(self.word, (telephone.ip, hop))
+            self.loop.after(0.2, lambda: self.speak(telephone, left - 1))
+
+    def hear(self, telephone, data):
+        if data != self.word:
+            self.fail(f"{telephone.user} hears {data!r} in {self.word!r}")
+        self.heard.add(telephone)
+
+    def hold(self):
+        if self.is_over:
+            return
+        self.holder = self.fate.choice((self.caller, self.callee))
+        self.reoffer("sendonly", lambda: self.loop.after(self.fate.random() * HOLDS, lambda: self.reoffer("sendrecv", self.hang_up)))
+
+    def reoffer(self, way, then):
+        """The end that holds offers again, and goes on when that is answered."""
+        if self.is_over:
+            return
+        telephone, end = self.holder, self.ends[self.holder]
+        end.number += 1
+        number, seen = end.number, []
+
+        def took(response):
+            status = status_of(response)
+            if status < 200:
+                return
+            if status >= 300:
+                self.acknowledge_refusal(telephone, asked, response)
+                self.wait_or_fail(status, seen, way, then)
+                return
+            self.acknowledge(telephone, number)
+            if not seen:
+                seen.append(response)
+                then()
+
+        asked = telephone.ask("INVITE", end.contact, end.to, end.call, number, end.tag, took, self.unheard, telephone.description(way))
+
+    def wait_or_fail(self, status, seen, way, then):
+        """An offer that clashed comes again (section 14.1): the ACK of the last one was lost, say."""
+        if status not in (491, 500):
+            self.fail(f"{status} to an offer of the call")
+        elif not seen:
+            seen.append(status)
+            self.loop.after(2 + 2 * self.fate.random(), lambda: self.reoffer(way, then))
+
+    def hang_up(self):
+        if self.is_over:
+            return
+        telephone = self.fate.choice((self.caller, self.callee))
+        end = self.ends[telephone]
+        end.number += 1
+
+        def took(response):
+            status = status_of(response)
+            if status > 200:
+                self.fail(f"{status} to a BYE")
+            elif status == 200:
+                self.leave(telephone)
+
+        telephone.ask("BYE", end.contact, end.to, end.call, end.number, end.tag, took, self.unheard)
