@@ -51,7 +51,7 @@ class Conversation:
         self.stop_answer = lambda: None
         for it in self.left:
             it.forget()
-        self.stuck = loop.after(STUCK, lambda: self.fail("stuck"))
+        self.stuck = loop.after(STUCK, self.give_up)
         callee.takes, caller.takes = self.called, self.told
         caller.hears = lambda data: self.hear(caller, data)
         callee.hears = lambda data: self.hear(callee, data)
@@ -77,6 +77,13 @@ class Conversation:
         self.left.clear()
         if not self.is_over:
             self.finish()
+
+    def give_up(self):
+        """An end doesn't learn that the call is over: the line's fault where it rings, and none of its responses passed, so that no CANCEL may come."""
+        waiting = " and ".join(sorted("caller" if it is self.caller else "callee" for it in self.left))
+        invite = self.ends[self.callee].invite
+        is_unheard = invite and self.left == {self.callee} and not self.callee.line.passed[key_of(invite)]
+        self.fail(f"{self.kind}, {waiting} there after {STUCK} s, {'the line' if is_unheard else 'the server'}'s")
 
     def unheard(self, asked):
         """No response came: the line's fault, or the server's."""
