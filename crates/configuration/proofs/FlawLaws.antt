@@ -46,21 +46,23 @@ any_default (x ∷ xs) (suc i) d e less = any_default xs i d e (omega (arith, le
 -- ---- the first of some flaws
 
 -- however they are grouped
-pub grouped : (a b c d e f g h i j k l m n o : Option Flaw)
-    → option_or (option_or (option_or (option_or (option_or (option_or (option_or (option_or (option_or (option_or (option_or (option_or (option_or (option_or a b) c) d) e) f) g) h) i) j) k) l) m) n) o
-    ≡ option_or a (option_or b (option_or c (option_or d (option_or e (option_or f (option_or g (option_or h (option_or i (option_or j (option_or k (option_or l (option_or m (option_or n o)))))))))))))
-grouped (Some x) b c d e f g h i j k l m n o = refl
-grouped None (Some x) c d e f g h i j k l m n o = refl
-grouped None None (Some x) d e f g h i j k l m n o = refl
-grouped None None None (Some x) e f g h i j k l m n o = refl
-grouped None None None None (Some x) f g h i j k l m n o = refl
-grouped None None None None None (Some x) g h i j k l m n o = refl
-grouped None None None None None None (Some x) h i j k l m n o = refl
-grouped None None None None None None None (Some x) i j k l m n o = refl
-grouped None None None None None None None None (Some x) j k l m n o = refl
-grouped None None None None None None None None None (Some x) k l m n o = refl
-grouped None None None None None None None None None None (Some x) l m n o = refl
-grouped None None None None None None None None None None None (Some x) m n o = refl
-grouped None None None None None None None None None None None None (Some x) n o = refl
-grouped None None None None None None None None None None None None None (Some x) o = refl
-grouped None None None None None None None None None None None None None None o = refl
+pub grouped : (a b c d e f g h i j k l m n o p q : Option Flaw)
+    → option_or (option_or (option_or (option_or (option_or (option_or (option_or (option_or (option_or (option_or (option_or (option_or (option_or (option_or (option_or (option_or a b) c) d) e) f) g) h) i) j) k) l) m) n) o) p) q
+    ≡ option_or a (option_or b (option_or c (option_or d (option_or e (option_or f (option_or g (option_or h (option_or i (option_or j (option_or k (option_or l (option_or m (option_or n (option_or o (option_or p q)))))))))))))))
+grouped (Some x) b c d e f g h i j k l m n o p q = refl
+grouped None (Some x) c d e f g h i j k l m n o p q = refl
+grouped None None (Some x) d e f g h i j k l m n o p q = refl
+grouped None None None (Some x) e f g h i j k l m n o p q = refl
+grouped None None None None (Some x) f g h i j k l m n o p q = refl
+grouped None None None None None (Some x) g h i j k l m n o p q = refl
+grouped None None None None None None (Some x) h i j k l m n o p q = refl
+grouped None None None None None None None (Some x) i j k l m n o p q = refl
+grouped None None None None None None None None (Some x) j k l m n o p q = refl
+grouped None None None None None None None None None (Some x) k l m n o p q = refl
+grouped None None None None None None None None None None (Some x) l m n o p q = refl
+grouped None None None None None None None None None None None (Some x) m n o p q = refl
+grouped None None None None None None None None None None None None (Some x) n o p q = refl
+grouped None None None None None None None None None None None None None (Some x) o p q = refl
+grouped None None None None None None None None None None None None None None (Some x) p q = refl
+grouped None None None None None None None None None None None None None None None (Some x) q = refl
+grouped None None None None None None None None None None None None None None None None q = refl

@@ -6,3 +6,6 @@ mod WrittenLaws
 mod FlawLaws
 mod AgreeLaws
 mod FaultLaws
+mod Numerals
+mod NumeralLaws
+mod RangeLaws

@@ -3,18 +3,20 @@ use Rattle.std.proofs.Common.{◌≡◌, ◌≢◌, ◌≤◌, ℕ, Bool, true, 
 use Rattle.std.proofs.lemmas.Bool.{leb-true, eqb-true, eqb-false}
 use Rattle.configuration.specs.declared.config.Config.{Config}
 use Rattle.configuration.specs.declared.error.ConfigError.{ConfigError}
-use Rattle.configuration.specs.Rules.{is_server_address, has_relay_ports, has_address, has_users, has_lifetime, has_longest_lifetime, reaches, has_domain, first_broken, KeepsRules}
+use Rattle.configuration.specs.Limits.{max_silent_minutes, max_longest_call_hours}
+use Rattle.configuration.specs.Rules.{is_server_address, has_relay_ports, has_address, has_users, has_lifetime, has_longest_lifetime, reaches, has_domain, is_upto, has_silence_limit, has_length_limit, first_broken, KeepsRules}
 
 -- no rule is broken where each is kept alone
-all_kept : (a b c d e : Bool) (u v w x y : ConfigError)
-    → cond a (cond b (cond c (cond d (cond e None (Some y)) (Some x)) (Some w)) (Some v)) (Some u) ≡ None
-    → (a ≡ true) × (b ≡ true) × (c ≡ true) × (d ≡ true) × (e ≡ true)
-all_kept true true true true true u v w x y h = (refl, refl, refl, refl, refl)
-all_kept true true true true false u v w x y h = absurd cc
-all_kept true true true false e u v w x y h = absurd cc
-all_kept true true false d e u v w x y h = absurd cc
-all_kept true false c d e u v w x y h = absurd cc
-all_kept false b c d e u v w x y h = absurd cc
+all_kept : (a b c d e f : Bool) (u v w x y z : ConfigError)
+    → cond a (cond b (cond c (cond d (cond e (cond f None (Some z)) (Some y)) (Some x)) (Some w)) (Some v)) (Some u) ≡ None
+    → (a ≡ true) × (b ≡ true) × (c ≡ true) × (d ≡ true) × (e ≡ true) × (f ≡ true)
+all_kept true true true true true true u v w x y z h = (refl, refl, refl, refl, refl, refl)
+all_kept true true true true true false u v w x y z h = absurd cc
+all_kept true true true true false f u v w x y z h = absurd cc
+all_kept true true true false e f u v w x y z h = absurd cc
+all_kept true true false d e f u v w x y z h = absurd cc
+all_kept true false c d e f u v w x y z h = absurd cc
+all_kept false b c d e f u v w x y z h = absurd cc
 
 two : (a b : Bool) → (a && b) ≡ true → (a ≡ true) × (b ≡ true)
 two true true h = (refl, refl)
@@ -51,15 +53,20 @@ reached : (least : ℕ) (o : Option ℕ) → reaches least o ≡ true → IfSome
 reached least None h = tt
 reached least (Some most) h = leb-true least most h
 
+upto : (most : ℕ) (o : Option ℕ) → is_upto most o ≡ true → IfSome o (λ n. (1 ≤ n) × (n ≤ most))
+upto most None h = tt
+upto most (Some n) h = let both = two _ _ h in (leb-true 1 n both.0, leb-true n most both.1)
+
 pub kept : (c : Config) → first_broken c ≡ None → KeepsRules c
-unfolding first_broken has_relay_ports has_address has_users has_lifetime has_longest_lifetime has_domain
+unfolding first_broken has_relay_ports has_address has_users has_lifetime has_longest_lifetime has_domain has_silence_limit has_length_limit
 kept c h =
-    let rules = all_kept (has_relay_ports c) (has_address c) (has_users c) (has_lifetime c && has_longest_lifetime c) (has_domain c) _ _ _ _ _ h in
+    let rules = all_kept (has_relay_ports c) (has_address c) (has_users c) (has_lifetime c && has_longest_lifetime c) (has_domain c) (has_silence_limit c && has_length_limit c) _ _ _ _ _ _ h in
     let ports = six _ _ _ _ _ _ rules.0 in
     let place = two _ _ rules.1 in
     let users = four _ _ _ _ rules.2 in
     let lifetimes = two _ _ rules.3 in
     let lifetime = two _ _ lifetimes.0 in
+    let durations = two _ _ rules.5 in
     record {
       even = eqb-true _ _ ports.0;
       least = leb-true _ _ ports.1;
@@ -79,4 +86,6 @@ kept c h =
       bounded_lifetime = leb-true _ _ lifetime.1;
       longest_lifetime = reached c.min_expires c.max_expires lifetimes.1;
       domain = rules.4;
+      silent_minutes = upto max_silent_minutes c.silent_minutes durations.0;
+      longest_call_hours = upto max_longest_call_hours c.longest_call_hours durations.1;
     }

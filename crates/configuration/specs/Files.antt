@@ -8,6 +8,7 @@ use Rattle.sip_uri.specs.Hosts.{ip4_of}
 use Rattle.sip_uri.specs.declared.uri.Addr.{Addr}
 use Rattle.configuration.specs.Limits.{max_answer_within, max_workers, usual_workers}
 use Rattle.configuration.specs.Flags.{flag_of}
+use Rattle.configuration.specs.Ranges.{expanded}
 use Rattle.configuration.specs.Status.{status_at}
 use Rattle.configuration.specs.declared.config.Config.{Config}
 use Rattle.configuration.specs.declared.level.LogLevel.{LogLevel}
@@ -19,12 +20,21 @@ use Rattle.configuration.specs.declared.numbers.Numbers.{Numbers}
 abbrev pub is_same : List ℕ → List ℕ → Bool
 is_same text other = pointwise nat_eq text other
 
-abbrev pub is_known_key : List ℕ → Bool
-is_known_key key =
+-- the keys that have to be there
+abbrev pub is_required_key : List ℕ → Bool
+is_required_key key =
     is_same key (codes "relay_first") || is_same key (codes "relay_pairs") || is_same key (codes "ip") || is_same key (codes "sip_port")
-    || is_same key (codes "users") || is_same key (codes "min_expires") || is_same key (codes "domain") || is_same key (codes "workers")
-    || is_same key (codes "random_key") || is_same key (codes "log") || is_same key (codes "answer_within")
+    || is_same key (codes "users") || is_same key (codes "min_expires") || is_same key (codes "random_key")
+
+-- those that may be there
+abbrev pub is_optional_key : List ℕ → Bool
+is_optional_key key =
+    is_same key (codes "domain") || is_same key (codes "workers") || is_same key (codes "log") || is_same key (codes "answer_within")
     || is_same key (codes "status") || is_same key (codes "status_open") || is_same key (codes "max_expires") || is_same key (codes "oldest_leaves")
+    || is_same key (codes "silent_minutes") || is_same key (codes "longest_call_hours")
+
+abbrev pub is_known_key : List ℕ → Bool
+is_known_key key = is_required_key key || is_optional_key key
 
 -- each key of the table is known
 abbrev pub has_known_keys : Members → Bool
@@ -48,8 +58,9 @@ fitting most z = unwrap_or (natural most z) 0
 abbrev pub port_of : ℤ → ℕ
 port_of z = fitting 65535 z
 
-abbrev pub seconds_of : ℤ → ℕ
-seconds_of z = fitting 4294967295 z
+-- seconds, minutes or hours
+abbrev pub duration_of : ℤ → ℕ
+duration_of z = fitting 4294967295 z
 
 abbrev pub few : ℕ → ℕ → Option ℕ
 few most n = if nat_le 1 n && nat_le n most then Some n else None
@@ -71,16 +82,25 @@ workers_at ms = few_of max_workers usual_workers (get_member (codes "workers") m
 abbrev pub answer_within_at : Members → Option ℕ
 answer_within_at ms = few_of max_answer_within max_answer_within (get_member (codes "answer_within") ms)
 
--- the seconds that a binding lasts at most, a number that may be missing
-abbrev pub max_expires_of : Option Data → Option (Option ℕ)
-max_expires_of None = Some None
-max_expires_of (Some value) = option_map (λ z. Some (seconds_of z)) (as_integer value)
+-- seconds, minutes or hours, which may be missing
+abbrev pub duration_if_there : Option Data → Option (Option ℕ)
+duration_if_there None = Some None
+duration_if_there (Some value) = option_map (λ z. Some (duration_of z)) (as_integer value)
 
+-- the seconds that a binding lasts at most
 abbrev pub max_expires_at : Members → Option (Option ℕ)
-max_expires_at ms = max_expires_of (get_member (codes "max_expires") ms)
+max_expires_at ms = duration_if_there (get_member (codes "max_expires") ms)
 
--- the numbers, each key of which has to be there but those of the greatest lifetime, of the workers and of the first
--- response
+-- the minutes after which a call without media is ended
+abbrev pub silent_minutes_at : Members → Option (Option ℕ)
+silent_minutes_at ms = duration_if_there (get_member (codes "silent_minutes") ms)
+
+-- the hours after which a call is ended
+abbrev pub longest_call_hours_at : Members → Option (Option ℕ)
+longest_call_hours_at ms = duration_if_there (get_member (codes "longest_call_hours") ms)
+
+-- the numbers, each key of which has to be there but those of the greatest lifetime, of a call's limits, of the workers
+-- and of the first response
 unfoldable pub numbers_at : Members → Option Numbers
 numbers_at ms =
     option_and_then (λ first.
@@ -88,17 +108,21 @@ numbers_at ms =
     option_and_then (λ port.
     option_and_then (λ expires.
     option_and_then (λ most.
+    option_and_then (λ minutes.
+    option_and_then (λ hours.
     option_and_then (λ workers.
     option_and_then (λ within. Some (record {
       relay_first = port_of first;
       relay_pairs = port_of pairs;
       sip_port = port_of port;
-      min_expires = seconds_of expires;
+      min_expires = duration_of expires;
       max_expires = most;
+      silent_minutes = minutes;
+      longest_call_hours = hours;
       workers = workers;
       answer_within = within;
     }))
-    (answer_within_at ms)) (workers_at ms)) (max_expires_at ms)) (number_at (codes "min_expires") ms)) (number_at (codes "sip_port") ms)) (number_at (codes "relay_pairs") ms))
+    (answer_within_at ms)) (workers_at ms)) (longest_call_hours_at ms)) (silent_minutes_at ms)) (max_expires_at ms)) (number_at (codes "min_expires") ms)) (number_at (codes "sip_port") ms)) (number_at (codes "relay_pairs") ms))
     (number_at (codes "relay_first") ms)
 
 -- ---- texts
@@ -137,8 +161,9 @@ texts_of (item value rest) = option_and_then (λ text. option_map (λ texts. tex
 abbrev pub array_at : List ℕ → Members → Option Items
 array_at key ms = option_and_then as_array (get_member key ms)
 
+-- the names that the texts stand for
 abbrev pub users_at : Members → Option (List (List ℕ))
-users_at ms = option_and_then texts_of (array_at (codes "users") ms)
+users_at ms = option_map expanded (option_and_then texts_of (array_at (codes "users") ms))
 
 -- ---- how much is told
 
@@ -177,6 +202,8 @@ config_from numbers oldest_leaves ip key domain users log status = record {
   min_expires = numbers.min_expires;
   max_expires = numbers.max_expires;
   oldest_leaves = oldest_leaves;
+  silent_minutes = numbers.silent_minutes;
+  longest_call_hours = numbers.longest_call_hours;
   domain = domain;
   workers = numbers.workers;
   random_key = key;

@@ -1,5 +1,7 @@
 pub mod Limits
 pub mod Domain
+pub mod Ranges
+pub mod RangeLaws
 pub mod Names
 pub mod Flags
 pub mod Status

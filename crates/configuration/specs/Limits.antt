@@ -15,12 +15,24 @@ all_ports = 65536
 abbrev pub max_user_bytes : ℕ
 max_user_bytes = 64
 
+-- the digits of each number of a range of users
+abbrev pub max_range_digits : ℕ
+max_range_digits = 9
+
 abbrev pub max_workers : ℕ
 max_workers = 8
 
 -- the workers where none are named
 abbrev pub usual_workers : ℕ
 usual_workers = 2
+
+-- the minutes of a call without media: a day
+abbrev pub max_silent_minutes : ℕ
+max_silent_minutes = 1440
+
+-- the hours that a call lasts: a week
+abbrev pub max_longest_call_hours : ℕ
+max_longest_call_hours = 168
 
 -- the seconds that a callee's telephone has for its first response, at most and where none are named: 64*T1 (RFC 3261
 -- section 17.1.1.2)

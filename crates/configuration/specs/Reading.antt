@@ -6,7 +6,7 @@ use Rattle.toml.specs.Errors.{IsMemory}
 use Rattle.toml.specs.declared.de.error.Error.{Error}
 use Rattle.configuration.specs.declared.config.Config.{Config}
 use Rattle.configuration.specs.declared.error.ConfigError.{ConfigError}
-use Rattle.configuration.specs.declared.error.ConfigError.TheVariants.{OutOfMemory, RelayPorts, Address, Users, MinExpires, Domain, File}
+use Rattle.configuration.specs.declared.error.ConfigError.TheVariants.{OutOfMemory, RelayPorts, Address, Users, MinExpires, Domain, File, CallDuration}
 use Rattle.configuration.specs.Rules.{first_broken}
 use Rattle.sip_uri.specs.Hosts.{ip4_of}
 use Rattle.configuration.specs.Files.{number_at, text_at, config_of}
@@ -24,6 +24,7 @@ IsErrorOf error Users = ⊥
 IsErrorOf error MinExpires = ⊥
 IsErrorOf error Domain = ⊥
 IsErrorOf error File = ¬ (IsMemory error)
+IsErrorOf error CallDuration = ⊥
 
 -- why bytes have no table
 abbrev pub RefusesText : List ℕ → ConfigError → Type 0
@@ -34,6 +35,7 @@ RefusesText bytes Users = ⊥
 RefusesText bytes MinExpires = ⊥
 RefusesText bytes Domain = ⊥
 RefusesText bytes File = (ms : Members) → ¬ (IsTextOf bytes ms)
+RefusesText bytes CallDuration = ⊥
 
 -- the bytes say this configuration, whether or not it keeps the rules
 abbrev pub Says : List ℕ → Config → Type 0
@@ -53,6 +55,7 @@ RefusesSaid bytes Users = ⊥
 RefusesSaid bytes MinExpires = ⊥
 RefusesSaid bytes Domain = ⊥
 RefusesSaid bytes File = (c : Config) → ¬ (Says bytes c)
+RefusesSaid bytes CallDuration = ⊥
 
 -- the bytes say a configuration, and this is the first rule that it breaks
 pub record BreaksFirst (bytes : List ℕ) (e : ConfigError) : Type 0 where
@@ -69,6 +72,7 @@ Refuses bytes Users = BreaksFirst bytes Users
 Refuses bytes MinExpires = BreaksFirst bytes MinExpires
 Refuses bytes Domain = BreaksFirst bytes Domain
 Refuses bytes File = (c : Config) → ¬ (Says bytes c)
+Refuses bytes CallDuration = BreaksFirst bytes CallDuration
 
 -- what a table says of a configuration, key by key: the very numbers, and the address of the very text
 pub record IsWritten (ms : Members) (c : Config) : Type 0 where
@@ -77,6 +81,8 @@ pub record IsWritten (ms : Members) (c : Config) : Type 0 where
   pub sip_port : number_at (codes "sip_port") ms ≡ Some (pos c.sip_port)
   pub min_expires : number_at (codes "min_expires") ms ≡ Some (pos c.min_expires)
   pub max_expires : number_at (codes "max_expires") ms ≡ option_map pos c.max_expires
+  pub silent_minutes : number_at (codes "silent_minutes") ms ≡ option_map pos c.silent_minutes
+  pub longest_call_hours : number_at (codes "longest_call_hours") ms ≡ option_map pos c.longest_call_hours
   pub ip : (text : List ℕ) × (text_at (codes "ip") ms ≡ Some text) × (ip4_of text ≡ Some c.ip)
 
 abbrev pub IsWrittenIn : List ℕ → Config → Type 0
@@ -92,3 +98,4 @@ Gives (Err Users) said = ⊥
 Gives (Err MinExpires) said = ⊥
 Gives (Err Domain) said = ⊥
 Gives (Err File) said = said ≡ None
+Gives (Err CallDuration) said = ⊥

@@ -3,12 +3,12 @@ use Rattle.std.specs.Prelude.{◌≡◌, ◌≢◌, ◌==◌, ◌≤◌, ℕ, �
 use Rattle.std.specs.List.{list_all}
 use Rattle.text.specs.Class.{passes_if_there}
 use Rattle.registrar.specs.Registering.{are_distinct}
-use Rattle.configuration.specs.Limits.{min_relay_port, max_relay_pairs, all_ports}
+use Rattle.configuration.specs.Limits.{min_relay_port, max_relay_pairs, all_ports, max_silent_minutes, max_longest_call_hours}
 use Rattle.registrar.specs.Limits.{max_users, max_min_expires}
 use Rattle.configuration.specs.Names.{is_user, is_domain}
 use Rattle.configuration.specs.declared.config.Config.{Config}
 use Rattle.configuration.specs.declared.error.ConfigError.{ConfigError}
-use Rattle.configuration.specs.declared.error.ConfigError.TheVariants.{RelayPorts, Address, Users, MinExpires, Domain}
+use Rattle.configuration.specs.declared.error.ConfigError.TheVariants.{RelayPorts, Address, Users, MinExpires, Domain, CallDuration}
 
 -- ---- the relay's ports
 
@@ -61,6 +61,19 @@ has_longest_lifetime c = reaches c.min_expires c.max_expires
 unfoldable pub has_domain : Config → Bool
 has_domain c = passes_if_there is_domain c.domain
 
+-- ---- how long a call lasts
+
+-- it is from 1 to the most, where there is one
+abbrev pub is_upto : ℕ → Option ℕ → Bool
+is_upto most None = true
+is_upto most (Some n) = nat_le 1 n && nat_le n most
+
+unfoldable pub has_silence_limit : Config → Bool
+has_silence_limit c = is_upto max_silent_minutes c.silent_minutes
+
+unfoldable pub has_length_limit : Config → Bool
+has_length_limit c = is_upto max_longest_call_hours c.longest_call_hours
+
 -- ---- all of them
 
 -- the first rule that is broken, in this order
@@ -70,7 +83,9 @@ first_broken c =
     then (if has_address c
     then (if has_users c
     then (if has_lifetime c && has_longest_lifetime c
-    then (if has_domain c then None else Some Domain)
+    then (if has_domain c
+    then (if has_silence_limit c && has_length_limit c then None else Some CallDuration)
+    else Some Domain)
     else Some MinExpires)
     else Some Users)
     else Some Address)
@@ -96,3 +111,5 @@ pub record KeepsRules (c : Config) : Type 0 where
   pub bounded_lifetime : c.min_expires ≤ max_min_expires
   pub longest_lifetime : IfSome c.max_expires (λ most. c.min_expires ≤ most)
   pub domain : IsTrue (passes_if_there is_domain c.domain)
+  pub silent_minutes : IfSome c.silent_minutes (λ n. (1 ≤ n) × (n ≤ max_silent_minutes))
+  pub longest_call_hours : IfSome c.longest_call_hours (λ n. (1 ≤ n) × (n ≤ max_longest_call_hours))

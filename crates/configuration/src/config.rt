@@ -25,6 +25,10 @@ pub struct Config {
     pub max_expires: Option<u32>,
     /// Whether the bindings least recently refreshed leave where a user would have too many.
     pub oldest_leaves: bool,
+    /// The minutes after which an answered call is ended of which no media come, if there are any.
+    pub silent_minutes: Option<u32>,
+    /// The hours after its first answer at which a call is ended, if there are any.
+    pub longest_call_hours: Option<u32>,
     /// The office's domain. Where none is named, it is the server's address.
     pub domain: Option<Text<'static>>,
     /// How many threads carry media.
@@ -50,6 +54,8 @@ impl Drop for Config {
             min_expires: _,
             max_expires: _,
             oldest_leaves: _,
+            silent_minutes: _,
+            longest_call_hours: _,
             domain: _,
             workers: _,
             random_key: _,

@@ -17,7 +17,8 @@ pub enum ConfigError {
     /// 1 to 65535.
     #[error("C2: address or port")]
     Address,
-    /// There is no user, or more than 1,000, or one that is not 1 to 64 letters, digits, `-`, `_` or `.`, or one twice.
+    /// There is no user, or more than 1,000, or one that is not 1 to 64 letters, digits, `-`, `_` or `.`, or one twice,
+    /// or a range of other than 1 to 9 digits at both ends, or one whose first number is above its last.
     #[error("C3: users")]
     Users,
     /// The least lifetime of a binding is not in 1 to 3600 seconds.
@@ -32,6 +33,9 @@ pub enum ConfigError {
     /// not open.
     #[error("C6: file")]
     File,
+    /// The minutes without media are not 1 to 1440, or the hours of the longest call not 1 to 168.
+    #[error("C7: call duration limit")]
+    CallDuration,
 }
 
 impl From<AllocError> for ConfigError {

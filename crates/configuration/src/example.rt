@@ -37,6 +37,8 @@ pub fn example_config(alloc: Global) -> Result<Config, AllocError>
         min_expires: 60,
         max_expires: None,
         oldest_leaves: false,
+        silent_minutes: None,
+        longest_call_hours: None,
         domain: Some(domain),
         workers: 2,
         random_key: [0; 32],

@@ -41,6 +41,7 @@ fn key_rule(key: Key) -> ConfigError
         Key::Users => ConfigError::Users,
         Key::MinExpires | Key::MaxExpires => ConfigError::MinExpires,
         Key::Domain => ConfigError::Domain,
+        Key::SilentMinutes | Key::LongestCallHours => ConfigError::CallDuration,
         Key::Workers
         | Key::RandomKey
         | Key::Log

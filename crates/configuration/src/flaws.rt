@@ -6,7 +6,7 @@ ghost use Rattle.std.specs.Cmp.Lexicographic.{pointwise};
 ghost use Rattle.std.specs.Option.{option_copied};
 ghost use Rattle.toml.specs.Data.{get_member};
 ghost use Rattle.toml.specs.View.{view, table_view, array_view};
-ghost use Rattle.configuration.specs.Flaws.{key_name, unknown_key, unknown_flaw, type_flaw, required_flaw, optional_flaw, count_flaw, few_flaw, digits_flaw, random_key_flaw, users_type_flaw, word_flaw, log_flaw, page_text_flaw, page_flaw, status_flaw, said_flaw, said_number, relay_flaw, address_flaw, are_texts, malformed_user, user_twice, users_flaw, lifetime_flaw, domain_flaw, rules_flaw, flaw_in};
+ghost use Rattle.configuration.specs.Flaws.{key_name, unknown_key, unknown_flaw, type_flaw, required_flaw, optional_flaw, count_flaw, few_flaw, digits_flaw, random_key_flaw, users_type_flaw, word_flaw, log_flaw, page_text_flaw, page_flaw, status_flaw, said_flaw, said_number, relay_flaw, address_flaw, are_texts, malformed_user, user_twice, users_flaw, lifetime_flaw, domain_flaw, duration_flaw, rules_flaw, flaw_in};
 
 use crate::config::Config;
 use crate::error::ConfigError;
@@ -16,8 +16,8 @@ use crate::key::Key;
 use crate::level::level_named;
 use crate::names::{is_among, is_user};
 use crate::rules::{
-    MAX_RELAY_PAIRS, MAX_USERS, MIN_RELAY_PORT, has_domain, has_lifetime, has_longest_lifetime,
-    has_room_for_ports, is_relay_port, is_server_address,
+    MAX_RELAY_PAIRS, MAX_USERS, MIN_RELAY_PORT, has_domain, has_length_limit, has_lifetime,
+    has_longest_lifetime, has_room_for_ports, has_silence_limit, is_relay_port, is_server_address,
 };
 use crate::status::page_at;
 use crate::tables::{flag_at, is_known_key, number_at, text_at, value_at};
@@ -200,6 +200,8 @@ fn said_flaw(table: &Table) -> Option<Flaw<'_>>
         .or(required_flaw(table, Key::SipPort))
         .or(required_flaw(table, Key::MinExpires))
         .or(optional_flaw(table, Key::MaxExpires))
+        .or(optional_flaw(table, Key::SilentMinutes))
+        .or(optional_flaw(table, Key::LongestCallHours))
         .or(few_flaw(table, Key::Workers, MAX_WORKERS))
         .or(few_flaw(table, Key::AnswerWithin, MAX_ANSWER_WITHIN))
         .or(optional_flaw(table, Key::OldestLeaves))
@@ -323,6 +325,20 @@ fn domain_flaw(config: &Config) -> Option<Flaw<'_>>
     Some(Flaw::Malformed(Key::Domain, Text::lent(name)))
 }
 
+#[tactic(auto, unfolding(crate::specs::Flaws::duration_flaw))]
+fn duration_flaw<'t>(table: &'t Table, config: &Config) -> Option<Flaw<'t>>
+    ensures { result ≡ duration_flaw (table_view table.now) config.now }
+{
+    if !has_silence_limit(config) {
+        return Some(Flaw::OutOfRange(Key::SilentMinutes, said_number(table, Key::SilentMinutes)));
+    }
+    if !has_length_limit(config) {
+        let hours = said_number(table, Key::LongestCallHours);
+        return Some(Flaw::OutOfRange(Key::LongestCallHours, hours));
+    }
+    None
+}
+
 /// The first flaw for which a configuration that a table says breaks a rule.
 #[tactic(auto, unfolding(crate::specs::Flaws::rules_flaw))]
 fn rules_flaw<'c>(table: &'c Table, config: &'c Config) -> Option<Flaw<'c>>
@@ -333,6 +349,7 @@ fn rules_flaw<'c>(table: &'c Table, config: &'c Config) -> Option<Flaw<'c>>
         .or(users_flaw(config))
         .or(lifetime_flaw(table, config))
         .or(domain_flaw(config))
+        .or(duration_flaw(table, config))
 }
 
 /// A flaw that borrows nothing, if there is one.

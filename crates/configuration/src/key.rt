@@ -20,6 +20,8 @@ pub enum Key {
     StatusOpen,
     MaxExpires,
     OldestLeaves,
+    SilentMinutes,
+    LongestCallHours,
 }
 
 impl Key {
@@ -47,6 +49,8 @@ impl Key {
             Key::StatusOpen => "status_open",
             Key::MaxExpires => "max_expires",
             Key::OldestLeaves => "oldest_leaves",
+            Key::SilentMinutes => "silent_minutes",
+            Key::LongestCallHours => "longest_call_hours",
         }
     }
 
@@ -60,6 +64,8 @@ impl Key {
             | Key::SipPort
             | Key::MinExpires
             | Key::MaxExpires
+            | Key::SilentMinutes
+            | Key::LongestCallHours
             | Key::Workers
             | Key::AnswerWithin => value.as_integer().is_some(),
             Key::Ip | Key::Domain | Key::RandomKey | Key::Log | Key::Status => {
@@ -89,6 +95,8 @@ impl Key {
             Key::Status => "ADDRESS:PORT, with a loopback address unless status_open is true,",
             Key::StatusOpen | Key::OldestLeaves => "true or false",
             Key::MaxExpires => "a number of seconds from min_expires to 4294967295",
+            Key::SilentMinutes => "a number of minutes from 1 to 1440",
+            Key::LongestCallHours => "a number of hours from 1 to 168",
         }
     }
 }

@@ -6,6 +6,7 @@ ghost use Rattle.std.specs.Cmp.Lexicographic.{pointwise};
 ghost use Rattle.registrar.specs.Registering.{are_distinct};
 ghost use Rattle.configuration.specs.Names.{is_name_byte, is_user, is_domain};
 
+use crate::ranges::is_like_range;
 use sip_uri::{ip4, is_host};
 use text::Text;
 
@@ -24,14 +25,14 @@ fn all_name_bytes(text: &[u8]) -> bool
     text.iter().all(|b| is_name_byte(*b))
 }
 
-/// Whether it is 1 to 64 letters, digits, `-`, `_` or `.`.
+/// Whether it is 1 to 64 letters, digits, `-`, `_` or `.`, and is not written as a range.
 pub(crate) fn is_user(text: &[u8]) -> bool
     ensures { result ≡ is_user text.now }
 {
-    1 <= text.len() && text.len() <= MAX_USER_BYTES && all_name_bytes(text)
+    1 <= text.len() && text.len() <= MAX_USER_BYTES && all_name_bytes(text) && !is_like_range(text)
 }
 
-/// Whether each is 1 to 64 letters, digits, `-`, `_` or `.`.
+/// Whether each is such a name.
 pub(crate) fn are_users(users: &[Text<'static>]) -> bool
     ensures { result ≡ list_all is_user users.now }
 {

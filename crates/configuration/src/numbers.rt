@@ -1,7 +1,7 @@
 //! The whole numbers of a file.
 
 ghost use Rattle.std.specs.Prelude.{◌≡◌};
-ghost use Rattle.configuration.specs.Files.{natural, port_of, seconds_of};
+ghost use Rattle.configuration.specs.Files.{natural, port_of, duration_of};
 
 /// The numbers of a configuration, each of which fits its field.
 #[derive(Clone, Copy)]
@@ -11,6 +11,8 @@ pub(crate) struct Numbers {
     pub sip_port: u16,
     pub min_expires: u32,
     pub max_expires: Option<u32>,
+    pub silent_minutes: Option<u32>,
+    pub longest_call_hours: Option<u32>,
     pub workers: u8,
     pub answer_within: u8,
 }
@@ -41,9 +43,9 @@ pub(crate) fn port_of(number: i64) -> u16
     below_2_16(number).unwrap_or(0)
 }
 
-/// Seconds. A number that is none reads as 0.
-pub(crate) fn seconds_of(number: i64) -> u32
-    ensures { result ≡ seconds_of number }
+/// Seconds, minutes or hours. A number that is none reads as 0.
+pub(crate) fn duration_of(number: i64) -> u32
+    ensures { result ≡ duration_of number }
 {
     below_2_32(number).unwrap_or(0)
 }

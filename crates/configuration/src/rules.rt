@@ -2,7 +2,7 @@
 
 ghost use Rattle.std.specs.Prelude.{◌≡◌, ◌==◌, None, Some, MatchResult, OnOk};
 ghost use Rattle.std.specs.List.{list_all};
-ghost use Rattle.configuration.specs.Rules.{is_relay_port, has_room_for_ports, has_relay_ports, is_server_address, has_address, has_users, has_lifetime, has_longest_lifetime, has_domain, first_broken, KeepsRules};
+ghost use Rattle.configuration.specs.Rules.{is_relay_port, has_room_for_ports, has_relay_ports, is_server_address, has_address, has_users, has_lifetime, has_longest_lifetime, has_domain, is_upto, has_silence_limit, has_length_limit, first_broken, KeepsRules};
 
 use crate::config::Config;
 use crate::error::ConfigError;
@@ -19,6 +19,12 @@ pub(crate) const MAX_USERS: usize = 1000;
 
 /// The greatest number of seconds that may be the least lifetime of a binding.
 const MAX_MIN_EXPIRES: u32 = 3600;
+
+/// The minutes without media that a call may last, at most: a day.
+const MAX_SILENT_MINUTES: u32 = 1440;
+
+/// The hours that a call may last, at most: a week.
+const MAX_LONGEST_CALL_HOURS: u32 = 168;
 
 /// Whether the port is one of the relay's.
 pub(crate) fn is_relay_port(config: &Config, port: u16) -> bool
@@ -103,6 +109,32 @@ pub(crate) fn has_domain(config: &Config) -> bool
     }
 }
 
+/// Whether a number, where there is one, is from 1 to the most.
+fn is_upto(most: u32, number: Option<u32>) -> bool
+    ensures { result ≡ is_upto most number }
+{
+    match number {
+        Some(number) => 1 <= number && number <= most,
+        None => true,
+    }
+}
+
+/// Whether the minutes without media are 1 to 1440, where there are any.
+#[tactic(auto, unfolding(crate::specs::Rules::has_silence_limit))]
+pub(crate) fn has_silence_limit(config: &Config) -> bool
+    ensures { result ≡ has_silence_limit config.now }
+{
+    is_upto(MAX_SILENT_MINUTES, config.silent_minutes)
+}
+
+/// Whether the hours of the longest call are 1 to 168, where there are any.
+#[tactic(auto, unfolding(crate::specs::Rules::has_length_limit))]
+pub(crate) fn has_length_limit(config: &Config) -> bool
+    ensures { result ≡ has_length_limit config.now }
+{
+    is_upto(MAX_LONGEST_CALL_HOURS, config.longest_call_hours)
+}
+
 #[tactic(auto, unfolding(crate::specs::Rules::first_broken))]
 fn first_broken(config: &Config) -> Option<ConfigError>
     ensures { result ≡ first_broken config.now }
@@ -121,6 +153,9 @@ fn first_broken(config: &Config) -> Option<ConfigError>
     }
     if !has_domain(config) {
         return Some(ConfigError::Domain);
+    }
+    if !(has_silence_limit(config) && has_length_limit(config)) {
+        return Some(ConfigError::CallDuration);
     }
     None
 }

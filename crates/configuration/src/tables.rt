@@ -7,7 +7,7 @@ ghost use Rattle.std.specs.Option.{option_copied};
 ghost use Rattle.toml.specs.Data.{get_member};
 ghost use Rattle.toml.specs.View.{view, array_view, table_view};
 ghost use Rattle.configuration.specs.Flags.{flag_of};
-ghost use Rattle.configuration.specs.Files.{is_same, is_known_key, has_known_keys, number_at, text_at, array_at};
+ghost use Rattle.configuration.specs.Files.{is_same, is_required_key, is_optional_key, is_known_key, has_known_keys, number_at, text_at, array_at};
 
 use toml::value::Array;
 use toml::{Table, Value};
@@ -19,9 +19,9 @@ pub(crate) fn is_same(text: &[u8], other: &[u8]) -> bool
     text == other
 }
 
-/// Whether it is a key of a configuration.
-pub(crate) fn is_known_key(key: &[u8]) -> bool
-    ensures { result ≡ is_known_key key.now }
+/// Whether it is a key that has to be there.
+fn is_required_key(key: &[u8]) -> bool
+    ensures { result ≡ is_required_key key.now }
 {
     is_same(key, b"relay_first")
         || is_same(key, b"relay_pairs")
@@ -29,15 +29,30 @@ pub(crate) fn is_known_key(key: &[u8]) -> bool
         || is_same(key, b"sip_port")
         || is_same(key, b"users")
         || is_same(key, b"min_expires")
-        || is_same(key, b"domain")
-        || is_same(key, b"workers")
         || is_same(key, b"random_key")
+}
+
+/// Whether it is a key that may be there.
+fn is_optional_key(key: &[u8]) -> bool
+    ensures { result ≡ is_optional_key key.now }
+{
+    is_same(key, b"domain")
+        || is_same(key, b"workers")
         || is_same(key, b"log")
         || is_same(key, b"answer_within")
         || is_same(key, b"status")
         || is_same(key, b"status_open")
         || is_same(key, b"max_expires")
         || is_same(key, b"oldest_leaves")
+        || is_same(key, b"silent_minutes")
+        || is_same(key, b"longest_call_hours")
+}
+
+/// Whether it is a key of a configuration.
+pub(crate) fn is_known_key(key: &[u8]) -> bool
+    ensures { result ≡ is_known_key key.now }
+{
+    is_required_key(key) || is_optional_key(key)
 }
 
 fn all_known(table: &Table) -> bool
