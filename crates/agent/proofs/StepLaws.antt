@@ -4,6 +4,9 @@ use Rattle.std.proofs.Math.Nat.{add-zero}
 use Rattle.std.proofs.lemmas.Bool.{leb-false}
 use Rattle.std.proofs.lemmas.List.{append-nil}
 use Rattle.events.specs.declared.event.Event.{Event}
+use Rattle.calls.specs.State.{Standing}
+use Rattle.event_rows.specs.Lifetimes.{with_lifetime}
+use Rattle.message_laws.proofs.Messages.Lifetimes.{same_calls}
 use Rattle.plans.specs.declared.taken.Taken.{Taken}
 use Rattle.events.specs.declared.sent.Sent.{Sent}
 use Rattle.plans.specs.CallRows.{of_plan}
@@ -54,8 +57,8 @@ sends_counted s e taken sent h =
 counted_alone : (s : Contents) (m : ℕ) (taken : Taken) → after_event s m (of_plan (office s) (nothing taken)) ≡ after_count s m taken
 unfolding after_event
 counted_alone s m taken =
-    let with_tokens : ℕ → Contents = λ n. record s { changes = []; moment = m; tokens = n; tally = counted s.tally taken; note = note_of_taken taken; registered = None } in
-    ap with_tokens (add-zero s.tokens)
+    let with_calls : Standing → ℕ → Contents = λ calls n. record s { calls = calls; changes = []; moment = m; tokens = n; tally = counted s.tally taken; note = note_of_taken taken; registered = None } in
+    ap (with_calls (with_lifetime s.lifetime m (note_of_taken taken) s.calls)) (add-zero s.tokens) ∙ ap (λ (calls : Standing). with_calls calls s.tokens) (same_calls s.lifetime m taken s.calls)
 
 pub after_counted : (s : Contents) (e : Event) (taken : Taken) → only_counts s e ≡ Some taken →
     after s e ≡ after_count s (moment_after s e) taken

@@ -15,7 +15,7 @@ ghost use Rattle.event_rows.specs.Rows.{after, moment_after, next_due, only_coun
 ghost use Rattle.event_rows.specs.State.{after_count, after_event, office};
 
 use crate::acks::keep;
-use crate::commit::{commit, enter, stop};
+use crate::commit::{commit, enter, limit, stop};
 use crate::moments::earlier;
 use calls::{Calls, StandingCall};
 use event_plans::plan_event;
@@ -49,6 +49,8 @@ pub struct Agent {
     pub(crate) range: OwnRange,
     /// The seconds that a binding has to last at least.
     pub(crate) least: u32,
+    /// The milliseconds that a call may stand from its first answer on, where that is limited.
+    pub(crate) lifetime: Option<u64>,
     /// The greatest moment so far, in milliseconds.
     pub(crate) moment: u64,
     /// How many tokens were made.
@@ -72,6 +74,7 @@ impl Drop for Agent {
             server: _,
             range: _,
             least: _,
+            lifetime: _,
             moment: _,
             tokens: _,
             tally: _,
@@ -91,7 +94,7 @@ impl Model for Agent {
 
     ghost coded = { Prim.hlevel (codes, coded_contents) };
 
-    ghost view = { λ a. record { registrar = a.registrar; table = a.table; calls = standing a.calls; acks = a.acks.items; changes = a.changes.items; server = a.server; range = a.range; least = a.least; moment = a.moment; tokens = a.tokens; tally = a.tally; note = a.note; registered = a.registered } };
+    ghost view = { λ a. record { registrar = a.registrar; table = a.table; calls = standing a.calls; acks = a.acks.items; changes = a.changes.items; server = a.server; range = a.range; least = a.least; lifetime = a.lifetime; moment = a.moment; tokens = a.tokens; tally = a.tally; note = a.note; registered = a.registered } };
 
     ghost invariant = { λ a. IsCounted a.moment a.tokens a.calls.begun a.range };
 }
@@ -301,6 +304,7 @@ impl Agent {
         self.registered = enter(&mut self.registrar, registration);
         stop(&mut self.calls, fired);
         self.changes = self.calls.enter(self.alloc, calls, now);
+        limit(&mut self.calls, self.lifetime, now, note);
         keep(&mut self.acks, acks);
         self.moment = now;
         self.tokens += made + u64::from(alone);

@@ -4,11 +4,14 @@ ghost use Rattle.std.specs.Prelude.{◌≡◌, ◌<◌, ◌≤◌, ◌^◌, ◌+
 ghost use Rattle.registrar.specs.Registrar.{PlanContents};
 ghost use Rattle.calls.specs.State.{standing};
 ghost use Rattle.plans.specs.Effect.{fired_off};
+ghost use Rattle.event_rows.specs.Lifetimes.{lifetime_begun, with_lifetime};
 ghost use Rattle.transactions.specs.Changes.{entered_all};
 ghost use Rattle.event_rows.specs.State.{registered_by};
 
+use call_core::{CallNote, CallTimer, NoteOfCall};
 use calls::{CallTimerId, Calls};
 use events::Sent;
+use plans::Note;
 use registrar::Registrar;
 use std::alloc::AllocError;
 use text::Text;
@@ -61,5 +64,31 @@ pub(crate) fn stop(calls: &mut Calls, fired: Option<CallTimerId>)
 {
     if let Some(timer) = fired {
         calls.stop_timer(timer);
+    }
+}
+
+/// The number of the call that this tells the first answer of.
+fn lifetime_begun(note: Note) -> Option<u64>
+    ensures { result ≡ lifetime_begun note }
+{
+    match note {
+        Note::Call(
+            NoteOfCall {
+                number,
+                note: CallNote::Answered,
+            },
+        ) => Some(number),
+        _ => None,
+    }
+}
+
+/// The call that was answered for the first time may stand so many milliseconds. Takes no memory.
+pub(crate) fn limit(calls: &mut Calls, lifetime: Option<u64>, now: u64, note: Note)
+    requires { 0 < calls.old.timer_room }
+    ensures standing { standing calls.new ≡ with_lifetime lifetime now note (standing calls.old) }
+{
+    if let (Some(lifetime), Some(number)) = (lifetime, lifetime_begun(note)) {
+        let timer = CallTimer::Lifetime;
+        calls.set_timer(CallTimerId { number, timer }, now.saturating_add(lifetime));
     }
 }

@@ -47,11 +47,17 @@ impl Agent {
                 }
                 Some(Taken::Idle)
             }
+            What::Silent(number) => {
+                if self.calls.has_settled(*number) {
+                    return None;
+                }
+                Some(Taken::Idle)
+            }
         }
     }
 
     /// What an event is answered that is only counted: one at no moment that counts, one for which no token is left, a
-    /// datagram that is too long, and a timer where none is due. None for all others. Takes no memory.
+    /// datagram that is too long, a timer where none is due, and silence in no settled call. None for all others. Takes no memory.
     #[tactic(auto, unfolding(event_rows::specs::Rows::only_counts))]
     pub(crate) fn only_counts(&self, event: &Event) -> Option<Taken>
         ensures { result ≡ only_counts self.now event.entry.now }

@@ -3,6 +3,7 @@
 ghost use Rattle.std.specs.Prelude.{◌≡◌, [], IfOk, IfErr, OnOk};
 ghost use Rattle.configuration.specs.Rules.{KeepsRules};
 ghost use Rattle.registrar.specs.Registrar.{StandsAfter};
+ghost use Rattle.event_rows.specs.Lifetimes.{lifetime_of};
 ghost use Rattle.event_rows.specs.State.{IsNew, RefusesConfig, binding_rules_of, first_wait_of, range_of, rules_by, server_of};
 ghost use Rattle.media_laws.specs.Standing.{AgentStands};
 
@@ -85,6 +86,15 @@ fn range_of(config: &Config) -> OwnRange
     }
 }
 
+/// How many milliseconds a call may stand, where the configuration limits that.
+fn lifetime_of(config: &Config) -> Option<u64>
+    ensures { result ≡ lifetime_of config.now }
+{
+    config
+        .longest_call_hours
+        .map(|hours| 3_600_000 * u64::from(hours))
+}
+
 impl Agent {
     /// An agent that nothing has happened to, which stands after the empty trace. The configuration keeps the rules, or
     /// the first that it breaks is told. Transactions, calls and users are looked up by prints under this key, which no
@@ -120,6 +130,7 @@ impl Agent {
             server: server_of(config),
             range: range_of(config),
             least: config.min_expires,
+            lifetime: lifetime_of(config),
             moment: 0,
             tokens: 0,
             tally: Tally::none_counted(),

@@ -72,6 +72,7 @@ fn copy_of_what(alloc: Global, what: &What) -> Result<What, AllocError>
             bytes: bytes.keep(alloc)?,
         }),
         What::Due => Ok(What::Due),
+        What::Silent(number) => Ok(What::Silent(*number)),
     }
 }
 

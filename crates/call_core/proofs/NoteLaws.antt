@@ -74,6 +74,7 @@ asked_line true x signals.Limit row is = at_row (stages.Asked true) x (Some (not
 asked_line false x signals.Limit row is = absurd cc
 asked_line rung x signals.Repeat row is = absurd cc
 asked_line rung x signals.Wait row is = absurd cc
+asked_line rung x signals.Lifetime row is = absurd cc
 
 cancelling_line : (sent : Bool) (x : End) (signal : Signal) (row : Row) → cancelling_row sent x signal ≡ Some row → Noted (stages.Cancelling sent) x None row
 unfolding cancelling_row note_of
@@ -101,6 +102,8 @@ cancelling_line true x signals.Repeat row is = absurd cc
 cancelling_line false x signals.Repeat row is = absurd cc
 cancelling_line true x signals.Wait row is = absurd cc
 cancelling_line false x signals.Wait row is = absurd cc
+cancelling_line true x signals.Lifetime row is = absurd cc
+cancelling_line false x signals.Lifetime row is = absurd cc
 
 -- ---- a call that was answered
 
@@ -138,6 +141,8 @@ answered_line false interval x signals.Repeat row is = at_row (waiting_stage fal
 answered_line true interval x signals.Repeat row is = at_row (waiting_stage true interval) x (answered_note signals.Repeat) _ row refl is
 answered_line false interval x signals.Wait row is = at_row (waiting_stage false interval) x (answered_note signals.Wait) _ row refl is
 answered_line true interval x signals.Wait row is = at_row (waiting_stage true interval) x (answered_note signals.Wait) _ row refl is
+answered_line false interval x signals.Lifetime row is = at_row (waiting_stage false interval) x (answered_note signals.Lifetime) _ row refl is
+answered_line true interval x signals.Lifetime row is = at_row (waiting_stage true interval) x (answered_note signals.Lifetime) _ row refl is
 
 settled_line : (x : End) (signal : Signal) (row : Row) → settled_row signal ≡ Some row → Noted stages.Settled x (settled_note signal) row
 unfolding settled_row note_of
@@ -156,6 +161,7 @@ settled_line x (signals.Bye end) row is = at_row stages.Settled x (settled_note 
 settled_line x signals.Limit row is = absurd cc
 settled_line x signals.Repeat row is = absurd cc
 settled_line x signals.Wait row is = absurd cc
+settled_line x signals.Lifetime row is = at_row stages.Settled x (settled_note signals.Lifetime) _ row refl is
 
 -- ---- an offer inside the call
 
@@ -207,6 +213,7 @@ reasked_line true cancelled x signals.Limit row is = at_row (stages.Reasked true
 reasked_line false cancelled x signals.Limit row is = absurd cc
 reasked_line rung cancelled x signals.Repeat row is = absurd cc
 reasked_line rung cancelled x signals.Wait row is = absurd cc
+reasked_line rung cancelled x signals.Lifetime row is = at_row (stages.Reasked rung cancelled) x (inside_note (may_give_up (stages.Reasked rung cancelled)) signals.Lifetime) _ row refl is
 
 update_is_refused : (b : Bool) (x : End) (status : ℕ) → has_lost_the_call status ≡ b → Noted stages.Updating x (Some (inside_refusal_note status)) (update_refused x status)
 unfolding note_of
@@ -227,6 +234,7 @@ updating_line x (signals.Bye end) row is = at_row stages.Updating x (inside_note
 updating_line x signals.Limit row is = absurd cc
 updating_line x signals.Repeat row is = absurd cc
 updating_line x signals.Wait row is = absurd cc
+updating_line x signals.Lifetime row is = at_row stages.Updating x (inside_note false signals.Lifetime) _ row refl is
 
 -- ---- an end has left
 
@@ -249,6 +257,7 @@ ending_line interval x (signals.Bye end) row is = ending_left interval (is_same 
 ending_line interval x signals.Limit row is = absurd cc
 ending_line interval x signals.Repeat row is = at_row (stages.Ending interval) x None _ row refl is
 ending_line interval x signals.Wait row is = at_row (stages.Ending interval) x None _ row refl is
+ending_line interval x signals.Lifetime row is = absurd cc
 
 -- ---- every line
 

@@ -80,6 +80,7 @@ step_makes c s (inputs.Bye end) pool now h = signal_makes c pool now (row_of s (
 step_makes c s inputs.Limit pool now h = signal_makes c pool now (row_of s signals.Limit)
 step_makes c s inputs.Repeat pool now h = signal_makes c pool now (row_of s signals.Repeat)
 step_makes c s inputs.Wait pool now h = signal_makes c pool now (row_of s signals.Wait)
+step_makes c s inputs.Lifetime pool now h = signal_makes c pool now (row_of s signals.Lifetime)
 
 in_makes : (c : Call) (standing : Option Standing) (input : Input) (pool : Contents) (now : ℕ) → is_fit_input c input ≡ false → Makes c (step_in c standing input pool now)
 unfolding Makes

@@ -9,7 +9,7 @@ use Rattle.call_core.specs.declared.action.CallTimer.TheVariants as timers
 use Rattle.call_core.specs.declared.stage.Stage.{Stage}
 use Rattle.call_core.specs.declared.stage.Stage.TheVariants.{Answered, Settled, Reanswered, Ending}
 use Rattle.call_media.specs.Ends.{other, is_same}
-use Rattle.call_core.specs.Rows.{row, gone, twice_to_t2}
+use Rattle.call_core.specs.Rows.{row, gone, outlasts, twice_to_t2}
 
 -- of the first INVITE, or of one inside the call
 abbrev pub waiting : Bool → ℕ → Stage
@@ -24,6 +24,8 @@ answered_row inside interval x signals.Repeat =
     Some (row (AnswerAgain x ∷ Set timers.Repeat (twice_to_t2 interval) ∷ []) x (waiting inside (twice_to_t2 interval)))
 -- wait: BYE X, BYE Y; gone
 answered_row inside interval x signals.Wait = Some (gone (Bye x ∷ Bye (other x) ∷ []))
+-- lifetime: again once the ACK has come
+answered_row inside interval x signals.Lifetime = Some (outlasts x (waiting inside interval))
 -- BYE X: 200 X, BYE Y; gone. BYE Y: 200 Y, pairs free, rows gone; Ending
 answered_row inside interval x (signals.Bye end) =
     if is_same end x then Some (gone (Okay x ∷ Bye (other x) ∷ []))

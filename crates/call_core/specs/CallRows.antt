@@ -132,6 +132,7 @@ step_at c s (inputs.Bye end) pool now = signal_at c s (signals.Bye end) pool now
 step_at c s inputs.Limit pool now = signal_at c s signals.Limit pool now
 step_at c s inputs.Repeat pool now = signal_at c s signals.Repeat pool now
 step_at c s inputs.Wait pool now = signal_at c s signals.Wait pool now
+step_at c s inputs.Lifetime pool now = signal_at c s signals.Lifetime pool now
 
 abbrev pub step_in : Call → Option Standing → Input → Contents → ℕ → Step
 step_in c None input pool now = unchanged c pool

@@ -17,3 +17,4 @@ signal_of (inputs.Bye end) = signals.Bye end
 signal_of inputs.Limit = signals.Limit
 signal_of inputs.Repeat = signals.Repeat
 signal_of inputs.Wait = signals.Wait
+signal_of inputs.Lifetime = signals.Lifetime

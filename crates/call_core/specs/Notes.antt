@@ -37,6 +37,10 @@ waits_for_ack (stages.Answered interval) = true
 waits_for_ack (stages.Reanswered interval) = true
 waits_for_ack stage = false
 
+abbrev pub is_settled : Stage → Bool
+is_settled stages.Settled = true
+is_settled stage = false
+
 abbrev pub is_ending : Stage → Bool
 is_ending (stages.Ending interval) = true
 is_ending stage = false
@@ -93,9 +97,12 @@ provisional_note before status = if holds_in is_asked before then Some (notes.Ri
 abbrev pub answer_note : Option Standing → CallNote
 answer_note before = if holds_in is_asked before then notes.Answered else notes.Reanswered
 
--- both ends get BYE where the ACK of a 200 doesn't come
+-- both ends get BYE where the ACK of a 200 doesn't come, and where the call has stood long enough
 abbrev pub bye_note : Option Standing → Option CallNote
-bye_note before = if holds_in waits_for_ack before then Some notes.Unacknowledged else None
+bye_note before =
+    if holds_in waits_for_ack before then Some notes.Unacknowledged
+    else if holds_in is_settled before then Some notes.Expired
+    else None
 
 abbrev pub note_by : Option Standing → Option Standing → Action → Option CallNote
 note_by before next (Okay end) = okay_note before next end
@@ -135,6 +142,7 @@ answered_note signal = None
 abbrev pub settled_note : Signal → Option CallNote
 settled_note (signals.Offer end method) = Some (notes.Offered end method)
 settled_note (signals.Bye end) = Some (notes.Left end)
+settled_note signals.Lifetime = Some notes.Expired
 settled_note signal = None
 
 -- 408 and 481 end the call (RFC 3261 section 12.2.1.2)

@@ -12,7 +12,7 @@ use Rattle.call_core.specs.declared.stage.Stage.TheVariants.{Settled, Reasked, R
 use Rattle.call_core.specs.Asked.{rings}
 use Rattle.call_media.specs.Ends.{other}
 use Rattle.call_core.specs.Passing.{status_passed_on}
-use Rattle.call_core.specs.Rows.{row, gone, first_interval, wait_time, short_time}
+use Rattle.call_core.specs.Rows.{row, gone, outlasts, first_interval, wait_time, short_time}
 
 -- the end across knows of no such call any more, or doesn't answer (RFC 3261 section 12.2.1.2)
 abbrev pub has_lost_the_call : ℕ → Bool
@@ -52,6 +52,8 @@ reasked_row rung cancelled x (signals.Refusal status) = Some (refused_inside x s
 -- timer B, limit: 408 X, BYE Y, BYE X; gone
 reasked_row rung cancelled x signals.TimedOut = Some (gone (Refusal x 408 ∷ Bye (other x) ∷ Bye x ∷ []))
 reasked_row true cancelled x signals.Limit = Some (gone (Refusal x 408 ∷ Bye (other x) ∷ Bye x ∷ Abandon (other x) ∷ []))
+-- lifetime: again once the offer is answered
+reasked_row rung cancelled x signals.Lifetime = Some (outlasts x (Reasked rung cancelled))
 reasked_row rung cancelled x signals.Cancel = Some (cancelled_inside rung cancelled x)
 reasked_row rung cancelled x (signals.Bye end) = Some (left_inside end x)
 reasked_row rung cancelled x signal = None

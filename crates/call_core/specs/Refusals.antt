@@ -89,6 +89,7 @@ RefusesInput c pool (inputs.Bye end) now refusal = IsNoMemory refusal
 RefusesInput c pool inputs.Limit now refusal = IsNoMemory refusal
 RefusesInput c pool inputs.Repeat now refusal = IsNoMemory refusal
 RefusesInput c pool inputs.Wait now refusal = IsNoMemory refusal
+RefusesInput c pool inputs.Lifetime now refusal = IsNoMemory refusal
 
 -- ---- what is not refused
 
@@ -113,6 +114,7 @@ MayTake c s pool (inputs.Bye end) now = Unit {0}
 MayTake c s pool inputs.Limit now = Unit {0}
 MayTake c s pool inputs.Repeat now = Unit {0}
 MayTake c s pool inputs.Wait now = Unit {0}
+MayTake c s pool inputs.Lifetime now = Unit {0}
 
 abbrev pub MayTakeIn : Call → Option Standing → Contents → Input → ℕ → Type 0
 MayTakeIn c None pool input now = Unit {0}

@@ -1,6 +1,8 @@
 -- A row of the table of calls: what is done, and what comes next.
-use Rattle.std.specs.Prelude.{ℕ, ◌*◌, min, List, Some, None}
+use Rattle.std.specs.Prelude.{ℕ, ◌*◌, min, List, [], ◌∷◌, Some, None}
 use Rattle.call_core.specs.declared.action.Action.{Action}
+use Rattle.call_core.specs.declared.action.Action.TheVariants.{Set}
+use Rattle.call_core.specs.declared.action.CallTimer.TheVariants.{Lifetime}
 use Rattle.call_media.specs.declared.end.End.{End}
 use Rattle.transaction_machines.specs.Steps.{t1, t2, timeout}
 use Rattle.call_core.specs.declared.row.Row.{Row}
@@ -34,3 +36,7 @@ ringing_time = 180000
 -- 32 seconds (RFC 3261 section 9.1)
 abbrev pub short_time : ℕ
 short_time = timeout
+
+-- the call has stood long enough, while an offer or its ACK is open: it is looked at again that much later
+abbrev pub outlasts : End → Stage → Row
+outlasts x stage = row (Set Lifetime short_time ∷ []) x stage

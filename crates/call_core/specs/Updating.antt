@@ -5,11 +5,11 @@ use Rattle.call_media.specs.declared.end.End.{End}
 use Rattle.call_core.specs.declared.row.Row.{Row}
 use Rattle.call_core.specs.declared.signal.Signal.{Signal}
 use Rattle.call_core.specs.declared.signal.Signal.TheVariants as signals
-use Rattle.call_core.specs.declared.stage.Stage.TheVariants.{Settled}
+use Rattle.call_core.specs.declared.stage.Stage.TheVariants.{Settled, Updating}
 use Rattle.call_media.specs.Ends.{other}
 use Rattle.call_core.specs.Passing.{status_passed_on}
 use Rattle.call_core.specs.Reasked.{has_lost_the_call}
-use Rattle.call_core.specs.Rows.{row, gone}
+use Rattle.call_core.specs.Rows.{row, gone, outlasts}
 
 -- a final response to X, BYE Y, BYE X; gone
 abbrev pub fails : End → ℕ → Row
@@ -31,4 +31,6 @@ updating_row x (signals.Refusal status) = Some (update_refused x status)
 updating_row x signals.TimedOut = Some (fails x 408)
 -- BYE X: 200 X, 487 X, BYE Y; gone. BYE Y: 200 Y, 487 X, BYE X; gone
 updating_row x (signals.Bye end) = Some (gone (Okay end ∷ Refusal x 487 ∷ Bye (other end) ∷ []))
+-- lifetime: again once the offer is answered
+updating_row x signals.Lifetime = Some (outlasts x Updating)
 updating_row x signal = None

@@ -14,6 +14,8 @@ pub enum CallTimer {
     Repeat,
     /// How long the ACK may take.
     Wait,
+    /// How long the call may stand from its first answer on.
+    Lifetime,
 }
 
 /// Something that a call does. Each message goes to the end that is named.

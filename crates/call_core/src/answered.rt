@@ -4,7 +4,7 @@ ghost use Rattle.std.specs.Prelude.{◌≡◌, IfOk};
 ghost use Rattle.call_core.specs.Answered.{answered_row, waiting};
 
 use crate::action::{Action, CallTimer};
-use crate::row::{Row, ends, leads, twice_to_t2};
+use crate::row::{Row, ends, leads, outlasts, twice_to_t2};
 use crate::signal::Signal;
 use crate::stage::Stage;
 use call_media::End;
@@ -82,6 +82,7 @@ pub(crate) fn answered_row(
         }
         Signal::Repeat => repeats(alloc, inside, interval, offerer),
         Signal::Wait => ends(alloc, &[Action::Bye(offerer), Action::Bye(offerer.other())]),
+        Signal::Lifetime => outlasts(alloc, offerer, waiting_stage(inside, interval)),
         Signal::Bye(end) => leaves(alloc, inside, interval, offerer, end),
         _ => Ok(None),
     }

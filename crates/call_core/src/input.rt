@@ -32,6 +32,8 @@ pub enum Input<'d> {
     Repeat,
     /// No ACK came in time (section 13.3.1.4).
     Wait,
+    /// The call has stood long enough, or its media have stopped.
+    Lifetime,
 }
 
 impl Drop for Input<'_> {
@@ -48,6 +50,7 @@ impl Drop for Input<'_> {
             Input::Limit => {}
             Input::Repeat => {}
             Input::Wait => {}
+            Input::Lifetime => {}
         }
     }
 }
@@ -69,6 +72,7 @@ impl Input<'_> {
             Input::Limit => Signal::Limit,
             Input::Repeat => Signal::Repeat,
             Input::Wait => Signal::Wait,
+            Input::Lifetime => Signal::Lifetime,
         }
     }
 }

@@ -2,7 +2,7 @@
 
 ghost use Rattle.std.specs.Prelude.{◌≡◌, find};
 ghost use Rattle.std.specs.Option.{option_copied};
-ghost use Rattle.call_core.specs.Notes.{is_asked, is_bye, is_ending, is_okay, is_said, call_note, may_give_up, note_by, note_of, offer_note, okay_note, provisional_note, answer_note, bye_note, refusal_note, telling, waits_for_ack};
+ghost use Rattle.call_core.specs.Notes.{is_asked, is_bye, is_ending, is_okay, is_said, is_settled, call_note, may_give_up, note_by, note_of, offer_note, okay_note, provisional_note, answer_note, bye_note, refusal_note, telling, waits_for_ack};
 ghost use Rattle.call_core.specs.Calls.{holds_in};
 
 use crate::action::{Action, Actions};
@@ -39,6 +39,8 @@ pub enum CallNote {
     Failed(u16),
     /// No ACK came in time, and the call is over (RFC 3261 section 13.3.1.4).
     Unacknowledged,
+    /// The call stood long enough, or its media had stopped, and it is over.
+    Expired,
 }
 
 /// What happened to the call of this number.
@@ -72,6 +74,15 @@ fn waits_for_ack(standing: Option<Standing>) -> bool
 {
     match standing {
         Some(standing) => matches!(standing.stage, Stage::Answered(_) | Stage::Reanswered(_)),
+        None => false,
+    }
+}
+
+fn is_settled(standing: Option<Standing>) -> bool
+    ensures { result ≡ holds_in is_settled standing }
+{
+    match standing {
+        Some(standing) => matches!(standing.stage, Stage::Settled),
         None => false,
     }
 }
@@ -199,6 +210,8 @@ fn bye_note(before: Option<Standing>) -> Option<CallNote>
 {
     if waits_for_ack(before) {
         Some(CallNote::Unacknowledged)
+    } else if is_settled(before) {
+        Some(CallNote::Expired)
     } else {
         None
     }

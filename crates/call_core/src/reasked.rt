@@ -6,7 +6,7 @@ ghost use Rattle.call_core.specs.Reasked.{cancelled_inside, has_lost_the_call, l
 use crate::action::{Action, CallTimer};
 use crate::asked::rings;
 use crate::refusal_status::status_passed_on;
-use crate::row::{Row, SHORT, WAIT, ends, leads};
+use crate::row::{Row, SHORT, WAIT, ends, leads, outlasts};
 use crate::signal::Signal;
 use crate::stage::{Cancelled, Stage};
 use call_media::End;
@@ -204,6 +204,7 @@ pub(crate) fn reasked_row(
         Signal::Refusal(status) => refused_inside(alloc, offerer, status),
         Signal::TimedOut => times_out(alloc, rung, cancelled, offerer),
         Signal::Limit => limits(alloc, rung, cancelled, offerer),
+        Signal::Lifetime => outlasts(alloc, offerer, Stage::Reasked(rung, cancelled)),
         Signal::Cancel => cancelled_inside(alloc, rung, cancelled, offerer),
         Signal::Bye(end) => left_inside(alloc, end, offerer),
         _ => Ok(None),

@@ -1,9 +1,9 @@
 //! A row of the table of calls.
 
 ghost use Rattle.std.specs.Prelude.{◌≡◌, ◌∷◌, [], IfOk, Some};
-ghost use Rattle.call_core.specs.Rows.{row, gone, first_interval, twice_to_t2};
+ghost use Rattle.call_core.specs.Rows.{row, gone, first_interval, outlasts, twice_to_t2};
 
-use crate::action::{Action, Actions};
+use crate::action::{Action, Actions, CallTimer};
 use crate::stage::{Stage, Standing};
 use call_media::End;
 use std::alloc::{AllocError, Global};
@@ -16,7 +16,7 @@ pub(crate) const WAIT: u64 = LIMIT;
 pub(crate) const RINGING: u64 = 180_000;
 
 /// How long the end across may take after its first provisional response to an offer inside a call, or after a CANCEL,
-/// in milliseconds.
+/// and when a call that has stood long enough is looked at again, in milliseconds.
 pub(crate) const SHORT: u64 = LIMIT;
 
 /// What is done for a signal, in order, and where the call stands then: none where it is gone. A call that is gone
@@ -50,6 +50,14 @@ pub(crate) fn ends(alloc: Global, actions: &[Action]) -> Result<Option<Row>, All
         actions,
         next: None,
     }))
+}
+
+/// The call has stood long enough, while an offer or its ACK is open: it is looked at again later.
+pub(crate) fn outlasts(alloc: Global, offerer: End, stage: Stage) -> Result<Option<Row>, AllocError>
+    ensures { IfOk result (λ r. r ≡ Some (outlasts offerer stage)) }
+{
+    let set = Action::Set(CallTimer::Lifetime, SHORT);
+    leads(alloc, &[set], offerer, stage)
 }
 
 /// Twice the interval, at most T2.

@@ -32,6 +32,7 @@ pub(crate) fn settled_row(alloc: Global, signal: Signal) -> Result<Option<Row>, 
     match signal {
         Signal::Offer(offerer, method) => offers(alloc, offerer, method),
         Signal::Bye(end) => ends(alloc, &[Action::Okay(end), Action::Bye(end.other())]),
+        Signal::Lifetime => ends(alloc, &[Action::Bye(End::Caller), Action::Bye(End::Callee)]),
         _ => Ok(None),
     }
 }

@@ -36,4 +36,6 @@ pub enum Signal {
     Repeat,
     /// No ACK came in time (section 13.3.1.4).
     Wait,
+    /// The call has stood long enough, or its media have stopped.
+    Lifetime,
 }

@@ -6,7 +6,7 @@ ghost use Rattle.call_core.specs.Updating.{fails, update_refused, updating_row};
 use crate::action::Action;
 use crate::reasked::has_lost_the_call;
 use crate::refusal_status::status_passed_on;
-use crate::row::{Row, ends, leads};
+use crate::row::{Row, ends, leads, outlasts};
 use crate::signal::Signal;
 use crate::stage::Stage;
 use call_media::End;
@@ -55,6 +55,7 @@ pub(crate) fn updating_row(
                 &[Action::Okay(end), refusal, Action::Bye(end.other())],
             )
         }
+        Signal::Lifetime => outlasts(alloc, offerer, Stage::Updating),
         _ => Ok(None),
     }
 }

@@ -122,3 +122,4 @@ lacks_memory c pool (inputs.Bye end) now = search rules
 lacks_memory c pool inputs.Limit now = search rules
 lacks_memory c pool inputs.Repeat now = search rules
 lacks_memory c pool inputs.Wait now = search rules
+lacks_memory c pool inputs.Lifetime now = search rules

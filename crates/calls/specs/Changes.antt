@@ -16,7 +16,7 @@ use Rattle.calls.specs.Carrying.{changed_at, pushed, with_answer, with_answered,
 use Rattle.calls.specs.State.{Contents, Standing}
 use Rattle.calls.specs.Timing.{same_timer, timers_after}
 use Rattle.calls.specs.declared.timer_id.CallTimerId.{CallTimerId}
-use Rattle.timers.specs.Queue.{without}
+use Rattle.timers.specs.Queue.{set, without}
 
 -- the calls afterwards, and the changes of the relay table
 pub record Outcome : Type 0 where
@@ -104,7 +104,17 @@ HasRoom s (Begins c plan) = (0 < s.room) × (length plan.actions ≤ s.timer_roo
 HasRoom s (Carries place kept plan) = length plan.actions ≤ s.timer_room
 HasRoom s (Puts place leg) = Unit {0}
 
--- ---- a timer that fires
+-- it sets so many timers at most
+abbrev pub timers_set : CallChange → ℕ
+timers_set Unchanged = 0
+timers_set (Begins c plan) = length plan.actions
+timers_set (Carries place kept plan) = length plan.actions
+timers_set (Puts place leg) = 0
+
+-- ---- a timer that fires, or is set to this moment
 
 abbrev pub without_timer : CallTimerId → Standing → Standing
 without_timer fired s = record { calls = s.calls; pool = s.pool; begun = s.begun; timers = without same_timer s.timers fired }
+
+abbrev pub with_timer : CallTimerId → ℕ → Standing → Standing
+with_timer timer at s = record { calls = s.calls; pool = s.pool; begun = s.begun; timers = set same_timer s.timers timer at }

@@ -5,7 +5,7 @@ use Rattle.timers.specs.Queue as queues
 use Rattle.call_core.specs.declared.action.Action.{Action}
 use Rattle.call_core.specs.declared.action.Action.TheVariants as actions
 use Rattle.call_core.specs.declared.action.CallTimer.{CallTimer}
-use Rattle.call_core.specs.declared.action.CallTimer.TheVariants.{Limit, Repeat, Wait}
+use Rattle.call_core.specs.declared.action.CallTimer.TheVariants.{Limit, Repeat, Wait, Lifetime}
 use Rattle.call_core.specs.declared.plan.Plan.{Plan}
 use Rattle.call_core.specs.Plans.{Step}
 use Rattle.calls.specs.declared.timer_id.CallTimerId.{CallTimerId}
@@ -14,12 +14,19 @@ abbrev pub same_kind : CallTimer → CallTimer → Bool
 same_kind Limit Limit = true
 same_kind Limit Repeat = false
 same_kind Limit Wait = false
+same_kind Limit Lifetime = false
 same_kind Repeat Limit = false
 same_kind Repeat Repeat = true
 same_kind Repeat Wait = false
+same_kind Repeat Lifetime = false
 same_kind Wait Limit = false
 same_kind Wait Repeat = false
 same_kind Wait Wait = true
+same_kind Wait Lifetime = false
+same_kind Lifetime Limit = false
+same_kind Lifetime Repeat = false
+same_kind Lifetime Wait = false
+same_kind Lifetime Lifetime = true
 
 abbrev pub same_timer : CallTimerId → CallTimerId → Bool
 same_timer a b = a.number == b.number && same_kind a.timer b.timer
@@ -46,7 +53,9 @@ timed now number timers (action ∷ later) = timed now number (timed_by now numb
 abbrev pub of_others : ℕ → List (Timer CallTimerId) → List (Timer CallTimerId)
 of_others number timers =
     queues.without same_timer
-    (queues.without same_timer (queues.without same_timer timers (id number Limit)) (id number Repeat)) (id number Wait)
+    (queues.without same_timer
+    (queues.without same_timer (queues.without same_timer timers (id number Limit)) (id number Repeat)) (id number Wait))
+    (id number Lifetime)
 
 -- the timers after a call of this number did this; a call that is gone has none
 abbrev pub timers_after : ℕ → ℕ → Step → List (Timer CallTimerId) → List (Timer CallTimerId)

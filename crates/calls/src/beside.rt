@@ -79,6 +79,7 @@ impl Calls {
         ensures pool { self.new.pool ≡ self.old.pool }
         ensures begun { self.new.begun ≡ self.old.begun }
         ensures timers { self.new.timers ≡ self.old.timers }
+        ensures timer_left { self.new.timer_room ≡ self.old.timer_room }
     {
         if place >= self.calls.len() {
             return drop(leg);

@@ -3,7 +3,7 @@
 ghost use Rattle.std.specs.Prelude.{◌≡◌, ◌+◌, ◌<◌, ◌≤◌, length, option_map};
 ghost use Rattle.timers.specs.Queue.{first, first_due, set, without};
 ghost use Rattle.timers.specs.Settings.{IsDue, IsNext};
-ghost use Rattle.calls.specs.Changes.{without_timer};
+ghost use Rattle.calls.specs.Changes.{with_timer, without_timer};
 ghost use Rattle.calls.specs.State.{standing};
 ghost use Rattle.calls.specs.Timing.{id, moment_after, of_others, same_timer, timed, timed_by, timers_planned};
 
@@ -57,7 +57,8 @@ fn take_action(timers: &mut Timers<CallTimerId>, now: u64, number: u64, action: 
 
 fn take_actions(timers: &mut Timers<CallTimerId>, now: u64, number: u64, actions: &[Action])
     requires { length actions.now ≤ timers.old.room }
-    ensures { timers.new.timers ≡ timed now number timers.old.timers actions.now }
+    ensures timers { timers.new.timers ≡ timed now number timers.old.timers actions.now }
+    ensures room { timers.old.room ≤ timers.new.room + length actions.now }
 {
     for action in actions {
         take_action(timers, now, number, *action);
@@ -66,18 +67,21 @@ fn take_actions(timers: &mut Timers<CallTimerId>, now: u64, number: u64, actions
 
 /// Stops all timers of the call with this number.
 fn stop_all(timers: &mut Timers<CallTimerId>, number: u64)
-    ensures { timers.new.timers ≡ of_others number timers.old.timers }
+    ensures timers { timers.new.timers ≡ of_others number timers.old.timers }
+    ensures room { timers.old.room ≤ timers.new.room }
 {
     stop(timers, timer_id(number, CallTimer::Limit));
     stop(timers, timer_id(number, CallTimer::Repeat));
     stop(timers, timer_id(number, CallTimer::Wait));
+    stop(timers, timer_id(number, CallTimer::Lifetime));
 }
 
 /// What a plan does to the timers of the call with this number: its actions set and stop them, and a call that is gone
 /// has none.
 pub(crate) fn take_plan(timers: &mut Timers<CallTimerId>, now: u64, number: u64, plan: &Plan)
     requires { length plan.now.actions ≤ timers.old.room }
-    ensures { timers.new.timers ≡ timers_planned now number plan.now timers.old.timers }
+    ensures timers { timers.new.timers ≡ timers_planned now number plan.now timers.old.timers }
+    ensures room { timers.old.room ≤ timers.new.room + length plan.now.actions }
 {
     if plan.next.is_some() {
         take_actions(timers, now, number, plan.actions.as_slice());
@@ -111,5 +115,13 @@ impl Calls {
         ensures timer_room { self.old.timer_room ≤ self.new.timer_room }
     {
         stop(&mut self.timers, timer);
+    }
+
+    /// This timer is set to this moment, in milliseconds: anew, if it was set. Takes no memory.
+    pub fn set_timer(&mut self, timer: CallTimerId, at: u64)
+        requires { 0 < self.old.timer_room }
+        ensures standing { standing self.new ≡ with_timer timer at (standing self.old) }
+    {
+        set(&mut self.timers, timer, at);
     }
 }

@@ -154,6 +154,7 @@ impl Calls {
         ensures changes { result.items
             ≡ (carries (standing self.old) now place kept plan (slice_get self.old.calls place)).changes }
         ensures leads { LeadFrom self.old.pool.rows self.new.pool.rows result.items }
+        ensures timer_left { self.old.timer_room ≤ self.new.timer_room + length plan.actions }
     {
         spared_call_is_served();
         if place >= self.calls.len() {
@@ -197,6 +198,7 @@ impl Calls {
             ≡ (after_first_step (standing self.old) now call (carried call.call self.old.pool now plan)).standing }
         ensures changes { result.items ≡ (carried call.call self.old.pool now plan).changes }
         ensures leads { LeadFrom self.old.pool.rows self.new.pool.rows result.items }
+        ensures timer_left { self.old.timer_room ≤ self.new.timer_room + length plan.actions }
     {
         spared_call_is_served();
         take_plan(&mut self.timers, now, call.get().call.number(), plan.get());

@@ -1,33 +1,43 @@
 //! Changes among the calls: room for one, and its entry.
 
-ghost use Rattle.std.specs.Prelude.{◌≡◌, ◌+◌, ◌<◌, ◌≤◌, ◌^◌, OnOk};
+ghost use Rattle.std.specs.Prelude.{◌≡◌, ◌+◌, ◌<◌, ◌≤◌, ◌^◌, OnOk, length};
 ghost use Rattle.port_pool.specs.Changes.{LeadFrom};
-ghost use Rattle.calls.specs.Changes.{FitsChange, HasRoom, entered};
+ghost use Rattle.calls.specs.Changes.{FitsChange, HasRoom, entered, timers_set};
 ghost use Rattle.calls.specs.State.{standing};
 
 use crate::change::CallChange;
 use crate::state::Calls;
+use call_core::Plan;
 use port_pool::Change;
 use std::alloc::{AllocError, Global};
 
 impl Calls {
-    /// Makes the room that this change takes. A refusal (no memory) leaves the calls as they were.
+    /// Makes room for the timers that a plan sets, and for one more.
+    fn reserve_timers(&mut self, plan: &Plan) -> Result<(), AllocError>
+        ensures standing { standing self.new ≡ standing self.old }
+        ensures ok { OnOk result (length plan.now.actions < self.new.timer_room) }
+        ensures room { self.old.room ≤ self.new.room }
+        ensures timer_room { self.old.timer_room ≤ self.new.timer_room }
+    {
+        self.timers.reserve(plan.actions.as_slice().len() + 1)
+    }
+
+    /// Makes the room that this change takes, and for one timer more. A refusal (no memory) leaves the calls as they were.
     pub fn reserve_for(&mut self, change: &CallChange) -> Result<(), AllocError>
         ensures standing { standing self.new ≡ standing self.old }
         ensures ok { OnOk result (HasRoom self.new change.now) }
         ensures room { self.old.room ≤ self.new.room }
         ensures timer_room { self.old.timer_room ≤ self.new.timer_room }
+        ensures timer_more { OnOk result (timers_set change.now < self.new.timer_room) }
     {
         match change {
-            CallChange::Unchanged | CallChange::Puts { .. } => Ok(()),
+            CallChange::Unchanged | CallChange::Puts { .. } => self.timers.reserve(1),
             CallChange::Begins(_, plan) => {
                 self.calls.reserve(1)?;
                 self.tags.reserve(1)?;
-                self.timers.reserve(plan.get().actions.as_slice().len())
+                self.reserve_timers(plan.get())
             }
-            CallChange::Carries { plan, .. } => {
-                self.timers.reserve(plan.get().actions.as_slice().len())
-            }
+            CallChange::Carries { plan, .. } => self.reserve_timers(plan.get()),
         }
     }
 
@@ -40,6 +50,7 @@ impl Calls {
         ensures standing { standing self.new ≡ (entered (standing self.old) now change).standing }
         ensures changes { result.items ≡ (entered (standing self.old) now change).changes }
         ensures leads { LeadFrom self.old.pool.rows self.new.pool.rows result.items }
+        ensures timer_left { self.old.timer_room ≤ self.new.timer_room + timers_set change }
     {
         match change {
             CallChange::Unchanged => Vec::new(alloc),

@@ -3,7 +3,9 @@
 ghost use Rattle.std.specs.Prelude.{◌≡◌, map};
 ghost use Rattle.std.specs.Option.{option_copied};
 ghost use Rattle.call_core.specs.Calls.{holds_in};
+ghost use Rattle.call_core.specs.Notes.{is_settled};
 ghost use Rattle.calls.specs.Tags.{prints_of};
+ghost use Rattle.calls.specs.Settled.{has_settled, is_settled_call};
 ghost use Rattle.calls.specs.Finding.{awaits_ack, awaits_this_ack, has_number, has_open_offer, has_tag, is_cancellable, is_of_end, is_tag_in, place_by_ack, place_by_end, place_by_number, place_by_offer, place_by_tag};
 
 use crate::standing_call::StandingCall;
@@ -79,6 +81,27 @@ fn has_number(call: &StandingCall, number: u64) -> bool
     ensures { result ≡ has_number number call.now }
 {
     call.call.number() == number
+}
+
+fn is_settled(standing: Option<Standing>) -> bool
+    ensures { result ≡ holds_in is_settled standing }
+{
+    match standing {
+        None => false,
+        Some(standing) => matches!(standing.stage, Stage::Settled),
+    }
+}
+
+fn is_settled_call(call: &StandingCall, number: u64) -> bool
+    ensures { result ≡ is_settled_call number call.now }
+{
+    has_number(call, number) && is_settled(call.call.standing())
+}
+
+fn has_settled(calls: &[StandingCall], number: u64) -> bool
+    ensures { result ≡ has_settled number calls.now }
+{
+    calls.iter().any(|call| is_settled_call(call, number))
 }
 
 fn place_by_end(calls: &[StandingCall], end: End, request: &Request<'_>) -> Option<usize>
@@ -183,5 +206,12 @@ impl Calls {
         ensures { result ≡ place_by_number number self.now.calls }
     {
         place_by_number(&self.calls, number)
+    }
+
+    /// Whether the call with this number is settled: no offer is open, and each was answered.
+    pub fn has_settled(&self, number: u64) -> bool
+        ensures { result ≡ has_settled number self.now.calls }
+    {
+        has_settled(&self.calls, number)
     }
 }

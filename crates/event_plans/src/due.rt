@@ -1,15 +1,52 @@
-//! What a timer comes to that fires.
+//! What a timer comes to that fires, and what a call whose media have stopped.
 
 ghost use Rattle.std.specs.Prelude.{◌≡◌, ◌<◌, ◌^◌, ◌∷◌, [], IfOk, IsTrue, Some};
 ghost use Rattle.timers.specs.Queue.{first_due};
 ghost use Rattle.transactions.specs.Changes.{fire_of};
 ghost use Rattle.transactions.specs.Contents.{is_due};
+ghost use Rattle.call_core.specs.declared.action.CallTimer.TheVariants.{Lifetime};
+ghost use Rattle.calls.specs.Timing.{id};
+ghost use Rattle.plans.specs.CallRows.{call_timer_row};
 ghost use Rattle.plans.specs.Effect.{Fits, effect};
-ghost use Rattle.event_rows.specs.Rows.{due_row, fires_by, timer_row};
+ghost use Rattle.event_rows.specs.Rows.{due_row, fires_by, no_source, setting, timer_row};
 
+use call_core::CallTimer;
+use calls::CallTimerId;
 use plans::{Doing, Office, Plan, Setting, Taken, one_change};
+use sip_uri::Addr;
 use std::alloc::AllocError;
 use transactions::{Change, Fired, ForeseenFire, TableError, TimerId};
+
+/// A timer has no source.
+const NO_SOURCE: Addr = Addr {
+    ip: [0, 0, 0, 0],
+    port: 0,
+};
+
+pub(crate) fn timed_setting(now: u64, salt: u64) -> Setting
+    ensures { result ≡ setting now salt no_source }
+{
+    Setting {
+        now,
+        salt,
+        source: NO_SOURCE,
+    }
+}
+
+/// The media of this call have stopped: its lifetime ends now.
+#[inline(never)]
+pub(crate) fn silent_row(
+    office: &Office<'_>,
+    setting: Setting,
+    number: u64,
+) -> Result<Doing, AllocError>
+    requires few { office.now.tokens < 2 ^ 63 }
+    ensures row { IfOk result (λ d. effect office.now.calls office.now.acks setting.now d ≡ call_timer_row office.now setting (id number Lifetime)) }
+    ensures fits { IfOk result (Fits office.now.calls setting.now) }
+{
+    let timer = CallTimer::Lifetime;
+    office.call_timer_row(setting, CallTimerId { number, timer })
+}
 
 /// What the timer that is due first comes to; at equal moments that of a transaction goes first.
 #[inline(never)]

@@ -9,7 +9,7 @@ ghost use Rattle.plans.specs.CallRows.{of_plan};
 ghost use Rattle.event_plans.specs.RuleValue.{rule_value};
 ghost use Rattle.event_rows.specs.Rows.{datagram_row, fit_row, is_unreachable_message, parts_of, read_row, received, received_by, request_by, response_by, rule_row, what_row};
 
-use crate::due::due_row;
+use crate::due::{due_row, silent_row, timed_setting};
 use crate::rule::Rule;
 use crate::rules::request_rule;
 use crate::unread::{unfit_branch, unread_row};
@@ -18,15 +18,8 @@ use events::What;
 use plans::{Doing, Office, Setting, Taken, Why, one_change};
 use responses::has_fit_branch;
 use sip_message::{Message, Parts, Request, Response, read_message};
-use sip_uri::Addr;
 use std::alloc::{AllocError, Global};
 use transactions::{Change, Foreseen, Outgoing, Reception, TableError, Verdict};
-
-/// A timer has no source.
-const NO_SOURCE: Addr = Addr {
-    ip: [0, 0, 0, 0],
-    port: 0,
-};
 
 fn is_unreachable_message(alloc: Global, message: &Message<'_>) -> Result<bool, AllocError>
     ensures { IfOk result (λ is. is ≡ is_unreachable_message message.now) }
@@ -267,13 +260,7 @@ pub fn plan_event(
             let source = *source;
             datagram_row(office, Setting { now, salt, source }, bytes.as_bytes())
         }
-        What::Due => due_row(
-            office,
-            Setting {
-                now,
-                salt,
-                source: NO_SOURCE,
-            },
-        ),
+        What::Due => due_row(office, timed_setting(now, salt)),
+        What::Silent(number) => silent_row(office, timed_setting(now, salt), *number),
     }
 }

@@ -1,4 +1,5 @@
 pub mod Tally
+pub mod Lifetimes
 pub mod State
 pub mod Rule
 pub mod Rules

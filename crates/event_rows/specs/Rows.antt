@@ -54,7 +54,10 @@ use Rattle.responses.specs.Tokens.{token}
 use Rattle.responses.specs.Words.{has_fit_branch, is_method}
 use Rattle.sip_message.specs.declared.message.Response.{Response}
 use Rattle.calls.specs.Changes.{unchanged}
+use Rattle.call_core.specs.declared.action.CallTimer.TheVariants.{Lifetime}
 use Rattle.calls.specs.declared.timer_id.CallTimerId.{CallTimerId}
+use Rattle.calls.specs.Settled.{has_settled}
+use Rattle.calls.specs.Timing.{id}
 use Rattle.call_rules.specs.Reach.{is_unreachable}
 use Rattle.plans.specs.Effect.{Effect, alone, without_ack}
 use Rattle.plans.specs.Reasons.{status}
@@ -174,11 +177,13 @@ due_row s e (Some timer) (Some other) = if nat_le timer.at other.at then timer_r
 
 -- ---- an event
 
--- whether a datagram has more bytes than are read, or no timer is due: nothing is looked at further
+-- whether a datagram has more bytes than are read, no timer is due, or no call of the number is settled: nothing is
+-- looked at further
 abbrev pub what_counts : Contents → ℕ → What → Option Taken
 what_counts s now (whats.Datagram source bytes) =
     if nat_lt max_datagram (length bytes) then Some (Dropped (Unread faults.TooLong)) else None
 what_counts s now whats.Due = if is_some (first_due s.table.timers now) || is_some (first_due s.calls.timers now) then None else Some Idle
+what_counts s now (whats.Silent number) = if has_settled number s.calls.calls then None else Some Idle
 
 -- an event that is only counted takes no memory
 unfoldable pub only_counts : Contents → Event → Option Taken
@@ -201,6 +206,8 @@ no_source = record { ip = 0 ∷ 0 ∷ 0 ∷ 0 ∷ []; port = 0 }
 unfoldable pub what_row : Office → ℕ → ℕ → What → Effect
 what_row s now salt (whats.Datagram source bytes) = datagram_row s (setting now salt source) bytes
 what_row s now salt whats.Due = due_row s (setting now salt no_source) (first_due s.table.timers now) (first_due s.calls.timers now)
+-- media have stopped: the call's lifetime ends now
+what_row s now salt (whats.Silent number) = call_timer_row s (setting now salt no_source) (id number Lifetime)
 
 abbrev pub row_by : Contents → Event → Option Taken → Effect
 row_by s e (Some taken) = of_plan (office s) (nothing taken)

@@ -2,7 +2,7 @@
 use Rattle.std.specs.Prelude.{◌≡◌, ◌≢◌, ℕ, ◌<◌, ◌≤◌, ◌^◌, ◌+◌, ◌-◌, ◌*◌, max, List, [], Option, Some, None, option_map}
 use Rattle.configuration.specs.declared.config.Config.{Config}
 use Rattle.configuration.specs.declared.error.ConfigError.{ConfigError}
-use Rattle.configuration.specs.declared.error.ConfigError.TheVariants.{OutOfMemory, RelayPorts, Address, Users, MinExpires, Domain, File}
+use Rattle.configuration.specs.declared.error.ConfigError.TheVariants.{OutOfMemory, RelayPorts, Address, Users, MinExpires, Domain, CallDuration, File}
 use Rattle.configuration.specs.Domain.{domain_text}
 use Rattle.configuration.specs.Rules.{first_broken}
 use Rattle.registrar.specs.Registering.{Rules}
@@ -25,11 +25,12 @@ use Rattle.plans.specs.declared.acks.KeptAck.{KeptAck}
 use Rattle.plans.specs.Effect.{Effect}
 use Rattle.plans.specs.Note.{note_of_taken}
 use Rattle.plans.specs.Office.{Office}
+use Rattle.event_rows.specs.Lifetimes.{lifetime_of, with_lifetime}
 use Rattle.event_rows.specs.Tally.{counted, none_counted}
 
 -- the registrar, the transactions, the calls with their pool, the ACKs that go again, and the changes that the last
--- event made in the relay table; where the server is reached, its relay ports, and the seconds that a binding has to
--- last at least; the greatest moment so far in milliseconds, how many tokens were made, how many events were
+-- event made in the relay table; where the server is reached, its relay ports, the seconds that a binding has to last
+-- at least, and the milliseconds that a call may stand; the greatest moment so far in milliseconds, how many tokens were made, how many events were
 -- answered how, what the last was about, and whose bindings it set
 pub record Contents : Type 0 where
   pub registrar : registrar.Contents
@@ -40,6 +41,7 @@ pub record Contents : Type 0 where
   pub server : Addr
   pub range : OwnRange
   pub least : ℕ
+  pub lifetime : Option ℕ
   pub moment : ℕ
   pub tokens : ℕ
   pub tally : Tally
@@ -88,12 +90,13 @@ unfoldable pub after_event : Contents → ℕ → Effect → Contents
 after_event s now e = record {
   registrar = registered_by s.registrar e.plan.registration;
   table = entered_all now s.table e.plan.changes;
-  calls = e.calls.standing;
+  calls = with_lifetime s.lifetime now e.plan.note e.calls.standing;
   acks = e.acks;
   changes = e.calls.changes;
   server = s.server;
   range = s.range;
   least = s.least;
+  lifetime = s.lifetime;
   moment = now;
   tokens = s.tokens + e.plan.made;
   tally = counted s.tally e.plan.taken;
@@ -139,6 +142,7 @@ pub record IsNew (c : Config) (s : Contents) : Type 0 where
   pub server : s.server ≡ server_of c
   pub range : s.range ≡ range_of c
   pub least : s.least ≡ c.min_expires
+  pub lifetime : s.lifetime ≡ lifetime_of c
   pub moment : s.moment ≡ 0
   pub tokens : s.tokens ≡ 0
   pub tally : s.tally ≡ none_counted
@@ -153,4 +157,5 @@ RefusesConfig c Address = first_broken c ≡ Some Address
 RefusesConfig c Users = first_broken c ≡ Some Users
 RefusesConfig c MinExpires = first_broken c ≡ Some MinExpires
 RefusesConfig c Domain = first_broken c ≡ Some Domain
+RefusesConfig c CallDuration = first_broken c ≡ Some CallDuration
 RefusesConfig c File = ⊥

@@ -28,6 +28,8 @@ pub enum What {
     Datagram { source: Addr, bytes: Text<'static> },
     /// The moment of a timer may have come.
     Due,
+    /// No media have come for long in the call of this number.
+    Silent(u64),
 }
 
 impl Drop for What {
@@ -38,6 +40,7 @@ impl Drop for What {
                 bytes: _,
             } => {}
             What::Due => {}
+            What::Silent(_) => {}
         }
     }
 }

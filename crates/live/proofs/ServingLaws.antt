@@ -2,15 +2,15 @@
 use Rattle.std.proofs.Common.{◌≡◌, ◌∙◌, ℕ, zero, suc, Bool, true, false, cond, nat_le, List, [], ◌∷◌, length, Option, Some, None, ◌⊎◌, ◌++◌, inl, inr, refl, ap, sym, subst, append_assoc, arith}
 use Rattle.std.proofs.lemmas.List.{append-nil}
 use Rattle.rand_chacha.specs.ChaCha.{ChaCha}
-use Rattle.live.specs.Rounds.{Rounds, TableAt, end_after, is_behind, max_in_a_row, salts_after, streaks_after}
+use Rattle.live.specs.Rounds.{Rounds, TableAt, end_after, is_behind, max_in_a_row, salts_after, silent_in, streaks_after}
 use Rattle.live.specs.Salts.{behind_salts, salt_at}
-use Rattle.live.specs.Serving.{AreLeft, Course, EndsAt, GoOn, Leads, Made, RoundAt, events_after, events_in, Served, moments_of, none_failed, one_less, salts_behind, streaks_of, told_in, with_trouble}
+use Rattle.live.specs.Serving.{AreLeft, Course, EndsAt, GoOn, Leads, Made, RoundAt, events_after, events_in, Served, moments_of, none_failed, one_less, salts_behind, silent_behind, streaks_of, told_in, with_silent, with_trouble}
 use Rattle.live.specs.Troubles.{trouble_between}
 use Rattle.live.specs.Traces.{LivesUntil}
 use Rattle.live.specs.Turns.{HasTable}
 use Rattle.live.proofs.TraceLaws.{Went, StandLaws, lives_on, none_went, round_more}
 use Rattle.live.specs.declared.round.Round.{Round}
-use Rattle.live.specs.declared.round.Round.TheVariants.{Fired, Took, Waited, Failed}
+use Rattle.live.specs.declared.round.Round.TheVariants.{Fired, Silenced, Took, Waited, Failed}
 use Rattle.live.specs.declared.streaks.Streaks.{Streaks}
 use Rattle.live.specs.declared.streaks.End.{End}
 use Rattle.live.specs.declared.streaks.End.TheVariants.{Turns, Stopped, Socket, Memory}
@@ -21,6 +21,7 @@ pub record Going (a b : Course) (turns left : Option ℕ) (streaks : Streaks) : 
   pub rounds : List RoundAt
   pub made : Made a.salts a.state rounds b.state
   pub moments : b.moments ≡ a.moments ++ moments_of rounds
+  pub named : b.silent ≡ silent_behind a.silent rounds
   pub salts : b.salts ≡ salts_behind a.salts rounds
   pub told_there : b.trouble ≡ told_in a.trouble rounds
   pub go_on : GoOn rounds
@@ -33,7 +34,7 @@ all_left None = refl
 all_left (Some turns) = omega (arith)
 
 pub none_made : (a : Course) (turns : Option ℕ) → Going a a turns turns none_failed
-none_made a turns = record { rounds = []; made = refl; moments = sym (append-nil a.moments); salts = refl; told_there = refl; go_on = tt; are_left = all_left turns; counts = refl; went = none_went a.state }
+none_made a turns = record { rounds = []; made = refl; moments = sym (append-nil a.moments); named = refl; salts = refl; told_there = refl; go_on = tt; are_left = all_left turns; counts = refl; went = none_went a.state }
 
 -- ---- how many are left
 
@@ -59,11 +60,11 @@ none_left (Some turns) (Some (suc left)) made h e = absurd (cc)
 -- ---- the end
 
 pub was_stopped : (a b : Course) (turns left : Option ℕ) (streaks : Streaks) → Going a b turns left streaks → Served a b turns Stopped
-was_stopped a b turns left streaks h = record { rounds = h.rounds; made = h.made; moments = h.moments; salts = h.salts; told_there = h.told_there; ends = h.go_on }
+was_stopped a b turns left streaks h = record { rounds = h.rounds; made = h.made; moments = h.moments; named = h.named; salts = h.salts; told_there = h.told_there; ends = h.go_on }
 
 pub made_all : (a b : Course) (turns left : Option ℕ) (streaks : Streaks) → Going a b turns left streaks → one_less left ≡ None → Served a b turns Turns
 made_all a b turns left streaks h e =
-    record { rounds = h.rounds; made = h.made; moments = h.moments; salts = h.salts; told_there = h.told_there; ends = (none_left turns left (length h.rounds) h.are_left e, h.go_on) }
+    record { rounds = h.rounds; made = h.made; moments = h.moments; named = h.named; salts = h.salts; told_there = h.told_there; ends = (none_left turns left (length h.rounds) h.are_left e, h.go_on) }
 
 -- what ends the signalling behind a round is a socket or memory
 end_cases : (b c d : Bool) (end : End) → cond b (Some Memory) (cond c (Some Socket) (cond d (Some Memory) None)) ≡ Some end → (end ≡ Socket) ⊎ (end ≡ Memory)
@@ -97,6 +98,7 @@ count_more rounds x streaks after counts next = next ∙ ap (λ (y : Streaks). s
 record Lead (a c : Course) (rounds : List RoundAt) : Type 0 where
   pub made : Made a.salts a.state rounds c.state
   pub moments : c.moments ≡ a.moments ++ moments_of rounds
+  pub named : c.silent ≡ silent_behind a.silent rounds
   pub salts : c.salts ≡ salts_behind a.salts rounds
   pub told_there : c.trouble ≡ told_in a.trouble rounds
 
@@ -110,6 +112,7 @@ is_in_front x round e = front_cases (is_behind round) _ e
 
 salts_more : (g : ChaCha) (n : ℕ) (round : Round) → salts_after (behind_salts g n) round ≡ behind_salts g (events_after n round)
 salts_more g n (Fired turned) = refl
+salts_more g n (Silenced number turned) = refl
 salts_more g n (Took turned) = refl
 salts_more g n Waited = refl
 salts_more g n Failed = refl
@@ -119,6 +122,7 @@ lead_more : (a b c : Course) (turns left : Option ℕ) (streaks after : Streaks)
 lead_more a b c turns left streaks after round h leads counted said = record {
   made = (b.state, h.made, subst (λ (g : ChaCha). Rounds leads.now (salt_at g) b.state c.state round) h.salts leads.made);
   moments = leads.told ∙ ap (λ (l : List ℕ). l ++ leads.now ∷ []) h.moments ∙ append_assoc a.moments (moments_of h.rounds) (leads.now ∷ []);
+  named = leads.named ∙ ap (λ (l : List ℕ). with_silent l (silent_in round)) h.named;
   salts = leads.salts ∙ ap (λ (g : ChaCha). salts_after g round) h.salts ∙ salts_more a.salts (events_in h.rounds) round;
   told_there = told_more a.trouble b.trouble c.trouble h.rounds (record { now = leads.now; round = round }) streaks after h.told_there h.counts counted said;
 }
@@ -134,6 +138,7 @@ one_more_made a b c turns left next streaks after round h less leads counted sai
       rounds = x ∷ h.rounds;
       made = lead.made;
       moments = lead.moments;
+      named = lead.named;
       salts = lead.salts;
       told_there = lead.told_there;
       go_on = (subst (λ (y : Streaks). end_after y round ≡ None) counts goes_on, h.go_on);
@@ -154,6 +159,7 @@ ended a b c turns left streaks after round end h leads counted said ends =
       rounds = x ∷ h.rounds;
       made = lead.made;
       moments = lead.moments;
+      named = lead.named;
       salts = lead.salts;
       told_there = lead.told_there;
       ends = ends_by turns x h.rounds end (end_cases (is_behind round) (nat_le max_in_a_row after.failed) (nat_le max_in_a_row after.lost) end ends) ends_there h.go_on;

@@ -3,10 +3,9 @@ use Rattle.std.specs.Prelude.{◌≡◌, ℕ, ◌+◌, List, [], ◌∷◌, ◌+
 use Rattle.std.specs.List.{All}
 use Rattle.call_trace.specs.declared.datagram.Datagram.{Datagram}
 use Rattle.relay.specs.Lists.{table_after}
-use Rattle.events.specs.declared.event.What.TheVariants.{Due}
 use Rattle.event_rows.specs.State.{office}
 use Rattle.event_rows.specs.Trace.{AreEntries, Entry, after_entries}
-use Rattle.message_laws.specs.Datagrams.{EntersFromSource}
+use Rattle.message_laws.specs.Datagrams.{EntersFromSource, IsNoDatagram}
 use Rattle.message_laws.specs.Knowledge.{sends_of}
 use Rattle.message_laws.specs.Traces.{AreTrace}
 use Rattle.media_laws.specs.Keeping.{HasPromisedCalls, RelaysLive}
@@ -21,16 +20,16 @@ use Rattle.live.specs.declared.streaks.End.TheVariants.{Turns, Stopped, Socket, 
 
 -- ---- what came, and what the agent made of it
 
--- A datagram that came, or a timer that fired, and its entry: the event, with its answer and what was sent. One that
+-- A datagram that came, a timer that fired, or silence of a call, and its entry: the event, with its answer and what was sent. One that
 -- was lost has no entry, and counts as not come.
 pub record Happening : Type 0 where
   pub arrival : Option Arrival
   pub entry : Option Entry
 
--- the entry is of that datagram, or of a timer
+-- the entry is of that datagram, or of what is none
 abbrev pub IsOf : Option Arrival → Option Entry → Type 0
 IsOf arrival None = Unit {0}
-IsOf None (Some x) = x.event.what ≡ Due
+IsOf None (Some x) = IsNoDatagram x.event.what
 IsOf (Some d) (Some x) = x.event.what ≡ comes d
 
 abbrev pub IsHappening : Happening → Type 0

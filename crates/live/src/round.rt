@@ -1,12 +1,12 @@
-//! One round of the signalling: it fires what is due, or takes a datagram, or waits.
+//! One round of the signalling: it tells the agent of a silent call, or fires what is due, or takes a datagram, or waits.
 
-ghost use Rattle.std.specs.Prelude.{◌≡◌, ◌∷◌, ◌++◌, [], false, IfOk, MatchOption, MatchResult};
+ghost use Rattle.std.specs.Prelude.{◌≡◌, ◌∷◌, ◌++◌, [], false, IfOk, MatchOption, MatchResult, None};
 ghost use Rattle.std.specs.Result.{is_err};
 ghost use Rattle.events.specs.declared.event.What.TheVariants as whats;
 ghost use Rattle.event_rows.specs.Rows.{next_due};
 ghost use Rattle.live.specs.Arrivals.{TakesOne, buffer_length};
-ghost use Rattle.live.specs.Rounds.{is_due, salts_after, wait_until, Rounds};
-ghost use Rattle.live.specs.Salts.{salt_at};
+ghost use Rattle.live.specs.Rounds.{Rounds, event, is_due, salts_after, silent_in, wait_until};
+ghost use Rattle.live.specs.Salts.{after_salt, salt_at};
 ghost use Rattle.live.specs.States.{OnlySends};
 ghost use Rattle.live.specs.Turns.{HasTable, Turns};
 
@@ -29,6 +29,8 @@ const MAX_WAIT: u64 = 100;
 pub enum Round {
     /// A timer was due.
     Fired(Turned),
+    /// The media of the call of this number had stopped.
+    Silenced(u64, Turned),
     /// A datagram was there.
     Took(Turned),
     /// Nothing was there, and it waited.
@@ -112,6 +114,19 @@ impl<W: Wire> Signalling<W> {
         turned
     }
 
+    // An event that no datagram comes with, with the next salt.
+    fn happen_alone<R: Wait>(&mut self, rt: &R, now: u64, what: What) -> Turned
+        requires { HasTable self.old.board self.old.agent }
+        ensures turns { Turns (event now (salt_at self.old.salts) what)
+            (record { agent = self.old.agent; lists = self.old.board; wire = W.seen self.old.wire })
+            (record { agent = self.new.agent; lists = self.new.board; wire = W.seen self.new.wire }) result }
+        ensures only_sends { OnlySends (W.seen self.old.wire) (W.seen self.new.wire) }
+        ensures salts { self.new.salts ≡ after_salt self.old.salts }
+    {
+        let salt = next_salt(&mut self.salts);
+        self.happen(rt, Event { now, salt, what })
+    }
+
     // Takes a datagram, or waits until one may be there.
     fn take<R: Wait>(&mut self, rt: &R, now: u64) -> Round
         requires table { HasTable self.old.board self.old.agent }
@@ -120,6 +135,7 @@ impl<W: Wire> Signalling<W> {
             (record { agent = self.old.agent; lists = self.old.board; wire = W.seen self.old.wire })
             (record { agent = self.new.agent; lists = self.new.board; wire = W.seen self.new.wire }) result }
         ensures salts { self.new.salts ≡ salts_after self.old.salts result }
+        ensures silent { silent_in result ≡ None }
     {
         match receive(self.alloc, &mut self.wire, &mut self.buffer) {
             Err(_) => Round::Failed,
@@ -137,22 +153,21 @@ impl<W: Wire> Signalling<W> {
         }
     }
 
-    /// Fires one timer that is due at this moment, in milliseconds, or else takes one datagram, or else waits until the
-    /// next moment that is due, at most 100 milliseconds. An event has the next salt of the stream.
-    pub fn round<R: Wait>(&mut self, rt: &R, now: u64) -> Round
+    /// Tells the agent of this silent call, where there is one. Else fires one timer that is due at this moment, in
+    /// milliseconds, or else takes one datagram, or else waits until the next moment that is due, at most 100
+    /// milliseconds. An event has the next salt of the stream.
+    pub fn round<R: Wait>(&mut self, rt: &R, now: u64, silent: Option<u64>) -> Round
         requires { HasTable self.old.board self.old.agent }
         ensures round { Rounds now (salt_at self.old.salts)
             (record { agent = self.old.agent; lists = self.old.board; wire = W.seen self.old.wire })
             (record { agent = self.new.agent; lists = self.new.board; wire = W.seen self.new.wire }) result }
         ensures salts { self.new.salts ≡ salts_after self.old.salts result }
+        ensures silent { silent_in result ≡ silent }
     {
-        if is_due(now, self.agent.next_due()) {
-            let due = Event {
-                now,
-                salt: next_salt(&mut self.salts),
-                what: What::Due,
-            };
-            Round::Fired(self.happen(rt, due))
+        if let Some(number) = silent {
+            Round::Silenced(number, self.happen_alone(rt, now, What::Silent(number)))
+        } else if is_due(now, self.agent.next_due()) {
+            Round::Fired(self.happen_alone(rt, now, What::Due))
         } else {
             self.take(rt, now)
         }

@@ -76,6 +76,7 @@ Took taken s d (signals.Bye end) = TookBye taken s d (is_caller end)
 Took taken s d signals.Limit = taken ≡ None
 Took taken s d signals.Repeat = taken ≡ None
 Took taken s d signals.Wait = taken ≡ None
+Took taken s d signals.Lifetime = taken ≡ None
 
 -- a final response comes only where one is waited for
 abbrev pub IsAwaitedBy : Stage → Signal → Type 0

@@ -45,6 +45,7 @@ IsSignalOf c (inputs.Bye end) signal = signal ≡ signals.Bye end
 IsSignalOf c inputs.Limit signal = signal ≡ signals.Limit
 IsSignalOf c inputs.Repeat signal = signal ≡ signals.Repeat
 IsSignalOf c inputs.Wait signal = signal ≡ signals.Wait
+IsSignalOf c inputs.Lifetime signal = signal ≡ signals.Lifetime
 
 -- that of a timer: of the call's own, or of its request that has no final response in time
 abbrev pub due_signal : Input → Option Signal
@@ -52,6 +53,7 @@ due_signal inputs.TimedOut = Some signals.TimedOut
 due_signal inputs.Limit = Some signals.Limit
 due_signal inputs.Repeat = Some signals.Repeat
 due_signal inputs.Wait = Some signals.Wait
+due_signal inputs.Lifetime = Some signals.Lifetime
 due_signal input = None
 
 -- its session and its open offer are kept, or given up

@@ -56,3 +56,4 @@ is_due_signal (signals.Bye end) = false
 is_due_signal signals.Limit = true
 is_due_signal signals.Repeat = true
 is_due_signal signals.Wait = true
+is_due_signal signals.Lifetime = true

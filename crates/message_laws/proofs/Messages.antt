@@ -20,4 +20,5 @@ pub mod SeenActions
 pub mod SendRows
 pub mod SendSteps
 pub mod Views
+pub mod Lifetimes
 pub mod WrittenLengths

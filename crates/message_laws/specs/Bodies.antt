@@ -108,6 +108,7 @@ WasReadIn (inputs.Bye end) = Unit {0}
 WasReadIn inputs.Limit = Unit {0}
 WasReadIn inputs.Repeat = Unit {0}
 WasReadIn inputs.Wait = Unit {0}
+WasReadIn inputs.Lifetime = Unit {0}
 
 -- what the call keeps after it, and sends
 pub record KnowsStep (ip : List ℕ) (x : Step) : Type 0 where

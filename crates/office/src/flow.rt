@@ -63,6 +63,16 @@ impl Flow {
         total
     }
 
+    /// How much came in all, reports too, which come at the port above. It says whether more came, and not how much:
+    /// reports count from before the call had the port.
+    pub(crate) fn total_with_reports(&self, counts: &mut Counts) -> u64 {
+        let mut total = self.total(counts);
+        for gate in &self.gates {
+            total = total.wrapping_add(counts.number(gate.port.wrapping_add(1)));
+        }
+        total
+    }
+
     /// A second has gone by.
     pub(crate) fn look(&mut self, counts: &mut Counts) {
         let total = self.total(counts);

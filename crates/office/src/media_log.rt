@@ -1,4 +1,4 @@
-//! The media of the calls that stand: how much came from each end, and from which end none comes.
+//! The media of the calls that stand: how much came from each end, from which end none comes, and in which call none.
 
 ghost use Rattle.std.specs.Prelude.{◌<◌, vec_len};
 
@@ -10,6 +10,7 @@ use calls::StandingCall;
 use offer_answer::destination;
 use sdp::{Description, Media, way_of};
 use server::{Ledger, MediaCounts, put_silent_way};
+use silence::Stillness;
 use sip_uri::Addr;
 use status::{CallTraffic, DatagramCounts};
 use std::alloc::{AllocError, Global};
@@ -20,6 +21,9 @@ const MAX_CALLS: usize = 256;
 /// It is looked for silent ends so often, in milliseconds.
 const BETWEEN_LOOKS: u64 = 1_000;
 
+/// A call is told to be silent no more often, in milliseconds.
+const BETWEEN_TELLINGS: u64 = 60_000;
+
 /// The media of a call.
 #[derive(Drop)]
 struct CallFlows {
@@ -28,6 +32,10 @@ struct CallFlows {
     begun: u64,
     from_caller: Flow,
     from_callee: Flow,
+    /// For how long nothing came from either end. None before the answer, or where memory was refused.
+    stillness: Option<Stillness>,
+    /// When it may next be told that the call is silent, in milliseconds since the start.
+    next_telling: u64,
 }
 
 /// The media of the calls that stand.
@@ -39,6 +47,8 @@ pub(crate) struct MediaLog {
     /// How much came in calls that are over.
     past: DatagramCounts,
     next_look: u64,
+    /// Whether a silent call may be found by the last look.
+    may_find: bool,
 }
 
 /// The ports that face each end of a call.
@@ -143,11 +153,13 @@ fn is_end(note: CallNote) -> bool {
             | CallNote::Left(_)
             | CallNote::Failed(_)
             | CallNote::Unacknowledged
+            | CallNote::Expired
     )
 }
 
 impl CallFlows {
-    /// The ports of the call, and where its media should come from, as the call stands.
+    /// The ports of the call, and where its media should come from, as the call stands. Where memory is refused, not all
+    /// ports are counted, so that the call is not silent.
     fn follow(
         &mut self,
         alloc: Global,
@@ -156,23 +168,44 @@ impl CallFlows {
         note: CallNote,
         now: u64,
     ) -> Result<(), AllocError> {
+        let stillness = self.stillness.take();
         let ports = ports_of(alloc, call)?;
         self.from_caller.take_ports(&ports.caller, counts)?;
         self.from_callee.take_ports(&ports.callee, counts)?;
+        self.stillness = stillness;
         if matches!(note, CallNote::Answered | CallNote::Reanswered)
             && let Some(session) = call.session()
         {
             let (caller, callee) = expected_of(session);
             self.from_caller.expect(caller, now);
             self.from_callee.expect(callee, now);
+            self.stillness = Some(Stillness::new(now, self.total_with_reports(counts)));
         }
         Ok(())
     }
 
+    /// How much came from both ends, reports too, to see whether more came.
+    fn total_with_reports(&self, counts: &mut Counts) -> u64 {
+        let caller = self.from_caller.total_with_reports(counts);
+        caller.wrapping_add(self.from_callee.total_with_reports(counts))
+    }
+
     /// A second has gone by.
-    fn look(&mut self, counts: &mut Counts) {
+    fn look(&mut self, counts: &mut Counts, now: u64) {
         self.from_caller.look(counts);
         self.from_callee.look(counts);
+        let total = self.total_with_reports(counts);
+        if let Some(stillness) = &mut self.stillness {
+            stillness.look(now, total);
+        }
+    }
+
+    /// Whether nothing came for so many milliseconds, by the last look, and that may be told.
+    fn is_silent(&self, now: u64, limit: u64) -> bool {
+        match self.stillness {
+            Some(stillness) => now >= self.next_telling && stillness.lasts(now, limit),
+            None => false,
+        }
     }
 
     fn traffic(&self, counts: &mut Counts) -> CallTraffic {
@@ -226,6 +259,7 @@ impl MediaLog {
                 from_callees: 0,
             },
             next_look: 0,
+            may_find: false,
         }
     }
 
@@ -248,6 +282,8 @@ impl MediaLog {
             begun: now,
             from_caller: Flow::new(self.alloc),
             from_callee: Flow::new(self.alloc),
+            stillness: None,
+            next_telling: 0,
         })?;
         Ok(())
     }
@@ -298,9 +334,26 @@ impl MediaLog {
         }
         self.next_look = now.saturating_add(BETWEEN_LOOKS);
         for flows in self.calls.iter_mut() {
-            flows.look(&mut self.counts);
+            flows.look(&mut self.counts, now);
         }
+        self.may_find = true;
         true
+    }
+
+    /// The number of the first answered call in which nothing came from either end for `limit` milliseconds, by the last
+    /// look. A call is told once a minute at most: one that could not be ended is told again.
+    pub(crate) fn silent_call(&mut self, now: u64, limit: u64) -> Option<u64> {
+        if !self.may_find {
+            return None;
+        }
+        for flows in self.calls.iter_mut() {
+            if flows.is_silent(now, limit) {
+                flows.next_telling = now.saturating_add(BETWEEN_TELLINGS);
+                return Some(flows.number);
+            }
+        }
+        self.may_find = false;
+        None
     }
 
     /// What was counted of each call, in the order in which they began.

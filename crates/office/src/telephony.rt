@@ -392,7 +392,10 @@ impl<R: Net + Files + Clock + Threads + Wait + Sync + Shared + Print + Eprint + 
         };
         let media = MediaLog::new(alloc, counts);
         let log = EventLog::new(alloc, config.log, media);
-        let mut troubles = Troubles::new(alloc, config.log, events, log, desk);
+        let silence = config
+            .silent_minutes
+            .map(|minutes| 60_000 * u64::from(minutes));
+        let mut troubles = Troubles::new(alloc, config.log, silence, events, log, desk);
         let (tally, served) = serve_on(
             self.rt,
             &Announcement {

@@ -7,7 +7,7 @@ use crate::log_lines::LogLines;
 use crate::status_desk::StatusDesk;
 use agent::Agent;
 use configuration::LogLevel;
-use live::{Operator, Trouble};
+use live::{NumberLog, Operator, Trouble};
 use sip_uri::Addr;
 use std::alloc::Global;
 
@@ -15,6 +15,10 @@ use std::alloc::Global;
 #[derive(Drop)]
 pub(crate) struct Troubles {
     told: Option<Trouble>,
+    /// The silent calls that it named. Only clauses read it.
+    named: NumberLog,
+    /// A call whose media stand still for so many milliseconds is silent.
+    silence: Option<u64>,
     level: LogLevel,
     alloc: Global,
     lines: LogLines,
@@ -27,12 +31,15 @@ impl Troubles {
     pub(crate) fn new(
         alloc: Global,
         level: LogLevel,
+        silence: Option<u64>,
         lines: LogLines,
         log: EventLog,
         desk: Option<StatusDesk>,
     ) -> Troubles {
         Troubles {
             told: None,
+            named: NumberLog::new(),
+            silence,
             level,
             alloc,
             lines,
@@ -42,7 +49,8 @@ impl Troubles {
     }
 
     fn put(&mut self, line: &[u8])
-        ensures { self.new.told ≡ self.old.told }
+        ensures told { self.new.told ≡ self.old.told }
+        ensures named { self.new.named ≡ self.old.named }
     {
         if !matches!(self.level, LogLevel::Nothing) {
             self.hand_over(line);
@@ -51,7 +59,8 @@ impl Troubles {
 
     /// Hands lines over, each with its end: to the log, and to the page, where there is one.
     fn hand_over(&mut self, lines: &[u8])
-        ensures { self.new.told ≡ self.old.told }
+        ensures told { self.new.told ≡ self.old.told }
+        ensures named { self.new.named ≡ self.old.named }
     {
         self.lines.put(lines);
         if let Some(desk) = &mut self.desk {
@@ -61,7 +70,8 @@ impl Troubles {
 
     /// Tells the page what the server is, where somebody asked.
     fn look_at(&mut self, agent: &Agent, now: u64)
-        ensures { self.new.told ≡ self.old.told }
+        ensures told { self.new.told ≡ self.old.told }
+        ensures named { self.new.named ≡ self.old.named }
     {
         if let Some(desk) = &mut self.desk {
             desk.look(agent, &mut self.log.media, now);
@@ -71,6 +81,14 @@ impl Troubles {
 
 impl Operator for Troubles {
     ghost told = { λ t. t.told };
+
+    ghost named = { λ t. t.named.entries };
+
+    fn silent_call(&mut self, now: u64) -> Option<u64> {
+        let number = self.log.media.silent_call(now, self.silence?)?;
+        self.named.note(number);
+        Some(number)
+    }
 
     fn tell(&mut self, trouble: Trouble) {
         self.told = Some(trouble);

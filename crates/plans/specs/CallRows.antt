@@ -337,6 +337,7 @@ abbrev pub timer_input : CallTimer → Input
 timer_input timers.Limit = inputs.Limit
 timer_input timers.Repeat = inputs.Repeat
 timer_input timers.Wait = inputs.Wait
+timer_input timers.Lifetime = inputs.Lifetime
 
 -- the calls once the timer is set no more
 abbrev pub without_call_timer : CallTimerId → Office → Office

@@ -33,6 +33,7 @@ fn timer_input(timer: CallTimer) -> Input<'static>
         CallTimer::Limit => Input::Limit,
         CallTimer::Repeat => Input::Repeat,
         CallTimer::Wait => Input::Wait,
+        CallTimer::Lifetime => Input::Lifetime,
     }
 }
 

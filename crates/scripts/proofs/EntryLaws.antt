@@ -16,9 +16,9 @@ use Rattle.events.specs.declared.event.Event.{Event}
 use Rattle.scripts.specs.declared.head.Head.{Head}
 use Rattle.scripts.specs.Limits.{max_number, max_bytes}
 use Rattle.scripts.specs.Numbers.{number_of, port_of}
-use Rattle.scripts.specs.Values.{Entry, due_at, datagram_at}
-use Rattle.scripts.specs.Reading.{is_same, timer_of, head_from, head_of, bytes_of, datagram_of, entry_of, next_of}
-use Rattle.scripts.specs.Grammar.{spaced, lined, BeginsDue, BeginsDatagram, Begins}
+use Rattle.scripts.specs.Values.{Entry, due_at, silent_at, datagram_at}
+use Rattle.scripts.specs.Reading.{is_same, timer_of, silent_of, head_from, head_of, bytes_of, datagram_of, entry_of, next_of}
+use Rattle.scripts.specs.Grammar.{spaced, lined, BeginsDue, BeginsSilent, BeginsDatagram, Begins}
 use Rattle.scripts.proofs.NumberLaws.{number_lacks, port_lacks}
 
 abbrev pub entry : Event → List ℕ → Entry
@@ -45,6 +45,13 @@ timer_by : (fields now_text salt_text behind : List ℕ) (now salt : ℕ) → be
     → number_of max_number now_text ≡ Some now → number_of max_number salt_text ≡ Some salt → timer_of fields behind ≡ Some (entry (due_at now salt) behind)
 unfolding timer_of
 timer_by fields now_text salt_text behind now salt a b c d = rw (a, b, c, d) refl
+
+silent_by : (fields more now_text salt_text call_text behind : List ℕ) (now salt call : ℕ)
+    → before 32 fields ≡ now_text → after 32 fields ≡ Some more → before 32 more ≡ salt_text → after 32 more ≡ Some call_text
+    → number_of max_number now_text ≡ Some now → number_of max_number salt_text ≡ Some salt → number_of max_number call_text ≡ Some call
+    → silent_of fields behind ≡ Some (entry (silent_at now salt call) behind)
+unfolding silent_of
+silent_by fields more now_text salt_text call_text behind now salt call a b c d e f g = rw (b, d, a, c, e, f, g) refl
 
 head_by : (a b c d now_text salt_text ip_text port_text length_text : List ℕ)
     → before 32 a ≡ now_text → after 32 a ≡ Some b → before 32 b ≡ salt_text → after 32 b ≡ Some c → before 32 c ≡ ip_text → after 32 c ≡ Some d
@@ -83,6 +90,26 @@ due_again text e rest h =
     ∙ timer_by fields h.now_text h.salt_text rest h.now h.salt (before_at 32 h.now_text (Some h.salt_text) (now_out 32 refl)) (after_at 32 h.now_text (Some h.salt_text) (now_out 32 refl)) h.now_is h.salt_is
     ∙ ap (λ (x : Event). Some (entry x rest)) (sym h.event)
 
+silent_again : (text : List ℕ) (e : Event) (rest : List ℕ) → BeginsSilent text e rest → next_of text ≡ Some (entry e rest)
+silent_again text e rest h =
+    let more : List ℕ = spaced h.salt_text h.call_text in
+    let fields : List ℕ = spaced h.now_text more in
+    let line : List ℕ = spaced (codes "Q") fields in
+    let now_out : (c : ℕ) → is_ascii_digit c ≡ false → Lacks c h.now_text = λ c out. number_lacks c max_number h.now h.now_text out h.now_is in
+    let salt_out : (c : ℕ) → is_ascii_digit c ≡ false → Lacks c h.salt_text = λ c out. number_lacks c max_number h.salt h.salt_text out h.salt_is in
+    let call_out : Lacks 10 h.call_text = number_lacks 10 max_number h.call h.call_text refl h.call_is in
+    let in_more : Lacks 10 more = Lacks-append 10 h.salt_text (32 ∷ h.call_text) (salt_out 10 refl) (refl, call_out) in
+    let in_fields : Lacks 10 fields = Lacks-append 10 h.now_text (32 ∷ more) (now_out 10 refl) (refl, in_more) in
+    let in_line : Lacks 10 line = (refl, (refl, in_fields)) in
+    let front : before 10 text ≡ line = ap (before 10) h.spelled ∙ before_at 10 line (Some rest) in_line in
+    let back : after 10 text ≡ Some rest = ap (after 10) h.spelled ∙ after_at 10 line (Some rest) in_line in
+    next_by text line (codes "Q") fields rest front back (before_at 32 (codes "Q") (Some fields) (refl, tt)) (after_at 32 (codes "Q") (Some fields) (refl, tt))
+    ∙ silent_by fields more h.now_text h.salt_text h.call_text rest h.now h.salt h.call
+    (before_at 32 h.now_text (Some more) (now_out 32 refl)) (after_at 32 h.now_text (Some more) (now_out 32 refl))
+    (before_at 32 h.salt_text (Some h.call_text) (salt_out 32 refl)) (after_at 32 h.salt_text (Some h.call_text) (salt_out 32 refl))
+    h.now_is h.salt_is h.call_is
+    ∙ ap (λ (x : Event). Some (entry x rest)) (sym h.event)
+
 datagram_by : (fields behind : List ℕ) (x : Head) → head_of fields ≡ Some x → datagram_of fields behind ≡ bytes_of x behind
 datagram_by fields behind x h = rw h refl
 
@@ -119,7 +146,8 @@ datagram_again text e rest h =
 
 pub again : (text : List ℕ) (e : Event) (rest : List ℕ) → Begins text e rest → next_of text ≡ Some (entry e rest)
 again text e rest (inl h) = due_again text e rest h
-again text e rest (inr h) = datagram_again text e rest h
+again text e rest (inr (inl h)) = silent_again text e rest h
+again text e rest (inr (inr h)) = datagram_again text e rest h
 
 -- ---- from the function to the grammar
 
@@ -150,6 +178,30 @@ due_is text fields behind n spelled h =
       event = refl;
     } in
     subst (λ (x : Entry). Begins text x.event x.rest) (some_is (entry (due_at a.0 c.0) behind) n c.2) (inl begins)
+
+silent_is : (text fields behind : List ℕ) (n : Entry) → text ≡ lined (spaced (codes "Q") fields) behind → silent_of fields behind ≡ Some n → Begins text n.event n.rest
+unfolding silent_of
+silent_is text fields behind n spelled h =
+    let more = some_then (after 32 fields) _ n h in
+    let now = some_then (number_of max_number (before 32 fields)) _ n more.2 in
+    let salt = some_then (number_of max_number (before 32 more.0)) _ n now.2 in
+    let call_text = some_then (after 32 more.0) _ n salt.2 in
+    let call = some_then (number_of max_number call_text.0) (λ call. Some (entry (silent_at now.0 salt.0 call) behind)) n call_text.2 in
+    let begins : BeginsSilent text (silent_at now.0 salt.0 call.0) behind = record {
+      now_text = before 32 fields;
+      salt_text = before 32 more.0;
+      call_text = call_text.0;
+      now = now.0;
+      salt = salt.0;
+      call = call.0;
+      spelled = spelled ∙ ap (λ (t : List ℕ). lined (spaced (codes "Q") t) behind)
+          (spaced_is fields more.0 more.1 ∙ ap (λ (t : List ℕ). spaced (before 32 fields) t) (spaced_is more.0 call_text.0 call_text.1));
+      now_is = now.1;
+      salt_is = salt.1;
+      call_is = call.1;
+      event = refl;
+    } in
+    subst (λ (x : Entry). Begins text x.event x.rest) (some_is (entry (silent_at now.0 salt.0 call.0) behind) n call.2) (inr (inl begins))
 
 -- the bytes of a datagram, and the line feed
 body_is : (x : Head) (behind : List ℕ) (n : Entry) → bytes_of x behind ≡ Some n
@@ -243,7 +295,7 @@ datagram_with text fields behind x bytes rest n spelled says body long same =
       length_is = v.length_is ∙ ap Some long;
       event = refl;
     } in
-    subst (λ (y : Entry). Begins text y.event y.rest) same (inr begins)
+    subst (λ (y : Entry). Begins text y.event y.rest) same (inr (inr begins))
 
 datagram_is : (text fields behind : List ℕ) (n : Entry) → text ≡ lined (spaced (codes "D") fields) behind → datagram_of fields behind ≡ Some n → Begins text n.event n.rest
 datagram_is text fields behind n spelled h =
@@ -253,12 +305,14 @@ datagram_is text fields behind n spelled h =
 
 entry_is : (text kind fields behind : List ℕ) (n : Entry) → text ≡ lined (spaced kind fields) behind → entry_of kind fields behind ≡ Some n → Begins text n.event n.rest
 entry_is text kind fields behind n spelled h =
-    step (is_same kind (codes "T")) (is_same kind (codes "D")) (bytes_decides kind (codes "T")).0 (bytes_decides kind (codes "D")).0 h where
-      step : (p q : Bool) → (p ≡ true → kind ≡ codes "T") → (q ≡ true → kind ≡ codes "D")
-          → cond p (timer_of fields behind) (cond q (datagram_of fields behind) None) ≡ Some n → Begins text n.event n.rest
-      step true q timer datagram h = due_is text fields behind n (spelled ∙ ap (λ (k : List ℕ). lined (spaced k fields) behind) (timer refl)) h
-      step false true timer datagram h = datagram_is text fields behind n (spelled ∙ ap (λ (k : List ℕ). lined (spaced k fields) behind) (datagram refl)) h
-      step false false timer datagram h = absurd cc
+    step (is_same kind (codes "T")) (is_same kind (codes "Q")) (is_same kind (codes "D"))
+    (bytes_decides kind (codes "T")).0 (bytes_decides kind (codes "Q")).0 (bytes_decides kind (codes "D")).0 h where
+      step : (p q r : Bool) → (p ≡ true → kind ≡ codes "T") → (q ≡ true → kind ≡ codes "Q") → (r ≡ true → kind ≡ codes "D")
+          → cond p (timer_of fields behind) (cond q (silent_of fields behind) (cond r (datagram_of fields behind) None)) ≡ Some n → Begins text n.event n.rest
+      step true q r timer silent datagram h = due_is text fields behind n (spelled ∙ ap (λ (k : List ℕ). lined (spaced k fields) behind) (timer refl)) h
+      step false true r timer silent datagram h = silent_is text fields behind n (spelled ∙ ap (λ (k : List ℕ). lined (spaced k fields) behind) (silent refl)) h
+      step false false true timer silent datagram h = datagram_is text fields behind n (spelled ∙ ap (λ (k : List ℕ). lined (spaced k fields) behind) (datagram refl)) h
+      step false false false timer silent datagram h = absurd cc
 
 pub begins_at : (text : List ℕ) (n : Entry) → next_of text ≡ Some n → Begins text n.event n.rest
 unfolding next_of

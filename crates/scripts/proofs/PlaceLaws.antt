@@ -1,5 +1,5 @@
 -- Where the first line stands that begins no event.
-use Rattle.std.proofs.Common.{◌≡◌, ◌≢◌, ◌≤◌, ◌-◌, ◌+◌, ℕ, List, [], ◌∷◌, ◌++◌, length, Some, None, refl, sym, subst, ◌∙◌, arith}
+use Rattle.std.proofs.Common.{◌≡◌, ◌≢◌, ◌≤◌, ◌-◌, ℕ, List, [], ◌∷◌, ◌++◌, length, Some, None, refl, sym, subst, ◌∙◌, arith}
 use Rattle.events.specs.declared.event.Event.{Event}
 use Rattle.scripts.specs.Values.{Entry}
 use Rattle.scripts.specs.Reading.{next_of}

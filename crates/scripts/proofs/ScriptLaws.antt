@@ -79,7 +79,11 @@ shorter text n h = step (begins_at text n h) where
       let line = spaced (codes "T") (spaced b.now_text b.salt_text) in
       let whole = ap length b.spelled in
       omega (arith, whole, length-append line (10 ∷ n.rest))
-  step (inr b) =
+  step (inr (inl b)) =
+      let line = spaced (codes "Q") (spaced b.now_text (spaced b.salt_text b.call_text)) in
+      let whole = ap length b.spelled in
+      omega (arith, whole, length-append line (10 ∷ n.rest))
+  step (inr (inr b)) =
       let line = spaced (codes "D") (spaced b.now_text (spaced b.salt_text (spaced b.ip_text (spaced b.port_text b.length_text)))) in
       let whole = ap length b.spelled in
       omega (arith, whole, length-append line (10 ∷ lined b.bytes n.rest), length-append b.bytes (10 ∷ n.rest))

@@ -6,7 +6,7 @@ use Rattle.scripts.specs.declared.error.ScriptError.{ScriptError}
 use Rattle.scripts.specs.declared.error.ScriptError.TheVariants.{OutOfMemory, Malformed}
 use Rattle.scripts.specs.Limits.{max_number, max_bytes}
 use Rattle.scripts.specs.Numbers.{number_of, port_of}
-use Rattle.scripts.specs.Values.{due_at, datagram_at}
+use Rattle.scripts.specs.Values.{due_at, silent_at, datagram_at}
 
 -- a word, one space, and more
 abbrev pub spaced : List ℕ → List ℕ → List ℕ
@@ -26,6 +26,20 @@ pub record BeginsDue (text : List ℕ) (e : Event) (rest : List ℕ) : Type 0 wh
   pub now_is : number_of max_number now_text ≡ Some now
   pub salt_is : number_of max_number salt_text ≡ Some salt
   pub event : e ≡ due_at now salt
+
+-- the text is `Q now salt number`, a line feed, and the rest
+pub record BeginsSilent (text : List ℕ) (e : Event) (rest : List ℕ) : Type 0 where
+  pub now_text : List ℕ
+  pub salt_text : List ℕ
+  pub call_text : List ℕ
+  pub now : ℕ
+  pub salt : ℕ
+  pub call : ℕ
+  pub spelled : text ≡ lined (spaced (codes "Q") (spaced now_text (spaced salt_text call_text))) rest
+  pub now_is : number_of max_number now_text ≡ Some now
+  pub salt_is : number_of max_number salt_text ≡ Some salt
+  pub call_is : number_of max_number call_text ≡ Some call
+  pub event : e ≡ silent_at now salt call
 
 -- the text is `D now salt ip port length`, a line feed, that many bytes, a line feed, and the rest
 pub record BeginsDatagram (text : List ℕ) (e : Event) (rest : List ℕ) : Type 0 where
@@ -49,7 +63,7 @@ pub record BeginsDatagram (text : List ℕ) (e : Event) (rest : List ℕ) : Type
 
 -- the text begins with this event, and the rest stands behind it
 abbrev pub Begins : List ℕ → Event → List ℕ → Type 0
-Begins text e rest = BeginsDue text e rest ⊎ BeginsDatagram text e rest
+Begins text e rest = BeginsDue text e rest ⊎ (BeginsSilent text e rest ⊎ BeginsDatagram text e rest)
 
 -- the text is these events, one behind the other
 abbrev pub ReadsScript : List ℕ → List Event → Type 0

@@ -1,7 +1,7 @@
 -- The numbers of a script.
 use Rattle.std.specs.Prelude.{ℕ}
 
--- the greatest moment and salt: 2^64 - 1
+-- the greatest moment, salt and number of a call: 2^64 - 1
 abbrev pub max_number : ℕ
 max_number = 18446744073709551615
 

@@ -1,11 +1,11 @@
 -- The first event of a script, as a function of the text.
-use Rattle.std.specs.Prelude.{ℕ, ◌+◌, Bool, ◌&&◌, ◌==◌, nat_eq, nat_lt, List, [], length, slice_index, take, drop, codes, Option, Some, None, option_and_then, if◌then◌else◌}
+use Rattle.std.specs.Prelude.{ℕ, ◌+◌, Bool, ◌&&◌, ◌==◌, nat_eq, nat_lt, List, length, slice_index, take, drop, codes, Option, Some, None, option_and_then, if◌then◌else◌}
 use Rattle.std.specs.Cmp.Lexicographic.{pointwise}
 use Rattle.text.specs.Cut.{before, after}
 use Rattle.sip_uri.specs.Hosts.{ip4_of}
 use Rattle.scripts.specs.Limits.{max_number, max_bytes}
 use Rattle.scripts.specs.Numbers.{number_of, port_of}
-use Rattle.scripts.specs.Values.{Entry, event_at}
+use Rattle.scripts.specs.Values.{Entry, due_at, silent_at, datagram_at}
 use Rattle.scripts.specs.declared.head.Head.{Head}
 
 abbrev pub is_same : List ℕ → List ℕ → Bool
@@ -17,8 +17,19 @@ unfoldable pub timer_of : List ℕ → List ℕ → Option Entry
 timer_of fields behind =
     option_and_then (λ now.
     option_and_then (λ salt_text.
-    option_and_then (λ salt. Some (record { event = event_at now salt None []; rest = behind }))
+    option_and_then (λ salt. Some (record { event = due_at now salt; rest = behind }))
     (number_of max_number salt_text)) (after 32 fields)) (number_of max_number (before 32 fields))
+
+-- ---- a silent call
+
+unfoldable pub silent_of : List ℕ → List ℕ → Option Entry
+silent_of fields behind =
+    option_and_then (λ more.
+    option_and_then (λ now.
+    option_and_then (λ salt.
+    option_and_then (λ call_text.
+    option_and_then (λ call. Some (record { event = silent_at now salt call; rest = behind }))
+    (number_of max_number call_text)) (after 32 more)) (number_of max_number (before 32 more))) (number_of max_number (before 32 fields))) (after 32 fields)
 
 -- ---- a datagram
 
@@ -45,7 +56,7 @@ unfoldable pub bytes_of : Head → List ℕ → Option Entry
 bytes_of head behind =
     if nat_lt head.count (length behind) && slice_index behind head.count == 10
     then Some (record {
-      event = event_at head.now head.salt (Some head.source) (take head.count behind);
+      event = datagram_at head.now head.salt head.source (take head.count behind);
       rest = drop (head.count + 1) behind;
     })
     else None
@@ -53,12 +64,13 @@ bytes_of head behind =
 abbrev pub datagram_of : List ℕ → List ℕ → Option Entry
 datagram_of fields behind = option_and_then (λ head. bytes_of head behind) (head_of fields)
 
--- ---- either
+-- ---- each of the three
 
 abbrev pub entry_of : List ℕ → List ℕ → List ℕ → Option Entry
 entry_of kind fields behind =
     if is_same kind (codes "T") then timer_of fields behind
-    else (if is_same kind (codes "D") then datagram_of fields behind else None)
+    else (if is_same kind (codes "Q") then silent_of fields behind
+    else (if is_same kind (codes "D") then datagram_of fields behind else None))
 
 -- the event of the first line, with the bytes behind the line
 unfoldable pub next_of : List ℕ → Option Entry

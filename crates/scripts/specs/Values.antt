@@ -1,19 +1,26 @@
 -- The events that lines say.
-use Rattle.std.specs.Prelude.{ℕ, List, Option, Some, None}
+use Rattle.std.specs.Prelude.{ℕ, List}
 use Rattle.sip_uri.specs.declared.uri.Addr.{Addr}
 use Rattle.events.specs.declared.event.Event.{Event}
-use Rattle.events.specs.declared.event.What.TheVariants.{Datagram, Due}
+use Rattle.events.specs.declared.event.What.TheVariants.{Datagram, Due, Silent}
+use Rattle.scripts.specs.declared.entry.Told.{Told}
+use Rattle.scripts.specs.declared.entry.Told.TheVariants as told
 
 abbrev pub due_at : ℕ → ℕ → Event
 due_at now salt = record { now = now; salt = salt; what = Due }
 
+-- no media have come for long in the call of this number
+abbrev pub silent_at : ℕ → ℕ → ℕ → Event
+silent_at now salt call = record { now = now; salt = salt; what = Silent call }
+
 abbrev pub datagram_at : ℕ → ℕ → Addr → List ℕ → Event
 datagram_at now salt source bytes = record { now = now; salt = salt; what = Datagram source bytes }
 
--- from a place, where there is one, or a due timer
-abbrev pub event_at : ℕ → ℕ → Option Addr → List ℕ → Event
-event_at now salt None bytes = due_at now salt
-event_at now salt (Some source) bytes = datagram_at now salt source bytes
+-- what a line tells of, at this moment and with this salt
+abbrev pub event_of : ℕ → ℕ → Told → Event
+event_of now salt told.Due = due_at now salt
+event_of now salt (told.Silent call) = silent_at now salt call
+event_of now salt (told.Datagram source bytes) = datagram_at now salt source bytes.now
 
 -- the first event of a text, and what stands behind it
 pub record Entry : Type 0 where

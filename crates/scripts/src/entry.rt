@@ -2,7 +2,7 @@
 
 ghost use Rattle.std.specs.Prelude.{◌≡◌, IfOk};
 ghost use Rattle.events.specs.declared.event.What.TheVariants.{Datagram};
-ghost use Rattle.scripts.specs.Reading.{is_same, timer_of, bytes_of, datagram_of, entry_of, next_of};
+ghost use Rattle.scripts.specs.Reading.{is_same, timer_of, silent_of, bytes_of, datagram_of, entry_of, next_of};
 
 use crate::head::{Head, head_of};
 use crate::number::number_of;
@@ -12,23 +12,30 @@ use std::alloc::{AllocError, Global};
 use std::marker::Model;
 use text::{Text, cut};
 
-/// The first event of a text, where its bytes stand, and what stands behind it.
+/// What a line tells of, with the bytes of a datagram where they stand in the script.
+#[derive(Clone, Copy)]
+enum Told<'a> {
+    Due,
+    /// No media have come for long in the call of this number.
+    Silent(u64),
+    Datagram { source: Addr, bytes: &'a [u8] },
+}
+
+/// The first event of a text, and what stands behind it.
 #[derive(Drop)]
 pub(crate) struct Entry<'a> {
     moment: u64,
     salt: u64,
-    /// Where the datagram comes from; none at a due timer.
-    source: Option<Addr>,
-    bytes: &'a [u8],
+    told: Told<'a>,
     rest: &'a [u8],
 }
 
 impl<'a> Model for Entry<'a> {
-    ghost use Rattle.scripts.specs.Values.{Entry, event_at};
+    ghost use Rattle.scripts.specs.Values.{Entry, event_of};
 
     ghost Value = { Entry };
 
-    ghost view = { λ e. record { event = event_at e.moment e.salt e.source e.bytes.now; rest = e.rest.now } };
+    ghost view = { λ e. record { event = event_of e.moment e.salt e.told; rest = e.rest.now } };
 }
 
 impl<'a> Entry<'a> {
@@ -43,9 +50,10 @@ impl<'a> Entry<'a> {
     pub(crate) fn event(&self, alloc: Global) -> Result<Event, AllocError>
         ensures { IfOk result (λ e. e ≡ self.now.event) }
     {
-        let what = match self.source {
-            Some(source) => datagram(alloc, source, self.bytes)?,
-            None => What::Due,
+        let what = match self.told {
+            Told::Due => What::Due,
+            Told::Silent(call) => What::Silent(call),
+            Told::Datagram { source, bytes } => datagram(alloc, source, bytes)?,
         };
         Ok(Event {
             now: self.moment,
@@ -80,8 +88,24 @@ fn timer_of<'a>(fields: &'a [u8], behind: &'a [u8]) -> Option<Entry<'a>>
     Some(Entry {
         moment: now,
         salt,
-        source: None,
-        bytes: &[],
+        told: Told::Due,
+        rest: behind,
+    })
+}
+
+#[tactic(auto, unfolding(crate::specs::Reading::silent_of))]
+fn silent_of<'a>(fields: &'a [u8], behind: &'a [u8]) -> Option<Entry<'a>>
+    ensures { result ≡ silent_of fields.now behind.now }
+{
+    let (now, rest) = cut(fields, b' ');
+    let (salt, rest) = cut(rest?, b' ');
+    let moment = number_of(now)?;
+    let salt = number_of(salt)?;
+    let call = number_of(rest?)?;
+    Some(Entry {
+        moment,
+        salt,
+        told: Told::Silent(call),
         rest: behind,
     })
 }
@@ -94,8 +118,10 @@ fn bytes_of(head: Head, behind: &[u8]) -> Option<Entry<'_>>
         Some(Entry {
             moment: head.now,
             salt: head.salt,
-            source: Some(head.source),
-            bytes: &behind[..head.count],
+            told: Told::Datagram {
+                source: head.source,
+                bytes: &behind[..head.count],
+            },
             rest: &behind[head.count + 1..],
         })
     } else {
@@ -114,6 +140,9 @@ fn entry_of<'a>(kind: &'a [u8], fields: &'a [u8], behind: &'a [u8]) -> Option<En
 {
     if is_same(kind, b"T") {
         return timer_of(fields, behind);
+    }
+    if is_same(kind, b"Q") {
+        return silent_of(fields, behind);
     }
     if is_same(kind, b"D") {
         return datagram_of(fields, behind);

@@ -21,6 +21,7 @@ IsWordOfCall calls.OfferGivenUp word = word ≡ codes "call-offer-cancelled"
 IsWordOfCall (calls.Left end) word = word ≡ codes "call-ended"
 IsWordOfCall (calls.Failed status) word = word ≡ codes "call-ended"
 IsWordOfCall calls.Unacknowledged word = word ≡ codes "call-ended"
+IsWordOfCall calls.Expired word = word ≡ codes "call-ended"
 
 -- of an event
 abbrev pub IsWordOf : Note → List ℕ → Type 0

@@ -241,6 +241,10 @@ fn put_end(
             let why = why(b"no ack");
             put_ended(out, media, &[call, from, to, why, stood, sent, heard])
         }
+        CallNote::Expired => {
+            let why = why(b"expired");
+            put_ended(out, media, &[call, from, to, why, stood, sent, heard])
+        }
         _ => Ok(()),
     }
 }
@@ -265,9 +269,8 @@ fn put_entry_note(
         | CallNote::Reanswered
         | CallNote::OfferRefused(_)
         | CallNote::OfferGivenUp => put_offer(out, entry, calls, note),
-        CallNote::Left(_) | CallNote::Failed(_) | CallNote::Unacknowledged => {
-            put_end(out, entry, note, media, now)
-        }
+        CallNote::Left(_) | CallNote::Failed(_) | CallNote::Unacknowledged | CallNote::Expired =>
+            put_end(out, entry, note, media, now),
     }
 }
 
@@ -287,7 +290,8 @@ fn keep_note(ledger: &mut Ledger, calls: &[StandingCall], note: NoteOfCall, now:
         | CallNote::GivenUp
         | CallNote::Left(_)
         | CallNote::Failed(_)
-        | CallNote::Unacknowledged => ledger.end(number),
+        | CallNote::Unacknowledged
+        | CallNote::Expired => ledger.end(number),
         _ => {}
     }
 }

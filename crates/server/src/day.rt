@@ -107,11 +107,11 @@ fn text_of(alloc: Global, sent: &[Sent]) -> Result<Vec<u8>, AllocError>
     Ok(text)
 }
 
-/// Where an event came from; nowhere of a timer.
+/// Where an event came from; nowhere of a timer or of silence.
 fn source_of(event: &Event) -> Option<Addr> {
     match &event.what {
         What::Datagram { source, .. } => Some(*source),
-        What::Due => None,
+        What::Due | What::Silent(_) => None,
     }
 }
 

@@ -110,6 +110,7 @@ module _ (s : Contents) (event : Event) (source : Addr) (bytes : List ℕ) (data
 by_what : (s : Contents) (event : Event) (what : What) → only_counts s event ≡ None → event.what ≡ what → Decided s event
 by_what s event (whats.Datagram source bytes) counts is = by_reading s event source bytes is (message_of bytes) counts refl
 by_what s event whats.Due counts is = inr (λ source r id h. let none : whats.Due ≡ whats.Datagram source h.bytes = sym is ∙ h.begins.comes.datagram in cc)
+by_what s event (whats.Silent number) counts is = inr (λ source r id h. let none : whats.Silent number ≡ whats.Datagram source h.bytes = sym is ∙ h.begins.comes.datagram in cc)
 
 by_counts : (s : Contents) (event : Event) (counts : Option Taken) → only_counts s event ≡ counts → Decided s event
 by_counts s event None is = by_what s event event.what is refl

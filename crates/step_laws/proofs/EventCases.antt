@@ -29,7 +29,10 @@ use Rattle.transactions.specs.Limits.{max_served}
 use Rattle.transactions.specs.Slots.{at, serving}
 use Rattle.call_core.specs.declared.input.Input.TheVariants as inputs
 use Rattle.call_steps.specs.Rows.{counts as number_counts}
+use Rattle.call_core.specs.declared.action.CallTimer.TheVariants.{Lifetime}
 use Rattle.calls.specs.Finding.{place_by_ack}
+use Rattle.calls.specs.Settled.{has_settled}
+use Rattle.calls.specs.Timing.{id}
 use Rattle.calls.specs.declared.timer_id.CallTimerId.{CallTimerId}
 use Rattle.call_rules.specs.Reach.{is_unreachable}
 use Rattle.responses.specs.Responding.{stateless}
@@ -77,7 +80,7 @@ IsCounted s event (Some taken) = IsAnsweredFor s event taken
 
 due_counts : (s : Contents) (event : Event) (one : Option (Timer TimerId)) (other : Option (Timer CallTimerId)) → event.what ≡ whats.Due
     → first_due s.table.timers (moment_at s event.now) ≡ one → first_due s.calls.timers (moment_at s event.now) ≡ other → IsCounted s event (cond (is_some one || is_some other) None (Some Idle))
-due_counts s event None None is none nor = record { due = is; of_transactions = none; of_calls = nor }
+due_counts s event None None is none nor = inl (record { due = is; of_transactions = none; of_calls = nor })
 due_counts s event (Some timer) other is none nor = tt
 due_counts s event None (Some timer) is none nor = tt
 
@@ -87,6 +90,8 @@ what_counts_for s event (whats.Datagram source bytes) is =
     (λ long. record { source = source; bytes = bytes; datagram = is; why = inl (refl, ltb-true max_datagram (length bytes) long) }) (λ fits. tt)
 what_counts_for s event whats.Due is =
     due_counts s event (first_due s.table.timers (moment_at s event.now)) (first_due s.calls.timers (moment_at s event.now)) is refl refl
+what_counts_for s event (whats.Silent number) is =
+    cond_both (has_settled number s.calls.calls) None (Some Idle) (IsCounted s event) (λ settled. tt) (λ none. inr (record { number = number; silent = is; none = none }))
 
 counts_for : (s : Contents) (event : Event) → IsCounted s event (only_counts s event)
 unfolding only_counts
@@ -276,7 +281,7 @@ module _ (s : Contents) (event : Event) (is : event.what ≡ whats.Due) (e : Set
 
   due_case : (one : Option (Timer TimerId)) (other : Option (Timer CallTimerId)) → first_due s.table.timers (moment_at s event.now) ≡ one → first_due s.calls.timers (moment_at s event.now) ≡ other
       → EventCase s event (due_row (office s) e one other)
-  due_case None None none nor = ignored Idle (record { due = is; of_transactions = none; of_calls = nor }) refl
+  due_case None None none nor = ignored Idle (inl (record { due = is; of_transactions = none; of_calls = nor })) refl
   due_case (Some timer) None due nor = timer_case timer due
   due_case None (Some timer) none due = went (call_timer_done (office s) e timer.key)
   due_case (Some timer) (Some other) due too =
@@ -290,6 +295,7 @@ unfolding what_row
 what_case s event (whats.Datagram source bytes) is counts = datagram_case s event source bytes is counts
 what_case s event whats.Due is counts =
     due_case s event is (setting (moment_at s event.now) event.salt no_source) (first_due s.table.timers (moment_at s event.now)) (first_due s.calls.timers (moment_at s event.now)) refl refl
+what_case s event (whats.Silent number) is counts = went (call_timer_done (office s) (setting (moment_at s event.now) event.salt no_source) (id number Lifetime))
 
 counted_case : (s : Contents) (event : Event) (counts : Option Taken) → only_counts s event ≡ counts → IsCounted s event counts → EventCase s event (row_by s event counts)
 counted_case s event None is h = what_case s event event.what refl is

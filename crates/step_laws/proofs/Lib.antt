@@ -42,6 +42,8 @@ pub mod OwnAcks
 pub mod RefusalSends
 pub mod AckLines
 pub mod AckEvents
+pub mod LifetimeEvents
+pub mod LifetimeTimers
 pub mod RepeatRows
 pub mod RepeatEvents
 pub mod RefusalSpeech

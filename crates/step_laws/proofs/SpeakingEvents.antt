@@ -185,6 +185,7 @@ pub timer_comes : (kind : CallTimer) → CanCome (timer_input kind) (without_off
 timer_comes timers.Limit = alone_comes inputs.Limit tt refl tt
 timer_comes timers.Repeat = alone_comes inputs.Repeat tt refl tt
 timer_comes timers.Wait = alone_comes inputs.Wait tt refl tt
+timer_comes timers.Lifetime = alone_comes inputs.Lifetime tt refl tt
 
 module _ (reads : Reading) (describes : BodiesDescribe) (law : SentIsRead) (s : Contents) (event : Event) (t : List Datagram) (k : ℕ) (stands : AgentStands s t k) (place : ℕ) (c : StandingCall) (n : Standing) (at_place : StandsAt s place c n) where
   pub timer_speaks : (kind : CallTimer) → CallTimerIsDue s event place kind → SpeaksToEnds s c None None no_source (row s event)

@@ -18,6 +18,7 @@ use Rattle.transactions.specs.declared.outcome.Verdict.TheVariants as verdicts
 use Rattle.events.specs.declared.event.Event.{Event}
 use Rattle.events.specs.declared.event.What.TheVariants as whats
 use Rattle.calls.specs.Finding.{place_by_ack}
+use Rattle.calls.specs.Settled.{has_settled}
 use Rattle.call_rules.specs.Reach.{is_unreachable}
 use Rattle.responses.specs.Words.{has_fit_branch, is_method}
 use Rattle.plans.specs.declared.taken.Taken.{Taken}
@@ -100,10 +101,19 @@ pub record IsShed (s : Contents) (event : Event) : Type 0 where
   pub full : max_served ≤ serving s.table.slots
 
 -- a timer is looked for, and none is due
-pub record IsIdle (s : Contents) (event : Event) : Type 0 where
+pub record LooksInVain (s : Contents) (event : Event) : Type 0 where
   pub due : event.what ≡ whats.Due
   pub of_transactions : first_due s.table.timers (moment_at s event.now) ≡ None
   pub of_calls : first_due s.calls.timers (moment_at s event.now) ≡ None
+
+-- silence is told of, and no call of this number is settled
+pub record SpeaksOfNone (s : Contents) (event : Event) : Type 0 where
+  pub number : ℕ
+  pub silent : event.what ≡ whats.Silent number
+  pub none : has_settled number s.calls.calls ≡ false
+
+abbrev pub IsIdle : Contents → Event → Type 0
+IsIdle s event = LooksInVain s event ⊎ SpeaksOfNone s event
 
 abbrev pub IsAnsweredFor : Contents → Event → Taken → Type 0
 IsAnsweredFor s event Done = Unit {0}

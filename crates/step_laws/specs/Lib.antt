@@ -14,3 +14,4 @@ pub mod Dropping
 pub mod Registering
 pub mod Offers
 pub mod Answers
+pub mod Lifetimes

@@ -9,6 +9,7 @@ mod drops;
 mod ends;
 mod forks;
 mod hangups;
+mod lifetimes;
 mod offers;
 mod provisionals;
 mod refusals;
@@ -26,6 +27,7 @@ pub use drops::{nothing_is_dropped_unasked, what_is_not_done_sends_nothing};
 pub use ends::calls_speak_to_their_ends;
 pub use forks::forks_are_ended;
 pub use hangups::{byes_are_passed_on, cancels_are_passed_on, second_cancels_go_no_further};
+pub use lifetimes::calls_end_with_their_lifetimes;
 pub use offers::{
     first_invites_are_passed_on, first_invites_go_where_bound, later_requests_are_served,
     later_requests_go_across,

@@ -4,6 +4,7 @@ use Rattle.std.proofs.Common.{◌≡◌, ℕ, ◌≤◌, nat_le, nat_lt, Bool, t
 use Rattle.std.specs.Prelude.{IsTrue, slice_get}
 use Rattle.std.proofs.lemmas.Bool.{le-leb, le-ltb}
 use Rattle.call_media.specs.declared.end.End.{End}
+use Rattle.call_media.specs.declared.end.End.TheVariants.{Callee, Caller}
 use Rattle.call_media.specs.Ends.{other}
 use Rattle.call_core.specs.declared.action.Action.{Action}
 use Rattle.call_core.specs.declared.action.Action.TheVariants.{Abandon, AnswerAgain, Bye, Cancel, Okay, Refusal, Release, Set, Stop}
@@ -20,6 +21,7 @@ use Rattle.call_core.specs.Ending.{ending_row}
 use Rattle.call_core.specs.Passing.{status_passed_on}
 use Rattle.call_core.specs.Reasked.{cancelled_inside, has_lost_the_call, reasked_row}
 use Rattle.call_core.specs.Rows.{gone, row, short_time, twice_to_t2}
+use Rattle.call_core.specs.Settled.{settled_row}
 use Rattle.call_core.specs.Updating.{updating_row}
 use Rattle.call_messages.specs.declared.scene.Scene.{Scene}
 use Rattle.call_trace.specs.declared.call.Call.{Call}
@@ -33,8 +35,9 @@ use Rattle.call_trace.specs.declared.datagram.Message.{Message}
 use Rattle.call_trace.specs.Events.{IsIdle, IsIdleTaken}
 use Rattle.call_trace.specs.Listed.{AllOf}
 use Rattle.call_trace.specs.Messages.{is_final, is_success, offering}
-use Rattle.call_trace.specs.Moves.{release}
+use Rattle.call_trace.specs.Moves.{Move, release}
 use Rattle.call_trace.specs.Stands.{AllApart, HasTags, leg}
+use Rattle.media_laws.specs.Heard.{HearsActions}
 use Rattle.media_laws.specs.Inputs.{TookCancel, TookRefusal, TookRequest, TookRinging, TookSuccess}
 use Rattle.media_laws.specs.Said.{unmoved}
 use Rattle.media_laws.specs.Scenes.{LegIn}
@@ -65,6 +68,19 @@ module _ (t : List Datagram) (ds : List Call) (k : ℕ) (d : Call) (apart : AllA
   none : IsIdleTaken offering t taken → (n : Standing) → Line n None
   none took n = no_line t ds k d apart there has taken before idle s tokens n took
 
+  -- ---- the call has stood long enough, while an offer or its ACK is open
+
+  later_set : taken ≡ None → (ms : List Message) → HearsActions s tokens (Set timers.Lifetime short_time ∷ []) ms → Move offering t ds taken (before ++ ms) ds
+  later_set took ms h = quiet_line t ds k d apart there has taken before idle s tokens (Set timers.Lifetime short_time ∷ []) ms (none_idle_taken t taken took) ((λ count m e. absurd e), tt) h
+
+  pub reasked_outlasts : (rung : Bool) (cancelled : Cancelled) (x : End) → taken ≡ None → Line (standing x (stages.Reasked rung cancelled)) (reasked_row rung cancelled x signals.Lifetime)
+  unfolding reasked_row
+  reasked_outlasts rung cancelled x took = λ ms h. waits_on (standing x (stages.Reasked rung cancelled)) refl refl refl (later_set took ms h)
+
+  pub updating_outlasts : (x : End) → taken ≡ None → Line (standing x stages.Updating) (updating_row x signals.Lifetime)
+  unfolding updating_row
+  updating_outlasts x took = λ ms h. waits_on (standing x stages.Updating) refl refl refl (later_set took ms h)
+
   -- ---- its 200 waits for an ACK
 
   module _ (inside : Bool) (interval : ℕ) (x : End) where
@@ -90,6 +106,20 @@ module _ (t : List Datagram) (ds : List Call) (k : ℕ) (d : Call) (apart : AllA
     pub answered_silent : taken ≡ None → LegIn s x (leg d (is_caller x)) → LegIn s (other x) (leg d (not (is_caller x))) → Line n (answered_row inside interval x signals.Wait)
     unfolding answered_row
     answered_silent took lx ly = λ ms h. goes (λ m e. absurd (cc)) (both_told t ds k d apart there has taken before s tokens (unmoved (none_idle_taken t taken took)) (is_caller x) x (other x) ms lx ly (is_idle_end t taken (before ++ ms) d before idle) h)
+
+    pub answered_outlasts : taken ≡ None → Line n (answered_row inside interval x signals.Lifetime)
+    unfolding answered_row
+    answered_outlasts took = by_inside inside
+      where
+        by_inside : (i : Bool) → Line (standing x (waiting i interval)) (answered_row i interval x signals.Lifetime)
+        by_inside true = λ ms h. waits_on (standing x (waiting true interval)) refl refl refl (later_set took ms h)
+        by_inside false = λ ms h. waits_on (standing x (waiting false interval)) refl refl refl (later_set took ms h)
+
+  -- ---- no offer is open
+
+  pub settled_expires : (x : End) → taken ≡ None → LegIn s Caller (leg d true) → LegIn s Callee (leg d false) → Line (standing x stages.Settled) (settled_row signals.Lifetime)
+  unfolding settled_row
+  settled_expires x took caller callee = λ ms h. goes (λ m e. absurd (cc)) (both_told t ds k d apart there has taken before s tokens (unmoved (none_idle_taken t taken took)) true Caller Callee ms caller callee (is_idle_end t taken (before ++ ms) d before idle) h)
 
   -- ---- one end has left it
 

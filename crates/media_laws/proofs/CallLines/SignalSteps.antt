@@ -65,6 +65,7 @@ at_input c n (inputs.Bye end) signal pool now stands is = subst (λ x. IsSignalS
 at_input c n inputs.Limit signal pool now stands is = subst (λ x. IsSignalStep c n x (step_at c n inputs.Limit pool now)) (sym is) (at_signal c n signals.Limit pool now stands)
 at_input c n inputs.Repeat signal pool now stands is = subst (λ x. IsSignalStep c n x (step_at c n inputs.Repeat pool now)) (sym is) (at_signal c n signals.Repeat pool now stands)
 at_input c n inputs.Wait signal pool now stands is = subst (λ x. IsSignalStep c n x (step_at c n inputs.Wait pool now)) (sym is) (at_signal c n signals.Wait pool now stands)
+at_input c n inputs.Lifetime signal pool now stands is = subst (λ x. IsSignalStep c n x (step_at c n inputs.Lifetime pool now)) (sym is) (at_signal c n signals.Lifetime pool now stands)
 
 in_standing : (c : Call) (n : Standing) (standing : Option Standing) (input : Input) (signal : Signal) (pool : Contents) (now : ℕ) → standing ≡ Some n → c.standing ≡ Some n → IsSignalOf c input signal
     → IsSignalStep c n signal (step_in c standing input pool now)

@@ -72,6 +72,7 @@ module _ (t : List Datagram) (ds : List Call) (k : ℕ) (d : Call) (apart : AllA
   at_asked rung signals.Limit asked legs took = asked_limit t ds k d apart there has taken before idle s tokens rung Caller asked took
   at_asked rung signals.Repeat asked legs took = nothing (standing Caller (stages.Asked rung)) (due_idle took)
   at_asked rung signals.Wait asked legs took = nothing (standing Caller (stages.Asked rung)) (due_idle took)
+  at_asked rung signals.Lifetime asked legs took = nothing (standing Caller (stages.Asked rung)) (due_idle took)
 
   -- a BYE comes alone
   left_by : (n : Standing) (line : Option Row) (end : End) (took : TookBye taken s d (is_caller end)) → before ≡ [] → LineOf t ds k d apart there has (Some took.request.message) [] tt s tokens n line → Line n line
@@ -100,6 +101,7 @@ module _ (t : List Datagram) (ds : List Call) (k : ℕ) (d : Call) (apart : AllA
     at_answered inside interval signals.Limit at awaited alone took = nothing (standing x (waiting inside interval)) (due_idle took)
     at_answered inside interval signals.Repeat at awaited alone took = later.answered_again t ds k d apart there has taken before idle s tokens inside interval x took again
     at_answered inside interval signals.Wait at awaited alone took = later.answered_silent t ds k d apart there has taken before idle s tokens inside interval x took (legs x) across
+    at_answered inside interval signals.Lifetime at awaited alone took = later.answered_outlasts t ds k d apart there has taken before idle s tokens inside interval x took
 
     at_settled : (signal : Signal) → IsAwaitedBy stages.Settled signal → (is_bye_signal signal ≡ true → before ≡ []) → Took taken s d signal → Line (standing x stages.Settled) (settled_row signal)
     unfolding settled_row
@@ -117,6 +119,7 @@ module _ (t : List Datagram) (ds : List Call) (k : ℕ) (d : Call) (apart : AllA
     at_settled signals.Limit awaited alone took = nothing (standing x stages.Settled) (due_idle took)
     at_settled signals.Repeat awaited alone took = nothing (standing x stages.Settled) (due_idle took)
     at_settled signals.Wait awaited alone took = nothing (standing x stages.Settled) (due_idle took)
+    at_settled signals.Lifetime awaited alone took = later.settled_expires t ds k d apart there has taken before idle s tokens x took (legs Caller) (legs Callee)
 
     at_reasked : (rung : Bool) (cancelled : Cancelled) (signal : Signal) → Offering d → (is_bye_signal signal ≡ true → before ≡ []) → Took taken s d signal → Line (standing x (stages.Reasked rung cancelled)) (reasked_row rung cancelled x signal)
     unfolding reasked_row
@@ -135,6 +138,7 @@ module _ (t : List Datagram) (ds : List Call) (k : ℕ) (d : Call) (apart : AllA
     at_reasked rung cancelled signals.Limit at alone took = later.reasked_limit t ds k d apart there has taken before idle s tokens rung cancelled x took (legs x) across
     at_reasked rung cancelled signals.Repeat at alone took = nothing (standing x (stages.Reasked rung cancelled)) (due_idle took)
     at_reasked rung cancelled signals.Wait at alone took = nothing (standing x (stages.Reasked rung cancelled)) (due_idle took)
+    at_reasked rung cancelled signals.Lifetime at alone took = later.reasked_outlasts t ds k d apart there has taken before idle s tokens rung cancelled x took
 
     at_updating : (signal : Signal) → Offering d → (is_bye_signal signal ≡ true → before ≡ []) → Took taken s d signal → Line (standing x stages.Updating) (updating_row x signal)
     unfolding updating_row
@@ -152,6 +156,7 @@ module _ (t : List Datagram) (ds : List Call) (k : ℕ) (d : Call) (apart : AllA
     at_updating signals.Limit at alone took = nothing (standing x stages.Updating) (due_idle took)
     at_updating signals.Repeat at alone took = nothing (standing x stages.Updating) (due_idle took)
     at_updating signals.Wait at alone took = nothing (standing x stages.Updating) (due_idle took)
+    at_updating signals.Lifetime at alone took = later.updating_outlasts t ds k d apart there has taken before idle s tokens x took
 
     at_ending : (interval : ℕ) (signal : Signal) → d.stage ≡ traces.Ending (is_caller (other x)) → IsAwaitedBy (stages.Ending interval) signal → (is_bye_signal signal ≡ true → before ≡ []) → Took taken s d signal → Line (standing x (stages.Ending interval)) (ending_row interval x signal)
     unfolding ending_row
@@ -169,6 +174,7 @@ module _ (t : List Datagram) (ds : List Call) (k : ℕ) (d : Call) (apart : AllA
     at_ending interval signals.Limit stage awaited alone took = nothing (standing x (stages.Ending interval)) (due_idle took)
     at_ending interval signals.Repeat stage awaited alone took = later.ending_again t ds k d apart there has taken before idle s tokens interval x (stage ∙ ap traces.Ending (other_is x)) took again
     at_ending interval signals.Wait stage awaited alone took = later.ending_silent t ds k d apart there has taken before idle s tokens interval x (stage ∙ ap traces.Ending (other_is x)) took (legs x)
+    at_ending interval signals.Lifetime stage awaited alone took = nothing (standing x (stages.Ending interval)) (due_idle took)
 
   -- ---- every stage that a trace lists
 

@@ -52,7 +52,7 @@ use Rattle.message_laws.proofs.TokenUse.Apartness.{old_and_new}
 use Rattle.message_laws.proofs.TokenUse.Grounds.{answerable_repeats, read_repeats}
 use Rattle.message_laws.proofs.QuietEvents.Growing.{made_more}
 use Rattle.message_laws.proofs.Messages.RequestViews.{by_if}
-use Rattle.message_laws.proofs.Messages.Views.{DueRow, WhatRow, call_fired, came, due, ended, fired_alone, idle, sent_again, stopped, timed, what_view}
+use Rattle.message_laws.proofs.Messages.Views.{DueRow, call_fired, due_what_view, ended, fired_alone, idle, sent_again, stopped, timed}
 use Rattle.message_laws.proofs.Traces.Comings.{alone_comes}
 use Rattle.message_laws.proofs.Traces.Scenes.{stopped_scenes}
 use Rattle.message_laws.specs.Asked.{KnowsAsked}
@@ -120,6 +120,7 @@ module _ (laws : Laws) (s : Office) (begun : List Transaction) (sent : List Sent
   timer_sent timers.Limit place = takes_sent laws s begun sent t ds k asked e [] None None place inputs.Limit None nothing_sent tt refl (alone_comes inputs.Limit tt refl tt)
   timer_sent timers.Repeat place = takes_sent laws s begun sent t ds k asked e [] None None place inputs.Repeat None nothing_sent tt refl (alone_comes inputs.Repeat tt refl tt)
   timer_sent timers.Wait place = takes_sent laws s begun sent t ds k asked e [] None None place inputs.Wait None nothing_sent tt refl (alone_comes inputs.Wait tt refl tt)
+  timer_sent timers.Lifetime place = takes_sent laws s begun sent t ds k asked e [] None None place inputs.Lifetime None nothing_sent tt refl (alone_comes inputs.Lifetime tt refl tt)
 
 -- the same calls and transactions, where a timer of a call is due
 stopped_tied : (s : Office) (begun : List Transaction) (sent : List Sent) (t : List Datagram) (ds : List Call) (timer : CallTimerId) → AreTied s begun sent t ds → AreTied (without_call_timer timer s) begun sent t ds
@@ -149,14 +150,11 @@ module _ (laws : Laws) (s : Office) (begun : List Transaction) (sent : List Sent
   due_sent e x (call_fired timer place found is) =
       subst Tags (sym is) (timer_sent laws (without_call_timer timer s) begun sent t ds (stopped_tied s begun sent t ds timer k) asked e timer.timer place)
 
-  due_view_sent : (now salt : ℕ) (x : Effect) → WhatRow s now salt whats.Due x → Tags x
-  due_view_sent now salt x (came source bytes is view) = absurd cc
-  due_view_sent now salt x (due is view) = due_sent (setting now salt no_source) x view
-
   what_sent : (now salt : ℕ) (what : What) → ComesFromSource what → Tags (what_row s now salt what)
   unfolding what_row
   what_sent now salt (whats.Datagram source bytes) from = datagram_sent laws s begun sent t ds k asked (setting now salt source) from bytes
-  what_sent now salt whats.Due from = due_view_sent now salt (what_row s now salt whats.Due) (what_view s now salt whats.Due)
+  what_sent now salt whats.Due from = due_sent (setting now salt no_source) (what_row s now salt whats.Due) (due_what_view s now salt whats.Due tt)
+  what_sent now salt (whats.Silent number) from = due_sent (setting now salt no_source) (what_row s now salt (whats.Silent number)) (due_what_view s now salt (whats.Silent number) tt)
 
 -- ---- an event
 

@@ -61,6 +61,7 @@ due_input c (inputs.Bye end) signal is = absurd (none-some signal is)
 due_input c inputs.Limit signal is = subst (IsDue c inputs.Limit) (same_Some signals.Limit signal is) (record { of = refl; can = alone_comes inputs.Limit tt refl tt; due = refl })
 due_input c inputs.Repeat signal is = subst (IsDue c inputs.Repeat) (same_Some signals.Repeat signal is) (record { of = refl; can = alone_comes inputs.Repeat tt refl tt; due = refl })
 due_input c inputs.Wait signal is = subst (IsDue c inputs.Wait) (same_Some signals.Wait signal is) (record { of = refl; can = alone_comes inputs.Wait tt refl tt; due = refl })
+due_input c inputs.Lifetime signal is = subst (IsDue c inputs.Lifetime) (same_Some signals.Lifetime signal is) (record { of = refl; can = alone_comes inputs.Lifetime tt refl tt; due = refl })
 
 -- ---- the event
 

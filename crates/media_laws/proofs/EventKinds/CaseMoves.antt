@@ -37,7 +37,7 @@ use Rattle.plans.specs.declared.taken.Taken.{Taken}
 use Rattle.plans.specs.declared.taken.Taken.TheVariants as takens
 use Rattle.message_laws.specs.Addresses.{IsSource}
 use Rattle.message_laws.specs.CalleeDialogs.{KnowsCallees}
-use Rattle.message_laws.specs.Datagrams.{ComesFromSource}
+use Rattle.message_laws.specs.Datagrams.{ComesFromSource, IsNoDatagram}
 use Rattle.message_laws.proofs.QuietEvents.Describing.{BodiesDescribe}
 use Rattle.message_laws.proofs.Messages.MessageViews.{IsResponseTo, begun_by}
 use Rattle.message_laws.proofs.Messages.RequestViews.{RequestRow}
@@ -115,6 +115,13 @@ nothing_taken (whats.Datagram source bytes) (takens.Dropped why) taken not_done 
 nothing_taken (whats.Datagram source bytes) takens.Shed taken not_done h = h
 nothing_taken (whats.Datagram source bytes) takens.Idle taken not_done h = h
 nothing_taken whats.Due answer taken not_done h = h
+nothing_taken (whats.Silent number) answer taken not_done h = h
+
+-- nothing is taken with what is no datagram
+pub none_with : (what : What) (answer : Taken) (taken : Option Message) → IsNoDatagram what → IsTaken what answer taken → taken ≡ None
+none_with (whats.Datagram source bytes) answer taken alone h = absurd alone
+none_with whats.Due answer taken alone h = h
+none_with (whats.Silent number) answer taken alone h = h
 
 registers_done : (s : Office) (e : Setting) (r : Request) (begun : List Entry) (id : ℕ) (user : Option (List ℕ)) (answer : Result (List Binding) Refusal) → (registers_by s e r begun id user answer).taken ≡ takens.Done
 registers_done s e r begun id user (Ok bindings) = refl
@@ -227,4 +234,4 @@ module _ (reads : Reading) (names : ReadsNames) (describes : BodiesDescribe) (s 
       → Move offering t ds taken ms ds
   event_move now salt what from x (cases.came source bytes is row) none =
       subst (λ w. IsQuiet w x) (sym is) (datagram_move source bytes (subst ComesFromSource is from) (setting now salt source) refl x row none)
-  event_move now salt what from x (cases.due is row) none = subst (λ w. IsQuiet w x) (sym is) (due_move (setting now salt no_source) x row none)
+  event_move now salt what from x (cases.due alone row) none = λ took are. due_move (setting now salt no_source) x row none (none_with what x.plan.taken taken alone took) are

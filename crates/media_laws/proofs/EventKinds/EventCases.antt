@@ -47,11 +47,12 @@ use Rattle.plans.specs.declared.taken.Taken.{Taken}
 use Rattle.plans.specs.declared.taken.Taken.TheVariants as takens
 use Rattle.plans.specs.declared.taken.Why.TheVariants as whys
 use Rattle.event_rows.specs.Rows.{by_reading, datagram_row, fit_row, is_full, is_unreachable_message, parts_of, read_row, received, received_by, refuses_alone, no_source, request_by, response_by, setting, unfit_branch, unread_by, unread_row, what_row}
+use Rattle.message_laws.specs.Datagrams.{IsNoDatagram}
 use Rattle.message_laws.proofs.Messages.MessageViews.{IsResponseTo, begun_by}
 use Rattle.message_laws.proofs.Messages.RequestViews.{RequestRow, by_if, request_view}
 use Rattle.message_laws.proofs.Messages.ResponseViews.{IsAsked}
 use Rattle.message_laws.proofs.Messages.Views as views
-use Rattle.message_laws.proofs.Messages.Views.{DueRow, WhatRow, what_view}
+use Rattle.message_laws.proofs.Messages.Views.{DueRow, due_what_view}
 use Rattle.media_laws.specs.Verdicts.{IsTransactions}
 use Rattle.event_rows.proofs.AckRequests.{IsAckIf, up_is_ack}
 use Rattle.media_laws.proofs.LateResponses.RuleReasons.{Reason, rule_reason}
@@ -231,13 +232,10 @@ datagram_case s e bytes = reading_case s e bytes (message_of bytes) refl
 
 pub data EventCase (s : Office) (now salt : ℕ) (what : What) (x : Effect) : Type 0 where
   came : (source : Addr) (bytes : List ℕ) → what ≡ whats.Datagram source bytes → DatagramCase s (setting now salt source) bytes x → EventCase s now salt what x
-  due : what ≡ whats.Due → DueRow s (setting now salt no_source) x → EventCase s now salt what x
-
-due_case : (s : Office) (now salt : ℕ) (x : Effect) → WhatRow s now salt whats.Due x → EventCase s now salt whats.Due x
-due_case s now salt x (views.came source bytes is view) = absurd cc
-due_case s now salt x (views.due is view) = due refl view
+  due : IsNoDatagram what → DueRow s (setting now salt no_source) x → EventCase s now salt what x
 
 pub event_case : (s : Office) (now salt : ℕ) (what : What) → EventCase s now salt what (what_row s now salt what)
 unfolding what_row
 event_case s now salt (whats.Datagram source bytes) = came source bytes refl (datagram_case s (setting now salt source) bytes)
-event_case s now salt whats.Due = due_case s now salt (what_row s now salt whats.Due) (what_view s now salt whats.Due)
+event_case s now salt whats.Due = due tt (due_what_view s now salt whats.Due tt)
+event_case s now salt (whats.Silent number) = due tt (due_what_view s now salt (whats.Silent number) tt)

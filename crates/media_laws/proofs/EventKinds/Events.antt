@@ -51,7 +51,7 @@ use Rattle.message_laws.specs.Numbers.{begun_of}
 use Rattle.plans.specs.declared.taken.Taken.{Taken}
 use Rattle.plans.specs.declared.taken.Taken.TheVariants.{Done}
 use Rattle.plans.specs.CallRows.{timer_input, without_call_timer}
-use Rattle.media_laws.proofs.EventKinds.CaseMoves.{NoneTakes, NoneTakesDue, event_move, nothing_taken}
+use Rattle.media_laws.proofs.EventKinds.CaseMoves.{NoneTakes, NoneTakesDue, event_move, none_with, nothing_taken}
 use Rattle.media_laws.proofs.EventKinds.EventCases.{IsNotDone, event_case}
 use Rattle.media_laws.proofs.Copies.TransactionMoves.{nothing_move}
 use Rattle.message_laws.specs.Traces.{IsPassed, IsTaken}
@@ -75,6 +75,7 @@ timer_signal : (timer : CallTimer) → (signal : Signal) × (due_signal (timer_i
 timer_signal timers.Limit = (signals.Limit, refl)
 timer_signal timers.Repeat = (signals.Repeat, refl)
 timer_signal timers.Wait = (signals.Wait, refl)
+timer_signal timers.Lifetime = (signals.Lifetime, refl)
 
 -- the calls are the same once it is set no more
 same_by : (s : Office) (timer : CallTimerId) (e : Setting) (place : ℕ) (input : Input) (c : Option StandingCall)
@@ -102,6 +103,7 @@ idle_unless false answer is = subst IsNotDone (same_Some Idle answer is) tt
 counted_so : (s : Contents) (now : ℕ) (what : What) (answer : Taken) → what_counts s now what ≡ Some answer → IsNotDone answer
 counted_so s now (whats.Datagram source bytes) answer is = not_done_if _ (Dropped (Unread TooLong)) answer None tt (λ none. absurd (none-some answer none)) is
 counted_so s now whats.Due answer is = idle_unless _ answer is
+counted_so s now (whats.Silent number) answer is = idle_unless _ answer is
 
 only_counted : (s : Contents) (event : Event) (answer : Taken) → only_counts s event ≡ Some answer → IsNotDone answer
 unfolding only_counts
@@ -164,7 +166,7 @@ module _ (laws : Laws) (s : Contents) (event : Event) (begun : List Transaction)
     case_goes (cases.came source bytes is row) alone =
         datagram_goes laws s event begun more sent t old k tied later taken ms askers x is_row (ap (λ (y : Effect). begun_of y.plan.changes) is_row) are (setting now event.salt source) (subst ComesFromSource is from) bytes
         (λ done. subst (λ w. IsTaken w Done taken) is (subst (λ answer. IsTaken event.what answer taken) done took)) row alone
-    case_goes (cases.due is row) alone = due_event (subst (λ w. IsTaken w x.plan.taken taken) is took) (setting now event.salt no_source) row alone
+    case_goes (cases.due quiet row) alone = due_event (none_with event.what x.plan.taken taken quiet took) (setting now event.salt no_source) row alone
 
     looked_at : EventCase before now event.salt event.what x → Goes
     looked_at row = case_goes row (quiet_move row)

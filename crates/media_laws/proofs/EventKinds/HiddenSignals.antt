@@ -100,6 +100,11 @@ unfolding cancelling_row
 no_wait true x = refl
 no_wait false x = refl
 
+no_lifetime : HasNoLine signals.Lifetime
+unfolding cancelling_row
+no_lifetime true x = refl
+no_lifetime false x = refl
+
 module _ (t : List Datagram) (ds : List Call) (taken : Option Message) (before : List Message) (idle : AllOf (IsIdle offering t taken) before) (s : Scene) (tokens : ℕ) where
   abbrev pub MovesNone : Standing → Signal → Type 0
   MovesNone n signal = (ms : List Message) → HearsActions s tokens (actions_in (row_of n signal)) ms → HiddenMove t ds taken (before ++ ms) (next_in n (row_of n signal))
@@ -174,3 +179,4 @@ module _ (t : List Datagram) (ds : List Call) (taken : Option Message) (before :
     hidden_due signals.Limit is took = where_it_stands signals.Limit (limit n.offerer sent took)
     hidden_due signals.Repeat is took = hidden_ignores signals.Repeat no_repeat took
     hidden_due signals.Wait is took = hidden_ignores signals.Wait no_wait took
+    hidden_due signals.Lifetime is took = hidden_ignores signals.Lifetime no_lifetime took

@@ -57,7 +57,7 @@ use Rattle.message_laws.proofs.Messages.RequestViews.{RequestRow, asks_callee, b
 use Rattle.message_laws.proofs.Messages.ResponseViews.{ResponseRow, ack_alone, again, answered, fork, provisional, refused, silent}
 use Rattle.message_laws.proofs.TokenUse.TaggedSteps.{answers_fits, counts_fits, refreshes_fits}
 use Rattle.message_laws.proofs.AwaitedOffers.Tables.{IsNoOfferInput}
-use Rattle.message_laws.proofs.Messages.Views.{DueRow, WhatRow, call_fired, came, due, ended, fired_alone, idle, sent_again, stopped, timed, what_view}
+use Rattle.message_laws.proofs.Messages.Views.{DueRow, call_fired, due_what_view, ended, fired_alone, idle, sent_again, stopped, timed}
 use Rattle.message_laws.proofs.AwaitedOffers.WaitPassed.{passes_settled}
 use Rattle.media_laws.specs.Rising.{RisesFrom}
 use Rattle.media_laws.specs.Taken.{HasTakenOffer, KnowsTaken}
@@ -200,6 +200,7 @@ timer_rises : (s : Office) → IsReady s → (e : Setting) (place : ℕ) (timer 
 timer_rises s k e place timers.Limit = takes_rise s k e [] None None place inputs.Limit None tt (no_leg s k e place)
 timer_rises s k e place timers.Repeat = takes_rise s k e [] None None place inputs.Repeat None tt (no_leg s k e place)
 timer_rises s k e place timers.Wait = takes_rise s k e [] None None place inputs.Wait None tt (no_leg s k e place)
+timer_rises s k e place timers.Lifetime = takes_rise s k e [] None None place inputs.Lifetime None tt (no_leg s k e place)
 
 due_rises : (s : Office) → IsReady s → (e : Setting) (x : Effect) → DueRow s e x → Rises s x
 due_rises s k e x (idle is) = subst (Rises s) (sym is) (same_calls s k e)
@@ -210,14 +211,11 @@ due_rises s k e x (ended timer fired is) = subst (Rises s) (sym is) (same_calls 
 due_rises s k e x (stopped timer is) = subst (Rises s) (sym is) (same_calls s k e)
 due_rises s k e x (call_fired timer place found is) = subst (Rises s) (sym is) (timer_rises (without_call_timer timer s) (stopped_ready s k timer) e place timer.timer)
 
-due_view_rises : (s : Office) → IsReady s → (now salt : ℕ) (x : Effect) → WhatRow s now salt whats.Due x → Rises s x
-due_view_rises s k now salt x (came source bytes is view) = absurd cc
-due_view_rises s k now salt x (due is view) = due_rises s k (setting now salt no_source) x view
-
 what_rises : (s : Office) → IsReady s → (now salt : ℕ) (what : What) → Rises s (what_row s now salt what)
 unfolding what_row
 what_rises s k now salt (whats.Datagram source bytes) = datagram_rises s k (setting now salt source) bytes
-what_rises s k now salt whats.Due = due_view_rises s k now salt (what_row s now salt whats.Due) (what_view s now salt whats.Due)
+what_rises s k now salt whats.Due = due_rises s k (setting now salt no_source) (what_row s now salt whats.Due) (due_what_view s now salt whats.Due tt)
+what_rises s k now salt (whats.Silent number) = due_rises s k (setting now salt no_source) (what_row s now salt (whats.Silent number)) (due_what_view s now salt (whats.Silent number) tt)
 
 -- ---- an event
 

@@ -80,6 +80,7 @@ due_took scene d (signals.Bye end) due = absurd (false≢true due)
 due_took scene d signals.Limit due = refl
 due_took scene d signals.Repeat due = refl
 due_took scene d signals.Wait due = refl
+due_took scene d signals.Lifetime due = refl
 
 due_awaited : (stage : Stage) (signal : Signal) → is_due_signal signal ≡ true → IsAwaitedBy stage signal
 due_awaited stage (signals.Offer end method) due = tt
@@ -94,6 +95,7 @@ due_awaited stage (signals.Bye end) due = tt
 due_awaited stage signals.Limit due = tt
 due_awaited stage signals.Repeat due = tt
 due_awaited stage signals.Wait due = tt
+due_awaited stage signals.Lifetime due = tt
 
 pub due_signals : (s : Office) (e : Setting) (place : ℕ) (c : StandingCall) (description : Option Description) (begun : List Transaction) (t : List Datagram) (n : Standing) (d : Call) (signal : Signal) → KnowsLegs s → IsShownAt s begun t place c n d
     → is_due_signal signal ≡ true → TakesSignal n (scene_at s e (without_offer None None) c description) d None signal

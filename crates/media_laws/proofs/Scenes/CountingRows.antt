@@ -119,6 +119,7 @@ timer_leaves : (s : Office) → KnowsNumbersLeft s → (e : Setting) (place : �
 timer_leaves s k e place timers.Limit = takes_leaves s k e [] None None place inputs.Limit None tt tt
 timer_leaves s k e place timers.Repeat = takes_leaves s k e [] None None place inputs.Repeat None tt tt
 timer_leaves s k e place timers.Wait = takes_leaves s k e [] None None place inputs.Wait None tt tt
+timer_leaves s k e place timers.Lifetime = takes_leaves s k e [] None None place inputs.Lifetime None tt tt
 
 due_leaves : (s : Office) → KnowsNumbersLeft s → (e : Setting) (x : Effect) → DueRow s e x → Leaves x
 due_leaves s k e x (idle is) = subst Leaves (sym is) k

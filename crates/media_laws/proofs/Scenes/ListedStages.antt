@@ -87,6 +87,7 @@ none_asked rung scene d (signals.Bye end) other = tt
 none_asked rung scene d signals.Limit other = tt
 none_asked rung scene d signals.Repeat other = tt
 none_asked rung scene d signals.Wait other = tt
+none_asked rung scene d signals.Lifetime other = tt
 
 -- what a stage asks for, where a first 2xx is not what comes
 pub staged_legs : (stage : Stage) (scene : Scene) (x : End) (d : Call) (signal : Signal) → IsAt x stage d → ((rung : Bool) → stage ≡ stages.Asked rung → HasLegs (stages.Asked rung) scene d signal) → (is_unanswered stage ≡ false → Legs scene d)

@@ -18,6 +18,7 @@ use Rattle.plans.specs.CallRows.{of_plan}
 use Rattle.plans.specs.Effect.{Effect}
 use Rattle.plans.specs.Office.{Office}
 use Rattle.plans.specs.Plan.{nothing}
+use Rattle.plans.specs.Note.{note_of_taken}
 use Rattle.plans.specs.declared.taken.Taken.{Taken}
 use Rattle.plans.specs.declared.taken.Taken.TheVariants.{Done, Dropped, Idle, Shed}
 use Rattle.message_laws.specs.Datagrams.{ComesFromSource, EntersFromSource}
@@ -25,6 +26,9 @@ use Rattle.message_laws.specs.Knowledge.{sends_of}
 use Rattle.message_laws.specs.Numbers.{begun_at, begun_in, begun_of}
 use Rattle.message_laws.proofs.TokenUse.Events.{few_tokens}
 use Rattle.message_laws.specs.Messages.{AreMessages}
+use Rattle.calls.specs.State.{Standing}
+use Rattle.event_rows.specs.Lifetimes.{with_lifetime}
+use Rattle.message_laws.proofs.Messages.Lifetimes.{same_calls}
 use Rattle.message_laws.specs.Traces.{AreTrace, IsPassed, IsShownWith, IsTaken}
 use Rattle.transactions.specs.declared.transaction.Transaction.{Transaction}
 use Rattle.media_laws.specs.Standing.{IsUpheld, UpholdsCalls}
@@ -48,12 +52,13 @@ none_taken (whats.Datagram source bytes) (Dropped why) taken other h = h
 none_taken (whats.Datagram source bytes) Shed taken other h = h
 none_taken (whats.Datagram source bytes) Idle taken other h = h
 none_taken whats.Due why taken other h = h
+none_taken (whats.Silent number) why taken other h = h
 
-abbrev with_tokens : Contents → ℕ → Office
-with_tokens s made = record {
+abbrev with_calls : Contents → Standing → ℕ → Office
+with_calls s calls made = record {
   registrar = s.registrar;
   table = s.table;
-  calls = s.calls;
+  calls = calls;
   acks = s.acks;
   server = s.server;
   range = s.range;
@@ -67,7 +72,8 @@ same_tokens s = omega arith
 -- what comes to nothing leaves the agent as it was, but for the moment and the tally
 same_office : (s : Contents) (now : ℕ) (why : Taken) → office (after_event s now (of_plan (office s) (nothing why))) ≡ office s
 unfolding after_event
-same_office s now why = ap (with_tokens s) (same_tokens s)
+same_office s now why =
+    ap (with_calls s (with_lifetime s.lifetime now (note_of_taken why) s.calls)) (same_tokens s) ∙ ap (λ (calls : Standing). with_calls s calls s.tokens) (same_calls s.lifetime now why s.calls)
 
 -- ---- an event
 

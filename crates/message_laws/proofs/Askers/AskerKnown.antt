@@ -77,7 +77,7 @@ use Rattle.message_laws.proofs.Messages.Repeats.{CanAnswer, one_own, refusal_nee
 use Rattle.message_laws.proofs.Messages.RequestViews.{by_if}
 use Rattle.message_laws.proofs.Askers.ServedRequests.{all_entered_asked}
 use Rattle.message_laws.proofs.Askers.SpokenSteps.{IsBegun, IsBegunAs, same_kept}
-use Rattle.message_laws.proofs.Messages.Views.{DueRow, WhatRow, call_fired, came, due, ended, fired_alone, idle, sent_again, stopped, timed, what_view}
+use Rattle.message_laws.proofs.Messages.Views.{DueRow, call_fired, due_what_view, ended, fired_alone, idle, sent_again, stopped, timed}
 
 -- ---- a request
 
@@ -189,6 +189,7 @@ timer_asks : (s : Office) → IsReady s → (e : Setting) (timer : CallTimer) (p
 timer_asks s k e timers.Limit place = takes_ask s k e [] None None place inputs.Limit None none_begun (All-nil IsOwnDatagram) tt refl tt
 timer_asks s k e timers.Repeat place = takes_ask s k e [] None None place inputs.Repeat None none_begun (All-nil IsOwnDatagram) tt refl tt
 timer_asks s k e timers.Wait place = takes_ask s k e [] None None place inputs.Wait None none_begun (All-nil IsOwnDatagram) tt refl tt
+timer_asks s k e timers.Lifetime place = takes_ask s k e [] None None place inputs.Lifetime None none_begun (All-nil IsOwnDatagram) tt refl tt
 
 due_asks : (s : Office) → IsReady s → (e : Setting) (x : Effect) → DueRow s e x → AskedEffect s x
 due_asks s k e x (idle is) = subst (AskedEffect s) (sym is) (nothing_asks s k takens.Idle)
@@ -208,17 +209,14 @@ due_asks s k e x (call_fired timer place found is) =
 
 -- ---- an event
 
-due_view_asks : (s : Office) → IsReady s → (now salt : ℕ) (x : Effect) → WhatRow s now salt whats.Due x → AskedEffect s x
-due_view_asks s k now salt x (came source bytes is view) = absurd cc
-due_view_asks s k now salt x (due is view) = due_asks s k (setting now salt no_source) x view
-
 came_asks : BodiesDescribe → (s : Office) → IsReady s → (now salt : ℕ) (source : Addr) (bytes : List ℕ) → IsSource source → AskedEffect s (what_row s now salt (whats.Datagram source bytes))
 unfolding what_row
 came_asks describes s k now salt source bytes from = datagram_asks describes s k (setting now salt source) bytes from
 
 what_asks : BodiesDescribe → (s : Office) → IsReady s → (now salt : ℕ) (what : What) → ComesFromSource what → AskedEffect s (what_row s now salt what)
 what_asks describes s k now salt (whats.Datagram source bytes) from = came_asks describes s k now salt source bytes from
-what_asks describes s k now salt whats.Due from = due_view_asks s k now salt (what_row s now salt whats.Due) (what_view s now salt whats.Due)
+what_asks describes s k now salt whats.Due from = due_asks s k (setting now salt no_source) (what_row s now salt whats.Due) (due_what_view s now salt whats.Due tt)
+what_asks describes s k now salt (whats.Silent number) from = due_asks s k (setting now salt no_source) (what_row s now salt (whats.Silent number)) (due_what_view s now salt (whats.Silent number) tt)
 
 pub record EventSends (s : Contents) (x : Effect) : Type 0 where
   pub sends : All IsOwnDatagram x.plan.sends

@@ -162,7 +162,9 @@ asked_speaks false x signals.Ack f = tt
 asked_speaks true x signals.Repeat f = tt
 asked_speaks false x signals.Repeat f = tt
 asked_speaks true x signals.Wait f = tt
+asked_speaks true x signals.Lifetime f = tt
 asked_speaks false x signals.Wait f = tt
+asked_speaks false x signals.Lifetime f = tt
 
 cancelling_speaks : (sent : Bool) (x : End) (signal : Signal) → LineSpeaksIf (standing x (stages.Cancelling sent)) signal (cancelling_row sent x signal)
 unfolding cancelling_row
@@ -189,7 +191,9 @@ cancelling_speaks false x signals.Ack = tt
 cancelling_speaks true x signals.Repeat = tt
 cancelling_speaks false x signals.Repeat = tt
 cancelling_speaks true x signals.Wait = tt
+cancelling_speaks true x signals.Lifetime = tt
 cancelling_speaks false x signals.Wait = tt
+cancelling_speaks false x signals.Lifetime = tt
 
 answered_speaks : (inside : Bool) (interval : ℕ) (s : Standing) (x : End) (signal : Signal) → LineSpeaksIf s signal (answered_row inside interval x signal)
 unfolding answered_row
@@ -197,6 +201,8 @@ answered_speaks inside interval s x signals.Ack = quiet _ false _ _ (tt, (tt, tt
 answered_speaks true interval s x signals.Repeat = quiet _ false _ _ (tt, (tt, tt)) refl refl
 answered_speaks false interval s x signals.Repeat = quiet _ false _ _ (tt, (tt, tt)) refl refl
 answered_speaks inside interval s x signals.Wait = quiet _ false _ _ (tt, (tt, tt)) refl refl
+answered_speaks true interval s x signals.Lifetime = quiet _ false _ _ (tt, tt) refl refl
+answered_speaks false interval s x signals.Lifetime = quiet _ false _ _ (tt, tt) refl refl
 answered_speaks inside interval s x (signals.Bye end) =
     either_if s (signals.Bye end) (is_same end x) (Some (gone (Okay x ∷ Bye (other x) ∷ []))) (Some (row (Okay (other x) ∷ RemoveRows ∷ []) x (stages.Ending interval)))
     (quiet _ false _ _ (tt, (tt, tt)) refl refl) (quiet _ false _ _ (tt, (tt, tt)) refl refl)
@@ -224,6 +230,7 @@ settled_speaks s signals.Cancel = tt
 settled_speaks s signals.Ack = tt
 settled_speaks s signals.Repeat = tt
 settled_speaks s signals.Wait = tt
+settled_speaks s signals.Lifetime = quiet _ false _ _ (tt, (tt, tt)) refl refl
 
 rings_inside_speaks : (rung : Bool) (cancelled : Cancelled) (x : End) (status : ℕ) → IsEarly status → LineSpeaksIf (standing x (stages.Reasked rung cancelled)) (signals.Provisional status) (Some (rings_inside rung cancelled x status))
 rings_inside_speaks rung Never x status f = goes_on _ false (rings rung short_time x status) _ refl (rings_fit rung short_time x status f) (rings_open rung short_time x status)
@@ -263,6 +270,8 @@ reasked_speaks true cancelled x signals.Repeat f = tt
 reasked_speaks false cancelled x signals.Repeat f = tt
 reasked_speaks true cancelled x signals.Wait f = tt
 reasked_speaks false cancelled x signals.Wait f = tt
+reasked_speaks true cancelled x signals.Lifetime f = goes_on _ false _ _ refl (tt, tt) refl
+reasked_speaks false cancelled x signals.Lifetime f = goes_on _ false _ _ refl (tt, tt) refl
 
 update_speaks : (s : Standing) (x : End) (status : ℕ) → awaits_answer s.stage ≡ true → IsRefused status → LineSpeaksIf s (signals.Refusal status) (Some (update_refused x status))
 update_speaks s x status w f =
@@ -283,11 +292,13 @@ updating_speaks x signals.Cancel f = tt
 updating_speaks x signals.Limit f = tt
 updating_speaks x signals.Repeat f = tt
 updating_speaks x signals.Wait f = tt
+updating_speaks x signals.Lifetime f = goes_on _ false _ _ refl (tt, tt) refl
 
 ending_speaks : (interval : ℕ) (x : End) (signal : Signal) → LineSpeaksIf (standing x (stages.Ending interval)) signal (ending_row interval x signal)
 unfolding ending_row
 ending_speaks interval x signals.Ack = quiet _ false _ _ (tt, tt) refl refl
 ending_speaks interval x signals.Wait = quiet _ false _ _ (tt, tt) refl refl
+ending_speaks interval x signals.Lifetime = tt
 ending_speaks interval x signals.Repeat = quiet _ false _ _ (tt, (tt, tt)) refl refl
 ending_speaks interval x (signals.Bye end) = either_if (standing x (stages.Ending interval)) (signals.Bye end) (is_same end x) (Some (gone (Okay x ∷ []))) None (quiet _ false _ _ (tt, tt) refl refl) tt
 ending_speaks interval x (signals.Offer end method) = tt
@@ -391,6 +402,7 @@ step_speaks c s (inputs.Bye end) pool now stands f = signal_speaks c s (signals.
 step_speaks c s inputs.Limit pool now stands f = signal_speaks c s signals.Limit pool now stands tt
 step_speaks c s inputs.Repeat pool now stands f = signal_speaks c s signals.Repeat pool now stands tt
 step_speaks c s inputs.Wait pool now stands f = signal_speaks c s signals.Wait pool now stands tt
+step_speaks c s inputs.Lifetime pool now stands f = signal_speaks c s signals.Lifetime pool now stands tt
 
 -- of a call, wherever it stands
 abbrev pub OpenIn : Call → Bool → Type 0

@@ -114,11 +114,13 @@ timer_fits : (timer : CallTimer) → FitsInput (timer_input timer)
 timer_fits timers.Limit = tt
 timer_fits timers.Repeat = tt
 timer_fits timers.Wait = tt
+timer_fits timers.Lifetime = tt
 
 timer_offers : (timer : CallTimer) → is_offer_input (timer_input timer) ≡ false
 timer_offers timers.Limit = refl
 timer_offers timers.Repeat = refl
 timer_offers timers.Wait = refl
+timer_offers timers.Lifetime = refl
 
 -- ---- a request
 

@@ -150,6 +150,7 @@ asked_fits rung x (signals.Offer end method) n = absurd n
 asked_fits rung x signals.Ack n = λ e. absurd (false≢true e)
 asked_fits rung x signals.Repeat n = λ e. absurd (false≢true e)
 asked_fits rung x signals.Wait n = λ e. absurd (false≢true e)
+asked_fits rung x signals.Lifetime n = λ e. absurd (false≢true e)
 
 cancelling_fits : (sent : Bool) (x : End) (signal : Signal) → IsNoOffer signal → LineFitsIf (standing x (stages.Cancelling sent)) signal (cancelling_row sent x signal)
 unfolding cancelling_row
@@ -176,7 +177,9 @@ cancelling_fits false x (signals.Bye end) n = λ e. absurd (false≢true e)
 cancelling_fits true x signals.Repeat n = λ e. absurd (false≢true e)
 cancelling_fits false x signals.Repeat n = λ e. absurd (false≢true e)
 cancelling_fits true x signals.Wait n = λ e. absurd (false≢true e)
+cancelling_fits true x signals.Lifetime n = λ e. absurd (false≢true e)
 cancelling_fits false x signals.Wait n = λ e. absurd (false≢true e)
+cancelling_fits false x signals.Lifetime n = λ e. absurd (false≢true e)
 
 waiting_calm : (inside : Bool) (interval : ℕ) → awaits_final (waiting inside interval) ≡ false
 waiting_calm true interval = refl
@@ -187,6 +190,7 @@ unfolding answered_row
 answered_fits inside interval x signals.Ack n = calm _ signals.Ack _ refl (waiting_calm inside interval) refl
 answered_fits inside interval x signals.Repeat n = calm _ signals.Repeat _ refl (waiting_calm inside interval) (waiting_calm inside (twice_to_t2 interval))
 answered_fits inside interval x signals.Wait n = calm _ signals.Wait _ refl (waiting_calm inside interval) tt
+answered_fits inside interval x signals.Lifetime n = calm _ signals.Lifetime _ refl (waiting_calm inside interval) (waiting_calm inside interval)
 answered_fits inside interval x (signals.Bye end) n =
     either_if (standing x (waiting inside interval)) (signals.Bye end) (is_same end x) (Some (gone (Okay x ∷ Bye (other x) ∷ []))) (Some (row (Okay (other x) ∷ RemoveRows ∷ []) x (stages.Ending interval)))
     (ended _ (signals.Bye end) _ refl) (calm _ (signals.Bye end) _ refl (waiting_calm inside interval) refl)
@@ -213,6 +217,7 @@ settled_fits x signals.Cancel n = λ e. absurd (false≢true e)
 settled_fits x signals.Limit n = λ e. absurd (false≢true e)
 settled_fits x signals.Repeat n = λ e. absurd (false≢true e)
 settled_fits x signals.Wait n = λ e. absurd (false≢true e)
+settled_fits x signals.Lifetime n = ended _ signals.Lifetime _ refl
 
 joined_offer : (xs ys : List Action) → has_offer xs ≡ false → has_offer ys ≡ false → has_offer (xs ++ ys) ≡ false
 joined_offer [] ys h k = k
@@ -255,6 +260,7 @@ reasked_fits rung cancelled x (signals.Offer end method) n = absurd n
 reasked_fits rung cancelled x signals.Ack n = λ e. absurd (false≢true e)
 reasked_fits rung cancelled x signals.Repeat n = λ e. absurd (false≢true e)
 reasked_fits rung cancelled x signals.Wait n = λ e. absurd (false≢true e)
+reasked_fits rung cancelled x signals.Lifetime n = on _ signals.Lifetime _ x (stages.Reasked rung cancelled) refl refl refl refl refl (λ e. e)
 
 update_fits : (s : Standing) (x : End) (status : ℕ) → LineFits s (signals.Refusal status) (update_refused x status)
 update_fits s x status =
@@ -275,11 +281,13 @@ updating_fits x signals.Cancel n = λ e. absurd (false≢true e)
 updating_fits x signals.Limit n = λ e. absurd (false≢true e)
 updating_fits x signals.Repeat n = λ e. absurd (false≢true e)
 updating_fits x signals.Wait n = λ e. absurd (false≢true e)
+updating_fits x signals.Lifetime n = on _ signals.Lifetime _ x stages.Updating refl refl refl refl refl (λ e. e)
 
 ending_fits : (interval : ℕ) (x : End) (signal : Signal) → IsNoOffer signal → LineFitsIf (standing x (stages.Ending interval)) signal (ending_row interval x signal)
 unfolding ending_row
 ending_fits interval x signals.Ack n = ended _ signals.Ack _ refl
 ending_fits interval x signals.Wait n = ended _ signals.Wait _ refl
+ending_fits interval x signals.Lifetime n = λ e. absurd (false≢true e)
 ending_fits interval x signals.Repeat n = calm _ signals.Repeat _ refl refl refl
 ending_fits interval x (signals.Bye end) n = either_if (standing x (stages.Ending interval)) (signals.Bye end) (is_same end x) (Some (gone (Okay x ∷ []))) None (ended _ (signals.Bye end) _ refl) (λ e. absurd (false≢true e))
 ending_fits interval x (signals.Offer end method) n = absurd n
@@ -398,6 +406,7 @@ step_fits c s (inputs.Bye end) pool now stands n = signal_fits c s (signals.Bye 
 step_fits c s inputs.Limit pool now stands n = signal_fits c s signals.Limit pool now stands tt
 step_fits c s inputs.Repeat pool now stands n = signal_fits c s signals.Repeat pool now stands tt
 step_fits c s inputs.Wait pool now stands n = signal_fits c s signals.Wait pool now stands tt
+step_fits c s inputs.Lifetime pool now stands n = signal_fits c s signals.Lifetime pool now stands tt
 
 -- of a call, wherever it stands
 pub record TakesFits (c : Call) (final : Bool) (step : Step) : Type 0 where

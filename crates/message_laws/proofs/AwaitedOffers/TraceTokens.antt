@@ -65,6 +65,7 @@ took_of (whats.Datagram source bytes) (Dropped why) taken m h e = absurd (none-s
 took_of (whats.Datagram source bytes) Shed taken m h e = absurd (none-some m (sym h ∙ e))
 took_of (whats.Datagram source bytes) Idle taken m h e = absurd (none-some m (sym h ∙ e))
 took_of whats.Due answer taken m h e = absurd (none-some m (sym h ∙ e))
+took_of (whats.Silent number) answer taken m h e = absurd (none-some m (sym h ∙ e))
 
 -- ---- messages
 

@@ -253,6 +253,7 @@ timer_takes : (s : Office) → KnowsWaiting s → (e : Setting) (place : ℕ) (t
 timer_takes s k e place timers.Limit = calm_takes s k e [] None None place inputs.Limit (λ t opens offers. opens) tt refl
 timer_takes s k e place timers.Repeat = calm_takes s k e [] None None place inputs.Repeat (λ t opens offers. opens) tt refl
 timer_takes s k e place timers.Wait = calm_takes s k e [] None None place inputs.Wait (λ t opens offers. opens) tt refl
+timer_takes s k e place timers.Lifetime = calm_takes s k e [] None None place inputs.Lifetime (λ t opens offers. opens) tt refl
 
 due_waits : (s : Office) → KnowsWaiting s → (e : Setting) (x : Effect) → DueRow s e x → Waits s x
 due_waits s k e x (idle is) = subst (Waits s) (sym is) (plan_waits s k _ (λ t opens offers. opens))

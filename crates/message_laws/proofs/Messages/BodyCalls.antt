@@ -158,6 +158,7 @@ module _ (ip : List ℕ) (server : IsServerAddress ip) (c : Call) (known : Knows
   at_input s inputs.Limit read = at_signal s signals.Limit
   at_input s inputs.Repeat read = at_signal s signals.Repeat
   at_input s inputs.Wait read = at_signal s signals.Wait
+  at_input s inputs.Lifetime read = at_signal s signals.Lifetime
 
   in_input : (s : Option Standing) (input : Input) → WasReadIn input → KnowsStep ip (step_in c s input pool now)
   in_input None input read = unchanged_known

@@ -60,6 +60,7 @@ timer_read : (timer : CallTimer) → WasReadIn (timer_input timer)
 timer_read timers.Limit = tt
 timer_read timers.Repeat = tt
 timer_read timers.Wait = tt
+timer_read timers.Lifetime = tt
 
 takes_by : (s : Office) → KnowsDescriptions s → (e : Setting) (place : ℕ) (input : _) (leg : Option LegDialog) (request : _) → WasReadIn input
     → KnowsStanding s.range.ip (takes_row s.calls s.table (occasion s e) place input leg request).outcome.standing
@@ -137,7 +138,7 @@ row_knows describes s k e = event_knows describes s k e (only_counts s e)
 
 known_by : (s : Contents) → KnowsDescriptions (office s) → (now : ℕ) (x : Effect) → Knows (office s) x → KnowsDescriptions (office (after_event s now x))
 unfolding after_event
-known_by s k now x h = record { address = k.address; calls = h }
+known_by s k now x h = record { address = k.address; calls = record { pairs = h.pairs; calls = h.calls } }
 
 pub after_bodies : BodiesDescribe → (s : Contents) (e : Event) → KnowsDescriptions (office s) → KnowsDescriptions (office (after s e))
 after_bodies describes s e k = known_by s k (moment_after s e) (row s e) (row_knows describes s k e)

@@ -21,7 +21,9 @@ use Rattle.transactions.specs.Contents.{fired_of}
 use Rattle.transactions.specs.Slots.{at}
 use Rattle.call_media.specs.Ends.{other}
 use Rattle.call_core.specs.declared.input.Input.TheVariants as inputs
+use Rattle.call_core.specs.declared.action.CallTimer.TheVariants.{Lifetime}
 use Rattle.calls.specs.Finding.{place_by_number}
+use Rattle.calls.specs.Timing.{id}
 use Rattle.calls.specs.declared.timer_id.CallTimerId.{CallTimerId}
 use Rattle.call_rules.specs.Responses.{timeout_rule}
 use Rattle.events.specs.declared.event.What.{What}
@@ -37,6 +39,7 @@ use Rattle.plans.specs.Plan.{moves, nothing}
 use Rattle.plans.specs.declared.reason.Reason.TheVariants as reasons
 use Rattle.event_rows.specs.Rows.{by_reading, datagram_row, due_row, ends, fires_by, fit_row, is_unreachable_message, no_source, parts_of, read_row, received, refuses_alone, setting, timer_row, unfit_branch, unread_by, unread_row, what_row}
 use Rattle.responses.specs.Words.{has_fit_branch, is_method as request_method}
+use Rattle.message_laws.specs.Datagrams.{IsNoDatagram}
 use Rattle.message_laws.proofs.Messages.RequestViews.{by_if}
 use Rattle.message_laws.proofs.Messages.MessageViews.{ReceivedRow, received_view}
 
@@ -141,9 +144,16 @@ due_view s e (Some timer) (Some other) =
 
 pub data WhatRow (s : Office) (now salt : ℕ) (what : What) (x : Effect) : Type 0 where
   came : (source : Addr) (bytes : List ℕ) → what ≡ whats.Datagram source bytes → DatagramRow s (setting now salt source) bytes x → WhatRow s now salt what x
-  due : what ≡ whats.Due → DueRow s (setting now salt no_source) x → WhatRow s now salt what x
+  due : IsNoDatagram what → DueRow s (setting now salt no_source) x → WhatRow s now salt what x
+
+pub due_what_view : (s : Office) (now salt : ℕ) (what : What) → IsNoDatagram what → DueRow s (setting now salt no_source) (what_row s now salt what)
+unfolding what_row
+due_what_view s now salt (whats.Datagram source bytes) h = absurd h
+due_what_view s now salt whats.Due h = due_view s (setting now salt no_source) (first_due s.table.timers now) (first_due s.calls.timers now)
+due_what_view s now salt (whats.Silent number) h = call_timer_view s (setting now salt no_source) (id number Lifetime)
 
 pub what_view : (s : Office) (now salt : ℕ) (what : What) → WhatRow s now salt what (what_row s now salt what)
 unfolding what_row
 what_view s now salt (whats.Datagram source bytes) = came source bytes refl (datagram_view s (setting now salt source) bytes)
-what_view s now salt whats.Due = due refl (due_view s (setting now salt no_source) (first_due s.table.timers now) (first_due s.calls.timers now))
+what_view s now salt whats.Due = due tt (due_what_view s now salt whats.Due tt)
+what_view s now salt (whats.Silent number) = due tt (due_what_view s now salt (whats.Silent number) tt)

@@ -44,7 +44,7 @@ use Rattle.message_laws.proofs.Messages.Answerable.{can_answer}
 use Rattle.message_laws.proofs.TokenUse.Events.{few_tokens}
 use Rattle.message_laws.proofs.TokenUse.Grounds.{answerable_repeats, read_repeats}
 use Rattle.message_laws.proofs.Messages.RequestViews.{by_if}
-use Rattle.message_laws.proofs.Messages.Views.{DueRow, WhatRow, call_fired, came, due, ended, fired_alone, idle, sent_again, stopped, timed, what_view}
+use Rattle.message_laws.proofs.Messages.Views.{DueRow, call_fired, due_what_view, ended, fired_alone, idle, sent_again, stopped, timed}
 use Rattle.message_laws.specs.ReadDatagrams.{IsReadDatagram}
 use Rattle.message_laws.specs.SoundClients.{KnowsClients}
 use Rattle.message_laws.proofs.Traces.Comings.{alone_comes}
@@ -101,6 +101,7 @@ timer_reads : (laws : Laws) (s : Office) (e : Setting) → IsReady s → (timer 
 timer_reads laws s e k timers.Limit place = takes_alone laws s e k [] None None place inputs.Limit (All-nil IsReadDatagram) (alone_comes inputs.Limit tt refl tt)
 timer_reads laws s e k timers.Repeat place = takes_alone laws s e k [] None None place inputs.Repeat (All-nil IsReadDatagram) (alone_comes inputs.Repeat tt refl tt)
 timer_reads laws s e k timers.Wait place = takes_alone laws s e k [] None None place inputs.Wait (All-nil IsReadDatagram) (alone_comes inputs.Wait tt refl tt)
+timer_reads laws s e k timers.Lifetime place = takes_alone laws s e k [] None None place inputs.Lifetime (All-nil IsReadDatagram) (alone_comes inputs.Lifetime tt refl tt)
 
 due_reads : (laws : Laws) (s : Office) (e : Setting) → IsReady s → (x : Effect) → DueRow s e x → SendsRead x
 due_reads laws s e k x (idle is) = subst SendsRead (sym is) (All-nil IsReadDatagram)
@@ -114,17 +115,14 @@ due_reads laws s e k x (call_fired timer place found is) = subst SendsRead (sym 
 
 -- ---- an event
 
-due_view_reads : (laws : Laws) (s : Office) (now salt : ℕ) → IsReady s → (x : Effect) → WhatRow s now salt whats.Due x → SendsRead x
-due_view_reads laws s now salt k x (came source bytes is view) = absurd cc
-due_view_reads laws s now salt k x (due is view) = due_reads laws s (setting now salt no_source) k x view
-
 came_reads : (laws : Laws) (s : Office) (now salt : ℕ) → IsReady s → (source : Addr) (bytes : List ℕ) → IsSource source → SendsRead (what_row s now salt (whats.Datagram source bytes))
 unfolding what_row
 came_reads laws s now salt k source bytes from = datagram_reads laws s (setting now salt source) k bytes from
 
 what_reads : (laws : Laws) (s : Office) (now salt : ℕ) → IsReady s → (what : What) → ComesFromSource what → SendsRead (what_row s now salt what)
 what_reads laws s now salt k (whats.Datagram source bytes) from = came_reads laws s now salt k source bytes from
-what_reads laws s now salt k whats.Due from = due_view_reads laws s now salt k (what_row s now salt whats.Due) (what_view s now salt whats.Due)
+what_reads laws s now salt k whats.Due from = due_reads laws s (setting now salt no_source) k (what_row s now salt whats.Due) (due_what_view s now salt whats.Due tt)
+what_reads laws s now salt k (whats.Silent number) from = due_reads laws s (setting now salt no_source) k (what_row s now salt (whats.Silent number)) (due_what_view s now salt (whats.Silent number) tt)
 
 -- what is known of an agent, where this was sent
 pub record KnowsReads (s : Office) (before : List Sent) : Type 0 where

@@ -55,6 +55,7 @@ HasPairsFor c pool now (inputs.Bye end) = Unit {0}
 HasPairsFor c pool now inputs.Limit = Unit {0}
 HasPairsFor c pool now inputs.Repeat = Unit {0}
 HasPairsFor c pool now inputs.Wait = Unit {0}
+HasPairsFor c pool now inputs.Lifetime = Unit {0}
 
 pub none_there : {X : Type 0} (o : Option X) → is_some o ≡ false → o ≡ None
 none_there None e = refl
@@ -173,6 +174,7 @@ module _ (own : Owns) (once : Once) (have : HaveRows) (server : OwnRange) (c : C
     at_input inputs.Limit enough = at_signal signals.Limit refl
     at_input inputs.Repeat enough = at_signal signals.Repeat refl
     at_input inputs.Wait enough = at_signal signals.Wait refl
+    at_input inputs.Lifetime enough = at_signal signals.Lifetime refl
 
   in_input : (s : Option Standing) (input : Input) → c.standing ≡ s → HasPairsFor c pool now input → GoesOn server c pool (step_in c s input pool now)
   in_input None input stands enough = unchanged_goes

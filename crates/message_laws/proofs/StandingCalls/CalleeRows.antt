@@ -265,6 +265,7 @@ timer_callees : (s : Office) (e : Setting) (place : ℕ) (timer : CallTimer) →
 timer_callees s e place timers.Limit = takes_callees s e [] None None place inputs.Limit None (λ t opens client. opens) tt (λ d there. plain s.tokens inputs.Limit false d (λ y fit. absurd (false≢true fit)))
 timer_callees s e place timers.Repeat = takes_callees s e [] None None place inputs.Repeat None (λ t opens client. opens) tt (λ d there. plain s.tokens inputs.Repeat false d (λ y fit. absurd (false≢true fit)))
 timer_callees s e place timers.Wait = takes_callees s e [] None None place inputs.Wait None (λ t opens client. opens) tt (λ d there. plain s.tokens inputs.Wait false d (λ y fit. absurd (false≢true fit)))
+timer_callees s e place timers.Lifetime = takes_callees s e [] None None place inputs.Lifetime None (λ t opens client. opens) tt (λ d there. plain s.tokens inputs.Lifetime false d (λ y fit. absurd (false≢true fit)))
 
 due_callees : (s : Office) (e : Setting) (x : Effect) → DueRow s e x → Callees s x
 due_callees s e x (idle is) = subst (Callees s) (sym is) (plan_callees s _ (λ t opens client. opens))

@@ -60,6 +60,7 @@ asked_stays rung x (signals.Offer end method) n = tt
 asked_stays rung x signals.Ack n = tt
 asked_stays rung x signals.Repeat n = tt
 asked_stays rung x signals.Wait n = tt
+asked_stays rung x signals.Lifetime n = tt
 
 cancelling_stays : (sent : Bool) (x : End) (signal : Signal) → LineStays x (cancelling_row sent x signal)
 unfolding cancelling_row
@@ -86,7 +87,9 @@ cancelling_stays false x (signals.Bye end) = tt
 cancelling_stays true x signals.Repeat = tt
 cancelling_stays false x signals.Repeat = tt
 cancelling_stays true x signals.Wait = tt
+cancelling_stays true x signals.Lifetime = tt
 cancelling_stays false x signals.Wait = tt
+cancelling_stays false x signals.Lifetime = tt
 
 stage_stays : (x : End) (stage : Stage) (signal : Signal) → is_unanswered stage ≡ true → is_fit_signal signal ≡ false → LineStays x (row_in stage x signal)
 stage_stays x (stages.Asked rung) signal u n = asked_stays rung x signal n
@@ -139,6 +142,7 @@ at_stays c s (inputs.Bye end) pool now stands u n unfit = signal_stays c s (sign
 at_stays c s inputs.Limit pool now stands u n unfit = signal_stays c s signals.Limit pool now stands u refl
 at_stays c s inputs.Repeat pool now stands u n unfit = signal_stays c s signals.Repeat pool now stands u refl
 at_stays c s inputs.Wait pool now stands u n unfit = signal_stays c s signals.Wait pool now stands u refl
+at_stays c s inputs.Lifetime pool now stands u n unfit = signal_stays c s signals.Lifetime pool now stands u refl
 
 in_stays : (c : Call) (s : Standing) (standing : Option Standing) (input : Input) (pool : pools.Contents) (now : ℕ) → c.standing ≡ standing → standing ≡ Some s → is_unanswered s.stage ≡ true → IsNoOfferInput input
     → is_fit_input c input ≡ false → StaysUnanswered s.offerer (step_in c standing input pool now).call.standing

@@ -204,6 +204,7 @@ timer_no_offer : (timer : CallTimer) → IsNoOffer (timer_input timer)
 timer_no_offer timers.Limit c = tt
 timer_no_offer timers.Repeat c = tt
 timer_no_offer timers.Wait c = tt
+timer_no_offer timers.Lifetime c = tt
 
 due_row : (s : Office) → IsKnown s → (e : Setting) (x : Effect) → DueRow s e x → ClientRow s x
 due_row s k e x (idle is) = subst (ClientRow s) (sym is) (plan_row s k _ (λ t opens client. opens))

@@ -104,6 +104,7 @@ at_low c s (inputs.Bye end) pool now left = signal_low c s (signals.Bye end) poo
 at_low c s inputs.Limit pool now left = signal_low c s signals.Limit pool now
 at_low c s inputs.Repeat pool now left = signal_low c s signals.Repeat pool now
 at_low c s inputs.Wait pool now left = signal_low c s signals.Wait pool now
+at_low c s inputs.Lifetime pool now left = signal_low c s signals.Lifetime pool now
 
 in_low : (c : Call) (s : Option stage.Standing) (input : Input) (pool : pools.Contents) (now : ℕ) → HasNumberFor c input → StepsLow c (step_in c s input pool now)
 in_low c None input pool now left = moved_low c c.standing c.media

@@ -58,6 +58,7 @@ module _ (P : Call → Call → Type 0) (keeps : (c : Call) (numbers : Numbers) 
   at_kept c s inputs.Limit pool now = signalled c s signals.Limit pool now
   at_kept c s inputs.Repeat pool now = signalled c s signals.Repeat pool now
   at_kept c s inputs.Wait pool now = signalled c s signals.Wait pool now
+  at_kept c s inputs.Lifetime pool now = signalled c s signals.Lifetime pool now
 
   in_kept : (c : Call) (s : Option stage.Standing) (input : Input) (pool : pools.Contents) (now : ℕ) → P c (step_in c s input pool now).call
   in_kept c None input pool now = keeps c none_counted c.standing c.media

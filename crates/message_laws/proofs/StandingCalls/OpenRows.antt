@@ -180,6 +180,7 @@ timer_opens : (s : Office) (e : Setting) (place : ℕ) (timer : CallTimer) → O
 timer_opens s e place timers.Limit = takes_opens s e [] None None place 0 inputs.Limit None tt (λ d there. no_leg 0 d false)
 timer_opens s e place timers.Repeat = takes_opens s e [] None None place 0 inputs.Repeat None tt (λ d there. no_leg 0 d false)
 timer_opens s e place timers.Wait = takes_opens s e [] None None place 0 inputs.Wait None tt (λ d there. no_leg 0 d false)
+timer_opens s e place timers.Lifetime = takes_opens s e [] None None place 0 inputs.Lifetime None tt (λ d there. no_leg 0 d false)
 
 due_opens : (s : Office) (e : Setting) (x : Effect) → DueRow s e x → Opens s x
 due_opens s e x (idle is) = subst (Opens s) (sym is) (plan_opens s _)

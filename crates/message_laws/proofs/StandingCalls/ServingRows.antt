@@ -172,6 +172,7 @@ module _ (own : Owns) (once : Once) (have : HaveRows) (law : Spared) where
   timer_pairs calls place now timers.Limit c there = tt
   timer_pairs calls place now timers.Repeat c there = tt
   timer_pairs calls place now timers.Wait c there = tt
+  timer_pairs calls place now timers.Lifetime c there = tt
 
   taken_serves : (s : Office) → KnowsServing s → (e : Setting) (place : ℕ) (input : _) (leg : Option LegDialog) (request : _) → HasPairsAt s.calls place e.now input
       → IsServing s.range (takes_row s.calls s.table (occasion s e) place input leg request).outcome.standing
@@ -248,7 +249,7 @@ module _ (own : Owns) (once : Once) (have : HaveRows) (law : Spared) where
 
   known_by : (s : Contents) → KnowsServing (office s) → (now : ℕ) (x : Effect) → LeavesServed (office s) x → KnowsServing (office (after_event s now x))
   unfolding after_event
-  known_by s k now x h = record { address = k.address; calls = h }
+  known_by s k now x h = record { address = k.address; calls = record { pool = h.pool; kept = h.kept; calls = h.calls; holders = h.holders } }
 
   pub after_serves : (s : Contents) (e : Event) → KnowsServing (office s) → KnowsServing (office (after s e))
   after_serves s e k = known_by s k (moment_after s e) (row s e) (row_serves s k e)

@@ -106,6 +106,7 @@ at_ids c s (inputs.Bye end) pool now = signalled c s (signals.Bye end) pool now
 at_ids c s inputs.Limit pool now = signalled c s signals.Limit pool now
 at_ids c s inputs.Repeat pool now = signalled c s signals.Repeat pool now
 at_ids c s inputs.Wait pool now = signalled c s signals.Wait pool now
+at_ids c s inputs.Lifetime pool now = signalled c s signals.Lifetime pool now
 
 in_ids : (c : Call) (s : Option stage.Standing) (input : Input) (pool : pools.Contents) (now : ℕ) → KeepsIn c (step_in c s input pool now)
 in_ids c None input pool now = after_ids c none_counted c.standing c.media

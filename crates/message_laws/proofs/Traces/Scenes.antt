@@ -136,6 +136,7 @@ fits_input (inputs.Bye end) h = tt
 fits_input inputs.Limit h = tt
 fits_input inputs.Repeat h = tt
 fits_input inputs.Wait h = tt
+fits_input inputs.Lifetime h = tt
 
 same_offer : (input : Input) → lines.is_offer_input input ≡ true → is_offer_input input ≡ true
 same_offer (inputs.Offer end method offer) e = refl
@@ -149,6 +150,7 @@ same_offer (inputs.Bye end) e = absurd (false≢true e)
 same_offer inputs.Limit e = absurd (false≢true e)
 same_offer inputs.Repeat e = absurd (false≢true e)
 same_offer inputs.Wait e = absurd (false≢true e)
+same_offer inputs.Lifetime e = absurd (false≢true e)
 
 -- ---- what is lent
 

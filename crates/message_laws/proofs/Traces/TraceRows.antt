@@ -72,6 +72,7 @@ timer_read : (timer : CallTimer) → WasReadIn (timer_input timer)
 timer_read timers.Limit = tt
 timer_read timers.Repeat = tt
 timer_read timers.Wait = tt
+timer_read timers.Lifetime = tt
 
 counts_put : (before : List Sent) (s : Office) → IsReady before s → (place : ℕ) (end : _) (number : ℕ) → IsPut (counts s.calls.calls place end number)
 counts_put before s k place end number = record { sound = counts_sound s.calls.calls place end number k.dialogs.calls; low = counts_low s.calls.calls place end number k.values.calls }

@@ -7,4 +7,5 @@ abbrev pub invariant-loop-action : goal.invariant-loop-action
 invariant-loop-action l = record {
   same : timed l.now l.number l.timers.timers (drop l.action-index l.actions) ≡ timed l.now l.number l.fn.timers.timers l.actions;
   room : length l.actions ≤ l.action-index + l.timers.room;
+  left : l.fn.timers.room ≤ l.action-index + l.timers.room;
 }

@@ -1,5 +1,4 @@
-use Rattle.std.proofs.Common.{◌≡◌, ◌<◌, List, ℕ, length, Some, sym, subst, ◌∙◌}
-use Rattle.scripts.specs.Reading.{next_of}
+use Rattle.std.proofs.Common.{◌<◌, List, ℕ, length, sym, subst, ◌∙◌}
 use Rattle.scripts.proofs.ScriptLaws.{nothing, something, shorter}
 use Rattle.scripts.proofs.PlaceLaws.{Splits, nothing_before, splits_on, malformed, script_read}
 use Rattle.scripts.proofs.read.malformed_at.Goals as goal

@@ -51,7 +51,7 @@ returns-clause-standing c =
     let here = read_at cs c.args.place c.index.result.now within c.index.ensures in
     let did = c.carry_out_there-changes.ensures.done c.index.result.now here in
     let stood : Standing = record { calls = cs; pool = c.self.inside.pool; begun = c.self.inside.begun; timers = c.self.inside.timers.timers } in
-    let planned = c.take_plan.ensures ∙ ap (λ (p : Plan). timers_planned c.args.now c.number-number.result p c.self.inside.timers.timers) c.get.ensures in
+    let planned = c.take_plan.ensures.timers ∙ ap (λ (p : Plan). timers_planned c.args.now c.number-number.result p c.self.inside.timers.timers) c.get.ensures in
     let timed = planned ∙ ap (λ number. timers_planned c.args.now number c.args.plan c.self.inside.timers.timers) c.number-number.ensures in
     let after : Standing = record { calls = cs; pool = c.carry_out_there-changes.new.pool; begun = c.self.inside.begun; timers = c.take_plan.new.timers.timers } in
     rw (← c.self.view_is) (ap (λ (calls : List StandingCall). with_calls calls after) c.take_off.ensures.calls
