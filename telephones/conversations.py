@@ -4,6 +4,8 @@ import re
 from talking import T1, T2, WHOLE, header, key_of, status_of
 
 KINDS = ("talked", "held", "busy", "declined", "cancelled")
+# In one of so many calls both telephones lose power, for so many seconds: the server has hung up then, and heard nothing.
+VANISHES, IS_OFF = 50, 100
 REFUSALS = {"busy": 486, "declined": 603}
 # So long an end rings, talks and holds at most, in seconds; and so often it speaks.
 RINGS, TALKS, HOLDS, SPEAKS = 1.0, 2.0, 1.0, 4
@@ -43,7 +45,7 @@ class Conversation:
     def __init__(self, loop, fate, number, caller, callee, over):
         self.loop, self.fate, self.number, self.over = loop, fate, number, over
         self.caller, self.callee = caller, callee
-        self.kind = fate.choice(KINDS)
+        self.kind = fate.choice(KINDS) if fate.randrange(VANISHES) else "vanished"
         self.word = f"call {number}".encode()
         self.fault, self.is_over, self.heard = "", False, set()
         self.left = {caller, callee}
@@ -108,7 +110,7 @@ class Conversation:
         end.learn(header(response, "To"), response)
         self.acknowledge(self.caller, 1)
         if is_first:
-            if self.kind not in ("talked", "held"):
+            if self.kind not in ("talked", "held", "vanished"):
                 self.fail(f"answered, though {self.kind}")
                 return
             self.talk(self.caller)
@@ -218,18 +220,32 @@ class Conversation:
             telephone.respond(request, 405, end.tag)
 
     def talk(self, telephone):
-        """Both speak; then an end holds, where one does; then an end hangs up."""
+        """Both speak; then an end holds, where one does; then an end hangs up, or both telephones lose power."""
         self.speak(telephone)
         if self.kind == "held":
             self.loop.after(self.fate.random() * TALKS, self.hold)
+        elif self.kind == "vanished":
+            self.loop.after(self.fate.random() * TALKS, self.vanish)
         else:
             self.loop.after(self.fate.random() * TALKS, self.hang_up)
 
     def speak(self, telephone, left=SPEAKS):
         hop = self.ends[telephone].hop
-        if hop and not self.is_over and left:
+        if hop and not self.is_over and not telephone.is_off and left:
             telephone.media.sendto(self.word, (telephone.ip, hop))
             self.loop.after(0.2, lambda: self.speak(telephone, left - 1))
+
+    def vanish(self):
+        if self.is_over:
+            return
+        for it in (self.caller, self.callee):
+            it.lose_power()
+        self.loop.after(IS_OFF, self.come_back)
+
+    def come_back(self):
+        for it in (self.caller, self.callee):
+            it.is_off = False
+        self.finish()
 
     def hear(self, telephone, data):
         if data != self.word:

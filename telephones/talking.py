@@ -55,10 +55,13 @@ class Asked:
                 self.stop_whole()
             self.took(response)
             return
+        self.stop()
+        self.took(response)
+
+    def stop(self):
         self.is_over = True
         self.stop_again()
         self.stop_whole()
-        self.took(response)
 
     def end(self):
         if not self.is_over:
@@ -76,7 +79,7 @@ class Telephone:
             it.bind((ip, 0))
         self.port, self.media_port = self.sip.getsockname()[1], self.media.getsockname()[1]
         loop.watch(self.sip, self.come)
-        self.asked, self.said, self.number, self.version = {}, {}, 0, 0
+        self.asked, self.said, self.number, self.version, self.is_off = {}, {}, 0, 0, False
         # What takes a request that is no repeat; and what the media are given to.
         self.takes = lambda request: None
         self.hears = lambda data: None
@@ -86,11 +89,12 @@ class Telephone:
 
     def put(self, text):
         data = text.encode()
-        self.line.out(key_of(text), lambda: self.sip.sendto(data, self.server))
+        if not self.is_off:
+            self.line.out(key_of(text), lambda: self.sip.sendto(data, self.server))
 
     def come(self, data):
         text = data.decode(errors="replace")
-        self.line.back(key_of(text), lambda: self.take(text))
+        self.line.back(key_of(text), lambda: self.is_off or self.take(text))
 
     # ---- messages
 
@@ -142,6 +146,13 @@ class Telephone:
         self.number += 1
         to = f"<sip:{self.user}@{self.domain}>"
         self.ask("REGISTER", f"sip:{self.domain}", to, f"r{self.port}", self.number, f"r{self.user}", took, gave_up, further="Expires: 3600\r\n")
+
+    def lose_power(self):
+        """It sends nothing and takes nothing, and knows nothing of what was."""
+        self.is_off = True
+        for it in self.asked.values():
+            it.stop()
+        self.asked, self.said = {}, {}
 
     def forget(self):
         """Forgets the transactions of which nothing comes again."""
