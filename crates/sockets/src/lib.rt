@@ -9,6 +9,7 @@ mod media;
 mod ports;
 mod ready;
 mod refusals;
+mod room;
 mod sip_socket;
 mod tries;
 mod unbound;

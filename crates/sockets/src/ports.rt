@@ -6,6 +6,7 @@ ghost use Rattle.sockets.specs.Traffic.{no_traffic, relay_ports, worker_count};
 
 use crate::addresses::to_system;
 use crate::log::Log;
+use crate::room::ask_for_room;
 use crate::sip_socket::SipSocket;
 use crate::tries::Tries;
 use crate::unbound::Unbound;
@@ -78,6 +79,7 @@ fn bind_sip<R: Net>(rt: &R, alloc: Global, config: &Config) -> Result<SipSocket,
     ensures { IfOk result (λ s. s ≡ no_traffic) }
 {
     let socket = bind_at(rt, config.ip, config.sip_port)?;
+    ask_for_room(&socket);
     let poll = Poll::new(rt)?;
     watch(&poll, &socket, 0)?;
     Ok(SipSocket {
