@@ -1,7 +1,7 @@
 //! What happens to the server.
 
 use sip_uri::Addr;
-use text::Text;
+use text::{Text, Texts};
 
 /// Something that happens to the server: when, in milliseconds, and with which salt.
 pub struct Event {
@@ -30,6 +30,8 @@ pub enum What {
     Due,
     /// No media have come for long in the call of this number.
     Silent(u64),
+    /// These are the office's users from now on.
+    Users(Texts<'static>),
 }
 
 impl Drop for What {
@@ -41,6 +43,7 @@ impl Drop for What {
             } => {}
             What::Due => {}
             What::Silent(_) => {}
+            What::Users(_) => {}
         }
     }
 }

@@ -2,8 +2,10 @@
 use Rattle.std.proofs.Common.{◌≡◌, ℕ, ◌+◌, ◌<◌, Bool, true, false, ◌&&◌, cond, eqb, ltb, List, ◌∷◌, ◌++◌, length, take, drop, get_or, Option, Some, None, inl, inr, refl, sym, ap, subst, ◌∙◌, arith}
 use Rattle.std.specs.Prelude.{codes}
 use Rattle.std.specs.Char.{is_ascii_digit}
+use Rattle.std.specs.List.{join_with_byte}
 use Rattle.std.specs.Cmp.Lexicographic.{bytes_decides}
 use Rattle.std.proofs.lemmas.Bool.{eqb-true, lt-ltb, ltb-true}
+use Rattle.std.proofs.lemmas.List.Splits.{join_with_byte-slice_split}
 use Rattle.std.proofs.lemmas.List.{length-append, length-take-le, drop_more, take-append-drop}
 use Rattle.std.proofs.Math.Seq.{get_or-append_seam, take-append_seam, drop-append-add}
 use Rattle.text.specs.Cut.{before, after, led_by}
@@ -16,10 +18,11 @@ use Rattle.events.specs.declared.event.Event.{Event}
 use Rattle.scripts.specs.declared.head.Head.{Head}
 use Rattle.scripts.specs.Limits.{max_number, max_bytes}
 use Rattle.scripts.specs.Numbers.{number_of, port_of}
-use Rattle.scripts.specs.Values.{Entry, due_at, silent_at, datagram_at}
-use Rattle.scripts.specs.Reading.{is_same, timer_of, silent_of, head_from, head_of, bytes_of, datagram_of, entry_of, next_of}
-use Rattle.scripts.specs.Grammar.{spaced, lined, BeginsDue, BeginsSilent, BeginsDatagram, Begins}
+use Rattle.scripts.specs.Values.{Entry, due_at, silent_at, names_of, users_at, datagram_at}
+use Rattle.scripts.specs.Reading.{is_same, timer_of, silent_of, users_of, head_from, head_of, bytes_of, datagram_of, entry_of, next_of}
+use Rattle.scripts.specs.Grammar.{spaced, lined, BeginsDue, BeginsSilent, BeginsUsers, BeginsDatagram, Begins}
 use Rattle.scripts.proofs.NumberLaws.{number_lacks, port_lacks}
+use Rattle.scripts.proofs.NameLaws.{before_lacks, after_lacks, names_lack_feed, names_again, names_some, names_formed}
 
 abbrev pub entry : Event → List ℕ → Entry
 entry e rest = record { event = e; rest = rest }
@@ -52,6 +55,13 @@ silent_by : (fields more now_text salt_text call_text behind : List ℕ) (now sa
     → silent_of fields behind ≡ Some (entry (silent_at now salt call) behind)
 unfolding silent_of
 silent_by fields more now_text salt_text call_text behind now salt call a b c d e f g = rw (b, d, a, c, e, f, g) refl
+
+users_by : (fields more now_text salt_text names_text behind : List ℕ) (now salt : ℕ) (users : List (List ℕ))
+    → before 32 fields ≡ now_text → after 32 fields ≡ Some more → before 32 more ≡ salt_text → after 32 more ≡ Some names_text
+    → number_of max_number now_text ≡ Some now → number_of max_number salt_text ≡ Some salt → names_of names_text ≡ users
+    → users_of fields behind ≡ Some (entry (users_at now salt users) behind)
+unfolding users_of
+users_by fields more now_text salt_text names_text behind now salt users a b c d e f g = rw (b, d, a, c, e, f, g) refl
 
 head_by : (a b c d now_text salt_text ip_text port_text length_text : List ℕ)
     → before 32 a ≡ now_text → after 32 a ≡ Some b → before 32 b ≡ salt_text → after 32 b ≡ Some c → before 32 c ≡ ip_text → after 32 c ≡ Some d
@@ -110,6 +120,26 @@ silent_again text e rest h =
     h.now_is h.salt_is h.call_is
     ∙ ap (λ (x : Event). Some (entry x rest)) (sym h.event)
 
+users_again : (text : List ℕ) (e : Event) (rest : List ℕ) → BeginsUsers text e rest → next_of text ≡ Some (entry e rest)
+users_again text e rest h =
+    let names : List ℕ = join_with_byte 44 h.users in
+    let more : List ℕ = spaced h.salt_text names in
+    let fields : List ℕ = spaced h.now_text more in
+    let line : List ℕ = spaced (codes "U") fields in
+    let now_out : (c : ℕ) → is_ascii_digit c ≡ false → Lacks c h.now_text = λ c out. number_lacks c max_number h.now h.now_text out h.now_is in
+    let salt_out : (c : ℕ) → is_ascii_digit c ≡ false → Lacks c h.salt_text = λ c out. number_lacks c max_number h.salt h.salt_text out h.salt_is in
+    let in_more : Lacks 10 more = Lacks-append 10 h.salt_text (32 ∷ names) (salt_out 10 refl) (refl, names_lack_feed h.users h.names) in
+    let in_fields : Lacks 10 fields = Lacks-append 10 h.now_text (32 ∷ more) (now_out 10 refl) (refl, in_more) in
+    let in_line : Lacks 10 line = (refl, (refl, in_fields)) in
+    let front : before 10 text ≡ line = ap (before 10) h.spelled ∙ before_at 10 line (Some rest) in_line in
+    let back : after 10 text ≡ Some rest = ap (after 10) h.spelled ∙ after_at 10 line (Some rest) in_line in
+    next_by text line (codes "U") fields rest front back (before_at 32 (codes "U") (Some fields) (refl, tt)) (after_at 32 (codes "U") (Some fields) (refl, tt))
+    ∙ users_by fields more h.now_text h.salt_text names rest h.now h.salt h.users
+    (before_at 32 h.now_text (Some more) (now_out 32 refl)) (after_at 32 h.now_text (Some more) (now_out 32 refl))
+    (before_at 32 h.salt_text (Some names) (salt_out 32 refl)) (after_at 32 h.salt_text (Some names) (salt_out 32 refl))
+    h.now_is h.salt_is (names_again h.users h.some h.names)
+    ∙ ap (λ (x : Event). Some (entry x rest)) (sym h.event)
+
 datagram_by : (fields behind : List ℕ) (x : Head) → head_of fields ≡ Some x → datagram_of fields behind ≡ bytes_of x behind
 datagram_by fields behind x h = rw h refl
 
@@ -147,7 +177,8 @@ datagram_again text e rest h =
 pub again : (text : List ℕ) (e : Event) (rest : List ℕ) → Begins text e rest → next_of text ≡ Some (entry e rest)
 again text e rest (inl h) = due_again text e rest h
 again text e rest (inr (inl h)) = silent_again text e rest h
-again text e rest (inr (inr h)) = datagram_again text e rest h
+again text e rest (inr (inr (inl h))) = users_again text e rest h
+again text e rest (inr (inr (inr h))) = datagram_again text e rest h
 
 -- ---- from the function to the grammar
 
@@ -202,6 +233,33 @@ silent_is text fields behind n spelled h =
       event = refl;
     } in
     subst (λ (x : Entry). Begins text x.event x.rest) (some_is (entry (silent_at now.0 salt.0 call.0) behind) n call.2) (inr (inl begins))
+
+users_is : (text fields behind : List ℕ) (n : Entry) → Lacks 10 fields → text ≡ lined (spaced (codes "U") fields) behind → users_of fields behind ≡ Some n
+    → Begins text n.event n.rest
+unfolding users_of
+users_is text fields behind n lacks spelled h =
+    let more = some_then (after 32 fields) _ n h in
+    let now = some_then (number_of max_number (before 32 fields)) _ n more.2 in
+    let salt = some_then (number_of max_number (before 32 more.0)) _ n now.2 in
+    let names = some_then (after 32 more.0) (λ names. Some (entry (users_at now.0 salt.0 (names_of names)) behind)) n salt.2 in
+    let in_more : Lacks 10 more.0 = after_lacks 10 32 fields more.0 lacks more.1 in
+    let in_names : Lacks 10 names.0 = after_lacks 10 32 more.0 names.0 in_more names.1 in
+    let begins : BeginsUsers text (users_at now.0 salt.0 (names_of names.0)) behind = record {
+      now_text = before 32 fields;
+      salt_text = before 32 more.0;
+      users = names_of names.0;
+      now = now.0;
+      salt = salt.0;
+      spelled = spelled ∙ ap (λ (t : List ℕ). lined (spaced (codes "U") t) behind)
+          (spaced_is fields more.0 more.1 ∙ ap (λ (t : List ℕ). spaced (before 32 fields) t)
+          (spaced_is more.0 names.0 names.1 ∙ ap (λ (t : List ℕ). spaced (before 32 more.0) t) (sym (join_with_byte-slice_split 44 names.0))));
+      now_is = now.1;
+      salt_is = salt.1;
+      some = names_some names.0;
+      names = names_formed names.0 in_names;
+      event = refl;
+    } in
+    subst (λ (x : Entry). Begins text x.event x.rest) (some_is (entry (users_at now.0 salt.0 (names_of names.0)) behind) n names.2) (inr (inr (inl begins)))
 
 -- the bytes of a datagram, and the line feed
 body_is : (x : Head) (behind : List ℕ) (n : Entry) → bytes_of x behind ≡ Some n
@@ -295,7 +353,7 @@ datagram_with text fields behind x bytes rest n spelled says body long same =
       length_is = v.length_is ∙ ap Some long;
       event = refl;
     } in
-    subst (λ (y : Entry). Begins text y.event y.rest) same (inr (inr begins))
+    subst (λ (y : Entry). Begins text y.event y.rest) same (inr (inr (inr begins)))
 
 datagram_is : (text fields behind : List ℕ) (n : Entry) → text ≡ lined (spaced (codes "D") fields) behind → datagram_of fields behind ≡ Some n → Begins text n.event n.rest
 datagram_is text fields behind n spelled h =
@@ -303,21 +361,27 @@ datagram_is text fields behind n spelled h =
     let body = body_is x.0 behind n x.2 in
     datagram_with text fields behind x.0 body.0 body.1 n spelled (head_says fields x.0 x.1) body.2 body.3 body.4
 
-entry_is : (text kind fields behind : List ℕ) (n : Entry) → text ≡ lined (spaced kind fields) behind → entry_of kind fields behind ≡ Some n → Begins text n.event n.rest
-entry_is text kind fields behind n spelled h =
-    step (is_same kind (codes "T")) (is_same kind (codes "Q")) (is_same kind (codes "D"))
-    (bytes_decides kind (codes "T")).0 (bytes_decides kind (codes "Q")).0 (bytes_decides kind (codes "D")).0 h where
-      step : (p q r : Bool) → (p ≡ true → kind ≡ codes "T") → (q ≡ true → kind ≡ codes "Q") → (r ≡ true → kind ≡ codes "D")
-          → cond p (timer_of fields behind) (cond q (silent_of fields behind) (cond r (datagram_of fields behind) None)) ≡ Some n → Begins text n.event n.rest
-      step true q r timer silent datagram h = due_is text fields behind n (spelled ∙ ap (λ (k : List ℕ). lined (spaced k fields) behind) (timer refl)) h
-      step false true r timer silent datagram h = silent_is text fields behind n (spelled ∙ ap (λ (k : List ℕ). lined (spaced k fields) behind) (silent refl)) h
-      step false false true timer silent datagram h = datagram_is text fields behind n (spelled ∙ ap (λ (k : List ℕ). lined (spaced k fields) behind) (datagram refl)) h
-      step false false false timer silent datagram h = absurd cc
+entry_is : (text kind fields behind : List ℕ) (n : Entry) → Lacks 10 fields → text ≡ lined (spaced kind fields) behind → entry_of kind fields behind ≡ Some n
+    → Begins text n.event n.rest
+entry_is text kind fields behind n lacks spelled h =
+    step (is_same kind (codes "T")) (is_same kind (codes "Q")) (is_same kind (codes "U")) (is_same kind (codes "D"))
+    (bytes_decides kind (codes "T")).0 (bytes_decides kind (codes "Q")).0 (bytes_decides kind (codes "U")).0 (bytes_decides kind (codes "D")).0 h where
+      with_kind : (k : List ℕ) → kind ≡ k → text ≡ lined (spaced k fields) behind
+      with_kind k same = spelled ∙ ap (λ (x : List ℕ). lined (spaced x fields) behind) same
+
+      step : (p q r s : Bool) → (p ≡ true → kind ≡ codes "T") → (q ≡ true → kind ≡ codes "Q") → (r ≡ true → kind ≡ codes "U") → (s ≡ true → kind ≡ codes "D")
+          → cond p (timer_of fields behind) (cond q (silent_of fields behind) (cond r (users_of fields behind) (cond s (datagram_of fields behind) None))) ≡ Some n
+          → Begins text n.event n.rest
+      step true q r s timer silent users datagram h = due_is text fields behind n (with_kind (codes "T") (timer refl)) h
+      step false true r s timer silent users datagram h = silent_is text fields behind n (with_kind (codes "Q") (silent refl)) h
+      step false false true s timer silent users datagram h = users_is text fields behind n lacks (with_kind (codes "U") (users refl)) h
+      step false false false true timer silent users datagram h = datagram_is text fields behind n (with_kind (codes "D") (datagram refl)) h
+      step false false false false timer silent users datagram h = absurd cc
 
 pub begins_at : (text : List ℕ) (n : Entry) → next_of text ≡ Some n → Begins text n.event n.rest
 unfolding next_of
 begins_at text n h =
     let fields = some_then (after 32 (before 10 text)) _ n h in
     let behind = some_then (after 10 text) _ n fields.2 in
-    entry_is text (before 32 (before 10 text)) fields.0 behind.0 n
+    entry_is text (before 32 (before 10 text)) fields.0 behind.0 n (after_lacks 10 32 (before 10 text) fields.0 (before_lacks 10 text) fields.1)
     (cut_is 10 text behind.0 behind.1 ∙ ap (λ (t : List ℕ). lined t behind.0) (spaced_is (before 10 text) fields.0 fields.1)) behind.2

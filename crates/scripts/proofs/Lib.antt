@@ -1,4 +1,5 @@
 mod NumberLaws
+mod NameLaws
 mod EntryLaws
 mod ScriptLaws
 mod PlaceLaws

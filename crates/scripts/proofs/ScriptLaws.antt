@@ -1,6 +1,7 @@
 -- Events that are read one by one.
 use Rattle.std.proofs.Common.{◌≡◌, ℕ, ◌<◌, true, false, eqb, List, [], ◌∷◌, ◌++◌, length, Some, None, inl, inr, refl, sym, ap, subst, ◌∙◌, arith, append_assoc}
 use Rattle.std.specs.Prelude.{codes}
+use Rattle.std.specs.List.{join_with_byte}
 use Rattle.std.proofs.lemmas.Bool.{eqb-true, eqb-false}
 use Rattle.std.proofs.lemmas.List.{append-nil, length-append, nil_from_length}
 use Rattle.events.specs.declared.event.Event.{Event}
@@ -83,7 +84,11 @@ shorter text n h = step (begins_at text n h) where
       let line = spaced (codes "Q") (spaced b.now_text (spaced b.salt_text b.call_text)) in
       let whole = ap length b.spelled in
       omega (arith, whole, length-append line (10 ∷ n.rest))
-  step (inr (inr b)) =
+  step (inr (inr (inl b))) =
+      let line = spaced (codes "U") (spaced b.now_text (spaced b.salt_text (join_with_byte 44 b.users))) in
+      let whole = ap length b.spelled in
+      omega (arith, whole, length-append line (10 ∷ n.rest))
+  step (inr (inr (inr b))) =
       let line = spaced (codes "D") (spaced b.now_text (spaced b.salt_text (spaced b.ip_text (spaced b.port_text b.length_text)))) in
       let whole = ap length b.spelled in
       omega (arith, whole, length-append line (10 ∷ lined b.bytes n.rest), length-append b.bytes (10 ∷ n.rest))

@@ -1,12 +1,13 @@
 -- What a script is.
-use Rattle.std.specs.Prelude.{◌≡◌, ℕ, List, [], ◌∷◌, ◌++◌, ◌+◌, ◌≢◌, length, codes, Some, ◌⊎◌}
+use Rattle.std.specs.Prelude.{◌≡◌, ℕ, Bool, true, not, ◌||◌, ◌==◌, List, [], ◌∷◌, ◌++◌, ◌+◌, ◌≢◌, length, codes, Some, ◌⊎◌}
+use Rattle.std.specs.List.{list_all, join_with_byte}
 use Rattle.sip_uri.specs.Hosts.{ip4_of}
 use Rattle.events.specs.declared.event.Event.{Event}
 use Rattle.scripts.specs.declared.error.ScriptError.{ScriptError}
 use Rattle.scripts.specs.declared.error.ScriptError.TheVariants.{OutOfMemory, Malformed}
 use Rattle.scripts.specs.Limits.{max_number, max_bytes}
 use Rattle.scripts.specs.Numbers.{number_of, port_of}
-use Rattle.scripts.specs.Values.{due_at, silent_at, datagram_at}
+use Rattle.scripts.specs.Values.{due_at, silent_at, users_at, datagram_at}
 
 -- a word, one space, and more
 abbrev pub spaced : List ℕ → List ℕ → List ℕ
@@ -41,6 +42,24 @@ pub record BeginsSilent (text : List ℕ) (e : Event) (rest : List ℕ) : Type 0
   pub call_is : number_of max_number call_text ≡ Some call
   pub event : e ≡ silent_at now salt call
 
+-- any bytes but a comma and a line feed
+abbrev pub is_name : List ℕ → Bool
+is_name text = list_all (λ b. not (b == 44 || b == 10)) text
+
+-- the text is `U now salt names`, a line feed, and the rest: one name or more, parted by one comma each
+pub record BeginsUsers (text : List ℕ) (e : Event) (rest : List ℕ) : Type 0 where
+  pub now_text : List ℕ
+  pub salt_text : List ℕ
+  pub users : List (List ℕ)
+  pub now : ℕ
+  pub salt : ℕ
+  pub spelled : text ≡ lined (spaced (codes "U") (spaced now_text (spaced salt_text (join_with_byte 44 users)))) rest
+  pub now_is : number_of max_number now_text ≡ Some now
+  pub salt_is : number_of max_number salt_text ≡ Some salt
+  pub some : users ≢ []
+  pub names : list_all is_name users ≡ true
+  pub event : e ≡ users_at now salt users
+
 -- the text is `D now salt ip port length`, a line feed, that many bytes, a line feed, and the rest
 pub record BeginsDatagram (text : List ℕ) (e : Event) (rest : List ℕ) : Type 0 where
   pub now_text : List ℕ
@@ -63,7 +82,7 @@ pub record BeginsDatagram (text : List ℕ) (e : Event) (rest : List ℕ) : Type
 
 -- the text begins with this event, and the rest stands behind it
 abbrev pub Begins : List ℕ → Event → List ℕ → Type 0
-Begins text e rest = BeginsDue text e rest ⊎ (BeginsSilent text e rest ⊎ BeginsDatagram text e rest)
+Begins text e rest = BeginsDue text e rest ⊎ (BeginsSilent text e rest ⊎ (BeginsUsers text e rest ⊎ BeginsDatagram text e rest))
 
 -- the text is these events, one behind the other
 abbrev pub ReadsScript : List ℕ → List Event → Type 0

@@ -5,7 +5,7 @@ use Rattle.text.specs.Cut.{before, after}
 use Rattle.sip_uri.specs.Hosts.{ip4_of}
 use Rattle.scripts.specs.Limits.{max_number, max_bytes}
 use Rattle.scripts.specs.Numbers.{number_of, port_of}
-use Rattle.scripts.specs.Values.{Entry, due_at, silent_at, datagram_at}
+use Rattle.scripts.specs.Values.{Entry, due_at, silent_at, names_of, users_at, datagram_at}
 use Rattle.scripts.specs.declared.head.Head.{Head}
 
 abbrev pub is_same : List ℕ → List ℕ → Bool
@@ -30,6 +30,16 @@ silent_of fields behind =
     option_and_then (λ call_text.
     option_and_then (λ call. Some (record { event = silent_at now salt call; rest = behind }))
     (number_of max_number call_text)) (after 32 more)) (number_of max_number (before 32 more))) (number_of max_number (before 32 fields))) (after 32 fields)
+
+-- ---- the office's users
+
+unfoldable pub users_of : List ℕ → List ℕ → Option Entry
+users_of fields behind =
+    option_and_then (λ more.
+    option_and_then (λ now.
+    option_and_then (λ salt.
+    option_and_then (λ names. Some (record { event = users_at now salt (names_of names); rest = behind }))
+    (after 32 more)) (number_of max_number (before 32 more))) (number_of max_number (before 32 fields))) (after 32 fields)
 
 -- ---- a datagram
 
@@ -64,13 +74,14 @@ bytes_of head behind =
 abbrev pub datagram_of : List ℕ → List ℕ → Option Entry
 datagram_of fields behind = option_and_then (λ head. bytes_of head behind) (head_of fields)
 
--- ---- each of the three
+-- ---- each of the four
 
 abbrev pub entry_of : List ℕ → List ℕ → List ℕ → Option Entry
 entry_of kind fields behind =
     if is_same kind (codes "T") then timer_of fields behind
     else (if is_same kind (codes "Q") then silent_of fields behind
-    else (if is_same kind (codes "D") then datagram_of fields behind else None))
+    else (if is_same kind (codes "U") then users_of fields behind
+    else (if is_same kind (codes "D") then datagram_of fields behind else None)))
 
 -- the event of the first line, with the bytes behind the line
 unfoldable pub next_of : List ℕ → Option Entry

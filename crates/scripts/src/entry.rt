@@ -1,8 +1,9 @@
 //! The first event of a script.
 
 ghost use Rattle.std.specs.Prelude.{◌≡◌, IfOk};
-ghost use Rattle.events.specs.declared.event.What.TheVariants.{Datagram};
-ghost use Rattle.scripts.specs.Reading.{is_same, timer_of, silent_of, bytes_of, datagram_of, entry_of, next_of};
+ghost use Rattle.events.specs.declared.event.What.TheVariants.{Datagram, Users};
+ghost use Rattle.scripts.specs.Reading.{is_same, timer_of, silent_of, users_of, bytes_of, datagram_of, entry_of, next_of};
+ghost use Rattle.scripts.specs.Values.{names_of};
 
 use crate::head::{Head, head_of};
 use crate::number::number_of;
@@ -10,14 +11,16 @@ use events::{Event, What};
 use sip_uri::Addr;
 use std::alloc::{AllocError, Global};
 use std::marker::Model;
-use text::{Text, cut};
+use text::{Text, Texts, cut};
 
-/// What a line tells of, with the bytes of a datagram where they stand in the script.
+/// What a line tells of, with the bytes of a datagram or of names where they stand in the script.
 #[derive(Clone, Copy)]
 enum Told<'a> {
     Due,
     /// No media have come for long in the call of this number.
     Silent(u64),
+    /// The users whose names these bytes are, parted by commas, are the office's from now on.
+    Users(&'a [u8]),
     Datagram { source: Addr, bytes: &'a [u8] },
 }
 
@@ -53,6 +56,7 @@ impl<'a> Entry<'a> {
         let what = match self.told {
             Told::Due => What::Due,
             Told::Silent(call) => What::Silent(call),
+            Told::Users(names) => users(alloc, names)?,
             Told::Datagram { source, bytes } => datagram(alloc, source, bytes)?,
         };
         Ok(Event {
@@ -61,6 +65,17 @@ impl<'a> Entry<'a> {
             what,
         })
     }
+}
+
+/// The users whose names these bytes are, parted by commas.
+fn users(alloc: Global, names: &[u8]) -> Result<What, AllocError>
+    ensures { IfOk result (λ what. what ≡ Users (names_of names.now)) }
+{
+    let mut users = Vec::new(alloc);
+    for name in names.split(|b| *b == b',') {
+        users.push(Text::from_slice(alloc, name)?)?;
+    }
+    Ok(What::Users(Texts::from_vec(users)))
 }
 
 fn datagram(alloc: Global, source: Addr, bytes: &[u8]) -> Result<What, AllocError>
@@ -110,6 +125,23 @@ fn silent_of<'a>(fields: &'a [u8], behind: &'a [u8]) -> Option<Entry<'a>>
     })
 }
 
+#[tactic(auto, unfolding(crate::specs::Reading::users_of))]
+fn users_of<'a>(fields: &'a [u8], behind: &'a [u8]) -> Option<Entry<'a>>
+    ensures { result ≡ users_of fields.now behind.now }
+{
+    let (now, rest) = cut(fields, b' ');
+    let (salt, rest) = cut(rest?, b' ');
+    let moment = number_of(now)?;
+    let salt = number_of(salt)?;
+    let names = rest?;
+    Some(Entry {
+        moment,
+        salt,
+        told: Told::Users(names),
+        rest: behind,
+    })
+}
+
 #[tactic(auto, unfolding(crate::specs::Reading::bytes_of))]
 fn bytes_of(head: Head, behind: &[u8]) -> Option<Entry<'_>>
     ensures { result ≡ bytes_of head behind.now }
@@ -143,6 +175,9 @@ fn entry_of<'a>(kind: &'a [u8], fields: &'a [u8], behind: &'a [u8]) -> Option<En
     }
     if is_same(kind, b"Q") {
         return silent_of(fields, behind);
+    }
+    if is_same(kind, b"U") {
+        return users_of(fields, behind);
     }
     if is_same(kind, b"D") {
         return datagram_of(fields, behind);

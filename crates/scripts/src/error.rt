@@ -8,7 +8,7 @@ use thiserror::Error;
 pub enum ScriptError {
     #[error("out of memory")]
     OutOfMemory,
-    /// A line is none of the three, a number of it is out of range, its datagram ends too early, or a line feed is
+    /// A line is none of the four, a number of it is out of range, its datagram ends too early, or a line feed is
     /// missing.
     #[error("script")]
     Malformed,

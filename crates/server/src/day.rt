@@ -107,11 +107,11 @@ fn text_of(alloc: Global, sent: &[Sent]) -> Result<Vec<u8>, AllocError>
     Ok(text)
 }
 
-/// Where an event came from; nowhere of a timer or of silence.
+/// Where an event came from; nowhere of a timer, of silence or of users.
 fn source_of(event: &Event) -> Option<Addr> {
     match &event.what {
         What::Datagram { source, .. } => Some(*source),
-        What::Due | What::Silent(_) => None,
+        What::Due | What::Silent(_) | What::Users(_) => None,
     }
 }
 

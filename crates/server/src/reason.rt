@@ -16,7 +16,7 @@ impl fmt::Display for Reason<'_> {
             Fault::Config(None) => f.write_str("the file of the configuration cannot be read"),
             Fault::Script(at) => write!(
                 f,
-                "offset {at}: no event begins; a line 'D now salt ip port length', 'T now salt' or 'Q now salt number' is asked"
+                "offset {at}: no event begins; a line 'D now salt ip port length', 'T now salt', 'Q now salt number' or 'U now salt names' is asked"
             ),
             Fault::Input | Fault::Output | Fault::Socket | Fault::OutOfMemory => Ok(()),
         }
