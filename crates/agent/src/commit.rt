@@ -1,7 +1,7 @@
 //! What a step does to the agent's parts and to the list of what is sent: all of it or nothing.
 
-ghost use Rattle.std.specs.Prelude.{◌≡◌, ◌<◌, ◌≤◌, ◌^◌, ◌++◌, option_map, OnOk, OnErr};
-ghost use Rattle.registrar.specs.Registrar.{PlanContents};
+ghost use Rattle.std.specs.Prelude.{◌≡◌, ◌<◌, ◌≤◌, ◌^◌, ◌++◌, option_and_then, OnOk, OnErr};
+ghost use Rattle.registrar.specs.Changes.{user_of_change};
 ghost use Rattle.calls.specs.State.{standing};
 ghost use Rattle.plans.specs.Effect.{fired_off};
 ghost use Rattle.event_rows.specs.Lifetimes.{lifetime_begun, with_lifetime};
@@ -12,7 +12,7 @@ use call_core::{CallNote, CallTimer, NoteOfCall};
 use calls::{CallTimerId, Calls};
 use events::Sent;
 use plans::Note;
-use registrar::Registrar;
+use registrar::{Registrar, RegistrarChange};
 use std::alloc::AllocError;
 use text::Text;
 use transactions::{Change, Table};
@@ -44,14 +44,14 @@ pub(crate) fn commit(
 /// Makes the change of the registrar, if there is one, and gives the user whose bindings it sets. Takes no memory.
 pub(crate) fn enter(
     registrar: &mut Registrar,
-    registration: Option<registrar::Plan>,
+    registration: Option<RegistrarChange>,
 ) -> Option<Text<'static>>
     ensures registrar { registrar.new ≡ registered_by registrar.old registration }
-    ensures user { result ≡ option_map (λ (plan : PlanContents). plan.user) registration }
+    ensures user { result ≡ option_and_then user_of_change registration }
 {
     match registration {
         None => None,
-        Some(plan) => Some(registrar.carry_out(plan)),
+        Some(change) => registrar.make_change(change),
     }
 }
 

@@ -6,6 +6,7 @@ ghost use Rattle.event_rows.specs.Rows.{earlier, only_counts, what_counts};
 ghost use Rattle.event_rows.specs.State.{after_count, moment_at, moments_end};
 
 use crate::agent::Agent;
+use configuration::is_user_list;
 use events::{Event, What};
 use plans::{Taken, Why, note_of_taken};
 use sip_message::MessageError;
@@ -53,11 +54,18 @@ impl Agent {
                 }
                 Some(Taken::Idle)
             }
+            What::Users(users) => {
+                if is_user_list(users.as_slice()) {
+                    return None;
+                }
+                Some(Taken::Idle)
+            }
         }
     }
 
     /// What an event is answered that is only counted: one at no moment that counts, one for which no token is left, a
-    /// datagram that is too long, a timer where none is due, and silence in no settled call. None for all others. Takes no memory.
+    /// datagram that is too long, a timer where none is due, silence in no settled call, and users that a configuration may
+    /// not list. None for all others. Takes no memory.
     #[tactic(auto, unfolding(event_rows::specs::Rows::only_counts))]
     pub(crate) fn only_counts(&self, event: &Event) -> Option<Taken>
         ensures { result ≡ only_counts self.now event.entry.now }

@@ -22,7 +22,10 @@ use std::alloc::{AllocError, Global};
 use text::{Text, Texts};
 use transactions::Table;
 
-fn kept_texts(alloc: Global, texts: &[Text<'static>]) -> Result<Texts<'static>, AllocError>
+pub(crate) fn kept_texts(
+    alloc: Global,
+    texts: &[Text<'static>],
+) -> Result<Texts<'static>, AllocError>
     ensures { IfOk result (λ kept. kept ≡ texts.now) }
 {
     let mut kept = Vec::new(alloc);

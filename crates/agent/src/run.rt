@@ -6,6 +6,7 @@ ghost use Rattle.event_rows.specs.Trace.{IsEntry, Ran, RanFirst, after_entry};
 ghost use Rattle.media_laws.specs.Standing.{PutsFromSource, StandsThrough};
 
 use crate::agent::Agent;
+use crate::new_agent::kept_texts;
 use events::{Event, Sent, What};
 use media_laws::agents_stand;
 use message_laws::event_comes_from_source;
@@ -73,6 +74,7 @@ fn copy_of_what(alloc: Global, what: &What) -> Result<What, AllocError>
         }),
         What::Due => Ok(What::Due),
         What::Silent(number) => Ok(What::Silent(*number)),
+        What::Users(users) => Ok(What::Users(kept_texts(alloc, users.as_slice())?)),
     }
 }
 

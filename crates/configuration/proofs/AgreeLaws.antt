@@ -17,7 +17,7 @@ use Rattle.configuration.specs.declared.key.Key.{Key}
 use Rattle.configuration.specs.declared.key.Key.TheVariants as keys
 use Rattle.configuration.specs.declared.flaw.Flaw.{Flaw}
 use Rattle.configuration.specs.declared.flaw.Flaw.TheVariants.{OtherType, OutOfRange, Odd, PastLastPort, RelayPort, Malformed, RandomKey, UserCount, UserTwice}
-use Rattle.configuration.specs.Rules.{has_room_for_ports, is_relay_port, is_server_address, has_relay_ports, has_address, has_users, has_lifetime, has_longest_lifetime, has_domain, has_silence_limit, has_length_limit, first_broken}
+use Rattle.configuration.specs.Rules.{has_room_for_ports, is_relay_port, is_server_address, has_relay_ports, has_address, is_user_list, has_users, has_lifetime, has_longest_lifetime, has_domain, has_silence_limit, has_length_limit, first_broken}
 use Rattle.configuration.specs.Files.{is_known_key, has_known_keys, few, few_of, natural, answer_within_at, workers_at, number_at, numbers_at, text_at, octets_of, ip_at, key_of, key_at, domain_of, domain_at, texts_of, users_at, level_named, log_of, log_at, config_from, config_of, duration_if_there, max_expires_at, silent_minutes_at, longest_call_hours_at, oldest_leaves_at, duration_of}
 use Rattle.configuration.specs.Flags.{flag_of}
 use Rattle.configuration.specs.Ranges.{expanded}
@@ -269,7 +269,7 @@ once (u ∷ us) = step (list_any (λ v. pointwise nat_eq v u) us) (once us) wher
   step false below = below
 
 users : (c : Config) → option_map rule_of (users_flaw c) ≡ broken_unless (has_users c) rules.Users
-unfolding users_flaw has_users
+unfolding users_flaw has_users is_user_list
 users c = parts (nat_le 1 (length c.users)) (nat_le (length c.users) max_users) where
   both : (a b : Bool) → option_or (broken_unless a rules.Users) (broken_unless b rules.Users) ≡ broken_unless (a && b) rules.Users
   both true b = refl

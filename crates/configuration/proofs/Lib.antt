@@ -1,6 +1,7 @@
 mod KeyLaws
 mod LineLaws
 mod RuleLaws
+mod UserListLaws
 mod ReadingLaws
 mod WrittenLaws
 mod FlawLaws

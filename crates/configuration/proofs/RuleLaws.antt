@@ -4,10 +4,10 @@ use Rattle.std.proofs.lemmas.Bool.{leb-true, eqb-true, eqb-false}
 use Rattle.configuration.specs.declared.config.Config.{Config}
 use Rattle.configuration.specs.declared.error.ConfigError.{ConfigError}
 use Rattle.configuration.specs.Limits.{max_silent_minutes, max_longest_call_hours}
-use Rattle.configuration.specs.Rules.{is_server_address, has_relay_ports, has_address, has_users, has_lifetime, has_longest_lifetime, reaches, has_domain, is_upto, has_silence_limit, has_length_limit, first_broken, KeepsRules}
+use Rattle.configuration.specs.Rules.{is_server_address, has_relay_ports, has_address, is_user_list, has_users, has_lifetime, has_longest_lifetime, reaches, has_domain, is_upto, has_silence_limit, has_length_limit, first_broken, KeepsRules}
 
 -- no rule is broken where each is kept alone
-all_kept : (a b c d e f : Bool) (u v w x y z : ConfigError)
+pub all_kept : (a b c d e f : Bool) (u v w x y z : ConfigError)
     → cond a (cond b (cond c (cond d (cond e (cond f None (Some z)) (Some y)) (Some x)) (Some w)) (Some v)) (Some u) ≡ None
     → (a ≡ true) × (b ≡ true) × (c ≡ true) × (d ≡ true) × (e ≡ true) × (f ≡ true)
 all_kept true true true true true true u v w x y z h = (refl, refl, refl, refl, refl, refl)
@@ -23,7 +23,7 @@ two true true h = (refl, refl)
 two true false h = absurd cc
 two false b h = absurd cc
 
-four : (a b c d : Bool) → (a && b && c && d) ≡ true → (a ≡ true) × (b ≡ true) × (c ≡ true) × (d ≡ true)
+pub four : (a b c d : Bool) → (a && b && c && d) ≡ true → (a ≡ true) × (b ≡ true) × (c ≡ true) × (d ≡ true)
 four true true true true h = (refl, refl, refl, refl)
 four true true true false h = absurd cc
 four true true false d h = absurd cc
@@ -58,7 +58,7 @@ upto most None h = tt
 upto most (Some n) h = let both = two _ _ h in (leb-true 1 n both.0, leb-true n most both.1)
 
 pub kept : (c : Config) → first_broken c ≡ None → KeepsRules c
-unfolding first_broken has_relay_ports has_address has_users has_lifetime has_longest_lifetime has_domain has_silence_limit has_length_limit
+unfolding first_broken has_relay_ports has_address has_users is_user_list has_lifetime has_longest_lifetime has_domain has_silence_limit has_length_limit
 kept c h =
     let rules = all_kept (has_relay_ports c) (has_address c) (has_users c) (has_lifetime c && has_longest_lifetime c) (has_domain c) (has_silence_limit c && has_length_limit c) _ _ _ _ _ _ h in
     let ports = six _ _ _ _ _ _ rules.0 in

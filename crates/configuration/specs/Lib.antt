@@ -6,6 +6,7 @@ pub mod Names
 pub mod Flags
 pub mod Status
 pub mod Rules
+pub mod UserLists
 pub mod Files
 pub mod Flaws
 pub mod Reading

@@ -41,8 +41,11 @@ has_address c = is_server_address c.ip && not (c.sip_port == 0)
 -- ---- who may register, and for how long
 
 -- 1 to 1,000 users, each of them well formed, none twice
+unfoldable pub is_user_list : List (List ℕ) → Bool
+is_user_list users = nat_le 1 (length users) && nat_le (length users) max_users && list_all is_user users && are_distinct users
+
 unfoldable pub has_users : Config → Bool
-has_users c = nat_le 1 (length c.users) && nat_le (length c.users) max_users && list_all is_user c.users && are_distinct c.users
+has_users c = is_user_list c.users
 
 unfoldable pub has_lifetime : Config → Bool
 has_lifetime c = nat_le 1 c.min_expires && nat_le c.min_expires max_min_expires

@@ -16,11 +16,12 @@ use crate::key::Key;
 use crate::level::level_named;
 use crate::names::{is_among, is_user};
 use crate::rules::{
-    MAX_RELAY_PAIRS, MAX_USERS, MIN_RELAY_PORT, has_domain, has_length_limit, has_lifetime,
+    MAX_RELAY_PAIRS, MIN_RELAY_PORT, has_domain, has_length_limit, has_lifetime,
     has_longest_lifetime, has_room_for_ports, has_silence_limit, is_relay_port, is_server_address,
 };
 use crate::status::page_at;
 use crate::tables::{flag_at, is_known_key, number_at, text_at, value_at};
+use crate::user_list::MAX_USERS;
 use std::alloc::{AllocError, Global};
 use text::Text;
 use toml::value::Array;

@@ -1,8 +1,16 @@
-//! What follows from the definition of ranges.
+//! What follows from the definitions of ranges and of lists of users.
 
 ghost use Rattle.configuration.specs.RangeLaws.{RangeHolds};
+ghost use Rattle.configuration.specs.UserLists.{KeptUsersAreAList, UserListHolds};
 
 /// A range stands for a name exactly if that has as many digits as its ends, and its number lies between them.
 pub fn laws_of_ranges()
     ensures holds { RangeHolds }
+{}
+
+/// A list that the key `users` may have is of 1 to 1000 users, each well formed, none twice. The users of a configuration
+/// that keeps the rules are such a list.
+pub fn laws_of_user_lists()
+    ensures holds { UserListHolds }
+    ensures kept { KeptUsersAreAList }
 {}

@@ -21,6 +21,7 @@ mod read;
 mod rules;
 mod status;
 mod tables;
+mod user_list;
 mod words;
 
 pub use config::Config;
@@ -29,7 +30,8 @@ pub use example::example_config;
 pub use fault::{ConfigFault, fault_of};
 pub use flaw::Flaw;
 pub use key::Key;
-pub use laws::laws_of_ranges;
+pub use laws::{laws_of_ranges, laws_of_user_lists};
 pub use level::LogLevel;
 pub use read::read_config;
 pub use rules::check;
+pub use user_list::is_user_list;

@@ -4,7 +4,7 @@ ghost use Rattle.std.specs.Prelude.{◌≡◌, ◌++◌, IfOk, OnOk};
 ghost use Rattle.std.specs.Option.{option_copied};
 ghost use Rattle.configuration.specs.Ranges.{last_of, is_like_range, ordered, range_between, range_of, numeral, count_of, fits, names_in, names_of, all_names, expanded};
 
-use crate::rules::MAX_USERS;
+use crate::user_list::MAX_USERS;
 use std::alloc::{AllocError, Global};
 use text::{Text, Texts, cut, is_run_of_digits, number_upto};
 

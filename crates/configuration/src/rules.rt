@@ -6,7 +6,8 @@ ghost use Rattle.configuration.specs.Rules.{is_relay_port, has_room_for_ports, h
 
 use crate::config::Config;
 use crate::error::ConfigError;
-use crate::names::{are_distinct, are_users, is_domain};
+use crate::names::is_domain;
+use crate::user_list::is_user_list;
 
 pub(crate) const MIN_RELAY_PORT: u16 = 1024;
 
@@ -14,8 +15,6 @@ pub(crate) const MAX_RELAY_PAIRS: u16 = 2048;
 
 /// How many ports there are, 0 included.
 const ALL_PORTS: u32 = 65536;
-
-pub(crate) const MAX_USERS: usize = 1000;
 
 /// The greatest number of seconds that may be the least lifetime of a binding.
 const MAX_MIN_EXPIRES: u32 = 3600;
@@ -77,8 +76,7 @@ fn has_address(config: &Config) -> bool
 fn has_users(config: &Config) -> bool
     ensures { result ≡ has_users config.now }
 {
-    let users = config.users.as_slice();
-    1 <= users.len() && users.len() <= MAX_USERS && are_users(users) && are_distinct(users)
+    is_user_list(config.users.as_slice())
 }
 
 #[tactic(auto, unfolding(crate::specs::Rules::has_lifetime))]

@@ -262,5 +262,6 @@ pub fn plan_event(
         }
         What::Due => due_row(office, timed_setting(now, salt)),
         What::Silent(number) => silent_row(office, timed_setting(now, salt), *number),
+        What::Users(users) => office.users_row(users.as_slice()),
     }
 }

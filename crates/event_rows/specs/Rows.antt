@@ -43,7 +43,9 @@ use Rattle.event_rows.specs.Rule.{Rule}
 use Rattle.plans.specs.declared.taken.Taken.{Taken}
 use Rattle.plans.specs.declared.taken.Taken.TheVariants.{Dropped, Shed, Idle}
 use Rattle.plans.specs.declared.taken.Why.TheVariants.{Unread, Stray, Ack, NoBranch, Clock, Spent}
-use Rattle.plans.specs.Plan.{Plan, nothing, moves, replies, answers}
+use Rattle.configuration.specs.Rules.{is_user_list}
+use Rattle.registrar.specs.Changes.{kept_entries}
+use Rattle.plans.specs.Plan.{Plan, lists, nothing, moves, replies, answers}
 use Rattle.responses.specs.Registering.{register_of}
 use Rattle.responses.specs.Responding.{allow, contact_header, refusal_headers, status_of, responds, stateless}
 use Rattle.event_rows.specs.Rules.{request_rule}
@@ -177,13 +179,14 @@ due_row s e (Some timer) (Some other) = if nat_le timer.at other.at then timer_r
 
 -- ---- an event
 
--- whether a datagram has more bytes than are read, no timer is due, or no call of the number is settled: nothing is
--- looked at further
+-- whether a datagram has more bytes than are read, no timer is due, no call of the number is settled, or a configuration
+-- may not list such users: nothing is looked at further
 abbrev pub what_counts : Contents → ℕ → What → Option Taken
 what_counts s now (whats.Datagram source bytes) =
     if nat_lt max_datagram (length bytes) then Some (Dropped (Unread faults.TooLong)) else None
 what_counts s now whats.Due = if is_some (first_due s.table.timers now) || is_some (first_due s.calls.timers now) then None else Some Idle
 what_counts s now (whats.Silent number) = if has_settled number s.calls.calls then None else Some Idle
+what_counts s now (whats.Users users) = if is_user_list users then None else Some Idle
 
 -- an event that is only counted takes no memory
 unfoldable pub only_counts : Contents → Event → Option Taken
@@ -208,6 +211,8 @@ what_row s now salt (whats.Datagram source bytes) = datagram_row s (setting now 
 what_row s now salt whats.Due = due_row s (setting now salt no_source) (first_due s.table.timers now) (first_due s.calls.timers now)
 -- media have stopped: the call's lifetime ends now
 what_row s now salt (whats.Silent number) = call_timer_row s (setting now salt no_source) (id number Lifetime)
+-- who is a user already keeps its bindings
+what_row s now salt (whats.Users users) = of_plan s (lists (kept_entries s.registrar.entries users))
 
 abbrev pub row_by : Contents → Event → Option Taken → Effect
 row_by s e (Some taken) = of_plan (office s) (nothing taken)

@@ -1,5 +1,5 @@
 -- What the agent knows.
-use Rattle.std.specs.Prelude.{◌≡◌, ◌≢◌, ℕ, ◌<◌, ◌≤◌, ◌^◌, ◌+◌, ◌-◌, ◌*◌, max, List, [], Option, Some, None, option_map}
+use Rattle.std.specs.Prelude.{◌≡◌, ◌≢◌, ℕ, ◌<◌, ◌≤◌, ◌^◌, ◌+◌, ◌-◌, ◌*◌, max, List, [], Option, Some, None, option_and_then}
 use Rattle.configuration.specs.declared.config.Config.{Config}
 use Rattle.configuration.specs.declared.error.ConfigError.{ConfigError}
 use Rattle.configuration.specs.declared.error.ConfigError.TheVariants.{OutOfMemory, RelayPorts, Address, Users, MinExpires, Domain, CallDuration, File}
@@ -7,7 +7,9 @@ use Rattle.configuration.specs.Domain.{domain_text}
 use Rattle.configuration.specs.Rules.{first_broken}
 use Rattle.registrar.specs.Registering.{Rules}
 use Rattle.registrar.specs.declared.binding_rules.BindingRules.{BindingRules}
-use Rattle.registrar.specs.Registrar.{after_plan, PlanContents, StandsAfter, rules_given}
+use Rattle.registrar.specs.Changes.{after_change, user_of_change}
+use Rattle.registrar.specs.Registrar.{StandsAfter, rules_given}
+use Rattle.registrar.specs.declared.change.RegistrarChange.{RegistrarChange}
 use Rattle.registrar.specs.Registrar as registrar
 use Rattle.transactions.specs.Contents as transactions
 use Rattle.transactions.specs.Changes.{entered_all}
@@ -81,9 +83,9 @@ pub record IsCounted (moment tokens begun : ℕ) (range : OwnRange) : Type 0 whe
 abbrev pub moment_at : Contents → ℕ → ℕ
 moment_at s now = max s.moment now
 
-abbrev pub registered_by : registrar.Contents → Option PlanContents → registrar.Contents
+abbrev pub registered_by : registrar.Contents → Option RegistrarChange → registrar.Contents
 registered_by r None = r
-registered_by r (Some plan) = after_plan r plan
+registered_by r (Some change) = after_change r change
 
 -- the agent after an event of this moment that had this effect
 unfoldable pub after_event : Contents → ℕ → Effect → Contents
@@ -101,7 +103,7 @@ after_event s now e = record {
   tokens = s.tokens + e.plan.made;
   tally = counted s.tally e.plan.taken;
   note = e.plan.note;
-  registered = option_map (λ (plan : PlanContents). plan.user) e.plan.registration;
+  registered = option_and_then user_of_change e.plan.registration;
 }
 
 -- the agent after an event that was only counted

@@ -22,11 +22,13 @@ abbrev pub ComesFromSource : What → Type 0
 ComesFromSource (whats.Datagram source bytes) = IsSource source
 ComesFromSource whats.Due = Unit {0}
 ComesFromSource (whats.Silent number) = Unit {0}
+ComesFromSource (whats.Users users) = Unit {0}
 
 abbrev pub IsNoDatagram : What → Type 0
 IsNoDatagram (whats.Datagram source bytes) = ⊥
 IsNoDatagram whats.Due = Unit {0}
 IsNoDatagram (whats.Silent number) = Unit {0}
+IsNoDatagram (whats.Users users) = Unit {0}
 
 abbrev pub EntersFromSource : Entry → Type 0
 EntersFromSource x = ComesFromSource x.event.what

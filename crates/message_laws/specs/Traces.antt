@@ -12,7 +12,7 @@ use Rattle.plans.specs.declared.taken.Taken.TheVariants.{Done, Dropped, Idle, Sh
 use Rattle.message_laws.specs.Messages.{AreMessages, IsTakenOf}
 
 -- What an event that is answered so took: of a datagram that the agent took up its message; of one that counts as not
--- come, of a timer and of silence, nothing.
+-- come, of a timer, of silence and of a list of users, nothing.
 abbrev pub IsTaken : What → Taken → Option TraceMessage → Type 0
 IsTaken (whats.Datagram source bytes) Done taken = IsTakenOf bytes taken
 IsTaken (whats.Datagram source bytes) (Dropped why) taken = taken ≡ None
@@ -20,6 +20,7 @@ IsTaken (whats.Datagram source bytes) Shed taken = taken ≡ None
 IsTaken (whats.Datagram source bytes) Idle taken = taken ≡ None
 IsTaken whats.Due answer taken = taken ≡ None
 IsTaken (whats.Silent number) answer taken = taken ≡ None
+IsTaken (whats.Users users) answer taken = taken ≡ None
 
 -- what an event that had this answer took and sent
 pub record IsPassed (what : What) (answer : Taken) (sends : List Sent) (taken : Option TraceMessage) (sent : List TraceMessage) : Type 0 where

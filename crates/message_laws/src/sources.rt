@@ -26,7 +26,7 @@ fn what_fits(what: &What)
 {
     match what {
         What::Datagram { source, .. } => address_fits(source),
-        What::Due | What::Silent(_) => (),
+        What::Due | What::Silent(_) | What::Users(_) => (),
     }
 }
 

@@ -1,11 +1,14 @@
 -- What an event comes to: what it is answered, what is sent, and what changes.
-use Rattle.std.specs.Prelude.{ℕ, List, [], ◌∷◌, ◌++◌, Option, Some, None}
+use Rattle.std.specs.Prelude.{ℕ, List, [], ◌∷◌, ◌++◌, Option, Some, None, option_map}
 use Rattle.events.specs.declared.sent.Sent.{Sent}
 use Rattle.sip_uri.specs.declared.uri.Addr.{Addr}
 use Rattle.sip_message.specs.declared.message.Message.TheVariants as Kinds
 use Rattle.sip_message.specs.declared.message.Response.{Response}
 use Rattle.sip_writing.specs.Writing.{message_text}
 use Rattle.registrar.specs.Registrar.{PlanContents}
+use Rattle.registrar.specs.declared.change.RegistrarChange.{RegistrarChange}
+use Rattle.registrar.specs.declared.change.RegistrarChange.TheVariants.{Binds, Lists}
+use Rattle.registrar.specs.declared.user_bindings.UserBindings.{UserBindings}
 use Rattle.transactions.specs.declared.change.Entry.{Entry}
 use Rattle.transactions.specs.declared.outcome.Outgoing.{Outgoing}
 use Rattle.transactions.specs.Changes.{answer_of}
@@ -22,7 +25,7 @@ pub record Plan : Type 0 where
   pub taken : Taken
   pub changes : List Entry
   pub sends : List Sent
-  pub registration : Option PlanContents
+  pub registration : Option RegistrarChange
   pub made : ℕ
   pub note : Note
 
@@ -33,6 +36,10 @@ sent_response to response = record { to = to; bytes = message_text (Kinds.Respon
 -- nothing changes in the transactions, and nothing is sent
 abbrev pub nothing : Taken → Plan
 nothing taken = record { taken = taken; changes = []; sends = []; registration = None; made = 0; note = note_of_taken taken }
+
+-- the users are to be these, each with what it is to be bound to
+abbrev pub lists : List UserBindings → Plan
+lists entries = record { taken = Done; changes = []; sends = []; registration = Some (Lists entries); made = 0; note = Quiet }
 
 -- bytes that a transaction sends, if any
 abbrev pub goes : Option Outgoing → List Sent
@@ -53,7 +60,7 @@ answers begun id to response registration made = record {
   taken = Done;
   changes = begun ++ answer_of id response ∷ [];
   sends = sent_response to response ∷ [];
-  registration = registration;
+  registration = option_map Binds registration;
   made = made;
   note = note_of_registration registration;
 }

@@ -3,7 +3,8 @@
 ghost use Rattle.std.specs.Prelude.{◌≡◌, ◌<◌, ◌^◌, ℕ, IfOk};
 ghost use Rattle.plans.specs.CallRows.{occasion, of_plan};
 ghost use Rattle.plans.specs.Effect.{Fits, effect};
-ghost use Rattle.plans.specs.Plan.{moves, nothing};
+ghost use Rattle.plans.specs.Plan.{lists, moves, nothing};
+ghost use Rattle.registrar.specs.Changes.{kept_entries};
 
 use crate::acks::KeptAck;
 use crate::effects_of_events::Doing;
@@ -17,6 +18,7 @@ use registrar::Registrar;
 use sip_uri::Addr;
 use std::alloc::{AllocError, Global};
 use std::marker::Model;
+use text::Text;
 use transactions::{Change, Outgoing, Table};
 
 /// An office as an event finds it, lent: a plan changes nothing.
@@ -73,6 +75,16 @@ impl<'o> Office<'o> {
         ensures fits { (now : ℕ) → IfOk result (Fits self.now.calls now) }
     {
         Ok(Doing::alone(Plan::moves(self.alloc, begun, send)?))
+    }
+
+    /// The office's users are to be these: who is one already keeps its bindings.
+    #[inline(never)]
+    pub fn users_row(&self, users: &[Text<'_>]) -> Result<Doing, AllocError>
+        ensures row { (now : ℕ) → IfOk result (λ d. effect self.now.calls self.now.acks now d ≡ of_plan self.now (lists (kept_entries self.now.registrar.entries users.now))) }
+        ensures fits { (now : ℕ) → IfOk result (Fits self.now.calls now) }
+    {
+        let listing = self.registrar.listing(users)?;
+        Ok(Doing::alone(Plan::lists(self.alloc, listing)))
     }
 
     /// Nothing is sent, and nothing changes. Takes no memory.

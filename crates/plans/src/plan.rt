@@ -5,12 +5,14 @@ ghost use Rattle.sip_message.specs.Words.{class_of};
 ghost use Rattle.transactions.specs.declared.change.Entry.TheVariants.{Answers};
 ghost use Rattle.plans.specs.declared.taken.Taken.TheVariants.{Done};
 ghost use Rattle.plans.specs.declared.note.Note.TheVariants.{Quiet, Refused, Registered};
-ghost use Rattle.plans.specs.Plan.{as_refusal, goes, moves, nothing};
+ghost use Rattle.plans.specs.Plan.{as_refusal, goes, lists, moves, nothing};
+ghost use Rattle.registrar.specs.declared.change.RegistrarChange.TheVariants.{Binds};
 
 use crate::note::{Note, note_of_taken};
 use crate::reason::Reason;
 use crate::taken::Taken;
 use events::Sent;
+use registrar::{Listing, RegistrarChange};
 use sip_message::class_of;
 use sip_uri::Addr;
 use std::alloc::{AllocError, Global};
@@ -25,7 +27,7 @@ pub struct Plan {
     pub taken: Taken,
     pub changes: Vec<Change>,
     pub sends: Vec<Sent>,
-    pub registration: Option<registrar::Plan>,
+    pub registration: Option<RegistrarChange>,
     /// How many tokens are made.
     pub made: u8,
     /// What the event is about.
@@ -98,6 +100,20 @@ impl Plan {
             registration: None,
             made: 0,
             note: note_of_taken(taken),
+        }
+    }
+
+    /// The office's users are to be those of this listing, and nothing is sent. Takes no memory.
+    pub fn lists(alloc: Global, listing: Listing) -> Plan
+        ensures { result ≡ lists listing }
+    {
+        Plan {
+            taken: Taken::Done,
+            changes: Vec::new(alloc),
+            sends: Vec::new(alloc),
+            registration: Some(RegistrarChange::Lists(listing)),
+            made: 0,
+            note: Note::Quiet,
         }
     }
 
@@ -190,10 +206,10 @@ impl Plan {
 
     /// The same, with this change of the registrar. Takes no memory.
     pub(crate) fn with_registration(self, registration: registrar::Plan) -> Plan
-        ensures { result ≡ record self { registration = Some registration; note = Registered } }
+        ensures { result ≡ record self { registration = Some (Binds registration); note = Registered } }
     {
         Plan {
-            registration: Some(registration),
+            registration: Some(RegistrarChange::Binds(registration)),
             note: Note::Registered,
             ..self
         }

@@ -1,5 +1,5 @@
 -- No binding is past its lifetime.
-use Rattle.std.proofs.Common.{◌≡◌, ◌==◌, ◌&&◌, not, ℕ, ◌+◌, ◌*◌, ◌≤◌, Bool, true, false, cond, List, [], ◌∷◌, find, position, All, Option, Some, None, Result, Ok, Err, nat_lt, refl, subst, arith}
+use Rattle.std.proofs.Common.{◌≡◌, ◌==◌, ◌&&◌, not, ℕ, ◌+◌, ◌*◌, ◌≤◌, Bool, true, false, cond, List, [], ◌∷◌, find, position, All, Option, Some, None, Result, Ok, Err, nat_lt, refl, ap, ◌∙◌, subst, arith}
 use Rattle.std.specs.List.{list_all}
 use Rattle.std.proofs.lemmas.Bool.{ltb-false}
 use Rattle.std.proofs.lemmas.List.Elements.{All-head, All-tail, All-nil, All-push, All-set, All-map, All-filter}
@@ -10,10 +10,11 @@ use Rattle.registrar.specs.declared.register.Contact.{Contact}
 use Rattle.registrar.specs.declared.register.Register.{Register}
 use Rattle.registrar.specs.declared.refusal.Refusal.{Refusal}
 use Rattle.registrar.specs.declared.refusal.Refusal.TheVariants.{StarMisused, BadContact, OutOfOrder}
-use Rattle.registrar.specs.BindingLaws.{NoneOutlasts}
+use Rattle.registrar.specs.BindingLaws.{NoneOutlasts, IsPast}
 use Rattle.registrar.specs.BindingRules.{granted, standing}
-use Rattle.registrar.specs.Registering.{Rules, bindings_after_one, whole_refusal, unless_refused, present, first_number, rank, with_number, lifetime, is_of, is_too_brief, is_stale, binding_by, put, put_at, without, with_contact, with_contact_at, with_contacts, and_then, within_limit, is_star_misused, is_star_stale, is_bindable, is_known}
-use Rattle.registrar.specs.Bound.{Event, names, or_as_before, step, fold_from, bindings_after, bound}
+use Rattle.registrar.specs.Registering.{Rules, bindings_after_one, whole_refusal, unless_refused, present, first_number, rank, with_number, lifetime, is_of, is_too_brief, is_stale, binding_by, put, put_at, without, with_contact, with_contact_at, with_contacts, and_then, within_limit, is_star_misused, is_star_stale, is_bindable, is_known, with_users}
+use Rattle.registrar.specs.Bound.{Event, Registered, Listed, Registration, names, or_as_before, registers, step, rules_with, fold_from, bindings_after, bound}
+use Rattle.registrar.proofs.FoldLaws.{same_rules}
 use Rattle.registrar.proofs.RecentLaws.{standing_all}
 use Rattle.registrar.proofs.RefreshLaws.{one_of_three, by_limit}
 
@@ -80,20 +81,30 @@ until_or_before : (t : ℕ) (bs : List Binding) (r : Result (List Binding) Refus
 until_or_before t bs (Ok after) all each = each after refl
 until_or_before t bs (Err refusal) all each = all
 
-until_step : (rules : Rules) (user : List ℕ) (t : ℕ) (bs : List Binding) (e : Event) → Short rules.binding_rules e.now t → All (Until t) bs → All (Until t) (step rules user bs e)
-until_step rules user t bs e short all =
+until_registers : (rules : Rules) (user : List ℕ) (t : ℕ) (bs : List Binding) (e : Registration) → Short rules.binding_rules e.now t → All (Until t) bs → All (Until t) (registers rules user bs e)
+until_registers rules user t bs e short all =
     elim (names e.register.user user && is_known rules user) as (λ v. All (Until t) (cond v (or_as_before bs (bindings_after_one rules e.register e.now bs)) bs)) [
       | true ↦ until_or_before t bs (bindings_after_one rules e.register e.now bs) all (λ after is. until_one rules e.register e.now t bs after short all is)
       | false ↦ all
     ]
 
-until_from : (rules : Rules) (user : List ℕ) (now most : ℕ) (bs : List Binding) (es : List Event) → rules.binding_rules.max_expires ≡ Some most → All (λ e. e.now ≤ now) es
+until_listed : (t : ℕ) (bs : List Binding) (known : Bool) → All (Until t) bs → All (Until t) (cond known bs [])
+until_listed t bs true all = all
+until_listed t bs false all = All-nil (Until t)
+
+until_step : (rules : Rules) (user : List ℕ) (now most : ℕ) (bs : List Binding) (e : Event) → rules.binding_rules.max_expires ≡ Some most → IsPast now e
+    → All (Until (now + most * 1000)) bs → All (Until (now + most * 1000)) (step rules user bs e)
+until_step rules user now most bs (Registered e) is past all =
+    let short : Short rules.binding_rules e.now (now + most * 1000) = λ seconds. let le = granted_most rules.binding_rules most seconds is in omega arith in
+    until_registers rules user (now + most * 1000) bs e short all
+until_step rules user now most bs (Listed users) is past all = until_listed (now + most * 1000) bs (is_known (with_users rules users) user) all
+
+until_from : (rules : Rules) (user : List ℕ) (now most : ℕ) (bs : List Binding) (es : List Event) → rules.binding_rules.max_expires ≡ Some most → All (IsPast now) es
     → All (Until (now + most * 1000)) bs → All (Until (now + most * 1000)) (fold_from rules user bs es)
 until_from rules user now most bs [] is past all = all
 until_from rules user now most bs (e ∷ es) is past all =
-    let before : e.now ≤ now = All-head (λ x. x.now ≤ now) e es past in
-    let short : Short rules.binding_rules e.now (now + most * 1000) = λ seconds. let le = granted_most rules.binding_rules most seconds is in omega arith in
-    until_from rules user now most (step rules user bs e) es is (All-tail (λ x. x.now ≤ now) e es past) (until_step rules user (now + most * 1000) bs e short all)
+    until_from (rules_with rules e) user now most (step rules user bs e) es (ap (λ (b : BindingRules). b.max_expires) (same_rules rules e) ∙ is) (All-tail (IsPast now) e es past)
+    (until_step rules user now most bs e is (All-head (IsPast now) e es past) all)
 
 pub none_outlasts : NoneOutlasts
 unfolding bound

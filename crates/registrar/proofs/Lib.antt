@@ -1,6 +1,7 @@
 pub mod PresentLaws
 pub mod EntryLaws
 pub mod PlaceLaws
+pub mod FoldLaws
 pub mod Standing
 pub mod RecentLaws
 pub mod RefreshLaws

@@ -16,8 +16,9 @@ use Rattle.registrar.specs.declared.register.Contact.{Contact}
 use Rattle.registrar.specs.declared.register.Register.{Register}
 use Rattle.registrar.specs.declared.refusal.Refusal.{Refusal}
 use Rattle.registrar.specs.declared.refusal.Refusal.TheVariants.{UnknownUser, StarMisused, TooBrief, OutOfOrder, TooManyBindings, BadContact}
-use Rattle.registrar.specs.Registering.{Rules, bindings_after_one, whole_refusal, unless_refused, present, first_number, rank, with_number, with_ranks, lifetime, is_of, is_too_brief, is_stale, binding_by, put, put_at, without, with_contact, with_contact_at, with_contacts, and_then, within_limit, is_star_misused, is_star_stale, is_bindable, is_zero, is_known, answer_for, answer_by}
-use Rattle.registrar.specs.Bound.{Event, is_latest, latest, target_of, names, or_as_before, step, fold_from, bindings_after, bound, answer_after, LastContactIsTarget, QueryKeepsTarget, FewBound}
+use Rattle.registrar.specs.Registering.{Rules, bindings_after_one, whole_refusal, unless_refused, present, first_number, rank, with_number, with_ranks, lifetime, is_of, is_too_brief, is_stale, binding_by, put, put_at, without, with_contact, with_contact_at, with_contacts, and_then, within_limit, is_star_misused, is_star_stale, is_bindable, is_zero, is_known, with_users, answer_for, answer_by}
+use Rattle.registrar.proofs.FoldLaws.{same_after}
+use Rattle.registrar.specs.Bound.{Event, Registered, Listed, Registration, is_latest, latest, target_of, names, or_as_before, registers, step, rules_with, rules_after, fold_from, bindings_after, bound, answer_after, LastContactIsTarget, QueryKeepsTarget, FewBound}
 use Rattle.registrar.proofs.OrderLaws.{target-with_ranks}
 use Rattle.registrar.proofs.RecentLaws.{target-standing}
 
@@ -256,16 +257,24 @@ sound_or_before : (bs : List Binding) (r : Result (List Binding) Refusal) → So
 sound_or_before bs (Ok after) sound each = each after refl
 sound_or_before bs (Err refusal) sound each = sound
 
-sound_step : (rules : Rules) (user : List ℕ) (bs : List Binding) (e : Event) → Sound bs → Sound (step rules user bs e)
-sound_step rules user bs e sound =
+sound_registers : (rules : Rules) (user : List ℕ) (bs : List Binding) (e : Registration) → Sound bs → Sound (registers rules user bs e)
+sound_registers rules user bs e sound =
     elim (names e.register.user user && is_known rules user) as (λ v. Sound (cond v (or_as_before bs (bindings_after_one rules e.register e.now bs)) bs)) [
       | true ↦ sound_or_before bs (bindings_after_one rules e.register e.now bs) sound (λ after is. sound_after_one rules e.register e.now bs after is)
       | false ↦ sound
     ]
 
+sound_listed : (bs : List Binding) (known : Bool) → Sound bs → Sound (cond known bs [])
+sound_listed bs true sound = sound
+sound_listed bs false sound = sound_none
+
+sound_step : (rules : Rules) (user : List ℕ) (bs : List Binding) (e : Event) → Sound bs → Sound (step rules user bs e)
+sound_step rules user bs (Registered e) sound = sound_registers rules user bs e sound
+sound_step rules user bs (Listed users) sound = sound_listed bs (is_known (with_users rules users) user) sound
+
 sound_from : (rules : Rules) (user : List ℕ) (bs : List Binding) (es : List Event) → Sound bs → Sound (fold_from rules user bs es)
 sound_from rules user bs [] sound = sound
-sound_from rules user bs (e ∷ es) sound = sound_from rules user (step rules user bs e) es (sound_step rules user bs e sound)
+sound_from rules user bs (e ∷ es) sound = sound_from (rules_with rules e) user (step rules user bs e) es (sound_step rules user bs e sound)
 
 -- ---- over all REGISTERs
 
@@ -277,29 +286,31 @@ to_known false r after e = cc
 abbrev all_after : Rules → List Event → List ℕ → List Binding
 all_after rules history user = bindings_after rules user history
 
-last_to : (rules : Rules) (history : List Event) (g : Register) (now : ℕ) (others : List Contact) (c : Contact) (uri : Uri) (after : List Binding) (o : Option (List ℕ))
-    → g.contacts ≡ others ++ c ∷ [] → c.uri ≡ Some uri → granted rules.binding_rules (lifetime g c) ≢ 0 → answer_for rules (all_after rules history) g now o ≡ Ok after → target_of after ≡ Some uri
-last_to rules history g now others c uri after None are is lasts e = cc
-last_to rules history g now others c uri after (Some user) are is lasts e =
-    last_is_target rules g now (bindings_after rules user history) others c uri after (sound_from rules user [] history sound_none) are is lasts
-    (to_known (is_known rules user) (bindings_after_one rules g now (bindings_after rules user history)) after e)
+last_to : (given rules : Rules) (history : List Event) (g : Register) (now : ℕ) (others : List Contact) (c : Contact) (uri : Uri) (after : List Binding) (o : Option (List ℕ))
+    → g.contacts ≡ others ++ c ∷ [] → c.uri ≡ Some uri → granted given.binding_rules (lifetime g c) ≢ 0 → answer_for given (all_after rules history) g now o ≡ Ok after → target_of after ≡ Some uri
+last_to given rules history g now others c uri after None are is lasts e = cc
+last_to given rules history g now others c uri after (Some user) are is lasts e =
+    last_is_target given g now (bindings_after rules user history) others c uri after (sound_from rules user [] history sound_none) are is lasts
+    (to_known (is_known given user) (bindings_after_one given g now (bindings_after rules user history)) after e)
 
 pub last_contact_is_target : LastContactIsTarget
 unfolding answer_after answer_by
-last_contact_is_target rules history g now others c uri after are is lasts e = last_to rules history g now others c uri after g.user are is lasts e
+last_contact_is_target rules history g now others c uri after are is lasts e =
+    last_to (rules_after rules history) rules history g now others c uri after g.user are is
+    (subst (λ (b : BindingRules). granted b (lifetime g c) ≢ 0) (sym (same_after rules history)) lasts) e
 
-query_to : (rules : Rules) (history : List Event) (g : Register) (now : ℕ) (user : List ℕ) (after : List Binding) (o : Option (List ℕ)) → o ≡ Some user
-    → g.contacts ≡ [] → g.star ≡ false → answer_for rules (all_after rules history) g now o ≡ Ok after → target_of after ≡ target_of (present now (bindings_after rules user history))
-query_to rules history g now user after None is none plain e = cc
-query_to rules history g now user after (Some u) is none plain e =
+query_to : (given rules : Rules) (history : List Event) (g : Register) (now : ℕ) (user : List ℕ) (after : List Binding) (o : Option (List ℕ)) → o ≡ Some user
+    → g.contacts ≡ [] → g.star ≡ false → answer_for given (all_after rules history) g now o ≡ Ok after → target_of after ≡ target_of (present now (bindings_after rules user history))
+query_to given rules history g now user after None is none plain e = cc
+query_to given rules history g now user after (Some u) is none plain e =
     let same : u ≡ user = cc in
-    query_keeps rules g now (bindings_after rules u history) after none plain
-    (to_known (is_known rules u) (bindings_after_one rules g now (bindings_after rules u history)) after e)
+    query_keeps given g now (bindings_after rules u history) after none plain
+    (to_known (is_known given u) (bindings_after_one given g now (bindings_after rules u history)) after e)
     ∙ ap (λ v. target_of (present now (bindings_after rules v history))) same
 
 pub query_keeps_target : QueryKeepsTarget
 unfolding answer_after answer_by bound
-query_keeps_target rules history g now user after is none plain e = query_to rules history g now user after g.user is none plain e
+query_keeps_target rules history g now user after is none plain e = query_to (rules_after rules history) rules history g now user after g.user is none plain e
 
 few_for : (rules : Rules) (history : List Event) (user : List ℕ) (now : ℕ) → length (bound rules user history now) ≤ max_bindings
 unfolding bound

@@ -1,5 +1,5 @@
 -- Where the oldest leave, no REGISTER is refused for the number of its bindings.
-use Rattle.std.proofs.Common.{◌≡◌, ◌≢◌, ◌==◌, ◌&&◌, ◌∙◌, not, ℕ, ◌+◌, ◌<◌, ◌≤◌, Bool, true, false, cond, List, [], ◌∷◌, ◌++◌, length, set, find, map, position, All, Option, Some, None, Result, Ok, Err, nat_lt, refl, sym, subst, arith}
+use Rattle.std.proofs.Common.{◌≡◌, ◌≢◌, ◌==◌, ◌&&◌, ◌∙◌, not, ℕ, ◌+◌, ◌<◌, ◌≤◌, Bool, true, false, cond, List, [], ◌∷◌, ◌++◌, length, set, find, map, position, All, Option, Some, None, Result, Ok, Err, nat_lt, refl, sym, ap, subst, arith}
 use Prim.Native.Nat.{zero, suc}
 use Rattle.std.specs.List.{list_all}
 use Rattle.std.proofs.lemmas.Bool.{le-leb, le-ltb, leb-true, ltb-true, ltb-false}
@@ -14,8 +14,9 @@ use Rattle.registrar.specs.declared.refusal.Refusal.{Refusal}
 use Rattle.registrar.specs.declared.refusal.Refusal.TheVariants.{UnknownUser, StarMisused, TooBrief, BadContact, OutOfOrder, TooManyBindings}
 use Rattle.registrar.specs.BindingLaws.{AreApart, NeverTooMany}
 use Rattle.registrar.specs.BindingRules.{granted, recent, standing}
-use Rattle.registrar.specs.Registering.{Rules, bindings_after_one, whole_refusal, unless_refused, present, first_number, rank, with_number, lifetime, is_of, is_too_brief, is_stale, binding_by, put, put_at, without, with_contact, with_contact_at, with_contacts, and_then, within_limit, is_star_misused, is_star_stale, is_bindable, is_known, answer_for, answer_by}
-use Rattle.registrar.specs.Bound.{Event, names, or_as_before, step, fold_from, bindings_after, answer_after}
+use Rattle.registrar.specs.Registering.{Rules, bindings_after_one, whole_refusal, unless_refused, present, first_number, rank, with_number, lifetime, is_of, is_too_brief, is_stale, binding_by, put, put_at, without, with_contact, with_contact_at, with_contacts, and_then, within_limit, is_star_misused, is_star_stale, is_bindable, is_known, with_users, answer_for, answer_by}
+use Rattle.registrar.specs.Bound.{Event, Registered, Listed, Registration, names, or_as_before, registers, step, rules_with, rules_after, fold_from, bindings_after, answer_after}
+use Rattle.registrar.proofs.FoldLaws.{same_after}
 use Rattle.registrar.proofs.OrderLaws.{IsIn, AllIn, in_itself, same_order}
 use Rattle.registrar.proofs.CountLaws.{eight_stand}
 use Rattle.registrar.proofs.RecentLaws.{apart_filter, apart-standing}
@@ -121,19 +122,27 @@ fresh_or_before : (bs : List Binding) (r : Result (List Binding) Refusal) → Fr
 fresh_or_before bs (Ok after) fresh each = each after refl
 fresh_or_before bs (Err refusal) fresh each = fresh
 
-fresh_step : (rules : Rules) (user : List ℕ) (bs : List Binding) (e : Event) → Fresh bs → Fresh (step rules user bs e)
-fresh_step rules user bs e fresh =
+fresh_none : Fresh []
+fresh_none = record { sound = sound_none; apart = tt }
+
+fresh_registers : (rules : Rules) (user : List ℕ) (bs : List Binding) (e : Registration) → Fresh bs → Fresh (registers rules user bs e)
+fresh_registers rules user bs e fresh =
     elim (names e.register.user user && is_known rules user) as (λ v. Fresh (cond v (or_as_before bs (bindings_after_one rules e.register e.now bs)) bs)) [
       | true ↦ fresh_or_before bs (bindings_after_one rules e.register e.now bs) fresh (λ after is. fresh_one rules e.register e.now bs after fresh is)
       | false ↦ fresh
     ]
 
+fresh_listed : (bs : List Binding) (known : Bool) → Fresh bs → Fresh (cond known bs [])
+fresh_listed bs true fresh = fresh
+fresh_listed bs false fresh = fresh_none
+
+fresh_step : (rules : Rules) (user : List ℕ) (bs : List Binding) (e : Event) → Fresh bs → Fresh (step rules user bs e)
+fresh_step rules user bs (Registered e) fresh = fresh_registers rules user bs e fresh
+fresh_step rules user bs (Listed users) fresh = fresh_listed bs (is_known (with_users rules users) user) fresh
+
 fresh_from : (rules : Rules) (user : List ℕ) (bs : List Binding) (es : List Event) → Fresh bs → Fresh (fold_from rules user bs es)
 fresh_from rules user bs [] fresh = fresh
-fresh_from rules user bs (e ∷ es) fresh = fresh_from rules user (step rules user bs e) es (fresh_step rules user bs e fresh)
-
-fresh_none : Fresh []
-fresh_none = record { sound = sound_none; apart = tt }
+fresh_from rules user bs (e ∷ es) fresh = fresh_from (rules_with rules e) user (step rules user bs e) es (fresh_step rules user bs e fresh)
 
 -- ---- there is room
 
@@ -198,12 +207,13 @@ room_known : (known : Bool) (r : Result (List Binding) Refusal) → HasRoom r �
 room_known true r room = room
 room_known false r room = tt
 
-room_for : (rules : Rules) (history : List Event) (g : Register) (now : ℕ) (o : Option (List ℕ)) → rules.binding_rules.oldest_leaves ≡ true → HasRoom (answer_for rules (λ user. bindings_after rules user history) g now o)
-room_for rules history g now None leave = tt
-room_for rules history g now (Some user) leave =
-    room_known (is_known rules user) (bindings_after_one rules g now (bindings_after rules user history))
-    (room_one rules g now (bindings_after rules user history) leave (fresh_from rules user [] history fresh_none))
+room_for : (given rules : Rules) (history : List Event) (g : Register) (now : ℕ) (o : Option (List ℕ)) → given.binding_rules.oldest_leaves ≡ true → HasRoom (answer_for given (λ user. bindings_after rules user history) g now o)
+room_for given rules history g now None leave = tt
+room_for given rules history g now (Some user) leave =
+    room_known (is_known given user) (bindings_after_one given g now (bindings_after rules user history))
+    (room_one given g now (bindings_after rules user history) leave (fresh_from rules user [] history fresh_none))
 
 pub never_too_many : NeverTooMany
 unfolding answer_after answer_by
-never_too_many rules history g now leave many = subst HasRoom many (room_for rules history g now g.user leave)
+never_too_many rules history g now leave many =
+    subst HasRoom many (room_for (rules_after rules history) rules history g now g.user (ap (λ (b : BindingRules). b.oldest_leaves) (same_after rules history) ∙ leave))

@@ -1,5 +1,5 @@
--- A registrar that stands after some REGISTERs stands after one more.
-use Rattle.std.proofs.Common.{◌≡◌, ◌&&◌, ◌∙◌, ℕ, Bool, true, false, cond, List, [], ◌∷◌, ◌++◌, filter, Option, Some, None, Result, Ok, Err, IfOk, All, nat_eq, nat_lt, refl, sym, ap, subst, rules}
+-- A registrar that stands after some events stands after one more.
+use Rattle.std.proofs.Common.{◌≡◌, ◌&&◌, ◌||◌, ◌∙◌, find, map, option_map, unwrap_or, ℕ, Bool, true, false, cond, List, [], ◌∷◌, ◌++◌, filter, Option, Some, None, Result, Ok, Err, IfOk, All, nat_eq, nat_lt, refl, sym, ap, subst, rules}
 use Rattle.std.specs.Cmp.Lexicographic.{pointwise, bytes_decides}
 use Rattle.std.specs.List.{list_any}
 use Rattle.std.specs.declared.vec.Vec.{Vec}
@@ -11,15 +11,13 @@ use Rattle.registrar.specs.declared.binding_rules.BindingRules.{BindingRules}
 use Rattle.registrar.specs.declared.register.Register.{Register}
 use Rattle.registrar.specs.declared.refusal.Refusal.{Refusal}
 use Rattle.registrar.specs.declared.refusal.Refusal.TheVariants.{UnknownUser}
-use Rattle.registrar.specs.Registering.{Rules, is_known, answer_for, answer_by, bindings_after_one, present, AllLast}
-use Rattle.registrar.specs.Bound.{Event, bindings_after, bound, fold_from, step, names, or_as_before, answer_after}
+use Rattle.registrar.specs.Registering.{Rules, is_known, with_users, answer_for, answer_by, bindings_after_one, present, AllLast}
+use Rattle.registrar.specs.Bound.{Event, Listed, bindings_after, bound, step, names, or_as_before, answer_after, rules_after}
+use Rattle.registrar.specs.Changes.{kept_entry, kept_entries, listed}
+use Rattle.registrar.specs.declared.user_bindings.UserBindings.{UserBindings}
 use Rattle.registrar.specs.Registrar.{Contents, StandsAfter, rules_of, rules_given, is_for, bindings_of, event, answer_of, registered, registered_for, registered_at, Gives, made_of}
+use Rattle.registrar.proofs.FoldLaws.{rules_after-append, fold_from-append}
 use Rattle.registrar.proofs.EntryLaws.{known, own_entry, other_entry, same_users, users-without_bindings, none-without_bindings}
-
--- one more REGISTER is one more step
-fold_from-append : (rules : Rules) (user : List ℕ) (bs : List Binding) (es : List Event) (e : Event) → fold_from rules user bs (es ++ e ∷ []) ≡ step rules user (fold_from rules user bs es) e
-fold_from-append rules user bs [] e = refl
-fold_from-append rules user bs (x ∷ es) e = fold_from-append rules user (step rules user bs x) es e
 
 -- a new registrar stands after no REGISTER
 pub stands_new : (users : List (List ℕ)) (ip : List ℕ) (sip_port : ℕ) (domain : List ℕ) (binding_rules : BindingRules)
@@ -87,7 +85,7 @@ rules_for r (Some user) answer = rules_at r user answer
 pub stands_more : (r : Contents) (g : Register) (now : ℕ) (rules : Rules) (history : List Event) → StandsAfter r rules history → StandsAfter (registered r g (answer_of r g now)) rules (history ++ event g now ∷ [])
 unfolding answer_of answer_by registered
 stands_more r g now rules history s = record {
-  rules_are = rules_for r g.user (answer_of r g now) ∙ s.rules_are;
+  rules_are = rules_for r g.user (answer_of r g now) ∙ s.rules_are ∙ sym (rules_after-append rules history (event g now));
   each = λ v.
       each_for r g now v g.user
       ∙ ap (λ bs. step (rules_of r) v bs (event g now)) (s.each v)
@@ -95,10 +93,39 @@ stands_more r g now rules history s = record {
       ∙ sym (fold_from-append rules v [] history (event g now));
 }
 
+-- ---- a list of users
+
+kept-users : (es : List UserBindings) (users : List (List ℕ)) → map (λ l. l.user) (kept_entries es users) ≡ users
+kept-users es [] = refl
+kept-users es (u ∷ us) = ap (λ vs. u ∷ vs) (kept-users es us)
+
+-- who is on the list has what it had, and nobody else has anything
+pub kept-bindings : (es : List UserBindings) (users : List (List ℕ)) (user : List ℕ)
+    → bindings_of (kept_entries es users) user ≡ cond (list_any (λ u. pointwise nat_eq u user) users) (bindings_of es user) []
+kept-bindings es [] user = refl
+kept-bindings es (u ∷ us) user =
+    elim (pointwise nat_eq u user) as (λ v. pointwise nat_eq u user ≡ v → unwrap_or (option_map (λ l. l.bindings) (cond v (Some (kept_entry es u)) (find (is_for user) (kept_entries es us)))) []
+    ≡ cond (v || list_any (λ w. pointwise nat_eq w user) us) (bindings_of es user) []) [
+      | true ↦ λ e. ap (bindings_of es) ((bytes_decides u user).0 e)
+      | false ↦ λ e. kept-bindings es us user
+    ] refl
+
+pub stands_listed : (r : Contents) (users : List (List ℕ)) (rules : Rules) (history : List Event) → StandsAfter r rules history → StandsAfter (listed r users) rules (history ++ Listed users ∷ [])
+stands_listed r users rules history s = record {
+  rules_are =
+      ap (λ us. rules_given us r.ip r.sip_port r.domain r.binding_rules) (kept-users r.entries users)
+      ∙ ap (λ rs. with_users rs users) s.rules_are
+      ∙ sym (rules_after-append rules history (Listed users));
+  each = λ v.
+      kept-bindings r.entries users v
+      ∙ ap (λ bs. cond (list_any (λ u. pointwise nat_eq u v) users) bs []) (s.each v)
+      ∙ sym (fold_from-append rules v [] history (Listed users));
+}
+
 -- ---- the answer
 
 answer_standing : (r : Contents) (g : Register) (now : ℕ) (rules : Rules) (history : List Event) → StandsAfter r rules history → (named : Option (List ℕ))
-    → answer_for (rules_of r) (bindings_of r.entries) g now named ≡ answer_for rules (λ user. bindings_after rules user history) g now named
+    → answer_for (rules_of r) (bindings_of r.entries) g now named ≡ answer_for (rules_after rules history) (λ user. bindings_after rules user history) g now named
 answer_standing r g now rules history s None = refl
 answer_standing r g now rules history s (Some user) =
     ap (λ bs. cond (is_known (rules_of r) user) (bindings_after_one (rules_of r) g now bs) (Err UnknownUser)) (s.each user)

@@ -6,12 +6,17 @@ use Rattle.registrar.specs.declared.register.Register.{Register}
 use Rattle.registrar.specs.declared.refusal.Refusal.TheVariants.{TooManyBindings}
 use Rattle.registrar.specs.BindingRules.{is_recent, recent, standing}
 use Rattle.registrar.specs.Registering.{Rules}
-use Rattle.registrar.specs.Bound.{Event, bound, answer_after}
+use Rattle.registrar.specs.Bound.{Event, Registered, Listed, bound, answer_after}
+
+-- a REGISTER came at this moment at the latest; a list of users has no moment
+abbrev pub IsPast : ℕ → Event → Type 0
+IsPast now (Registered r) = r.now ≤ now
+IsPast now (Listed users) = Unit {0}
 
 -- no binding is past its lifetime: it is over at the latest when the greatest has passed from now on
 abbrev pub NoneOutlasts : Type 0
 NoneOutlasts = (rules : Rules) (history : List Event) (user : List ℕ) (now most : ℕ) → rules.binding_rules.max_expires ≡ Some most
-    → All (λ e. e.now ≤ now) history → All (λ b. b.expires_at ≤ now + most * 1000) (bound rules user history now)
+    → All (IsPast now) history → All (λ b. b.expires_at ≤ now + most * 1000) (bound rules user history now)
 
 -- no two were refreshed under one number
 abbrev pub AreApart : List Binding → Type 0

@@ -209,6 +209,11 @@ user_of rules to = if is_own_host rules to.host then to.user else None
 abbrev pub is_known : Rules → List ℕ → Bool
 is_known rules user = list_any (λ u. pointwise nat_eq u user) rules.users
 
+-- these are the users, and all else is as before
+abbrev pub with_users : Rules → List (List ℕ) → Rules
+with_users rules users =
+    record { users = users; ip = rules.ip; sip_port = rules.sip_port; domain = rules.domain; binding_rules = rules.binding_rules }
+
 -- ---- the answer
 
 abbrev pub answer_for : Rules → (List ℕ → List Binding) → Register → ℕ → Option (List ℕ) → Result (List Binding) Refusal

@@ -1,4 +1,4 @@
--- The registrar, and what it means that it stands after a list of REGISTERs.
+-- The registrar, and what it means that it stands after a list of REGISTERs and lists of users.
 use Rattle.std.specs.Prelude.{◌≡◌, ℕ, Bool, List, [], ◌∷◌, find, map, nat_eq, Option, Some, None, option_map, unwrap_or, Result, Ok, Err, if◌then◌else◌}
 use Rattle.std.specs.Cmp.Lexicographic.{pointwise}
 use Rattle.std.specs.declared.vec.Vec.{Vec}
@@ -10,7 +10,7 @@ use Rattle.registrar.specs.declared.user_bindings.UserBindings.{UserBindings}
 use Rattle.registrar.specs.declared.refusal.Refusal.{Refusal}
 use Rattle.registrar.specs.declared.refusal.Refusal.TheVariants.{OutOfMemory}
 use Rattle.registrar.specs.Registering.{Rules, answer_by, early_refusal, present}
-use Rattle.registrar.specs.Bound.{Event, bindings_after}
+use Rattle.registrar.specs.Bound.{Event, Registered, bindings_after, rules_after}
 
 -- each user with its bindings, and the configuration
 pub record Contents : Type 0 where
@@ -37,13 +37,13 @@ bindings_of entries user = unwrap_or (option_map (λ l. l.bindings) (find (is_fo
 unfoldable pub bindings_at : Contents → List ℕ → ℕ → List Binding
 bindings_at r user now = present now (bindings_of r.entries user)
 
--- for each user the registrar has what these REGISTERs leave
+-- its users are those of the last list, and for each user it has what these events leave
 pub record StandsAfter (r : Contents) (rules : Rules) (history : List Event) : Type 0 where
-  pub rules_are : rules_of r ≡ rules
+  pub rules_are : rules_of r ≡ rules_after rules history
   pub each : (user : List ℕ) → bindings_of r.entries user ≡ bindings_after rules user history
 
 abbrev pub event : Register → ℕ → Event
-event register now = record { register = register; now = now }
+event register now = Registered (record { register = register; now = now })
 
 -- ---- the answer to a REGISTER
 

@@ -4,9 +4,11 @@ ghost use Rattle.std.specs.Prelude.{◌≡◌, ◌<◌, length, map, find, posit
 ghost use Rattle.std.specs.List.{list_any};
 ghost use Rattle.std.specs.Cmp.Lexicographic.{pointwise};
 ghost use Rattle.registrar.specs.Registrar.{is_for, bindings_of, entries_with, without_bindings};
+ghost use Rattle.registrar.specs.Changes.{kept_entry, kept_entries};
 ghost use Rattle.registrar.specs.Entries.{IsIndexed, is_at};
 
 use crate::binding::{Binding, Bindings};
+use crate::copies::copy_all;
 use crate::user_bindings::{UserBindings, without_bindings};
 use index::{Entry, Index, PrintKey};
 use std::alloc::{AllocError, Global};
@@ -49,6 +51,43 @@ impl Entries {
         let users = without_bindings(alloc, users)?;
         let names = index_of(alloc, key, &users)?;
         Ok(Entries { users, key, names })
+    }
+
+    /// These users, who are looked up by the same prints, each with what it is bound to here.
+    pub(crate) fn for_users(&self, alloc: Global, users: &[Text<'_>]) -> Result<Entries, AllocError>
+        ensures { IfOk result (λ entries. entries ≡ kept_entries self.now users.now) }
+    {
+        let users = self.kept_entries(alloc, users)?;
+        let names = index_of(alloc, self.key, &users)?;
+        Ok(Entries {
+            users,
+            key: self.key,
+            names,
+        })
+    }
+
+    fn kept_entries(
+        &self,
+        alloc: Global,
+        users: &[Text<'_>],
+    ) -> Result<Vec<UserBindings>, AllocError>
+        ensures { IfOk result (λ entries. entries.items ≡ kept_entries self.now users.now) }
+    {
+        let mut entries = Vec::new(alloc);
+        for user in users {
+            entries.push(self.kept_entry(alloc, user)?)?;
+        }
+        Ok(entries)
+    }
+
+    fn kept_entry(&self, alloc: Global, user: &Text<'_>) -> Result<UserBindings, AllocError>
+        ensures { IfOk result (λ entry. entry ≡ kept_entry self.now user.now) }
+    {
+        let bindings = copy_all(alloc, self.look_up(user).1)?;
+        Ok(UserBindings {
+            user: user.keep(alloc)?,
+            bindings: Bindings::from_vec(bindings),
+        })
     }
 
     /// The entries, lent. Takes no memory.

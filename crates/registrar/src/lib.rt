@@ -1,10 +1,12 @@
 //! The registrar: which contacts each user of the office is bound to (RFC 3261 section 10.3).
 //!
-//! A user has a list of bindings. A REGISTER changes it by all of its contacts, or not at all.
+//! A user has a list of bindings. A REGISTER changes it by all of its contacts, or not at all. A list of users says who
+//! the users are from then on.
 #![tactic(auto)]
 
 mod binding;
 mod binding_rules;
+mod change;
 mod contact_rules;
 mod copies;
 mod draft;
@@ -20,6 +22,7 @@ mod user_bindings;
 
 pub use binding::{Binding, Bindings};
 pub use binding_rules::BindingRules;
+pub use change::{Listing, RegistrarChange};
 pub use laws::{laws_of_binding_rules, laws_of_bindings};
 pub use plan::Plan;
 pub use refusal::Refusal;

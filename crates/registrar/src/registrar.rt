@@ -1,15 +1,17 @@
 //! The registrar.
 
-ghost use Rattle.std.specs.Prelude.{◌≡◌, ◌≢◌, ℕ, List, [], ◌∷◌, ◌++◌, ◌≤◌, ◌<◌, ◌^◌, length, None, Some, Err, OnErr, IfOk, IfSome, IsTrue};
+ghost use Rattle.std.specs.Prelude.{◌≡◌, ◌≢◌, ℕ, List, [], ◌∷◌, ◌++◌, ◌≤◌, ◌<◌, ◌^◌, length, None, Some, Err, OnOk, OnErr, IfOk, IfSome, IsTrue};
 ghost use Rattle.std.specs.Option.{option_copied};
 ghost use Rattle.registrar.specs.Limits.{max_users, max_min_expires};
 ghost use Rattle.registrar.specs.Registering.{Rules, AllLast, bindings_by, bindings_after_one, is_own_host, user_of, are_distinct, is_known, whole_refusal};
-ghost use Rattle.registrar.specs.Bound.{Event, bound, target_of, answer_after};
+ghost use Rattle.registrar.specs.Bound.{Event, Listed, bound, target_of, answer_after};
+ghost use Rattle.registrar.specs.Changes.{after_change, kept_entries, listed, user_of_change};
 ghost use Rattle.registrar.specs.Registrar.{Gives, Counts, Plans};
 ghost use Rattle.registrar.specs.declared.refusal.Refusal.TheVariants as Refusal;
 
 use crate::binding::Binding;
 use crate::binding_rules::BindingRules;
+use crate::change::{Listing, RegistrarChange};
 use crate::contact_rules::{with_contacts, within_limit};
 use crate::copies::{copy_all, present};
 use crate::draft::{drafts_of, first_number};
@@ -141,6 +143,41 @@ impl Registrar {
         let (user, bindings) = plan.into_parts();
         self.entries.put_bindings(&user, bindings);
         user
+    }
+
+    /// What `make_change` is to change so that these are the users: who is one already keeps its bindings. Changes
+    /// nothing.
+    pub fn listing(&self, users: &[Text<'_>]) -> Result<Listing, AllocError>
+        ensures { IfOk result (λ listing. listing ≡ kept_entries self.now.entries users.now) }
+    {
+        Ok(Listing::from_entries(self.entries.for_users(self.alloc, users)?))
+    }
+
+    /// Makes a change, and gives the user whose bindings it sets, where it is that of a REGISTER. Takes no memory.
+    pub fn make_change(&mut self, change: RegistrarChange) -> Option<Text<'static>>
+        ensures table { self.new ≡ after_change self.old change }
+        ensures user { result ≡ user_of_change change }
+    {
+        match change {
+            RegistrarChange::Binds(plan) => Some(self.carry_out(plan)),
+            RegistrarChange::Lists(listing) => {
+                self.entries = listing.into_entries();
+                None
+            }
+        }
+    }
+
+    /// Makes these the users from now on: `listing` and `make_change` together. Who is no user any more loses its
+    /// bindings; who is one already keeps them.
+    pub fn put_users(&mut self, users: &[Text<'_>]) -> Result<(), AllocError>
+        ensures stands { OnOk result ((rules : Rules) (history : List Event) → StandsAfter self.old rules history
+            → StandsAfter self.new rules (history ++ Listed users.now ∷ [])) }
+        ensures table { OnOk result (self.new ≡ listed self.old users.now) }
+        ensures err { OnErr result (self.new ≡ self.old) }
+    {
+        let listing = self.listing(users)?;
+        drop(self.make_change(RegistrarChange::Lists(listing)));
+        Ok(())
     }
 
     /// Takes a REGISTER, and answers the bindings that its user then has, oldest first (RFC 3261 section 10.3): `plan`

@@ -1,4 +1,5 @@
--- Whether an event brings a REGISTER can be decided: so there is a list of those that any entries bring.
+-- Whether an event brings a REGISTER, or a list of users, can be decided: so there is a list of those that any entries
+-- bring.
 use Rattle.std.proofs.Common.{◌≡◌, ◌∙◌, ◌<◌, ◌⊎◌, ℕ, Bool, true, false, nat_lt, List, [], ◌∷◌, Option, Some, None, Result, Ok, Err, ap, arith, inl, inr, refl, subst, sym}
 use Rattle.std.proofs.lemmas.Bool.{false≢true, ltb-false, ltb-true}
 use Rattle.std.proofs.lemmas.Option.{none-some}
@@ -8,7 +9,7 @@ use Rattle.sip_message.specs.declared.error.MessageError.{MessageError}
 use Rattle.sip_message.specs.declared.message.Message.{Message}
 use Rattle.sip_message.specs.declared.message.Message.TheVariants as Kinds
 use Rattle.sip_message.specs.declared.message.Request.{Request}
-use Rattle.registrar.specs.Bound.{Event as Registration}
+use Rattle.registrar.specs.Bound.{Event as RegistrarEvent, Listed}
 use Rattle.registrar.specs.Registering.{Rules}
 use Rattle.transactions.specs.Contents.{reception_of}
 use Rattle.transactions.specs.Limits.{max_served}
@@ -28,7 +29,7 @@ use Rattle.event_rows.specs.State.{Contents, moment_at, office}
 use Rattle.event_rows.specs.Trace.{Entry, after_entry}
 use Rattle.event_rows.specs.Rule.{Rule}
 use Rattle.event_rows.specs.Rule as rules
-use Rattle.step_laws.specs.Registering.{AreRegistrations, IsNoRegister, IsRegistration, Registers, registration_at}
+use Rattle.step_laws.specs.Registering.{AreRegistrations, BringsUsers, IsListing, IsNoList, IsNoRegister, IsRegistration, Registers, registration_at}
 
 pub record Brought (s : Contents) (event : Event) : Type 0 where
   pub source : Addr
@@ -111,6 +112,7 @@ by_what : (s : Contents) (event : Event) (what : What) → only_counts s event �
 by_what s event (whats.Datagram source bytes) counts is = by_reading s event source bytes is (message_of bytes) counts refl
 by_what s event whats.Due counts is = inr (λ source r id h. let none : whats.Due ≡ whats.Datagram source h.bytes = sym is ∙ h.begins.comes.datagram in cc)
 by_what s event (whats.Silent number) counts is = inr (λ source r id h. let none : whats.Silent number ≡ whats.Datagram source h.bytes = sym is ∙ h.begins.comes.datagram in cc)
+by_what s event (whats.Users users) counts is = inr (λ source r id h. let none : whats.Users users ≡ whats.Datagram source h.bytes = sym is ∙ h.begins.comes.datagram in cc)
 
 by_counts : (s : Contents) (event : Event) (counts : Option Taken) → only_counts s event ≡ counts → Decided s event
 by_counts s event None is = by_what s event event.what is refl
@@ -119,19 +121,41 @@ by_counts s event (Some taken) is = inr (λ source r id h. none-some taken (sym 
 decision : (s : Contents) (event : Event) → Decided s event
 decision s event = by_counts s event (only_counts s event) refl
 
+-- ---- a list of users
+
+pub record BroughtUsers (s : Contents) (event : Event) : Type 0 where
+  pub users : List (List ℕ)
+  pub brings : BringsUsers s event users
+
+list_by_what : (s : Contents) (event : Event) (what : What) → only_counts s event ≡ None → event.what ≡ what → BroughtUsers s event ⊎ IsNoList s event
+list_by_what s event (whats.Users users) counts is = inl (record { users = users; brings = record { what = is; counts = counts } })
+list_by_what s event (whats.Datagram source bytes) counts is = inr (λ users h. let none : whats.Datagram source bytes ≡ whats.Users users = sym is ∙ h.what in cc)
+list_by_what s event whats.Due counts is = inr (λ users h. let none : whats.Due ≡ whats.Users users = sym is ∙ h.what in cc)
+list_by_what s event (whats.Silent number) counts is = inr (λ users h. let none : whats.Silent number ≡ whats.Users users = sym is ∙ h.what in cc)
+
+list_by_counts : (s : Contents) (event : Event) (counts : Option Taken) → only_counts s event ≡ counts → BroughtUsers s event ⊎ IsNoList s event
+list_by_counts s event None is = list_by_what s event event.what is refl
+list_by_counts s event (Some taken) is = inr (λ users h. none-some taken (sym h.counts ∙ is))
+
+list_decision : (s : Contents) (event : Event) → BroughtUsers s event ⊎ IsNoList s event
+list_decision s event = list_by_counts s event (only_counts s event) refl
+
 -- ---- the list of any entries
 
-with_answer : (rs : Rules) (s : Contents) (x : Entry) (xs : List Entry) (hs : List Registration) (answer : Option Taken) → x.answer ≡ answer → AreRegistrations rs (after_entry s x) xs hs → Decided s x.event
-    → (history : List Registration) × AreRegistrations rs s (x ∷ xs) history
-with_answer rs s x xs hs None lost are known = (hs, inl (inl lost, are))
-with_answer rs s x xs hs (Some taken) told are (inr none) = (hs, inl (inr none, are))
-with_answer rs s x xs hs (Some taken) told are (inl one) =
+with_answer : (rs : Rules) (s : Contents) (x : Entry) (xs : List Entry) (hs : List RegistrarEvent) (answer : Option Taken) → x.answer ≡ answer → AreRegistrations rs (after_entry s x) xs hs → Decided s x.event → BroughtUsers s x.event ⊎ IsNoList s x.event
+    → (history : List RegistrarEvent) × AreRegistrations rs s (x ∷ xs) history
+with_answer rs s x xs hs None lost are known listing = (hs, inl (inl lost, are))
+with_answer rs s x xs hs (Some taken) told are (inr none) (inr other) = (hs, inl (inr (none, other), are))
+with_answer rs s x xs hs (Some taken) told are (inr none) (inl one) =
+    let is : IsListing s x (Listed one.users) = record { not_lost = λ lost. none-some taken (sym lost ∙ told); users = one.users; brings = one.brings; is = refl } in
+    (Listed one.users ∷ hs, inr (Listed one.users, hs, refl, inr is, are))
+with_answer rs s x xs hs (Some taken) told are (inl one) listing =
     let h = registration_at rs s x.event one.request in
     let is : IsRegistration rs s x h = record { not_lost = λ lost. none-some taken (sym lost ∙ told); source = one.source; request = one.request; id = one.id; registers = one.registers; is = refl } in
-    (h ∷ hs, inr (h, hs, refl, is, are))
+    (h ∷ hs, inr (h, hs, refl, inl is, are))
 
-pub registrations : (rs : Rules) (xs : List Entry) (s : Contents) → (history : List Registration) × AreRegistrations rs s xs history
+pub registrations : (rs : Rules) (xs : List Entry) (s : Contents) → (history : List RegistrarEvent) × AreRegistrations rs s xs history
 registrations rs [] s = ([], refl)
 registrations rs (x ∷ xs) s =
     let rest = registrations rs xs (after_entry s x) in
-    with_answer rs s x xs rest.0 x.answer refl rest.1 (decision s x.event)
+    with_answer rs s x xs rest.0 x.answer refl rest.1 (decision s x.event) (list_decision s x.event)

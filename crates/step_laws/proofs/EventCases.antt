@@ -42,7 +42,7 @@ use Rattle.events.specs.declared.event.What.{What}
 use Rattle.events.specs.declared.event.What.TheVariants as whats
 use Rattle.plans.specs.CallRows.{ack_by, ack_row, call_timer_row, of_plan, tag_at}
 use Rattle.plans.specs.Effect.{Effect}
-use Rattle.plans.specs.Plan.{nothing}
+use Rattle.plans.specs.Plan.{lists, nothing}
 use Rattle.plans.specs.declared.reason.Reason.TheVariants as reasons
 use Rattle.plans.specs.Replies.{registers, reply_row}
 use Rattle.plans.specs.declared.rule.Reply.{Reply}
@@ -57,7 +57,9 @@ use Rattle.event_rows.specs.State.{Contents, moment_at, moments_end, max_tokens,
 use Rattle.event_rows.specs.Rule as rules
 use Rattle.message_laws.proofs.Messages.RequestViews as requests
 use Rattle.step_laws.specs.Dropping.{NoneTakes, IsAnsweredFor, IsBranched, IsRead}
-use Rattle.step_laws.specs.Registering.{Registers}
+use Rattle.step_laws.specs.Registering.{BringsUsers, Registers}
+use Rattle.configuration.specs.Rules.{is_user_list}
+use Rattle.registrar.specs.Changes.{kept_entries}
 use Rattle.step_laws.proofs.CallRows.{IsDoneBy, call_timer_done, fire_ready, first_done, moves_done, okay_done, passes_done, refuses_done, reply_done, request_done, response_done, takes_done, timeout_done}
 use Rattle.step_laws.proofs.Ready.{change_ready}
 use Rattle.step_laws.proofs.ReadySteps.{AllReady, none_ready, one_ready}
@@ -71,6 +73,7 @@ pub data EventCase (s : Contents) (event : Event) (x : Effect) : Type 0 where
   went : IsDoneBy x → EventCase s event x
   registered : (source : Addr) (r : Request) (id : ℕ) → Registers s event source r id
       → x ≡ of_plan (office s) (registers (office s) (setting (moment_at s event.now) event.salt source) r (change_of s.table (Kinds.Request r) source ∷ []) id) → EventCase s event x
+  listed : (users : List (List ℕ)) → BringsUsers s event users → x ≡ of_plan (office s) (lists (kept_entries s.registrar.entries users)) → EventCase s event x
 
 -- ---- an event that is only counted
 
@@ -91,7 +94,9 @@ what_counts_for s event (whats.Datagram source bytes) is =
 what_counts_for s event whats.Due is =
     due_counts s event (first_due s.table.timers (moment_at s event.now)) (first_due s.calls.timers (moment_at s event.now)) is refl refl
 what_counts_for s event (whats.Silent number) is =
-    cond_both (has_settled number s.calls.calls) None (Some Idle) (IsCounted s event) (λ settled. tt) (λ none. inr (record { number = number; silent = is; none = none }))
+    cond_both (has_settled number s.calls.calls) None (Some Idle) (IsCounted s event) (λ settled. tt) (λ none. inr (inl (record { number = number; silent = is; none = none })))
+what_counts_for s event (whats.Users users) is =
+    cond_both (is_user_list users) None (Some Idle) (IsCounted s event) (λ may. tt) (λ amiss. inr (inr (record { users = users; what = is; amiss = amiss })))
 
 counts_for : (s : Contents) (event : Event) → IsCounted s event (only_counts s event)
 unfolding only_counts
@@ -296,6 +301,7 @@ what_case s event (whats.Datagram source bytes) is counts = datagram_case s even
 what_case s event whats.Due is counts =
     due_case s event is (setting (moment_at s event.now) event.salt no_source) (first_due s.table.timers (moment_at s event.now)) (first_due s.calls.timers (moment_at s event.now)) refl refl
 what_case s event (whats.Silent number) is counts = went (call_timer_done (office s) (setting (moment_at s event.now) event.salt no_source) (id number Lifetime))
+what_case s event (whats.Users users) is counts = listed users (record { what = is; counts = counts }) refl
 
 counted_case : (s : Contents) (event : Event) (counts : Option Taken) → only_counts s event ≡ counts → IsCounted s event counts → EventCase s event (row_by s event counts)
 counted_case s event None is h = what_case s event event.what refl is

@@ -13,12 +13,13 @@ use Rattle.event_rows.specs.Rows.{after, moment_after, row, setting}
 use Rattle.event_rows.specs.State.{Contents, IsNew, after_event, moment_at, office}
 use Rattle.event_rows.specs.Trace.{AreEntries, Entry, after_answer, after_entries, after_entry}
 use Rattle.step_laws.proofs.CallRows.{registers_ready}
-use Rattle.step_laws.proofs.EventCases.{EventCase, event_case, ignored, registered, unfired, went}
+use Rattle.step_laws.proofs.EventCases.{EventCase, event_case, ignored, listed, registered, unfired, went}
 use Rattle.step_laws.proofs.Ready.{Fires, all_fire, change_ready}
 use Rattle.step_laws.proofs.ReadySteps.{AllReady, none_ready, one_ready}
 
 case_ready : (s : Contents) (event : Event) (x : Effect) → EventCase s event x → AllReady x.plan.changes
 case_ready s event x (ignored taken why is) = subst (λ (y : Effect). AllReady y.plan.changes) (sym is) none_ready
+case_ready s event x (listed users brings is) = subst (λ (y : Effect). AllReady y.plan.changes) (sym is) none_ready
 case_ready s event x (unfired timer due none is) = subst (λ (y : Effect). AllReady y.plan.changes) (sym is) none_ready
 case_ready s event x (went is) = is.changes
 case_ready s event x (registered source r id registers is) =

@@ -10,9 +10,10 @@ use Rattle.event_rows.specs.State.{Contents, IsNew, moment_at, office, rules_by}
 use Rattle.event_rows.specs.Trace.{AreEntries, Entry, after_entries}
 use Rattle.event_rows.specs.Rules.{target, target_by}
 use Rattle.event_rows.proofs.RuleLaws.{WasFound, request_found}
-use Rattle.registrar.specs.Bound.{Event as Registration, bound, target_of}
+use Rattle.registrar.specs.Bound.{Event as RegistrarEvent, bound, target_of}
 use Rattle.registrar.specs.Registering.{Rules, present, user_of}
 use Rattle.registrar.specs.Registrar.{StandsAfter, bindings_at}
+use Rattle.registrar.proofs.FoldLaws.{same_user}
 use Rattle.step_laws.specs.Offers.{IsBoundTo, IsFirstCall}
 use Rattle.step_laws.specs.Registering.{AreRegistrations}
 use Rattle.step_laws.proofs.Counting.{registers_stand}
@@ -21,7 +22,7 @@ use Rattle.step_laws.proofs.Counting.{registers_stand}
 pub first_found : (s : Contents) (now : ℕ) (r : Request) (to : Uri) (offer : Description) → IsFirstCall s now r to offer → target (office s) r now ≡ Some to
 first_found s now r to offer h = subst (WasFound (office s) r now) h.rule (request_found (office s) r now)
 
-module _ (s : Contents) (rules : Rules) (history : List Registration) (stands : StandsAfter s.registrar rules history) where
+module _ (s : Contents) (rules : Rules) (history : List RegistrarEvent) (stands : StandsAfter s.registrar rules history) where
   same_bindings : (user : List ℕ) (now : ℕ) → bindings_at s.registrar user now ≡ bound rules user history now
   unfolding bindings_at bound
   same_bindings user now = ap (present now) (stands.each user)
@@ -32,8 +33,8 @@ module _ (s : Contents) (rules : Rules) (history : List Registration) (stands : 
 
   pub first_bound : (event : Event) (r : Request) (to : Uri) (offer : Description) → IsFirstCall s (moment_at s event.now) r to offer → IsBoundTo rules history r (moment_at s event.now) to
   first_bound event r to offer h =
-      bound_by r (moment_at s event.now) to (user_of rules r.uri) refl (ap (λ rs. target_by (office s) (moment_at s event.now) (user_of rs r.uri)) (sym stands.rules_are) ∙ first_found s (moment_at s event.now) r to offer h)
+      bound_by r (moment_at s event.now) to (user_of rules r.uri) refl (ap (target_by (office s) (moment_at s event.now)) (sym (ap (λ rs. user_of rs r.uri) stands.rules_are ∙ same_user rules history r.uri)) ∙ first_found s (moment_at s event.now) r to offer h)
 
-pub agents_bound : (config : Config) (s : Contents) (entries : List Entry) (history : List Registration) → IsNew config s → AreEntries s entries → AreRegistrations (rules_by config) s entries history → (event : Event) (r : Request) (to : Uri) (offer : Description)
+pub agents_bound : (config : Config) (s : Contents) (entries : List Entry) (history : List RegistrarEvent) → IsNew config s → AreEntries s entries → AreRegistrations (rules_by config) s entries history → (event : Event) (r : Request) (to : Uri) (offer : Description)
     → IsFirstCall (after_entries s entries) (moment_at (after_entries s entries) event.now) r to offer → IsBoundTo (rules_by config) history r (moment_at (after_entries s entries) event.now) to
 agents_bound config s entries history new are registrations = first_bound (after_entries s entries) (rules_by config) history (registers_stand config s entries history new are registrations)

@@ -3,13 +3,14 @@ use Rattle.std.proofs.Common.{◌≡◌, ◌∙◌, ◌++◌, ℕ, List, [], ◌
 use Rattle.sip_uri.specs.declared.uri.Addr.{Addr}
 use Rattle.sip_message.specs.declared.message.Message.TheVariants as Kinds
 use Rattle.sip_message.specs.declared.message.Request.{Request}
-use Rattle.registrar.specs.Bound.{Event as Registration, answer_after, bound}
+use Rattle.registrar.specs.Bound.{Event as RegistrarEvent, Listed, answer_after, bound, rules_after}
 use Rattle.registrar.specs.Registering.{Rules}
 use Rattle.registrar.specs.Registrar.{StandsAfter, answer_of, event as registration, registered, registered_for, rules_of}
 use Rattle.registrar.specs.declared.binding.Binding.{Binding}
 use Rattle.registrar.specs.declared.refusal.Refusal.{Refusal}
 use Rattle.registrar.specs.declared.register.Register.{Register}
-use Rattle.registrar.proofs.Standing.{stands_more}
+use Rattle.registrar.proofs.FoldLaws.{same_user}
+use Rattle.registrar.proofs.Standing.{stands_listed, stands_more}
 use Rattle.transactions.specs.declared.change.Entry.{Entry}
 use Rattle.transactions.specs.Changes.{change_of}
 use Rattle.events.specs.declared.event.Event.{Event}
@@ -19,11 +20,18 @@ use Rattle.plans.specs.Office.{Office}
 use Rattle.plans.specs.Replies.{fresh_tag, registers, registers_by, reply_row}
 use Rattle.plans.specs.declared.setting.Setting.{Setting}
 use Rattle.responses.specs.Registering.{register_of}
-use Rattle.event_rows.specs.Rows.{after, row, rule_row, setting}
+use Rattle.plans.specs.Plan.{lists}
+use Rattle.registrar.specs.Changes.{kept_entries}
+use Rattle.event_rows.specs.Rows.{after, row, row_by, rule_row, setting, what_row}
 use Rattle.event_rows.specs.State.{Contents, after_event, moment_at, office, registered_by}
-use Rattle.step_laws.specs.Registering.{Lists, ListsBound, Refuses, Registers, registration_at}
+use Rattle.step_laws.specs.Registering.{BringsUsers, Lists, ListsBound, Refuses, Registers, TakesUsers, registration_at}
 use Rattle.step_laws.proofs.Bound.{answer_same, bound_is}
 use Rattle.step_laws.proofs.ComingRows.{begun_row}
+
+-- whom a REGISTER names does not depend on who the users are
+same_register : (rules : Rules) (history : List RegistrarEvent) (r : Request) → register_of (rules_after rules history) r ≡ register_of rules r
+unfolding register_of
+same_register rules history r = ap (λ (user : Option (List ℕ)). record (register_of rules r) { user = user }) (same_user rules history r.parts.to.uri)
 
 module _ (s : Contents) (event : Event) (source : Addr) (r : Request) (id : ℕ) (h : Registers s event source r id) where
   abbrev e : Setting
@@ -38,11 +46,11 @@ module _ (s : Contents) (event : Event) (source : Addr) (r : Request) (id : ℕ)
 
   -- ---- by the list of REGISTERs before
 
-  module _ (rules : Rules) (history : List Registration) (stands : StandsAfter s.registrar rules history) where
+  module _ (rules : Rules) (history : List RegistrarEvent) (stands : StandsAfter s.registrar rules history) where
     answers : registers (office s) e r entries id ≡ registers_by (office s) e r entries id (register_of rules r).user (answer_after rules history (register_of rules r) (moment_at s event.now))
     unfolding registers
     answers =
-        ap (λ rs. registers_by (office s) e r entries id (register_of rs r).user (answer_of s.registrar (register_of rs r) (moment_at s event.now))) stands.rules_are
+        ap (λ g. registers_by (office s) e r entries id g.user (answer_of s.registrar g (moment_at s event.now))) (ap (λ rs. register_of rs r) stands.rules_are ∙ same_register rules history r)
         ∙ ap (registers_by (office s) e r entries id (register_of rules r).user) (answer_same s.registrar (register_of rules r) (moment_at s event.now) rules history stands)
 
     answers_by : (answer : Result (List Binding) Refusal) → answer_after rules history (register_of rules r) (moment_at s event.now) ≡ answer
@@ -50,7 +58,7 @@ module _ (s : Contents) (event : Event) (source : Addr) (r : Request) (id : ℕ)
     answers_by answer is = register_row ∙ ap (of_plan (office s)) (answers ∙ ap (registers_by (office s) e r entries id (register_of rules r).user) is)
 
     pub lists_bound : (user : List ℕ) → (register_of rules r).user ≡ Some user → (bindings : List Binding) → answer_after rules history (register_of rules r) (moment_at s event.now) ≡ Ok bindings
-        → ListsBound rules history (registration_at rules s event r) source r user (row s event)
+        → ListsBound rules history (registration_at rules s event r) (moment_at s event.now) source r user (row s event)
     lists_bound user named bindings is =
         let lists_then : (bs : List Binding) → bs ≡ bindings → Lists source r (moment_at s event.now) bs (row s event) = λ bs same.
         subst (λ x. Lists source r (moment_at s event.now) bs x) (sym (answers_by (Ok bs) (is ∙ ap Ok (sym same)))) (record { taken = refl; tag = fresh_tag (office s) e; sends = refl }) in
@@ -80,13 +88,30 @@ pub registrar_after : (s : Contents) (event : Event) → (after s event).registr
 unfolding after_event
 registrar_after s event = refl
 
-pub stands_after : (s : Contents) (event : Event) (source : Addr) (r : Request) (id : ℕ) → Registers s event source r id → (rules : Rules) (history : List Registration) → StandsAfter s.registrar rules history
+pub stands_after : (s : Contents) (event : Event) (source : Addr) (r : Request) (id : ℕ) → Registers s event source r id → (rules : Rules) (history : List RegistrarEvent) → StandsAfter s.registrar rules history
     → StandsAfter (after s event).registrar rules (history ++ registration_at rules s event r ∷ [])
 stands_after s event source r id h rules history stands =
     let now = moment_at s event.now in
     let e = setting now event.salt source in
     let register = register_of rules r in
-    let own : register ≡ register_of (rules_of s.registrar) r = ap (λ rs. register_of rs r) (sym stands.rules_are) in
+    let own : register ≡ register_of (rules_of s.registrar) r = sym (ap (λ rs. register_of rs r) stands.rules_are ∙ same_register rules history r) in
     subst (λ x. StandsAfter x rules (history ++ registration register now ∷ []))
     (sym (registrar_after s event ∙ ap (λ (x : Effect). registered_by s.registrar x.plan.registration) (register_row s event source r id h) ∙ leaves (office s) e r (change_of s.table (Kinds.Request r) source ∷ []) id register own))
     (stands_more s.registrar register now rules history stands)
+
+-- ---- a list of users
+
+module _ (s : Contents) (event : Event) (users : List (List ℕ)) (h : BringsUsers s event users) where
+  pub list_row : row s event ≡ of_plan (office s) (lists (kept_entries s.registrar.entries users))
+  unfolding row what_row
+  list_row = ap (row_by s event) h.counts ∙ ap (what_row (office s) (moment_at s event.now) event.salt) h.what
+
+  pub takes_users : (rules : Rules) (history : List RegistrarEvent) → StandsAfter s.registrar rules history → TakesUsers rules history users s event
+  takes_users rules history stands = record {
+    taken = ap (λ (x : Effect). x.plan.taken) list_row;
+    sends = ap (λ (x : Effect). x.plan.sends) list_row;
+    calls = ap (λ (x : Effect). x.calls.standing) list_row;
+    stands = subst (λ r. StandsAfter r rules (history ++ Listed users ∷ []))
+        (sym (registrar_after s event ∙ ap (λ (x : Effect). registered_by s.registrar x.plan.registration) list_row))
+        (stands_listed s.registrar users rules history stands);
+  }

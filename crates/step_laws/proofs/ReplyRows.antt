@@ -38,7 +38,7 @@ use Rattle.step_laws.specs.Coming.{BeginsTransaction}
 use Rattle.step_laws.specs.Replies.{RespondsOnce}
 use Rattle.step_laws.proofs.CallRows.{registers_taken}
 use Rattle.step_laws.proofs.ComingRows.{begun_row, setting_of}
-use Rattle.step_laws.proofs.EventCases.{EventCase, event_case, ignored, registered, unfired, went}
+use Rattle.step_laws.proofs.EventCases.{EventCase, event_case, ignored, listed, registered, unfired, went}
 
 -- ---- a request that begins a transaction
 
@@ -100,6 +100,7 @@ module _ (s : Contents) (event : Event) (source : Addr) (bytes : List ℕ) where
 
 case_silent : (s : Contents) (event : Event) (x : Effect) → EventCase s event x → (x.plan.taken ≡ Done → ⊥) → x.plan.sends ≡ []
 case_silent s event x (ignored taken why is) undone = ap (λ (y : Effect). y.plan.sends) is
+case_silent s event x (listed users brings is) undone = ap (λ (y : Effect). y.plan.sends) is
 case_silent s event x (unfired timer due none is) undone = ap (λ (y : Effect). y.plan.sends) is
 case_silent s event x (went is) undone = absurd (undone is.taken)
 case_silent s event x (registered source r id registers is) undone = absurd (undone (ap (λ (y : Effect). y.plan.taken) is ∙ registers_taken _ _ r _ id))

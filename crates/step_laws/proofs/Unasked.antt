@@ -18,7 +18,7 @@ use Rattle.event_rows.specs.Rows.{row}
 use Rattle.event_rows.specs.State.{Contents, moment_at}
 use Rattle.step_laws.specs.Dropping.{IsAnsweredFor}
 use Rattle.step_laws.proofs.CallRows.{registers_taken}
-use Rattle.step_laws.proofs.EventCases.{EventCase, event_case, ignored, registered, unfired, went}
+use Rattle.step_laws.proofs.EventCases.{EventCase, event_case, ignored, listed, registered, unfired, went}
 
 same_itself : (timer : TimerId) → same_timer timer timer ≡ true
 same_itself timer = and_from (timer.id == timer.id) (place_of timer.kind == place_of timer.kind) (eq-eqb timer.id timer.id refl) (eq-eqb (place_of timer.kind) (place_of timer.kind) refl)
@@ -43,6 +43,7 @@ case_answers : (s : Contents) (event : Event) (x : Effect) → IsFireable s.tabl
 case_answers s event x fireable (ignored taken why is) = subst (λ (y : Effect). IsAnsweredFor s event y.plan.taken) (sym is) why
 case_answers s event x fireable (unfired timer due none is) = absurd (does_something s event timer fireable due none)
 case_answers s event x fireable (went is) = subst (IsAnsweredFor s event) (sym is.taken) tt
+case_answers s event x fireable (listed users brings is) = subst (IsAnsweredFor s event) (sym (ap (λ (y : Effect). y.plan.taken) is)) tt
 case_answers s event x fireable (registered source r id registers is) =
     subst (IsAnsweredFor s event) (sym (ap (λ (y : Effect). y.plan.taken) is ∙ registers_taken _ _ r _ id)) tt
 

@@ -94,6 +94,7 @@ module _ (s : Contents) (event : Event) where
 
   due_reason : (e : Setting) (x : Effect) → views.DueRow (office s) e x → R x
   due_reason e x (views.idle same) = quiet x (ap (λ (y : Effect). y.plan.sends) same)
+  due_reason e x (views.listed users same) = quiet x (ap (λ (y : Effect). y.plan.sends) same)
   due_reason e x (views.sent_again timer out fired same) =
       let t = slot_last s timer out fired in
       by_itself _ (for_timer timer.id t.0 t.1 (sym t.2)) (ap (λ (y : Effect). y.plan.sends) same)

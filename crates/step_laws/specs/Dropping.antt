@@ -19,6 +19,7 @@ use Rattle.events.specs.declared.event.Event.{Event}
 use Rattle.events.specs.declared.event.What.TheVariants as whats
 use Rattle.calls.specs.Finding.{place_by_ack}
 use Rattle.calls.specs.Settled.{has_settled}
+use Rattle.configuration.specs.Rules.{is_user_list}
 use Rattle.call_rules.specs.Reach.{is_unreachable}
 use Rattle.responses.specs.Words.{has_fit_branch, is_method}
 use Rattle.plans.specs.declared.taken.Taken.{Taken}
@@ -112,8 +113,14 @@ pub record SpeaksOfNone (s : Contents) (event : Event) : Type 0 where
   pub silent : event.what ≡ whats.Silent number
   pub none : has_settled number s.calls.calls ≡ false
 
+-- users are listed as no configuration may list them
+pub record ListsAmiss (event : Event) : Type 0 where
+  pub users : List (List ℕ)
+  pub what : event.what ≡ whats.Users users
+  pub amiss : is_user_list users ≡ false
+
 abbrev pub IsIdle : Contents → Event → Type 0
-IsIdle s event = LooksInVain s event ⊎ SpeaksOfNone s event
+IsIdle s event = LooksInVain s event ⊎ (SpeaksOfNone s event ⊎ ListsAmiss event)
 
 abbrev pub IsAnsweredFor : Contents → Event → Taken → Type 0
 IsAnsweredFor s event Done = Unit {0}

@@ -16,7 +16,7 @@ use Rattle.call_core.specs.Calls.{dialog_of}
 use Rattle.call_media.specs.Ends.{other}
 use Rattle.call_media.specs.declared.end.End.{End}
 use Rattle.calls.specs.declared.standing_call.StandingCall.{StandingCall}
-use Rattle.registrar.specs.Bound.{Event as Registration, bound, target_of}
+use Rattle.registrar.specs.Bound.{Event as RegistrarEvent, bound, target_of}
 use Rattle.registrar.specs.Registering.{Rules, user_of}
 use Rattle.responses.specs.Words.{is_method}
 use Rattle.step_laws.specs.Leaving.{IsOfDialog}
@@ -124,7 +124,7 @@ pub record GoesBack (r : SipRequest) (source : Addr) (x : Effect) : Type 0 where
   pub sends : Sends (responds r.parts source status ∷ []) x
 
 -- the last contact that the user whom the Request-URI names is bound to, by these REGISTERs (sections 10.3 and 16.5)
-pub record IsBoundTo (rules : Rules) (history : List Registration) (r : SipRequest) (now : ℕ) (to : Uri) : Type 0 where
+pub record IsBoundTo (rules : Rules) (history : List RegistrarEvent) (r : SipRequest) (now : ℕ) (to : Uri) : Type 0 where
   pub user : List ℕ
   pub named : user_of rules r.uri ≡ Some user
   pub last : target_of (bound rules user history now) ≡ Some to

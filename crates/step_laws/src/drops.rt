@@ -15,7 +15,8 @@ ghost use Rattle.step_laws.specs.Dropping.{IsAnsweredFor};
 /// has to; if it is a response to no request that waits for one, or a 2xx that says no address to go on with; or if it
 /// is an ACK that no call waits for. An event is also dropped where its moment can't be counted with, or no token is
 /// left. A request is shed only if it would begin a transaction where as many stand as may, and `Idle` is answered only
-/// if no timer is due, or no call of a number is settled. Every other event is done.
+/// if no timer is due, no call of a number is settled, or a configuration may not list such users. Every other event is
+/// done.
 ///
 /// So it is of each agent whose timers that are set do something when they fire (`reasons`). Those of a new agent do,
 /// and do after any events (`fireable`): so it is of every agent (`agents`).

@@ -10,7 +10,7 @@ ghost use Rattle.event_rows.specs.Rows.{row};
 ghost use Rattle.configuration.specs.declared.config.Config.{Config};
 ghost use Rattle.event_rows.specs.State.{Contents, IsNew, moment_at, rules_by};
 ghost use Rattle.event_rows.specs.Trace.{AreEntries, Entry, after_entries};
-ghost use Rattle.registrar.specs.Bound.{Event as Registration};
+ghost use Rattle.registrar.specs.Bound.{Event as RegistrarEvent};
 ghost use Rattle.registrar.specs.Registering.{Rules};
 ghost use Rattle.registrar.specs.Registrar.{StandsAfter};
 ghost use Rattle.step_laws.specs.Registering.{AreRegistrations};
@@ -82,9 +82,9 @@ pub fn later_requests_go_across()
 /// each with the rest of its life: that target is the one of `first_invites_are_passed_on`. So it is after any events
 /// of a new agent (`agents`), and of each agent whose registrar stands as its REGISTERs leave it (`bound`).
 pub fn first_invites_go_where_bound()
-    ensures bound { (s : Contents) (rules : Rules) (history : List Registration) → StandsAfter s.registrar rules history → (event : Event) (r : Request) (to : Uri) (offer : Description) →
+    ensures bound { (s : Contents) (rules : Rules) (history : List RegistrarEvent) → StandsAfter s.registrar rules history → (event : Event) (r : Request) (to : Uri) (offer : Description) →
         IsFirstCall s (moment_at s event.now) r to offer → IsBoundTo rules history r (moment_at s event.now) to }
-    ensures agents { (config : Config) (s : Contents) (entries : List Entry) (history : List Registration) → IsNew config s → AreEntries s entries →
+    ensures agents { (config : Config) (s : Contents) (entries : List Entry) (history : List RegistrarEvent) → IsNew config s → AreEntries s entries →
         AreRegistrations (rules_by config) s entries history → (event : Event) (r : Request) (to : Uri) (offer : Description) →
         IsFirstCall (after_entries s entries) (moment_at (after_entries s entries) event.now) r to offer → IsBoundTo (rules_by config) history r (moment_at (after_entries s entries) event.now) to }
 {}

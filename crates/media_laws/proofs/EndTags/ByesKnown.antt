@@ -52,7 +52,7 @@ use Rattle.message_laws.proofs.TokenUse.Apartness.{old_and_new}
 use Rattle.message_laws.proofs.TokenUse.Grounds.{answerable_repeats, read_repeats}
 use Rattle.message_laws.proofs.QuietEvents.Growing.{made_more}
 use Rattle.message_laws.proofs.Messages.RequestViews.{by_if}
-use Rattle.message_laws.proofs.Messages.Views.{DueRow, call_fired, due_what_view, ended, fired_alone, idle, sent_again, stopped, timed}
+use Rattle.message_laws.proofs.Messages.Views.{DueRow, call_fired, due_what_view, ended, fired_alone, idle, listed, sent_again, stopped, timed}
 use Rattle.message_laws.proofs.Traces.Comings.{alone_comes}
 use Rattle.message_laws.proofs.Traces.Scenes.{stopped_scenes}
 use Rattle.message_laws.specs.Asked.{KnowsAsked}
@@ -140,6 +140,7 @@ module _ (laws : Laws) (s : Office) (begun : List Transaction) (sent : List Sent
 
   due_sent : (e : Setting) (x : Effect) → DueRow s e x → Tags x
   due_sent e x (idle is) = subst Tags (sym is) (nothing_sent laws s begun sent t ds k asked e)
+  due_sent e x (listed users is) = subst Tags (sym is) (nothing_sent laws s begun sent t ds k asked e)
   due_sent e x (sent_again timer out fired is) =
       subst Tags (sym is) (goes_tagged laws s begun sent t ds k asked e (Some out) (λ o same m message. last_tagged laws s begun sent t ds k asked e o m (subst (LastGoes s.table.slots) (same_Some out o same) (fired_goes s.table.slots timer out fired)) message))
   due_sent e x (fired_alone timer fired is) = subst Tags (sym is) (nothing_sent laws s begun sent t ds k asked e)
@@ -155,6 +156,7 @@ module _ (laws : Laws) (s : Office) (begun : List Transaction) (sent : List Sent
   what_sent now salt (whats.Datagram source bytes) from = datagram_sent laws s begun sent t ds k asked (setting now salt source) from bytes
   what_sent now salt whats.Due from = due_sent (setting now salt no_source) (what_row s now salt whats.Due) (due_what_view s now salt whats.Due tt)
   what_sent now salt (whats.Silent number) from = due_sent (setting now salt no_source) (what_row s now salt (whats.Silent number)) (due_what_view s now salt (whats.Silent number) tt)
+  what_sent now salt (whats.Users users) from = due_sent (setting now salt no_source) (what_row s now salt (whats.Users users)) (due_what_view s now salt (whats.Users users) tt)
 
 -- ---- an event
 

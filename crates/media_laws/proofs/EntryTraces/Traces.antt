@@ -33,6 +33,7 @@ taken_of (whats.Datagram source bytes) Shed = (None, refl)
 taken_of (whats.Datagram source bytes) Idle = (None, refl)
 taken_of whats.Due answer = (None, refl)
 taken_of (whats.Silent number) answer = (None, refl)
+taken_of (whats.Users users) answer = (None, refl)
 
 shown_with : Laws → (s : Contents) (x : Entry) (answer : Option Taken) (t : List Datagram) (k : ℕ) → AgentStands s t k → IsEntryWith s x answer → EntersFromSource x
     → (taken : Option Message) × (ms : List Message) × IsShownWith answer x.event.what x.sends taken ms

@@ -96,6 +96,7 @@ NoneTakesDatagram s e bytes x (cases.was_received m read branch reached row) = N
 
 abbrev pub NoneTakesDue : (s : Office) (e : Setting) (x : Effect) → DueRow s e x → Type 0
 NoneTakesDue s e x (views.idle is) = Unit {0}
+NoneTakesDue s e x (views.listed users is) = Unit {0}
 NoneTakesDue s e x (views.sent_again timer out fired is) = Unit {0}
 NoneTakesDue s e x (views.fired_alone timer fired is) = Unit {0}
 NoneTakesDue s e x (views.timed timer t place fired times there found is) = ⊥
@@ -116,12 +117,14 @@ nothing_taken (whats.Datagram source bytes) takens.Shed taken not_done h = h
 nothing_taken (whats.Datagram source bytes) takens.Idle taken not_done h = h
 nothing_taken whats.Due answer taken not_done h = h
 nothing_taken (whats.Silent number) answer taken not_done h = h
+nothing_taken (whats.Users users) answer taken not_done h = h
 
 -- nothing is taken with what is no datagram
 pub none_with : (what : What) (answer : Taken) (taken : Option Message) → IsNoDatagram what → IsTaken what answer taken → taken ≡ None
 none_with (whats.Datagram source bytes) answer taken alone h = absurd alone
 none_with whats.Due answer taken alone h = h
 none_with (whats.Silent number) answer taken alone h = h
+none_with (whats.Users users) answer taken alone h = h
 
 registers_done : (s : Office) (e : Setting) (r : Request) (begun : List Entry) (id : ℕ) (user : Option (List ℕ)) (answer : Result (List Binding) Refusal) → (registers_by s e r begun id user answer).taken ≡ takens.Done
 registers_done s e r begun id user (Ok bindings) = refl
@@ -220,6 +223,7 @@ module _ (reads : Reading) (names : ReadsNames) (describes : BodiesDescribe) (s 
 
   due_move : (e : Setting) (x : Effect) (row : DueRow s e x) → NoneTakesDue s e x row → IsQuiet whats.Due x
   due_move e x (views.idle is) none = subst (IsQuiet whats.Due) (sym is) (λ took are. silent_due are took)
+  due_move e x (views.listed users is) none = subst (IsQuiet whats.Due) (sym is) (λ took are. silent_due are took)
   due_move e x (views.sent_again timer out fired is) none =
       subst (IsQuiet whats.Due) (sym is) (λ took are. subst (λ o. Move offering t ds o ms ds) (sym took) (moving.timer_is_quiet reads names s begun sent t ds k timer out ms fired are))
   due_move e x (views.fired_alone timer fired is) none = subst (IsQuiet whats.Due) (sym is) (λ took are. silent_due are took)

@@ -239,3 +239,4 @@ unfolding what_row
 event_case s now salt (whats.Datagram source bytes) = came source bytes refl (datagram_case s (setting now salt source) bytes)
 event_case s now salt whats.Due = due tt (due_what_view s now salt whats.Due tt)
 event_case s now salt (whats.Silent number) = due tt (due_what_view s now salt (whats.Silent number) tt)
+event_case s now salt (whats.Users users) = due tt (due_what_view s now salt (whats.Users users) tt)

@@ -104,6 +104,7 @@ counted_so : (s : Contents) (now : ℕ) (what : What) (answer : Taken) → what_
 counted_so s now (whats.Datagram source bytes) answer is = not_done_if _ (Dropped (Unread TooLong)) answer None tt (λ none. absurd (none-some answer none)) is
 counted_so s now whats.Due answer is = idle_unless _ answer is
 counted_so s now (whats.Silent number) answer is = idle_unless _ answer is
+counted_so s now (whats.Users users) answer is = idle_unless _ answer is
 
 only_counted : (s : Contents) (event : Event) (answer : Taken) → only_counts s event ≡ Some answer → IsNotDone answer
 unfolding only_counts
@@ -155,6 +156,7 @@ module _ (laws : Laws) (s : Contents) (event : Event) (begun : List Transaction)
 
     due_event : taken ≡ None → (e : Setting) (row : DueRow before e x) → (NoneTakesDue before e x row → Move offering t old taken ms old) → Goes
     due_event none e (views.idle is) alone = stays (alone tt) (ap (λ (y : Effect). y.calls.standing.calls) is)
+    due_event none e (views.listed users is) alone = stays (alone tt) (ap (λ (y : Effect). y.calls.standing.calls) is)
     due_event none e (views.sent_again timer out fired is) alone = stays (alone tt) (ap (λ (y : Effect). y.calls.standing.calls) is)
     due_event none e (views.fired_alone timer fired is) alone = stays (alone tt) (ap (λ (y : Effect). y.calls.standing.calls) is)
     due_event none e (views.timed timer y place fired times there found is) alone = due_by none e (fire_of timer ∷ []) place inputs.TimedOut signals.TimedOut refl x is are calls

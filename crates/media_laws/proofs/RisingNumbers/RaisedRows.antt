@@ -57,7 +57,7 @@ use Rattle.message_laws.proofs.Messages.RequestViews.{RequestRow, asks_callee, b
 use Rattle.message_laws.proofs.Messages.ResponseViews.{ResponseRow, ack_alone, again, answered, fork, provisional, refused, silent}
 use Rattle.message_laws.proofs.TokenUse.TaggedSteps.{answers_fits, counts_fits, refreshes_fits}
 use Rattle.message_laws.proofs.AwaitedOffers.Tables.{IsNoOfferInput}
-use Rattle.message_laws.proofs.Messages.Views.{DueRow, call_fired, due_what_view, ended, fired_alone, idle, sent_again, stopped, timed}
+use Rattle.message_laws.proofs.Messages.Views.{DueRow, call_fired, due_what_view, ended, fired_alone, idle, listed, sent_again, stopped, timed}
 use Rattle.message_laws.proofs.AwaitedOffers.WaitPassed.{passes_settled}
 use Rattle.media_laws.specs.Rising.{RisesFrom}
 use Rattle.media_laws.specs.Taken.{HasTakenOffer, KnowsTaken}
@@ -204,6 +204,7 @@ timer_rises s k e place timers.Lifetime = takes_rise s k e [] None None place in
 
 due_rises : (s : Office) → IsReady s → (e : Setting) (x : Effect) → DueRow s e x → Rises s x
 due_rises s k e x (idle is) = subst (Rises s) (sym is) (same_calls s k e)
+due_rises s k e x (listed users is) = subst (Rises s) (sym is) (same_calls s k e)
 due_rises s k e x (sent_again timer out fired is) = subst (Rises s) (sym is) (same_calls s k e)
 due_rises s k e x (fired_alone timer fired is) = subst (Rises s) (sym is) (same_calls s k e)
 due_rises s k e x (timed timer t place fired times there found is) = subst (Rises s) (sym is) (takes_rise s k e (fire_of timer ∷ []) None None place inputs.TimedOut None tt (no_leg s k e place))
@@ -216,6 +217,7 @@ unfolding what_row
 what_rises s k now salt (whats.Datagram source bytes) = datagram_rises s k (setting now salt source) bytes
 what_rises s k now salt whats.Due = due_rises s k (setting now salt no_source) (what_row s now salt whats.Due) (due_what_view s now salt whats.Due tt)
 what_rises s k now salt (whats.Silent number) = due_rises s k (setting now salt no_source) (what_row s now salt (whats.Silent number)) (due_what_view s now salt (whats.Silent number) tt)
+what_rises s k now salt (whats.Users users) = due_rises s k (setting now salt no_source) (what_row s now salt (whats.Users users)) (due_what_view s now salt (whats.Users users) tt)
 
 -- ---- an event
 

@@ -43,7 +43,7 @@ use Rattle.message_laws.proofs.Messages.RequestViews.{RequestRow, asks_callee, c
 use Rattle.message_laws.proofs.Messages.ResponseViews.{IsAsked, ResponseRow, ack_alone, again, answered, fork, provisional, refused, silent}
 use Rattle.message_laws.proofs.TokenUse.Rows.{answered_client}
 use Rattle.message_laws.proofs.AwaitedOffers.Tables.{IsNoOfferInput}
-use Rattle.message_laws.proofs.Messages.Views.{DatagramRow, DueRow, WhatRow, call_fired, came, due, ended, fired_alone, idle, ignored, sent_again, stopped, timed, unfit_branched, unreadable, was_received, what_view}
+use Rattle.message_laws.proofs.Messages.Views.{DatagramRow, DueRow, WhatRow, call_fired, came, due, ended, fired_alone, idle, listed, ignored, sent_again, stopped, timed, unfit_branched, unreadable, was_received, what_view}
 use Rattle.message_laws.proofs.AwaitedOffers.WaitEvents.{after_waits, new_waits}
 use Rattle.message_laws.proofs.AwaitedOffers.WaitTakes.{same_is}
 use Rattle.media_laws.specs.Coming.{HasNumbersLeft, KnowsNumbersLeft}
@@ -123,6 +123,7 @@ timer_leaves s k e place timers.Lifetime = takes_leaves s k e [] None None place
 
 due_leaves : (s : Office) → KnowsNumbersLeft s → (e : Setting) (x : Effect) → DueRow s e x → Leaves x
 due_leaves s k e x (idle is) = subst Leaves (sym is) k
+due_leaves s k e x (listed users is) = subst Leaves (sym is) k
 due_leaves s k e x (sent_again timer out fired is) = subst Leaves (sym is) k
 due_leaves s k e x (fired_alone timer fired is) = subst Leaves (sym is) k
 due_leaves s k e x (timed timer t place fired times there found is) = subst Leaves (sym is) (takes_leaves s k e (fire_of timer ∷ []) None None place inputs.TimedOut None tt tt)

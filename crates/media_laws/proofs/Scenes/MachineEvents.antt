@@ -28,7 +28,7 @@ use Rattle.message_laws.proofs.AwaitedOffers.Once.{NoneOwn}
 use Rattle.message_laws.proofs.Messages.Replying.{okay_reply, refuses_reply, row_reply}
 use Rattle.message_laws.proofs.Messages.RequestViews.{RequestRow, asks_callee, cancelled, counted_alone, left, passed_on, refreshed, replied, unfit}
 use Rattle.message_laws.proofs.Messages.ResponseViews.{ResponseRow, ack_alone, again, answered, fork, provisional, refused, silent}
-use Rattle.message_laws.proofs.Messages.Views.{DatagramRow, DueRow, WhatRow, call_fired, came, due, ended, fired_alone, idle, ignored, sent_again, stopped, timed, unfit_branched, unreadable, was_received, what_view}
+use Rattle.message_laws.proofs.Messages.Views.{DatagramRow, DueRow, WhatRow, call_fired, came, due, ended, fired_alone, idle, listed, ignored, sent_again, stopped, timed, unfit_branched, unreadable, was_received, what_view}
 use Rattle.message_laws.proofs.AwaitedOffers.WaitEffects.{reply_none}
 use Rattle.message_laws.proofs.AwaitedOffers.WaitRows.{change_none}
 use Rattle.call_steps.specs.Rows.{takes_row}
@@ -87,6 +87,7 @@ datagram_fit s e bytes x (was_received m read branch reached row) = message_fit 
 
 due_fit : (s : Office) (e : Setting) (x : Effect) → DueRow s e x → RowFits x
 due_fit s e x (idle is) = subst RowFits (sym is) none_fit
+due_fit s e x (listed users is) = subst RowFits (sym is) none_fit
 due_fit s e x (sent_again timer out fired is) = subst RowFits (sym is) (timer_fit timer)
 due_fit s e x (fired_alone timer fired is) = subst RowFits (sym is) (timer_fit timer)
 due_fit s e x (timed timer t place fired times there found is) =

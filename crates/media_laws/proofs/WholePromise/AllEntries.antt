@@ -53,6 +53,7 @@ none_taken (whats.Datagram source bytes) Shed taken other h = h
 none_taken (whats.Datagram source bytes) Idle taken other h = h
 none_taken whats.Due why taken other h = h
 none_taken (whats.Silent number) why taken other h = h
+none_taken (whats.Users users) why taken other h = h
 
 abbrev with_calls : Contents → Standing → ℕ → Office
 with_calls s calls made = record {

@@ -6,6 +6,7 @@ use Rattle.event_rows.specs.State.{Contents, moment_at, moments_end, max_tokens,
 use Rattle.events.specs.declared.event.Event.{Event}
 use Rattle.events.specs.declared.event.What.{What}
 use Rattle.calls.specs.Settled.{has_settled}
+use Rattle.configuration.specs.Rules.{is_user_list}
 use Rattle.events.specs.declared.event.What.TheVariants as whats
 use Rattle.plans.specs.CallRows.{of_plan}
 use Rattle.plans.specs.Plan.{nothing}
@@ -25,6 +26,7 @@ what_none : (s : Contents) (now : ℕ) (what : What) → NotDone (what_counts s 
 what_none s now (whats.Datagram source bytes) = by_if NotDone (nat_lt max_datagram (length bytes)) (Some (Dropped (Unread faults.TooLong))) None (λ b done. cc) (λ b. tt)
 what_none s now whats.Due = by_if NotDone (is_some (first_due s.table.timers now) || is_some (first_due s.calls.timers now)) None (Some Idle) (λ b. tt) (λ b done. cc)
 what_none s now (whats.Silent number) = by_if NotDone (has_settled number s.calls.calls) None (Some Idle) (λ b. tt) (λ b done. cc)
+what_none s now (whats.Users users) = by_if NotDone (is_user_list users) None (Some Idle) (λ b. tt) (λ b done. cc)
 
 none_done : (s : Contents) (e : Event) → NotDone (only_counts s e)
 unfolding only_counts

@@ -77,7 +77,7 @@ use Rattle.message_laws.proofs.Messages.Repeats.{CanAnswer, one_own, refusal_nee
 use Rattle.message_laws.proofs.Messages.RequestViews.{by_if}
 use Rattle.message_laws.proofs.Askers.ServedRequests.{all_entered_asked}
 use Rattle.message_laws.proofs.Askers.SpokenSteps.{IsBegun, IsBegunAs, same_kept}
-use Rattle.message_laws.proofs.Messages.Views.{DueRow, call_fired, due_what_view, ended, fired_alone, idle, sent_again, stopped, timed}
+use Rattle.message_laws.proofs.Messages.Views.{DueRow, call_fired, due_what_view, ended, fired_alone, idle, listed, sent_again, stopped, timed}
 
 -- ---- a request
 
@@ -193,6 +193,9 @@ timer_asks s k e timers.Lifetime place = takes_ask s k e [] None None place inpu
 
 due_asks : (s : Office) → IsReady s → (e : Setting) (x : Effect) → DueRow s e x → AskedEffect s x
 due_asks s k e x (idle is) = subst (AskedEffect s) (sym is) (nothing_asks s k takens.Idle)
+due_asks s k e x (listed users is) =
+    let h = nothing_asks s k takens.Idle in
+    subst (AskedEffect s) (sym is) (record { sends = h.sends; entries = h.entries; offers = h.offers; keeps = h.keeps })
 due_asks s k e x (sent_again timer out fired is) =
     subst (AskedEffect s) (sym is) (moves_ask s k (fire_of timer ∷ []) (Some out) (fire_begun timer) (fired_goes s k timer out fired))
 due_asks s k e x (fired_alone timer fired is) = subst (AskedEffect s) (sym is) (moves_ask s k (fire_of timer ∷ []) None (fire_begun timer) (All-nil IsOwnDatagram))
@@ -217,6 +220,7 @@ what_asks : BodiesDescribe → (s : Office) → IsReady s → (now salt : ℕ) (
 what_asks describes s k now salt (whats.Datagram source bytes) from = came_asks describes s k now salt source bytes from
 what_asks describes s k now salt whats.Due from = due_asks s k (setting now salt no_source) (what_row s now salt whats.Due) (due_what_view s now salt whats.Due tt)
 what_asks describes s k now salt (whats.Silent number) from = due_asks s k (setting now salt no_source) (what_row s now salt (whats.Silent number)) (due_what_view s now salt (whats.Silent number) tt)
+what_asks describes s k now salt (whats.Users users) from = due_asks s k (setting now salt no_source) (what_row s now salt (whats.Users users)) (due_what_view s now salt (whats.Users users) tt)
 
 pub record EventSends (s : Contents) (x : Effect) : Type 0 where
   pub sends : All IsOwnDatagram x.plan.sends

@@ -60,7 +60,7 @@ use Rattle.message_laws.proofs.Messages.RequestViews.{RequestRow, asks_callee, c
 use Rattle.message_laws.proofs.Messages.ResponseViews.{ResponseRow, ack_alone, again, answered, fork, provisional, refused, silent}
 use Rattle.message_laws.proofs.TokenUse.Rows.{answered_client}
 use Rattle.message_laws.proofs.AwaitedOffers.WaitRows.{response_told, told_response}
-use Rattle.message_laws.proofs.Messages.Views.{DatagramRow, DueRow, WhatRow, call_fired, came, due, ended, fired_alone, idle, ignored, sent_again, stopped, timed, unfit_branched, unreadable, was_received, what_view}
+use Rattle.message_laws.proofs.Messages.Views.{DatagramRow, DueRow, WhatRow, call_fired, came, due, ended, fired_alone, idle, listed, ignored, sent_again, stopped, timed, unfit_branched, unreadable, was_received, what_view}
 
 -- ---- an effect
 
@@ -288,6 +288,7 @@ ended_acks s k timer fired = record {
 
 due_acks : (s : Office) → KnowsAcks s → (e : Setting) (x : Effect) → DueRow s e x → Acks s x
 due_acks s k e x (idle is) = subst (Acks s) (sym is) (quiet s k _ refl tt)
+due_acks s k e x (listed users is) = subst (Acks s) (sym is) (quiet s k _ refl tt)
 due_acks s k e x (sent_again timer out fired is) = subst (Acks s) (sym is) (timed_acks s k _ timer (fires.Send out) [] refl refl tt fired refl)
 due_acks s k e x (fired_alone timer fired is) = subst (Acks s) (sym is) (timed_acks s k _ timer fires.TimedOut [] refl refl tt fired refl)
 due_acks s k e x (timed timer t place fired times there found is) =

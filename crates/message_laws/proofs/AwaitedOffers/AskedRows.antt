@@ -56,7 +56,7 @@ use Rattle.message_laws.proofs.Messages.Replying.{IsReply, okay_reply, refuses_r
 use Rattle.message_laws.proofs.Messages.RequestViews.{RequestRow, asks_callee, cancelled, counted_alone, left, passed_on, refreshed, replied, unfit}
 use Rattle.message_laws.proofs.Messages.ResponseViews.{ResponseRow, ack_alone, again, answered, fork, provisional, refused, silent}
 use Rattle.message_laws.proofs.Askers.SpokenLines.{FitsInput, is_offer_input}
-use Rattle.message_laws.proofs.Messages.Views.{DatagramRow, DueRow, WhatRow, call_fired, came, due, ended, fired_alone, idle, ignored, sent_again, stopped, timed, unfit_branched, unreadable, was_received, what_view}
+use Rattle.message_laws.proofs.Messages.Views.{DatagramRow, DueRow, WhatRow, call_fired, came, due, ended, fired_alone, idle, listed, ignored, sent_again, stopped, timed, unfit_branched, unreadable, was_received, what_view}
 use Rattle.message_laws.specs.Asked.{HasAskerIf, KnowsAsked}
 use Rattle.message_laws.proofs.AwaitedOffers.AskedOrigins.{Origin, first_origins, fork_origins, kept_all, late_origins, offers_origins, origin_asked, puts_origins, takes_origins}
 use Rattle.message_laws.proofs.AwaitedOffers.OwnOpens.{AllOwn, IsOne, first_own, fork_own, late_own, offers_own, takes_own}
@@ -213,6 +213,7 @@ datagram_rows s k e bytes x (was_received m read branch reached view) = message_
 
 due_rows : (s : Office) → KnowsAsked s → (e : Setting) (x : Effect) → DueRow s e x → Asks s x
 due_rows s k e x (idle is) = subst (Asks s) (sym is) (quiet_asks s k _)
+due_rows s k e x (listed users is) = subst (Asks s) (sym is) (plan_asks s k _ [] [] refl tt none_own)
 due_rows s k e x (sent_again timer out fired is) = subst (Asks s) (sym is) (moves_ask s k (fire_of timer ∷ []) (Some out) tt)
 due_rows s k e x (fired_alone timer fired is) = subst (Asks s) (sym is) (moves_ask s k (fire_of timer ∷ []) None tt)
 due_rows s k e x (timed timer t place fired times there found is) = subst (Asks s) (sym is) (takes_ask s k e (fire_of timer ∷ []) None None place inputs.TimedOut None tt tt refl)

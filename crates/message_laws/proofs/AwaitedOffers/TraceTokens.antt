@@ -66,6 +66,7 @@ took_of (whats.Datagram source bytes) Shed taken m h e = absurd (none-some m (sy
 took_of (whats.Datagram source bytes) Idle taken m h e = absurd (none-some m (sym h ∙ e))
 took_of whats.Due answer taken m h e = absurd (none-some m (sym h ∙ e))
 took_of (whats.Silent number) answer taken m h e = absurd (none-some m (sym h ∙ e))
+took_of (whats.Users users) answer taken m h e = absurd (none-some m (sym h ∙ e))
 
 -- ---- messages
 

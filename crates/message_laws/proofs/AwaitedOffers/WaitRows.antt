@@ -57,7 +57,7 @@ use Rattle.message_laws.proofs.Messages.Replying.{okay_reply, refuses_reply, row
 use Rattle.message_laws.proofs.Messages.RequestViews.{RequestRow, asks_callee, cancelled, counted_alone, left, passed_on, refreshed, replied, unfit}
 use Rattle.message_laws.proofs.Messages.ResponseViews.{IsAsked, ResponseRow, ack_alone, again, answered, fork, provisional, refused, silent}
 use Rattle.message_laws.proofs.Messages.MessageViews.{IsResponseTo, MessageRow, acknowledged, begun_by, dropped, moved, requested, responded}
-use Rattle.message_laws.proofs.Messages.Views.{DatagramRow, DueRow, WhatRow, call_fired, came, due, ended, fired_alone, idle, ignored, sent_again, stopped, timed, unfit_branched, unreadable, was_received, what_view}
+use Rattle.message_laws.proofs.Messages.Views.{DatagramRow, DueRow, WhatRow, call_fired, came, due, ended, fired_alone, idle, listed, ignored, sent_again, stopped, timed, unfit_branched, unreadable, was_received, what_view}
 use Rattle.message_laws.proofs.TokenUse.Rows.{answered_client, served_by}
 use Rattle.message_laws.proofs.TokenUse.Slots.{own_at}
 use Rattle.message_laws.proofs.TokenUse.TaggedSteps.{answers_fits, counts_fits, refreshes_fits}
@@ -257,6 +257,7 @@ timer_takes s k e place timers.Lifetime = calm_takes s k e [] None None place in
 
 due_waits : (s : Office) → KnowsWaiting s → (e : Setting) (x : Effect) → DueRow s e x → Waits s x
 due_waits s k e x (idle is) = subst (Waits s) (sym is) (plan_waits s k _ (λ t opens offers. opens))
+due_waits s k e x (listed users is) = subst (Waits s) (sym is) (plan_waits s k _ (λ t opens offers. opens))
 due_waits s k e x (sent_again timer out fired is) = subst (Waits s) (sym is) (plan_waits s k (moves (fire_of timer ∷ []) (Some out)) (λ t opens offers. opens))
 due_waits s k e x (fired_alone timer fired is) = subst (Waits s) (sym is) (plan_waits s k (moves (fire_of timer ∷ []) None) (λ t opens offers. opens))
 due_waits s k e x (timed timer t place fired times there found is) = subst (Waits s) (sym is) (timed_waits s k e timer t place fired times there (timeout_waits s.calls.calls t.parts place found))

@@ -43,7 +43,7 @@ use Rattle.message_laws.proofs.Messages.ReadBodies.{body_read, body_read_if}
 use Rattle.message_laws.proofs.Messages.RequestViews.{RequestRow, asks_callee, cancelled, counted_alone, left, passed_on, refreshed, replied, unfit}
 use Rattle.message_laws.proofs.Messages.ResponseViews.{ResponseRow, ack_alone, again, answered, fork, provisional, refused, silent}
 use Rattle.message_laws.proofs.Messages.MessageViews.{ReceivedRow, acknowledged, begun_by, dropped, moved, requested, responded}
-use Rattle.message_laws.proofs.Messages.Views.{DatagramRow, DueRow, WhatRow, call_fired, came, due, ended, fired_alone, idle, ignored, sent_again, stopped, timed, unfit_branched, unreadable, was_received, what_view}
+use Rattle.message_laws.proofs.Messages.Views.{DatagramRow, DueRow, WhatRow, call_fired, came, due, ended, fired_alone, idle, listed, ignored, sent_again, stopped, timed, unfit_branched, unreadable, was_received, what_view}
 
 -- what the calls keep after this
 abbrev Knows : Office → Effect → Type 0
@@ -113,6 +113,7 @@ module _ (describes : BodiesDescribe) (s : Office) (k : KnowsDescriptions s) (e 
 
 due_knows : (s : Office) → KnowsDescriptions s → (e : Setting) (x : Effect) → DueRow s e x → Knows s x
 due_knows s k e x (idle is) = subst (Knows s) (sym is) k.calls
+due_knows s k e x (listed users is) = subst (Knows s) (sym is) k.calls
 due_knows s k e x (sent_again timer out fired is) = subst (Knows s) (sym is) k.calls
 due_knows s k e x (fired_alone timer fired is) = subst (Knows s) (sym is) k.calls
 due_knows s k e x (timed timer t place fired times there found is) = subst (Knows s) (sym is) (takes_by s k e place inputs.TimedOut _ _ tt)

@@ -65,7 +65,7 @@ use Rattle.message_laws.proofs.Messages.Replying.{IsReply, okay_reply, refuses_r
 use Rattle.message_laws.proofs.Messages.RequestViews.{RequestRow, asks_callee, cancelled, counted_alone, left, passed_on, refreshed, replied, unfit}
 use Rattle.message_laws.proofs.Messages.ResponseViews.{ResponseRow, ack_alone, again, answered, fork, provisional, refused, silent}
 use Rattle.message_laws.proofs.Messages.MessageViews.{IsResponseTo, ReceivedRow, acknowledged, begun_by, dropped, moved, requested, responded}
-use Rattle.message_laws.proofs.Messages.Views.{DatagramRow, DueRow, WhatRow, call_fired, came, due, ended, fired_alone, idle, ignored, sent_again, stopped, timed, unfit_branched, unreadable, was_received, what_view}
+use Rattle.message_laws.proofs.Messages.Views.{DatagramRow, DueRow, WhatRow, call_fired, came, due, ended, fired_alone, idle, listed, ignored, sent_again, stopped, timed, unfit_branched, unreadable, was_received, what_view}
 
 -- ---- an effect, behind what was sent before
 
@@ -298,6 +298,7 @@ stopped_sent before s k timer = record { slots = k.slots; acks = k.acks; calls =
 
 due_goes : (before : List Sent) (s : Office) → KnowsSent s before → (e : Setting) (x : Effect) → DueRow s e x → SentEffect before x
 due_goes before s k e x (idle is) = subst (SentEffect before) (sym is) (plan_sent before s k _ tt)
+due_goes before s k e x (listed users is) = subst (SentEffect before) (sym is) (plan_sent before s k _ tt)
 due_goes before s k e x (sent_again timer out fired is) = subst (SentEffect before) (sym is) (plan_sent before s k (moves (fire_of timer ∷ []) (Some out)) (tt, tt))
 due_goes before s k e x (fired_alone timer fired is) = subst (SentEffect before) (sym is) (plan_sent before s k (moves (fire_of timer ∷ []) None) (tt, tt))
 due_goes before s k e x (timed timer t place fired times there found is) = subst (SentEffect before) (sym is) (takes_goes before s k e (fire_of timer ∷ []) None None place inputs.TimedOut None (tt, tt))

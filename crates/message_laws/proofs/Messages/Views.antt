@@ -35,7 +35,8 @@ use Rattle.plans.specs.declared.taken.Taken.TheVariants.{Dropped, Idle}
 use Rattle.plans.specs.declared.taken.Why.TheVariants.{NoBranch, Stray, Unread}
 use Rattle.plans.specs.CallRows.{call_timer_at, call_timer_row, of_plan, takes, timed_out, timed_out_at, timeout_row, timer_input, times_responses, without_call_timer}
 use Rattle.plans.specs.Effect.{Effect}
-use Rattle.plans.specs.Plan.{moves, nothing}
+use Rattle.plans.specs.Plan.{lists, moves, nothing}
+use Rattle.registrar.specs.Changes.{kept_entries}
 use Rattle.plans.specs.declared.reason.Reason.TheVariants as reasons
 use Rattle.event_rows.specs.Rows.{by_reading, datagram_row, due_row, ends, fires_by, fit_row, is_unreachable_message, no_source, parts_of, read_row, received, refuses_alone, setting, timer_row, unfit_branch, unread_by, unread_row, what_row}
 use Rattle.responses.specs.Words.{has_fit_branch, is_method as request_method}
@@ -97,6 +98,8 @@ pub data DueRow (s : Office) (e : Setting) (x : Effect) : Type 0 where
   stopped : (timer : CallTimerId) → x ≡ of_plan (without_call_timer timer s) (moves [] None) → DueRow s e x
   call_fired : (timer : CallTimerId) (place : ℕ) → place_by_number timer.number s.calls.calls ≡ Some place
       → x ≡ takes (without_call_timer timer s) e [] None None place (timer_input timer.timer) None → DueRow s e x
+  -- these are the office's users from now on
+  listed : (users : List (List ℕ)) → x ≡ of_plan s (lists (kept_entries s.registrar.entries users)) → DueRow s e x
 
 timed_at_view : (s : Office) (e : Setting) (timer : TimerId) (t : Transaction) (place : Option ℕ) → fired_of (at s.table.slots timer.id) timer.kind ≡ Some fires.TimedOut → times_responses timer.kind ≡ true
     → at s.table.slots timer.id ≡ Some t → timeout_rule s.calls.calls t.parts ≡ place → DueRow s e (timed_out_at s e (fire_of timer ∷ []) place)
@@ -151,9 +154,11 @@ unfolding what_row
 due_what_view s now salt (whats.Datagram source bytes) h = absurd h
 due_what_view s now salt whats.Due h = due_view s (setting now salt no_source) (first_due s.table.timers now) (first_due s.calls.timers now)
 due_what_view s now salt (whats.Silent number) h = call_timer_view s (setting now salt no_source) (id number Lifetime)
+due_what_view s now salt (whats.Users users) h = listed users refl
 
 pub what_view : (s : Office) (now salt : ℕ) (what : What) → WhatRow s now salt what (what_row s now salt what)
 unfolding what_row
 what_view s now salt (whats.Datagram source bytes) = came source bytes refl (datagram_view s (setting now salt source) bytes)
 what_view s now salt whats.Due = due tt (due_what_view s now salt whats.Due tt)
 what_view s now salt (whats.Silent number) = due tt (due_what_view s now salt (whats.Silent number) tt)
+what_view s now salt (whats.Users users) = due tt (due_what_view s now salt (whats.Users users) tt)

@@ -44,7 +44,7 @@ use Rattle.message_laws.proofs.Messages.Answerable.{can_answer}
 use Rattle.message_laws.proofs.TokenUse.Events.{few_tokens}
 use Rattle.message_laws.proofs.TokenUse.Grounds.{answerable_repeats, read_repeats}
 use Rattle.message_laws.proofs.Messages.RequestViews.{by_if}
-use Rattle.message_laws.proofs.Messages.Views.{DueRow, call_fired, due_what_view, ended, fired_alone, idle, sent_again, stopped, timed}
+use Rattle.message_laws.proofs.Messages.Views.{DueRow, call_fired, due_what_view, ended, fired_alone, idle, listed, sent_again, stopped, timed}
 use Rattle.message_laws.specs.ReadDatagrams.{IsReadDatagram}
 use Rattle.message_laws.specs.SoundClients.{KnowsClients}
 use Rattle.message_laws.proofs.Traces.Comings.{alone_comes}
@@ -105,6 +105,7 @@ timer_reads laws s e k timers.Lifetime place = takes_alone laws s e k [] None No
 
 due_reads : (laws : Laws) (s : Office) (e : Setting) → IsReady s → (x : Effect) → DueRow s e x → SendsRead x
 due_reads laws s e k x (idle is) = subst SendsRead (sym is) (All-nil IsReadDatagram)
+due_reads laws s e k x (listed users is) = subst SendsRead (sym is) (All-nil IsReadDatagram)
 due_reads laws s e k x (sent_again timer out fired is) = subst SendsRead (sym is) (fired_goes s k timer out fired)
 due_reads laws s e k x (fired_alone timer fired is) = subst SendsRead (sym is) (All-nil IsReadDatagram)
 due_reads laws s e k x (timed timer t place fired times there found is) =
@@ -123,6 +124,7 @@ what_reads : (laws : Laws) (s : Office) (now salt : ℕ) → IsReady s → (what
 what_reads laws s now salt k (whats.Datagram source bytes) from = came_reads laws s now salt k source bytes from
 what_reads laws s now salt k whats.Due from = due_reads laws s (setting now salt no_source) k (what_row s now salt whats.Due) (due_what_view s now salt whats.Due tt)
 what_reads laws s now salt k (whats.Silent number) from = due_reads laws s (setting now salt no_source) k (what_row s now salt (whats.Silent number)) (due_what_view s now salt (whats.Silent number) tt)
+what_reads laws s now salt k (whats.Users users) from = due_reads laws s (setting now salt no_source) k (what_row s now salt (whats.Users users)) (due_what_view s now salt (whats.Users users) tt)
 
 -- what is known of an agent, where this was sent
 pub record KnowsReads (s : Office) (before : List Sent) : Type 0 where

@@ -1,7 +1,8 @@
 -- Each contact that a user is bound to was read, and leads to an address.
-use Rattle.std.proofs.Common.{◌≡◌, ℕ, ◌+◌, ◌==◌, Bool, true, false, cond, not, nat_lt, List, [], ◌∷◌, ◌++◌, count_by, find, length, map, Option, Some, None, is_some, option_map, position, Result, Ok, Err, refl, sym, subst}
+use Rattle.std.proofs.Common.{◌≡◌, ℕ, ◌+◌, ◌==◌, Bool, true, false, cond, not, nat_eq, nat_lt, List, [], ◌∷◌, ◌++◌, count_by, find, length, map, Option, Some, None, is_some, option_map, position, Result, Ok, Err, refl, sym, subst}
 use Rattle.std.specs.Prelude.{unwrap_or}
-use Rattle.std.specs.List.{All, filter_map, list_all}
+use Rattle.std.specs.Cmp.Lexicographic.{pointwise}
+use Rattle.std.specs.List.{All, filter_map, list_all, list_any}
 use Rattle.std.proofs.lemmas.Bool.{and_parts, false≢true}
 use Rattle.std.proofs.lemmas.List.Elements.{All-filter, All-head, All-map, All-nil, All-push, All-set, All-tail}
 use Rattle.std.proofs.lemmas.Option.{none-some, same_Some}
@@ -22,7 +23,11 @@ use Rattle.registrar.specs.declared.binding_rules.BindingRules.{BindingRules}
 use Rattle.registrar.proofs.RecentLaws.{standing_all}
 use Rattle.registrar.specs.Bound.{is_latest, latest, target_of}
 use Rattle.registrar.specs.Registering.{Rules, and_then, answer_by, answer_for, binding_by, bindings_after_one, bindings_by, first_number, is_bindable, is_bindable_at, is_bindable_uri, is_known, is_star_misused, is_star_stale, is_of, lifetime, present, put, put_at, rank, unless_refused, uri_refusal, whole_refusal, with_contact, with_contact_at, with_contacts, with_number, with_ranks, with_uri, within_limit, without}
-use Rattle.registrar.specs.Registrar.{Contents, PlanContents, answer_of, bindings_at, bindings_of, entries_with, is_for, plan_of, rules_of, with_bindings}
+use Rattle.registrar.specs.Changes.{kept_entries}
+use Rattle.registrar.specs.declared.change.RegistrarChange.{RegistrarChange}
+use Rattle.registrar.specs.declared.change.RegistrarChange.TheVariants.{Binds, Lists}
+use Rattle.registrar.proofs.Standing.{kept-bindings}
+use Rattle.registrar.specs.Registrar.{Contents, answer_of, bindings_at, bindings_of, entries_with, is_for, plan_of, rules_of, with_bindings}
 use Rattle.registrar.specs.declared.binding.Binding.{Binding}
 use Rattle.registrar.specs.declared.refusal.Refusal.{Refusal}
 use Rattle.registrar.specs.declared.refusal.Refusal.TheVariants.{BadContact, OutOfOrder, StarMisused, TooManyBindings, UnknownUser}
@@ -193,11 +198,12 @@ answer_bound r register now read each = answer_bound_for (rules_of r) (bindings_
 
 -- ---- a reply
 
-abbrev pub IsBoundPlan : Option PlanContents → Type 0
+abbrev pub IsBoundPlan : Option RegistrarChange → Type 0
 IsBoundPlan None = Unit {0}
-IsBoundPlan (Some plan) = All IsBound plan.bindings
+IsBoundPlan (Some (Binds plan)) = All IsBound plan.bindings
+IsBoundPlan (Some (Lists entries)) = (user : List ℕ) → All IsBound (bindings_of entries user)
 
-plan_bound : (user : Option (List ℕ)) (bindings : List Binding) → All IsBound bindings → IsBoundPlan (option_map (λ u. plan_of u bindings) user)
+plan_bound : (user : Option (List ℕ)) (bindings : List Binding) → All IsBound bindings → IsBoundPlan (option_map Binds (option_map (λ u. plan_of u bindings) user))
 plan_bound None bindings all = tt
 plan_bound (Some user) bindings all = all
 
@@ -236,6 +242,14 @@ entries_bound user bindings (l ∷ ls) other h all = by_user (is_for user l) (is
     by_user true false e k more = rw e k
     by_user false true e k more = rw e k
     by_user false false e k more = rw e (more k)
+
+-- who is on a list of users has the bindings that it had, or none
+pub kept_bound : (entries : List UserBindings) (users : List (List ℕ)) → ((user : List ℕ) → All IsBound (bindings_of entries user)) → (user : List ℕ) → All IsBound (bindings_of (kept_entries entries users) user)
+kept_bound entries users each user = subst (All IsBound) (sym (kept-bindings entries users user)) (by_known (list_any (λ u. pointwise nat_eq u user) users))
+  where
+    by_known : (known : Bool) → All IsBound (cond known (bindings_of entries user) [])
+    by_known true = each user
+    by_known false = All-nil IsBound
 
 -- ---- where a call goes
 

@@ -74,7 +74,7 @@ use Rattle.message_laws.proofs.TokenUse.Rows.{answered_client}
 use Rattle.message_laws.proofs.TokenUse.Slots.{own_at}
 use Rattle.message_laws.proofs.TokenUse.TaggedSteps.{answers_fits, asked_leg, counts_fits}
 use Rattle.message_laws.proofs.AwaitedOffers.Tables.{IsNoOfferInput, consumes_input}
-use Rattle.message_laws.proofs.Messages.Views.{DatagramRow, DueRow, WhatRow, call_fired, came, due, ended, fired_alone, idle, ignored, sent_again, stopped, timed, unfit_branched, unreadable, was_received, what_view}
+use Rattle.message_laws.proofs.Messages.Views.{DatagramRow, DueRow, WhatRow, call_fired, came, due, ended, fired_alone, idle, listed, ignored, sent_again, stopped, timed, unfit_branched, unreadable, was_received, what_view}
 use Rattle.message_laws.proofs.AwaitedOffers.WaitEffects.{answers_grows, fork_waits, late_waits, reply_none}
 use Rattle.message_laws.proofs.AwaitedOffers.WaitEvents.{after_waits, new_waits, none_at}
 use Rattle.message_laws.proofs.AwaitedOffers.WaitPassed.{passes_settled}
@@ -269,6 +269,7 @@ timer_callees s e place timers.Lifetime = takes_callees s e [] None None place i
 
 due_callees : (s : Office) (e : Setting) (x : Effect) → DueRow s e x → Callees s x
 due_callees s e x (idle is) = subst (Callees s) (sym is) (plan_callees s _ (λ t opens client. opens))
+due_callees s e x (listed users is) = subst (Callees s) (sym is) (plan_callees s _ (λ t opens client. opens))
 due_callees s e x (sent_again timer out fired is) = subst (Callees s) (sym is) (plan_callees s _ (λ t opens client. opens))
 due_callees s e x (fired_alone timer fired is) = subst (Callees s) (sym is) (plan_callees s _ (λ t opens client. opens))
 due_callees s e x (timed timer t place fired times there found is) =

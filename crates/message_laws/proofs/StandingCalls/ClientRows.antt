@@ -58,7 +58,7 @@ use Rattle.message_laws.proofs.TokenUse.Rows.{answered_client}
 use Rattle.message_laws.proofs.StandingCalls.SoundCalls.{IsSoundPut, counts_sound}
 use Rattle.message_laws.proofs.StandingCalls.SoundRows.{after_dialogs, known_leg, new_dialogs}
 use Rattle.message_laws.proofs.StandingCalls.SoundSteps.{answers_sound}
-use Rattle.message_laws.proofs.Messages.Views.{DatagramRow, DueRow, WhatRow, call_fired, came, due, ended, fired_alone, idle, ignored, sent_again, stopped, timed, unfit_branched, unreadable, was_received, what_view}
+use Rattle.message_laws.proofs.Messages.Views.{DatagramRow, DueRow, WhatRow, call_fired, came, due, ended, fired_alone, idle, listed, ignored, sent_again, stopped, timed, unfit_branched, unreadable, was_received, what_view}
 use Rattle.message_laws.proofs.AwaitedOffers.WaitEffects.{reply_none}
 use Rattle.message_laws.proofs.AwaitedOffers.WaitRows.{change_none}
 use Rattle.message_laws.specs.SoundClients.{HasLowNumbers, IsSoundClient, IsSoundClientIf, KnowsClients}
@@ -208,6 +208,7 @@ timer_no_offer timers.Lifetime c = tt
 
 due_row : (s : Office) → IsKnown s → (e : Setting) (x : Effect) → DueRow s e x → ClientRow s x
 due_row s k e x (idle is) = subst (ClientRow s) (sym is) (plan_row s k _ (λ t opens client. opens))
+due_row s k e x (listed users is) = subst (ClientRow s) (sym is) (plan_row s k _ (λ t opens client. opens))
 due_row s k e x (sent_again timer out fired is) = subst (ClientRow s) (sym is) (plan_row s k (moves (fire_of timer ∷ []) (Some out)) (λ t opens client. opens))
 due_row s k e x (fired_alone timer fired is) = subst (ClientRow s) (sym is) (plan_row s k (moves (fire_of timer ∷ []) None) (λ t opens client. opens))
 due_row s k e x (timed timer t place fired times there found is) =

@@ -62,7 +62,7 @@ use Rattle.message_laws.proofs.TokenUse.Rows.{answered_client}
 use Rattle.message_laws.proofs.StandingCalls.SoundRows.{answer_dialogs, callee_target, new_dialogs}
 use Rattle.message_laws.proofs.TokenUse.TaggedSteps.{answers_fits, counts_fits, refreshes_fits}
 use Rattle.message_laws.proofs.AwaitedOffers.Tables.{IsNoOfferInput, consumes_input}
-use Rattle.message_laws.proofs.Messages.Views.{DatagramRow, DueRow, WhatRow, call_fired, came, due, ended, fired_alone, idle, ignored, sent_again, stopped, timed, unfit_branched, unreadable, was_received, what_view}
+use Rattle.message_laws.proofs.Messages.Views.{DatagramRow, DueRow, WhatRow, call_fired, came, due, ended, fired_alone, idle, listed, ignored, sent_again, stopped, timed, unfit_branched, unreadable, was_received, what_view}
 use Rattle.message_laws.proofs.AwaitedOffers.WaitEffects.{answers_grows}
 use Rattle.message_laws.proofs.AwaitedOffers.WaitPassed.{passes_settled}
 use Rattle.message_laws.proofs.AwaitedOffers.WaitRows.{calm_leg, no_leg}
@@ -184,6 +184,7 @@ timer_opens s e place timers.Lifetime = takes_opens s e [] None None place 0 inp
 
 due_opens : (s : Office) (e : Setting) (x : Effect) → DueRow s e x → Opens s x
 due_opens s e x (idle is) = subst (Opens s) (sym is) (plan_opens s _)
+due_opens s e x (listed users is) = subst (Opens s) (sym is) (plan_opens s _)
 due_opens s e x (sent_again timer out fired is) = subst (Opens s) (sym is) (plan_opens s _)
 due_opens s e x (fired_alone timer fired is) = subst (Opens s) (sym is) (plan_opens s _)
 due_opens s e x (timed timer t place fired times there found is) =

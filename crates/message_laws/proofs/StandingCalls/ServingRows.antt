@@ -58,7 +58,7 @@ use Rattle.call_trace.specs.Listed.{AllOf}
 use Rattle.message_laws.specs.Serving.{IsServedAsAsked, IsServing, KnowsServing}
 use Rattle.message_laws.proofs.Messages.RequestViews.{RequestRow, asks_callee, cancelled, counted_alone, left, passed_on, refreshed, replied, unfit}
 use Rattle.message_laws.proofs.Messages.MessageViews.{ReceivedRow, acknowledged, begun_by, dropped, moved, requested, responded}
-use Rattle.message_laws.proofs.Messages.Views.{DatagramRow, DueRow, WhatRow, call_fired, came, due, ended, fired_alone, idle, ignored, sent_again, stopped, timed, unfit_branched, unreadable, was_received, what_view}
+use Rattle.message_laws.proofs.Messages.Views.{DatagramRow, DueRow, WhatRow, call_fired, came, due, ended, fired_alone, idle, listed, ignored, sent_again, stopped, timed, unfit_branched, unreadable, was_received, what_view}
 use Rattle.call_media.proofs.ServeLaws.{Owns}
 use Rattle.calls.proofs.KeptLaws.{Spared, kept_none, same_read}
 use Rattle.port_pool.proofs.PoolLaws.{IsPool-new_pool}
@@ -223,6 +223,7 @@ module _ (own : Owns) (once : Once) (have : HaveRows) (law : Spared) where
 
     due_serves : (x : Effect) → DueRow s e x → LeavesServed s x
     due_serves x (idle is) = subst (LeavesServed s) (sym is) k.calls
+    due_serves x (listed users is) = subst (LeavesServed s) (sym is) k.calls
     due_serves x (sent_again timer out fired is) = subst (LeavesServed s) (sym is) k.calls
     due_serves x (fired_alone timer fired is) = subst (LeavesServed s) (sym is) k.calls
     due_serves x (timed timer t place fired times there found is) = subst (LeavesServed s) (sym is) (taken_serves s k e place inputs.TimedOut _ _ (λ c there. tt))

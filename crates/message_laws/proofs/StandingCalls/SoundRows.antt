@@ -14,7 +14,9 @@ use Rattle.sip_message.specs.declared.message.Response.{Response}
 use Rattle.registrar.specs.Registrar as registrar
 use Rattle.registrar.specs.Bound.{target_of}
 use Rattle.registrar.specs.Registering.{user_of}
-use Rattle.registrar.specs.Registrar.{PlanContents, bindings_at, bindings_of, rules_of}
+use Rattle.registrar.specs.declared.change.RegistrarChange.{RegistrarChange}
+use Rattle.registrar.specs.declared.change.RegistrarChange.TheVariants.{Binds, Lists}
+use Rattle.registrar.specs.Registrar.{bindings_at, bindings_of, rules_of}
 use Rattle.sip_uri.specs.declared.uri.Uri.{Uri}
 use Rattle.events.specs.declared.event.Event.{Event}
 use Rattle.events.specs.declared.event.What.{What}
@@ -48,7 +50,7 @@ use Rattle.event_rows.specs.State.{Contents, IsNew, after_event, moment_at, offi
 use Rattle.event_rows.specs.Trace.{Entry as TraceEntry, after_answer, after_entries, after_entry}
 use Rattle.message_laws.specs.Addresses.{HasOctets}
 use Rattle.message_laws.specs.Sound.{HasSoundLegs, IsBound, IsSoundLeg, IsTarget, IsTargetIf, KnowsDialogs, SaysDialog}
-use Rattle.message_laws.proofs.StandingCalls.Bindings.{IsBoundPlan, bound_target, entries_bound, reply_bound}
+use Rattle.message_laws.proofs.StandingCalls.Bindings.{IsBoundPlan, bound_target, entries_bound, kept_bound, reply_bound}
 use Rattle.message_laws.proofs.AwaitedOffers.Coming.{CameFrom, OpensIn, all_came, began, stayed}
 use Rattle.message_laws.proofs.TokenUse.Events.{few_tokens}
 use Rattle.message_laws.proofs.Messages.MessageViews.{MessageRow, acknowledged, begun_by, dropped, moved, requested, responded}
@@ -64,7 +66,7 @@ use Rattle.message_laws.proofs.TokenUse.Rows.{answered_client}
 use Rattle.message_laws.proofs.StandingCalls.SoundCalls.{IsSoundPut, counts_sound, puts_sound}
 use Rattle.message_laws.proofs.TokenUse.TokenRuns.{token_run}
 use Rattle.message_laws.proofs.StandingCalls.SoundSteps.{SoundStep, answers_sound, first_ends, first_sound, fork_sound, late_sound, offers_sound, refreshes_sound, takes_sound}
-use Rattle.message_laws.proofs.Messages.Views.{DatagramRow, DueRow, WhatRow, call_fired, came, due, ended, fired_alone, idle, ignored, sent_again, stopped, timed, unfit_branched, unreadable, was_received, what_view}
+use Rattle.message_laws.proofs.Messages.Views.{DatagramRow, DueRow, WhatRow, call_fired, came, due, ended, fired_alone, idle, listed, ignored, sent_again, stopped, timed, unfit_branched, unreadable, was_received, what_view}
 use Rattle.message_laws.proofs.AwaitedOffers.WaitEffects.{reply_none}
 use Rattle.message_laws.proofs.AwaitedOffers.WaitEvents.{none_at}
 use Rattle.message_laws.proofs.AwaitedOffers.WaitRows.{change_none}
@@ -179,6 +181,7 @@ datagram_sounds reading s k few e bytes x (was_received m read branch reached ro
 
 due_sounds : (s : Office) → KnowsDialogs s → (e : Setting) (x : Effect) → DueRow s e x → Sounds s x
 due_sounds s k e x (idle is) = subst (Sounds s) (sym is) (plan_sounds s k _ (λ t opens client. opens) tt)
+due_sounds s k e x (listed users is) = subst (Sounds s) (sym is) (plan_sounds s k _ (λ t opens client. opens) (kept_bound s.registrar.entries users k.bindings))
 due_sounds s k e x (sent_again timer out fired is) = subst (Sounds s) (sym is) (plan_sounds s k (moves (fire_of timer ∷ []) (Some out)) (λ t opens client. opens) tt)
 due_sounds s k e x (fired_alone timer fired is) = subst (Sounds s) (sym is) (plan_sounds s k (moves (fire_of timer ∷ []) None) (λ t opens client. opens) tt)
 due_sounds s k e x (timed timer t place fired times there found is) = subst (Sounds s) (sym is) (takes_sounds s k e (fire_of timer ∷ []) None None place inputs.TimedOut None (λ t opens client. opens) tt)
@@ -209,10 +212,11 @@ said_by : (s : Contents) → KnowsDialogs (office s) → (x : Effect) → Sounds
 said_by s k x sound id u client (stayed t there later) = subst SaysDialog (sym later.parts) (k.requests id t there (sym later.side ∙ client))
 said_by s k x sound id u client (began t opens later) = subst SaysDialog (sym later.parts) (sound.began t opens (sym later.side ∙ client))
 
-registered_bound : (r : registrar.Contents) (plan : Option PlanContents) → IsBoundPlan plan → ((user : List ℕ) → All IsBound (bindings_of r.entries user))
-    → (user : List ℕ) → All IsBound (bindings_of (registered_by r plan).entries user)
+registered_bound : (r : registrar.Contents) (change : Option RegistrarChange) → IsBoundPlan change → ((user : List ℕ) → All IsBound (bindings_of r.entries user))
+    → (user : List ℕ) → All IsBound (bindings_of (registered_by r change).entries user)
 registered_bound r None bound each user = each user
-registered_bound r (Some plan) bound each user = entries_bound plan.user plan.bindings r.entries user bound (each user)
+registered_bound r (Some (Binds plan)) bound each user = entries_bound plan.user plan.bindings r.entries user bound (each user)
+registered_bound r (Some (Lists entries)) bound each user = bound user
 
 knows_by : (s : Contents) → KnowsDialogs (office s) → (now : ℕ) (x : Effect) → Sounds (office s) x → KnowsDialogs (office (after_event s now x))
 unfolding after_event

@@ -54,7 +54,7 @@ use Rattle.message_laws.proofs.Messages.Replying.{IsReply, okay_reply, refuses_r
 use Rattle.message_laws.proofs.Messages.RequestViews.{RequestRow, asks_callee, cancelled, counted_alone, left, passed_on, refreshed, replied, unfit}
 use Rattle.message_laws.proofs.Messages.ResponseViews.{ResponseRow, ack_alone, again, answered, fork, provisional, refused, silent}
 use Rattle.message_laws.proofs.Messages.MessageViews.{MessageRow, acknowledged, begun_by, dropped, moved, requested, responded}
-use Rattle.message_laws.proofs.Messages.Views.{DatagramRow, DueRow, WhatRow, call_fired, came, due, ended, fired_alone, idle, ignored, sent_again, stopped, timed, unfit_branched, unreadable, was_received, what_view}
+use Rattle.message_laws.proofs.Messages.Views.{DatagramRow, DueRow, WhatRow, call_fired, came, due, ended, fired_alone, idle, listed, ignored, sent_again, stopped, timed, unfit_branched, unreadable, was_received, what_view}
 
 -- ---- an effect
 
@@ -236,6 +236,7 @@ datagram_rows s k few e bytes x (was_received m read branch reached row) = messa
 
 due_rows : (s : Office) → KnowsTokens s → (e : Setting) (x : Effect) → DueRow s e x → Owns s x
 due_rows s k e x (idle is) = subst (Owns s) (sym is) (nothing_owns s k _)
+due_rows s k e x (listed users is) = subst (Owns s) (sym is) (plan_owns s k _ tt)
 due_rows s k e x (sent_again timer out fired is) = subst (Owns s) (sym is) (moves_owns s k (fire_of timer ∷ []) (Some out) (fire_begins_none timer))
 due_rows s k e x (fired_alone timer fired is) = subst (Owns s) (sym is) (moves_owns s k (fire_of timer ∷ []) None (fire_begins_none timer))
 due_rows s k e x (timed timer t place fired times there found is) =

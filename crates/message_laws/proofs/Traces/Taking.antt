@@ -30,6 +30,7 @@ use Rattle.transactions.specs.declared.transaction.Transaction.{Transaction}
 use Rattle.events.specs.declared.event.Event.{Event}
 use Rattle.events.specs.declared.event.What.{What}
 use Rattle.calls.specs.Settled.{has_settled}
+use Rattle.configuration.specs.Rules.{is_user_list}
 use Rattle.events.specs.declared.event.What.TheVariants as whats
 use Rattle.sip_uri.specs.declared.uri.Addr.{Addr}
 use Rattle.timers.specs.Queue.{first_due}
@@ -167,6 +168,7 @@ counts_none : (s : Contents) (now : ℕ) (what : What) → NotDone (what_counts 
 counts_none s now (whats.Datagram source bytes) = by_if NotDone (nat_lt max_datagram (length bytes)) (Some (Dropped (Unread faults.TooLong))) None (λ b done. cc) (λ b. tt)
 counts_none s now whats.Due = by_if NotDone (is_some (first_due s.table.timers now) || is_some (first_due s.calls.timers now)) None (Some Idle) (λ b. tt) (λ b done. cc)
 counts_none s now (whats.Silent number) = by_if NotDone (has_settled number s.calls.calls) None (Some Idle) (λ b. tt) (λ b done. cc)
+counts_none s now (whats.Users users) = by_if NotDone (is_user_list users) None (Some Idle) (λ b. tt) (λ b done. cc)
 
 counted_none : (s : Contents) (e : Event) → NotDone (only_counts s e)
 unfolding only_counts

@@ -52,7 +52,7 @@ use Rattle.message_laws.proofs.TokenUse.Rows.{answered_client}
 use Rattle.message_laws.proofs.StandingCalls.SoundCalls.{counts_sound}
 use Rattle.message_laws.proofs.StandingCalls.SoundRows.{known_leg}
 use Rattle.message_laws.proofs.StandingCalls.SoundSteps.{answers_sound}
-use Rattle.message_laws.proofs.Messages.Views.{DatagramRow, DueRow, WhatRow, call_fired, came, due, ended, fired_alone, idle, ignored, sent_again, stopped, timed, unfit_branched, unreadable, was_received, what_view}
+use Rattle.message_laws.proofs.Messages.Views.{DatagramRow, DueRow, WhatRow, call_fired, came, due, ended, fired_alone, idle, listed, ignored, sent_again, stopped, timed, unfit_branched, unreadable, was_received, what_view}
 use Rattle.message_laws.proofs.Traces.Effects.{BeginsNone, IsKnown, IsReady, SaysEffect, SaysPlan, fire_begins, fire_calm, fire_keeps, ground, is_ready, none, reply_calm, says_acks, says_moves, says_nothing, says_reply, says_response, says_step, stopped_ready, told_response}
 use Rattle.message_laws.proofs.StandingCalls.LowCalls.{answers_low, counts_low}
 use Rattle.message_laws.proofs.Traces.Legs.{IsPut, clients_read}
@@ -226,6 +226,7 @@ module _ (reading : Reading) (describes : BodiesDescribe) (before : List Sent) (
 module _ (reading : Reading) (describes : BodiesDescribe) (before : List Sent) (s : Office) (k : IsReady before s) (e : Setting) where
   due_says : (what : What) (x : Effect) → DueRow s e x → SaysEffect before s what x
   due_says what x (idle is) = subst (SaysEffect before s what) (sym is) (silent_says reading describes before s k e what _)
+  due_says what x (listed users is) = subst (SaysEffect before s what) (sym is) (record { says = says_nothing before s.tokens; told = none tt })
   due_says what x (sent_again timer out fired is) =
       subst (SaysEffect before s what) (sym is) (calm_plan before s what (moves (fire_of timer ∷ []) (Some out)) (says_moves before s.tokens (fire_of timer ∷ []) (Some out) (timer_goes before s k.was timer out fired) (fire_begins timer) (fire_keeps timer)) (fire_calm timer))
   due_says what x (fired_alone timer fired is) =
