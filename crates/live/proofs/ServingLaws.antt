@@ -2,15 +2,17 @@
 use Rattle.std.proofs.Common.{◌≡◌, ◌∙◌, ℕ, zero, suc, Bool, true, false, cond, nat_le, List, [], ◌∷◌, length, Option, Some, None, ◌⊎◌, ◌++◌, inl, inr, refl, ap, sym, subst, append_assoc, arith}
 use Rattle.std.proofs.lemmas.List.{append-nil}
 use Rattle.rand_chacha.specs.ChaCha.{ChaCha}
-use Rattle.live.specs.Rounds.{Rounds, TableAt, end_after, is_behind, max_in_a_row, salts_after, silent_in, streaks_after}
+use Rattle.live.specs.News.{with_news}
+use Rattle.live.specs.Rounds.{Rounds, TableAt, end_after, is_behind, max_in_a_row, salts_after, streaks_after}
 use Rattle.live.specs.Salts.{behind_salts, salt_at}
-use Rattle.live.specs.Serving.{AreLeft, Course, EndsAt, GoOn, Leads, Made, RoundAt, events_after, events_in, Served, moments_of, none_failed, one_less, salts_behind, silent_behind, streaks_of, told_in, with_silent, with_trouble}
+use Rattle.live.specs.Serving.{AreLeft, Course, EndsAt, GoOn, Leads, Made, RoundAt, events_after, events_in, Served, moments_of, news_behind, none_failed, one_less, salts_behind, streaks_of, told_in, with_trouble}
 use Rattle.live.specs.Troubles.{trouble_between}
 use Rattle.live.specs.Traces.{LivesUntil}
 use Rattle.live.specs.Turns.{HasTable}
 use Rattle.live.proofs.TraceLaws.{Went, StandLaws, lives_on, none_went, round_more}
+use Rattle.live.specs.declared.news.News.{News}
 use Rattle.live.specs.declared.round.Round.{Round}
-use Rattle.live.specs.declared.round.Round.TheVariants.{Fired, Silenced, Took, Waited, Failed}
+use Rattle.live.specs.declared.round.Round.TheVariants.{Fired, Heard, Took, Waited, Failed}
 use Rattle.live.specs.declared.streaks.Streaks.{Streaks}
 use Rattle.live.specs.declared.streaks.End.{End}
 use Rattle.live.specs.declared.streaks.End.TheVariants.{Turns, Stopped, Socket, Memory}
@@ -21,7 +23,7 @@ pub record Going (a b : Course) (turns left : Option ℕ) (streaks : Streaks) : 
   pub rounds : List RoundAt
   pub made : Made a.salts a.state rounds b.state
   pub moments : b.moments ≡ a.moments ++ moments_of rounds
-  pub named : b.silent ≡ silent_behind a.silent rounds
+  pub handed : b.news ≡ news_behind a.news rounds
   pub salts : b.salts ≡ salts_behind a.salts rounds
   pub told_there : b.trouble ≡ told_in a.trouble rounds
   pub go_on : GoOn rounds
@@ -34,7 +36,7 @@ all_left None = refl
 all_left (Some turns) = omega (arith)
 
 pub none_made : (a : Course) (turns : Option ℕ) → Going a a turns turns none_failed
-none_made a turns = record { rounds = []; made = refl; moments = sym (append-nil a.moments); named = refl; salts = refl; told_there = refl; go_on = tt; are_left = all_left turns; counts = refl; went = none_went a.state }
+none_made a turns = record { rounds = []; made = refl; moments = sym (append-nil a.moments); handed = refl; salts = refl; told_there = refl; go_on = tt; are_left = all_left turns; counts = refl; went = none_went a.state }
 
 -- ---- how many are left
 
@@ -60,11 +62,11 @@ none_left (Some turns) (Some (suc left)) made h e = absurd (cc)
 -- ---- the end
 
 pub was_stopped : (a b : Course) (turns left : Option ℕ) (streaks : Streaks) → Going a b turns left streaks → Served a b turns Stopped
-was_stopped a b turns left streaks h = record { rounds = h.rounds; made = h.made; moments = h.moments; named = h.named; salts = h.salts; told_there = h.told_there; ends = h.go_on }
+was_stopped a b turns left streaks h = record { rounds = h.rounds; made = h.made; moments = h.moments; handed = h.handed; salts = h.salts; told_there = h.told_there; ends = h.go_on }
 
 pub made_all : (a b : Course) (turns left : Option ℕ) (streaks : Streaks) → Going a b turns left streaks → one_less left ≡ None → Served a b turns Turns
 made_all a b turns left streaks h e =
-    record { rounds = h.rounds; made = h.made; moments = h.moments; named = h.named; salts = h.salts; told_there = h.told_there; ends = (none_left turns left (length h.rounds) h.are_left e, h.go_on) }
+    record { rounds = h.rounds; made = h.made; moments = h.moments; handed = h.handed; salts = h.salts; told_there = h.told_there; ends = (none_left turns left (length h.rounds) h.are_left e, h.go_on) }
 
 -- what ends the signalling behind a round is a socket or memory
 end_cases : (b c d : Bool) (end : End) → cond b (Some Memory) (cond c (Some Socket) (cond d (Some Memory) None)) ≡ Some end → (end ≡ Socket) ⊎ (end ≡ Memory)
@@ -98,7 +100,7 @@ count_more rounds x streaks after counts next = next ∙ ap (λ (y : Streaks). s
 record Lead (a c : Course) (rounds : List RoundAt) : Type 0 where
   pub made : Made a.salts a.state rounds c.state
   pub moments : c.moments ≡ a.moments ++ moments_of rounds
-  pub named : c.silent ≡ silent_behind a.silent rounds
+  pub handed : c.news ≡ news_behind a.news rounds
   pub salts : c.salts ≡ salts_behind a.salts rounds
   pub told_there : c.trouble ≡ told_in a.trouble rounds
 
@@ -112,46 +114,46 @@ is_in_front x round e = front_cases (is_behind round) _ e
 
 salts_more : (g : ChaCha) (n : ℕ) (round : Round) → salts_after (behind_salts g n) round ≡ behind_salts g (events_after n round)
 salts_more g n (Fired turned) = refl
-salts_more g n (Silenced number turned) = refl
+salts_more g n (Heard turned) = refl
 salts_more g n (Took turned) = refl
 salts_more g n Waited = refl
 salts_more g n Failed = refl
 
 lead_more : (a b c : Course) (turns left : Option ℕ) (streaks after : Streaks) (round : Round) (h : Going a b turns left streaks) (leads : Leads b c round) → after ≡ streaks_after streaks round
-    → c.trouble ≡ with_trouble b.trouble (trouble_between streaks after) → Lead a c (record { now = leads.now; round = round } ∷ h.rounds)
+    → c.trouble ≡ with_trouble b.trouble (trouble_between streaks after) → Lead a c (record { now = leads.now; news = leads.news; round = round } ∷ h.rounds)
 lead_more a b c turns left streaks after round h leads counted said = record {
-  made = (b.state, h.made, subst (λ (g : ChaCha). Rounds leads.now (salt_at g) b.state c.state round) h.salts leads.made);
+  made = (b.state, h.made, subst (λ (g : ChaCha). Rounds leads.now (salt_at g) leads.news b.state c.state round) h.salts leads.made);
   moments = leads.told ∙ ap (λ (l : List ℕ). l ++ leads.now ∷ []) h.moments ∙ append_assoc a.moments (moments_of h.rounds) (leads.now ∷ []);
-  named = leads.named ∙ ap (λ (l : List ℕ). with_silent l (silent_in round)) h.named;
+  handed = leads.handed ∙ ap (λ (l : List News). with_news l leads.news) h.handed;
   salts = leads.salts ∙ ap (λ (g : ChaCha). salts_after g round) h.salts ∙ salts_more a.salts (events_in h.rounds) round;
-  told_there = told_more a.trouble b.trouble c.trouble h.rounds (record { now = leads.now; round = round }) streaks after h.told_there h.counts counted said;
+  told_there = told_more a.trouble b.trouble c.trouble h.rounds (record { now = leads.now; news = leads.news; round = round }) streaks after h.told_there h.counts counted said;
 }
 
 pub one_more_made : (a b c : Course) (turns left next : Option ℕ) (streaks after : Streaks) (round : Round) → Going a b turns left streaks
     → one_less left ≡ Some next → Leads b c round → after ≡ streaks_after streaks round → c.trouble ≡ with_trouble b.trouble (trouble_between streaks after)
     → end_after after round ≡ None → Going a c turns next after
 one_more_made a b c turns left next streaks after round h less leads counted said goes_on =
-    let x : RoundAt = record { now = leads.now; round = round } in
+    let x : RoundAt = record { now = leads.now; news = leads.news; round = round } in
     let counts = count_more h.rounds x streaks after h.counts counted in
     let lead = lead_more a b c turns left streaks after round h leads counted said in
     record {
       rounds = x ∷ h.rounds;
       made = lead.made;
       moments = lead.moments;
-      named = lead.named;
+      handed = lead.handed;
       salts = lead.salts;
       told_there = lead.told_there;
       go_on = (subst (λ (y : Streaks). end_after y round ≡ None) counts goes_on, h.go_on);
       are_left = one_left turns left next (length h.rounds) h.are_left less;
       counts = counts;
-      went = round_more leads.now (salt_at b.salts) a.state b.state c.state round h.went leads.made (is_in_front after round goes_on);
+      went = round_more leads.now (salt_at b.salts) leads.news a.state b.state c.state round h.went leads.made (is_in_front after round goes_on);
     }
 
 pub ended : (a b c : Course) (turns left : Option ℕ) (streaks after : Streaks) (round : Round) (end : End) → Going a b turns left streaks
     → Leads b c round → after ≡ streaks_after streaks round → c.trouble ≡ with_trouble b.trouble (trouble_between streaks after) → end_after after round ≡ Some end
     → Served a c turns end
 ended a b c turns left streaks after round end h leads counted said ends =
-    let x : RoundAt = record { now = leads.now; round = round } in
+    let x : RoundAt = record { now = leads.now; news = leads.news; round = round } in
     let counts = count_more h.rounds x streaks after h.counts counted in
     let lead = lead_more a b c turns left streaks after round h leads counted said in
     let ends_there = subst (λ (y : Streaks). end_after y round ≡ Some end) counts ends in
@@ -159,7 +161,7 @@ ended a b c turns left streaks after round end h leads counted said ends =
       rounds = x ∷ h.rounds;
       made = lead.made;
       moments = lead.moments;
-      named = lead.named;
+      handed = lead.handed;
       salts = lead.salts;
       told_there = lead.told_there;
       ends = ends_by turns x h.rounds end (end_cases (is_behind round) (nat_le max_in_a_row after.failed) (nat_le max_in_a_row after.lost) end ends) ends_there h.go_on;
@@ -183,8 +185,8 @@ neither b c d end e not_socket not_memory = one_of (end_cases b c d end e) not_s
 pub lives_at : (laws : StandLaws) (a b c : Course) (turns left : Option ℕ) (streaks after : Streaks) (round : Round) (end : End) → Going a b turns left streaks → Leads b c round → end_after after round ≡ Some end
     → HasTable b.state.lists b.state.agent → TableAt c.state.lists c.state.agent end → LivesUntil a.state c.state end
 lives_at laws a b c turns left streaks after round Socket h leads e before table =
-    lives_on laws a.state c.state (round_more leads.now (salt_at b.salts) a.state b.state c.state round h.went leads.made (socket_cases (is_behind round) _ e)) table
+    lives_on laws a.state c.state (round_more leads.now (salt_at b.salts) leads.news a.state b.state c.state round h.went leads.made (socket_cases (is_behind round) _ e)) table
 lives_at laws a b c turns left streaks after round Memory h leads e before table =
-    record { mid = b.state; lives = lives_on laws a.state b.state h.went before; now = leads.now; salt = salt_at b.salts; round = round; last = leads.made }
+    record { mid = b.state; lives = lives_on laws a.state b.state h.went before; now = leads.now; salt = salt_at b.salts; news = leads.news; round = round; last = leads.made }
 lives_at laws a b c turns left streaks after round Turns h leads e before table = absurd (neither (is_behind round) (nat_le max_in_a_row after.failed) (nat_le max_in_a_row after.lost) Turns e (λ q. cc) (λ q. cc))
 lives_at laws a b c turns left streaks after round Stopped h leads e before table = absurd (neither (is_behind round) (nat_le max_in_a_row after.failed) (nat_le max_in_a_row after.lost) Stopped e (λ q. cc) (λ q. cc))

@@ -5,27 +5,30 @@ use Rattle.std.proofs.lemmas.List.Elements.{All-append, All-cons, All-nil, All-p
 use Rattle.std.specs.List.{All}
 use Rattle.call_trace.specs.declared.datagram.Datagram.{Datagram}
 use Rattle.events.specs.declared.event.Event.{Event}
-use Rattle.events.specs.declared.event.What.TheVariants.{Due, Silent}
+use Rattle.events.specs.declared.event.What.TheVariants.{Due}
 use Rattle.events.specs.declared.sent.Sent.{Sent}
 use Rattle.plans.specs.declared.taken.Taken.{Taken}
 use Rattle.port_pool.specs.RelayTable.{Rows}
 use Rattle.event_rows.specs.Rows.{row}
 use Rattle.event_rows.specs.State.{Contents, office}
 use Rattle.event_rows.specs.Trace.{AreEntries, Entry, after_entries, after_entry}
-use Rattle.message_laws.specs.Datagrams.{EntersFromSource}
+use Rattle.message_laws.specs.Datagrams.{EntersFromSource, IsNoDatagram}
 use Rattle.message_laws.specs.Knowledge.{sends_of}
 use Rattle.message_laws.specs.Traces.{AreTrace}
 use Rattle.media_laws.specs.Keeping.{HasPromisedCalls, RelaysLive}
 use Rattle.media_laws.specs.Living.{ListsLive}
 use Rattle.media_laws.specs.Standing.{AgentStands}
 use Rattle.live.specs.Arrivals.{Arrival, comes}
-use Rattle.live.specs.Rounds.{Fires, Rests, Rounds, Silences, Takes, event, is_behind, is_behind_turn}
+use Rattle.live.specs.News.{what_of}
+use Rattle.live.specs.Rounds.{Fires, Hears, Rests, Rounds, Takes, event, is_behind, is_behind_turn}
 use Rattle.live.specs.Sending.{Tried}
 use Rattle.live.specs.States.{State}
 use Rattle.live.specs.Traces.{Happening, Happens, IsHappening, IsOf, KeepsLive, LivesOn, arrivals_of, entries_of, with_first}
 use Rattle.live.specs.Turns.{Carries, HasTable}
+use Rattle.live.specs.declared.news.News.{News}
+use Rattle.live.specs.declared.news.News.TheVariants.{Silent, Users}
 use Rattle.live.specs.declared.round.Round.{Round}
-use Rattle.live.specs.declared.round.Round.TheVariants.{Fired, Silenced, Took, Waited, Failed}
+use Rattle.live.specs.declared.round.Round.TheVariants.{Fired, Heard, Took, Waited, Failed}
 use Rattle.live.specs.declared.turn.Turned.{Turned}
 use Rattle.live.specs.declared.turn.Turned.TheVariants.{Done, Lost, Behind}
 
@@ -133,11 +136,17 @@ fired_more now salt a b c (Done taken failed) hs h k front =
 fired_more now salt a b c Lost hs h k front = record { happenings = hs; happens = same_happened a b c hs h k.turns.0 k.wire.taken k.turns.1.wire }
 fired_more now salt a b c Behind hs h k front = absurd (cc)
 
-silenced_more : (now salt number : ℕ) (a b c : State) (turned : Turned) (hs : List Happening) → Happens a b hs → Silences now salt number b c turned → is_behind_turn turned ≡ false → Went a c
-silenced_more now salt number a b c (Done taken failed) hs h k front =
-    record { happenings = hs ++ _; happens = one_more a b c hs _ h (carried (event now salt (Silent number)) b c taken failed None k.turns tt (k.wire.taken ∙ sym (append-nil b.wire.taken))) }
-silenced_more now salt number a b c Lost hs h k front = record { happenings = hs; happens = same_happened a b c hs h k.turns.0 k.wire.taken k.turns.1.wire }
-silenced_more now salt number a b c Behind hs h k front = absurd (cc)
+no_datagram : (news : News) → IsNoDatagram (what_of news)
+no_datagram (Silent number) = tt
+no_datagram (Users users) = tt
+
+heard_more : (now salt : ℕ) (news : News) (a b c : State) (turned : Turned) (hs : List Happening) → Happens a b hs → Hears now salt news b c turned → is_behind_turn turned ≡ false → Went a c
+heard_more now salt news a b c (Done taken failed) hs h k front = record {
+  happenings = hs ++ _;
+  happens = one_more a b c hs _ h (carried (event now salt (what_of news)) b c taken failed None k.turns (no_datagram news) (k.wire.taken ∙ sym (append-nil b.wire.taken)));
+}
+heard_more now salt news a b c Lost hs h k front = record { happenings = hs; happens = same_happened a b c hs h k.turns.0 k.wire.taken k.turns.1.wire }
+heard_more now salt news a b c Behind hs h k front = absurd (cc)
 
 taken_more : (now salt : ℕ) (a b c : State) (turned : Turned) (hs : List Happening) → Happens a b hs → Takes now salt b c turned → is_behind_turn turned ≡ false → Went a c
 taken_more now salt a b c (Done taken failed) hs h k front =
@@ -148,12 +157,17 @@ taken_more now salt a b c Behind hs h k front = absurd (cc)
 rests_more : (a b c : State) (hs : List Happening) → Happens a b hs → Rests b c → Went a c
 rests_more a b c hs h k = record { happenings = hs; happens = same_happened a b c hs h k.agent k.taken k.tried }
 
-pub round_more : (now salt : ℕ) (a b c : State) (round : Round) → Went a b → Rounds now salt b c round → is_behind round ≡ false → Went a c
-round_more now salt a b c (Fired turned) h k front = fired_more now salt a b c turned h.happenings h.happens k front
-round_more now salt a b c (Silenced number turned) h k front = silenced_more now salt number a b c turned h.happenings h.happens k front
-round_more now salt a b c (Took turned) h k front = taken_more now salt a b c turned h.happenings h.happens k front
-round_more now salt a b c Waited h k front = rests_more a b c h.happenings h.happens k.rests
-round_more now salt a b c Failed h k front = rests_more a b c h.happenings h.happens k.rests
+pub round_more : (now salt : ℕ) (news : Option News) (a b c : State) (round : Round) → Went a b → Rounds now salt news b c round → is_behind round ≡ false → Went a c
+round_more now salt None a b c (Fired turned) h k front = fired_more now salt a b c turned h.happenings h.happens k front
+round_more now salt None a b c (Heard turned) h k front = absurd k
+round_more now salt None a b c (Took turned) h k front = taken_more now salt a b c turned h.happenings h.happens k front
+round_more now salt None a b c Waited h k front = rests_more a b c h.happenings h.happens k.rests
+round_more now salt None a b c Failed h k front = rests_more a b c h.happenings h.happens k.rests
+round_more now salt (Some news) a b c (Heard turned) h k front = heard_more now salt news a b c turned h.happenings h.happens k front
+round_more now salt (Some news) a b c (Fired turned) h k front = absurd k
+round_more now salt (Some news) a b c (Took turned) h k front = absurd k
+round_more now salt (Some news) a b c Waited h k front = absurd k
+round_more now salt (Some news) a b c Failed h k front = absurd k
 
 pub none_went : (a : State) → Went a a
 none_went a = record { happenings = []; happens = none_happened a }

@@ -1,4 +1,5 @@
 pub mod Arrivals
+pub mod News
 pub mod Rounds
 pub mod Salts
 pub mod Sending

@@ -1,21 +1,22 @@
--- What a round of the signalling does: it tells the agent of a silent call, or fires what is due, or takes a datagram,
--- or waits.
+-- What a round of the signalling does: it tells the agent news, or fires what is due, or takes a datagram, or waits.
 use Rattle.std.specs.Prelude.{◌≡◌, ℕ, ◌+◌, ◌-◌, ◌^◌, Bool, true, false, nat_le, min, [], ◌∷◌, ◌++◌, Option, Some, None, ◌⊎◌, if◌then◌else◌}
 use Rattle.relay.specs.Lists.{Lists}
 use Rattle.events.specs.declared.event.Event.{Event}
 use Rattle.events.specs.declared.event.What.{What}
-use Rattle.events.specs.declared.event.What.TheVariants.{Due, Silent}
+use Rattle.events.specs.declared.event.What.TheVariants.{Due}
 use Rattle.rand_chacha.specs.ChaCha.{ChaCha}
 use Rattle.event_rows.specs.Rows.{next_due}
 use Rattle.event_rows.specs.State.{Contents}
 use Rattle.live.specs.Arrivals.{Arrival, buffer_length, comes}
+use Rattle.live.specs.News.{what_of}
 use Rattle.live.specs.Salts.{after_salt}
 use Rattle.live.specs.States.{OnlySends, State}
 use Rattle.live.specs.Turns.{HasTable, Turns}
+use Rattle.live.specs.declared.news.News.{News}
 use Rattle.live.specs.declared.turn.Turned.{Turned}
 use Rattle.live.specs.declared.turn.Turned.TheVariants.{Done, Lost, Behind}
 use Rattle.live.specs.declared.round.Round.{Round}
-use Rattle.live.specs.declared.round.Round.TheVariants.{Fired, Silenced, Took, Waited, Failed}
+use Rattle.live.specs.declared.round.Round.TheVariants.{Fired, Heard, Took, Waited, Failed}
 use Rattle.live.specs.declared.streaks.Streaks.{Streaks}
 use Rattle.live.specs.declared.streaks.End.{End}
 use Rattle.live.specs.declared.streaks.End.TheVariants as ends
@@ -65,10 +66,10 @@ pub record Fires (now salt : ℕ) (a b : State) (turned : Turned) : Type 0 where
   pub wire : OnlySends a.wire b.wire
   pub turns : Turns (event now salt Due) a b turned
 
--- the media of this call have stopped, and no datagram is asked for
-pub record Silences (now salt number : ℕ) (a b : State) (turned : Turned) : Type 0 where
+-- the agent is told these news, and no datagram is asked for
+pub record Hears (now salt : ℕ) (news : News) (a b : State) (turned : Turned) : Type 0 where
   pub wire : OnlySends a.wire b.wire
-  pub turns : Turns (event now salt (Silent number)) a b turned
+  pub turns : Turns (event now salt (what_of news)) a b turned
 
 -- no timer is due, and a datagram is taken
 pub record Takes (now salt : ℕ) (a b : State) (turned : Turned) : Type 0 where
@@ -95,22 +96,27 @@ pub record Fails (now : ℕ) (a b : State) : Type 0 where
   pub waited : NeverWaits a b ⊎ WaitsUntilDue now a b
   pub failed : b.wire.failed ≡ true
 
-abbrev pub Rounds : ℕ → ℕ → State → State → Round → Type 0
-Rounds now salt a b (Fired turned) = Fires now salt a b turned
-Rounds now salt a b (Silenced number turned) = Silences now salt number a b turned
-Rounds now salt a b (Took turned) = Takes now salt a b turned
-Rounds now salt a b Waited = Waits now a b
-Rounds now salt a b Failed = Fails now a b
+-- a round that had news
+abbrev pub HearsIn : ℕ → ℕ → News → State → State → Round → Type 0
+HearsIn now salt news a b (Heard turned) = Hears now salt news a b turned
+HearsIn now salt news a b round = ⊥
 
--- the call that was silent
-abbrev pub silent_in : Round → Option ℕ
-silent_in (Silenced number turned) = Some number
-silent_in round = None
+-- one that had none
+abbrev pub GoesOn : ℕ → ℕ → State → State → Round → Type 0
+GoesOn now salt a b (Fired turned) = Fires now salt a b turned
+GoesOn now salt a b (Heard turned) = ⊥
+GoesOn now salt a b (Took turned) = Takes now salt a b turned
+GoesOn now salt a b Waited = Waits now a b
+GoesOn now salt a b Failed = Fails now a b
+
+abbrev pub Rounds : ℕ → ℕ → Option News → State → State → Round → Type 0
+Rounds now salt None a b round = GoesOn now salt a b round
+Rounds now salt (Some news) a b round = HearsIn now salt news a b round
 
 -- the stream behind a round: each event has a salt of its own, also one that is lost
 abbrev pub salts_after : ChaCha → Round → ChaCha
 salts_after g (Fired turned) = after_salt g
-salts_after g (Silenced number turned) = after_salt g
+salts_after g (Heard turned) = after_salt g
 salts_after g (Took turned) = after_salt g
 salts_after g Waited = g
 salts_after g Failed = g
@@ -133,7 +139,7 @@ lost_after lost Behind = lost
 -- a receive that succeeds, or a wait, starts the count of failures anew
 abbrev pub streaks_after : Streaks → Round → Streaks
 streaks_after x (Fired turned) = record { failed = x.failed; lost = lost_after x.lost turned }
-streaks_after x (Silenced number turned) = record { failed = x.failed; lost = lost_after x.lost turned }
+streaks_after x (Heard turned) = record { failed = x.failed; lost = lost_after x.lost turned }
 streaks_after x (Took turned) = record { failed = 0; lost = lost_after x.lost turned }
 streaks_after x Waited = record { failed = 0; lost = x.lost }
 streaks_after x Failed = record { failed = one_more x.failed; lost = x.lost }
@@ -146,7 +152,7 @@ is_behind_turn Behind = true
 -- the board is no longer what the agent has
 abbrev pub is_behind : Round → Bool
 is_behind (Fired turned) = is_behind_turn turned
-is_behind (Silenced number turned) = is_behind_turn turned
+is_behind (Heard turned) = is_behind_turn turned
 is_behind (Took turned) = is_behind_turn turned
 is_behind Waited = false
 is_behind Failed = false

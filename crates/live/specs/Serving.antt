@@ -1,51 +1,50 @@
 -- What the signalling did from its start to its end: rounds, one after the other.
 use Rattle.std.specs.Prelude.{◌≡◌, ◌+◌, ℕ, zero, suc, List, [], ◌∷◌, ◌++◌, length, Option, Some, None}
 use Rattle.rand_chacha.specs.ChaCha.{ChaCha}
-use Rattle.live.specs.Rounds.{Rounds, end_after, salts_after, silent_in, streaks_after}
+use Rattle.live.specs.News.{with_news}
+use Rattle.live.specs.Rounds.{Rounds, end_after, salts_after, streaks_after}
 use Rattle.live.specs.Salts.{behind_salts, salt_at}
 use Rattle.live.specs.States.{State}
 use Rattle.live.specs.Troubles.{trouble_between}
+use Rattle.live.specs.declared.news.News.{News}
 use Rattle.live.specs.declared.round.Round.{Round}
-use Rattle.live.specs.declared.round.Round.TheVariants.{Fired, Silenced, Took, Waited, Failed}
+use Rattle.live.specs.declared.round.Round.TheVariants.{Fired, Heard, Took, Waited, Failed}
 use Rattle.live.specs.declared.streaks.Streaks.{Streaks}
 use Rattle.live.specs.declared.streaks.End.{End}
 use Rattle.live.specs.declared.streaks.End.TheVariants.{Turns, Stopped, Socket, Memory}
 use Rattle.live.specs.declared.trouble.Trouble.{Trouble}
 
--- what an event can change, with the stream of salts, the moments that the clock told and the silent calls that the
--- operator named, in order, and what the operator was told last
+-- what an event can change, with the stream of salts, the moments that the clock told and the news that the operator
+-- handed in, in order, and what the operator was told last
 pub record Course : Type 0 where
   pub state : State
   pub salts : ChaCha
   pub moments : List ℕ
-  pub silent : List ℕ
+  pub news : List News
   pub trouble : Option Trouble
 
--- the calls that were named, once a round had this one, if it had any
-abbrev pub with_silent : List ℕ → Option ℕ → List ℕ
-with_silent named None = named
-with_silent named (Some number) = named ++ number ∷ []
-
--- one round, at the moment that the clock told for it and of the call that the operator named, with the next salt of the
--- stream
+-- one round, at the moment that the clock told for it and with the news that the operator handed in for it, if it did, by
+-- the next salt of the stream
 pub record Leads (a b : Course) (round : Round) : Type 0 where
   pub now : ℕ
   pub told : b.moments ≡ a.moments ++ now ∷ []
-  pub made : Rounds now (salt_at a.salts) a.state b.state round
-  pub named : b.silent ≡ with_silent a.silent (silent_in round)
+  pub news : Option News
+  pub made : Rounds now (salt_at a.salts) news a.state b.state round
+  pub handed : b.news ≡ with_news a.news news
   pub salts : b.salts ≡ salts_after a.salts round
 
 -- ---- rounds, the last of them first
 
--- a round, and the moment at which it was made
+-- a round, the moment at which it was made, and the news that it had
 pub record RoundAt : Type 0 where
   pub now : ℕ
+  pub news : Option News
   pub round : Round
 
 -- how many events they had, also those that were lost
 abbrev pub events_after : ℕ → Round → ℕ
 events_after n (Fired turned) = suc n
-events_after n (Silenced number turned) = suc n
+events_after n (Heard turned) = suc n
 events_after n (Took turned) = suc n
 events_after n Waited = n
 events_after n Failed = n
@@ -61,17 +60,17 @@ salts_behind g rounds = behind_salts g (events_in rounds)
 -- each was made at its moment, with the salt that stands behind those of the rounds before it
 abbrev pub Made : ChaCha → State → List RoundAt → State → Type 0
 Made g a [] b = b ≡ a
-Made g a (x ∷ before) b = (mid : State) × Made g a before mid × Rounds x.now (salt_at (salts_behind g before)) mid b x.round
+Made g a (x ∷ before) b = (mid : State) × Made g a before mid × Rounds x.now (salt_at (salts_behind g before)) x.news mid b x.round
 
 -- their moments, the earliest first
 abbrev pub moments_of : List RoundAt → List ℕ
 moments_of [] = []
 moments_of (x ∷ before) = moments_of before ++ x.now ∷ []
 
--- the calls that they silenced, behind those that were named before
-abbrev pub silent_behind : List ℕ → List RoundAt → List ℕ
-silent_behind named [] = named
-silent_behind named (x ∷ before) = with_silent (silent_behind named before) (silent_in x.round)
+-- the news that they had, behind those that were handed in before
+abbrev pub news_behind : List News → List RoundAt → List News
+news_behind handed [] = handed
+news_behind handed (x ∷ before) = with_news (news_behind handed before) x.news
 
 abbrev pub none_failed : Streaks
 none_failed = record { failed = 0; lost = 0 }
@@ -115,14 +114,13 @@ EndsAt turns rounds Stopped = GoOn rounds
 EndsAt turns rounds Socket = EndBy rounds Socket
 EndsAt turns rounds Memory = EndBy rounds Memory
 
--- These rounds were made, one for each moment that the clock told, and one of each call that the operator named, with
--- the salts of the stream in their order. The
--- trouble that began in them was told as it began, and they ended so.
+-- These rounds were made, one for each moment that the clock told, and one of each news that the operator handed in, with
+-- the salts of the stream in their order. The trouble that began in them was told as it began, and they ended so.
 pub record Served (a b : Course) (turns : Option ℕ) (end : End) : Type 0 where
   pub rounds : List RoundAt
   pub made : Made a.salts a.state rounds b.state
   pub moments : b.moments ≡ a.moments ++ moments_of rounds
-  pub named : b.silent ≡ silent_behind a.silent rounds
+  pub handed : b.news ≡ news_behind a.news rounds
   pub salts : b.salts ≡ salts_behind a.salts rounds
   pub told_there : b.trouble ≡ told_in a.trouble rounds
   pub ends : EndsAt turns rounds end

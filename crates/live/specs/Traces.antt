@@ -14,14 +14,15 @@ use Rattle.media_laws.specs.Standing.{AgentStands}
 use Rattle.live.specs.Arrivals.{Arrival, comes}
 use Rattle.live.specs.Rounds.{Rounds}
 use Rattle.live.specs.States.{State}
+use Rattle.live.specs.declared.news.News.{News}
 use Rattle.live.specs.declared.round.Round.{Round}
 use Rattle.live.specs.declared.streaks.End.{End}
 use Rattle.live.specs.declared.streaks.End.TheVariants.{Turns, Stopped, Socket, Memory}
 
 -- ---- what came, and what the agent made of it
 
--- A datagram that came, a timer that fired, or silence of a call, and its entry: the event, with its answer and what was sent. One that
--- was lost has no entry, and counts as not come.
+-- A datagram that came, a timer that fired, or news, and its entry: the event, with its answer and what was sent. One that was
+-- lost has no entry, and counts as not come.
 pub record Happening : Type 0 where
   pub arrival : Option Arrival
   pub entry : Option Entry
@@ -91,8 +92,9 @@ pub record LivedUntilLast (a b : State) : Type 0 where
   pub lives : LivesOn a mid
   pub now : ℕ
   pub salt : ℕ
+  pub news : Option News
   pub round : Round
-  pub last : Rounds now salt mid b round
+  pub last : Rounds now salt news mid b round
 
 -- So it is at each end but that by memory, whose last round may have left the board behind the agent.
 abbrev pub LivesUntil : State → State → End → Type 0

@@ -3,6 +3,8 @@
 #![tactic(auto)]
 
 mod buffer;
+mod news;
+mod news_log;
 mod number_log;
 mod round;
 mod salt;
@@ -14,6 +16,8 @@ mod turn;
 mod wire;
 
 pub use buffer::{DatagramBuffer, datagram_buffer};
+pub use news::News;
+pub use news_log::NewsLog;
 pub use number_log::NumberLog;
 pub use round::Round;
 pub use salt::{

@@ -1,16 +1,18 @@
-//! One round of the signalling: it tells the agent of a silent call, or fires what is due, or takes a datagram, or waits.
+//! One round of the signalling: it tells the agent news, or fires what is due, or takes a datagram, or waits.
 
 ghost use Rattle.std.specs.Prelude.{◌≡◌, ◌∷◌, ◌++◌, [], false, IfOk, MatchOption, MatchResult, None};
 ghost use Rattle.std.specs.Result.{is_err};
 ghost use Rattle.events.specs.declared.event.What.TheVariants as whats;
 ghost use Rattle.event_rows.specs.Rows.{next_due};
 ghost use Rattle.live.specs.Arrivals.{TakesOne, buffer_length};
-ghost use Rattle.live.specs.Rounds.{Rounds, event, is_due, salts_after, silent_in, wait_until};
+ghost use Rattle.live.specs.News.{what_of};
+ghost use Rattle.live.specs.Rounds.{Rounds, event, is_due, salts_after, wait_until};
 ghost use Rattle.live.specs.Salts.{after_salt, salt_at};
 ghost use Rattle.live.specs.States.{OnlySends};
 ghost use Rattle.live.specs.Turns.{HasTable, Turns};
 
 use crate::buffer::DatagramBuffer;
+use crate::news::{News, what_of};
 use crate::salt::next_salt;
 use crate::signalling::Signalling;
 use crate::turn::{Turned, live_turn};
@@ -29,8 +31,8 @@ const MAX_WAIT: u64 = 100;
 pub enum Round {
     /// A timer was due.
     Fired(Turned),
-    /// The media of the call of this number had stopped.
-    Silenced(u64, Turned),
+    /// There were news.
+    Heard(Turned),
     /// A datagram was there.
     Took(Turned),
     /// Nothing was there, and it waited.
@@ -131,11 +133,10 @@ impl<W: Wire> Signalling<W> {
     fn take<R: Wait>(&mut self, rt: &R, now: u64) -> Round
         requires table { HasTable self.old.board self.old.agent }
         requires idle { is_due now (next_due self.old.agent) ≡ false }
-        ensures round { Rounds now (salt_at self.old.salts)
+        ensures round { Rounds now (salt_at self.old.salts) None
             (record { agent = self.old.agent; lists = self.old.board; wire = W.seen self.old.wire })
             (record { agent = self.new.agent; lists = self.new.board; wire = W.seen self.new.wire }) result }
         ensures salts { self.new.salts ≡ salts_after self.old.salts result }
-        ensures silent { silent_in result ≡ None }
     {
         match receive(self.alloc, &mut self.wire, &mut self.buffer) {
             Err(_) => Round::Failed,
@@ -153,19 +154,18 @@ impl<W: Wire> Signalling<W> {
         }
     }
 
-    /// Tells the agent of this silent call, where there is one. Else fires one timer that is due at this moment, in
-    /// milliseconds, or else takes one datagram, or else waits until the next moment that is due, at most 100
-    /// milliseconds. An event has the next salt of the stream.
-    pub fn round<R: Wait>(&mut self, rt: &R, now: u64, silent: Option<u64>) -> Round
+    /// Tells the agent these news, where there are any. Else fires one timer that is due at this moment, in milliseconds, or
+    /// else takes one datagram, or else waits until the next moment that is due, at most 100 milliseconds. An event has
+    /// the next salt of the stream.
+    pub fn round<R: Wait>(&mut self, rt: &R, now: u64, news: Option<News>) -> Round
         requires { HasTable self.old.board self.old.agent }
-        ensures round { Rounds now (salt_at self.old.salts)
+        ensures round { Rounds now (salt_at self.old.salts) news
             (record { agent = self.old.agent; lists = self.old.board; wire = W.seen self.old.wire })
             (record { agent = self.new.agent; lists = self.new.board; wire = W.seen self.new.wire }) result }
         ensures salts { self.new.salts ≡ salts_after self.old.salts result }
-        ensures silent { silent_in result ≡ silent }
     {
-        if let Some(number) = silent {
-            Round::Silenced(number, self.happen_alone(rt, now, What::Silent(number)))
+        if let Some(news) = news {
+            Round::Heard(self.happen_alone(rt, now, what_of(news)))
         } else if is_due(now, self.agent.next_due()) {
             Round::Fired(self.happen_alone(rt, now, What::Due))
         } else {

@@ -51,14 +51,14 @@ fn go_on<W: Wire, C: Clock, O: Operator, R: Wait>(
           state = record { agent = signalling.old.agent; lists = signalling.old.board; wire = W.seen signalling.old.wire };
           salts = signalling.old.salts;
           moments = C.told clock.old;
-          silent = O.named operator.old;
+          news = O.handed operator.old;
           trouble = O.told operator.old;
         })
         (record {
           state = record { agent = signalling.new.agent; lists = signalling.new.board; wire = W.seen signalling.new.wire };
           salts = signalling.new.salts;
           moments = C.told clock.new;
-          silent = O.named operator.new;
+          news = O.handed operator.new;
           trouble = O.told operator.new;
         }) result }
     ensures streaks { streaks.new ≡ streaks_after streaks.old result }
@@ -67,8 +67,8 @@ fn go_on<W: Wire, C: Clock, O: Operator, R: Wait>(
         (λ end. TableAt signalling.new.board signalling.new.agent end) }
 {
     let now = clock.now();
-    let silent = operator.silent_call(now);
-    let round = signalling.round(rt, now, silent);
+    let news = operator.news(now);
+    let round = signalling.round(rt, now, news);
     let before = *streaks;
     *streaks = before.after(round);
     tell_of_change(operator, before, *streaks);
@@ -78,8 +78,8 @@ fn go_on<W: Wire, C: Clock, O: Operator, R: Wait>(
 }
 
 /// Makes rounds until as many are made as are asked for, until the flag is set, or until too many in a row fail. The
-/// operator is told of each kind of trouble as it begins, and of each event once the agent took it; the agent is told of
-/// each call that the operator names as silent.
+/// operator is told of each kind of trouble as it begins, and of each event once the agent took it; the agent is told the
+/// operator's news, each once.
 pub fn serve<W: Wire, C: Clock, O: Operator, R: Wait>(
     rt: &R,
     signalling: &mut Signalling<W>,
@@ -95,14 +95,14 @@ pub fn serve<W: Wire, C: Clock, O: Operator, R: Wait>(
           state = record { agent = signalling.old.agent; lists = signalling.old.board; wire = W.seen signalling.old.wire };
           salts = signalling.old.salts;
           moments = C.told clock.old;
-          silent = O.named operator.old;
+          news = O.handed operator.old;
           trouble = O.told operator.old;
         })
         (record {
           state = record { agent = signalling.new.agent; lists = signalling.new.board; wire = W.seen signalling.new.wire };
           salts = signalling.new.salts;
           moments = C.told clock.new;
-          silent = O.named operator.new;
+          news = O.handed operator.new;
           trouble = O.told operator.new;
         }) turns result }
     // The trace of the live server.

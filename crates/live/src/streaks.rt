@@ -60,7 +60,7 @@ fn is_behind(round: Round) -> bool
 {
     match round {
         Round::Fired(turned) => is_behind_turn(turned),
-        Round::Silenced(_, turned) => is_behind_turn(turned),
+        Round::Heard(turned) => is_behind_turn(turned),
         Round::Took(turned) => is_behind_turn(turned),
         Round::Waited => false,
         Round::Failed => false,
@@ -73,7 +73,7 @@ impl Streaks {
         ensures { result ≡ streaks_after self round }
     {
         match round {
-            Round::Fired(turned) | Round::Silenced(_, turned) => Streaks {
+            Round::Fired(turned) | Round::Heard(turned) => Streaks {
                 failed: self.failed,
                 lost: lost_after(self.lost, turned),
             },

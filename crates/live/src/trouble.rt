@@ -1,10 +1,13 @@
 //! Trouble that an operator is told of, as it begins, and what events were about.
 
-ghost use Rattle.std.specs.Prelude.{◌≡◌, ℕ, List, Option, Some};
+ghost use Rattle.std.specs.Prelude.{◌≡◌, List, Option, Some};
 ghost use Rattle.live.specs.Troubles.{trouble_between};
-ghost use Rattle.live.specs.Serving.{with_silent, with_trouble};
+ghost use Rattle.live.specs.News.{with_news};
+ghost use Rattle.live.specs.Serving.{with_trouble};
+ghost use Rattle.live.specs.declared.news.News as declared_news;
 ghost use Rattle.live.specs.declared.trouble.Trouble as declared;
 
+use crate::news::News;
 use crate::round::Round;
 use crate::streaks::Streaks;
 use crate::turn::Turned;
@@ -20,40 +23,41 @@ pub enum Trouble {
     Memory,
 }
 
-/// Who is told of trouble, and names calls whose media have stopped.
+/// Who is told of trouble, and has news for the agent.
 pub trait Operator {
     /// What was told last.
     ghost told: { Self → Option declared.Trouble };
 
-    /// The numbers of the calls that it named, in order.
-    ghost named: { Self → List ℕ };
+    /// The news that it handed in, in order.
+    ghost handed: { Self → List declared_news.News };
 
-    /// The number of a call whose media have stopped for too long by this moment, in milliseconds: one is asked for at
-    /// each round.
-    fn silent_call(&mut self, now: u64) -> Option<u64>
+    /// News by this moment, in milliseconds, if there are any: they are asked for at each round, which then has no other
+    /// event.
+    fn news(&mut self, now: u64) -> Option<News>
         ensures told { told self.new ≡ told self.old }
-        ensures named { named self.new ≡ with_silent (named self.old) result };
+        ensures handed { handed self.new ≡ with_news (handed self.old) result };
 
     /// A kind of trouble begins.
     fn tell(&mut self, trouble: Trouble)
         ensures told { told self.new ≡ Some trouble }
-        ensures named { named self.new ≡ named self.old };
+        ensures handed { handed self.new ≡ handed self.old };
 
     /// A kind of trouble is over.
     fn tell_end(&mut self, trouble: Trouble)
         ensures told { told self.new ≡ told self.old }
-        ensures named { named self.new ≡ named self.old };
+        ensures handed { handed self.new ≡ handed self.old };
 
-    /// The agent took an event at this moment, in milliseconds: a datagram from this source, a timer, or silence. Its
-    /// note says what that was about.
+    /// The agent took an event at this moment, in milliseconds: a datagram from this source, a timer, or the news of this
+    /// round. Its note says what that was about.
     fn noted(&mut self, agent: &Agent, source: Option<Addr>, now: u64)
         ensures told { told self.new ≡ told self.old }
-        ensures named { named self.new ≡ named self.old };
+        ensures handed { handed self.new ≡ handed self.old };
 
-    /// A round took no event, at this moment, in milliseconds. One comes each tenth of a second where none are taken.
+    /// A round took no event, at this moment, in milliseconds: its news are lost, if it had any. One comes each tenth of a
+    /// second where none are taken.
     fn look(&mut self, agent: &Agent, now: u64)
         ensures told { told self.new ≡ told self.old }
-        ensures named { named self.new ≡ named self.old };
+        ensures handed { handed self.new ≡ handed self.old };
 }
 
 impl Streaks {
@@ -75,7 +79,7 @@ impl Streaks {
 /// The operator is told, where there is any trouble.
 fn tell_of<O: Operator>(operator: &mut O, trouble: Option<Trouble>)
     ensures told { O.told operator.new ≡ with_trouble (O.told operator.old) trouble }
-    ensures named { O.named operator.new ≡ O.named operator.old }
+    ensures handed { O.handed operator.new ≡ O.handed operator.old }
 {
     if let Some(trouble) = trouble {
         operator.tell(trouble);
@@ -86,7 +90,7 @@ fn tell_of<O: Operator>(operator: &mut O, trouble: Option<Trouble>)
 /// others are.
 fn tell_of_ends<O: Operator>(operator: &mut O, before: Streaks, after: Streaks)
     ensures told { O.told operator.new ≡ O.told operator.old }
-    ensures named { O.named operator.new ≡ O.named operator.old }
+    ensures handed { O.handed operator.new ≡ O.handed operator.old }
 {
     if before.failed > 0 && after.failed == 0 {
         operator.tell_end(Trouble::Socket);
@@ -99,14 +103,14 @@ fn tell_of_ends<O: Operator>(operator: &mut O, before: Streaks, after: Streaks)
 /// The operator is told of the trouble that began or ended with a round.
 pub(crate) fn tell_of_change<O: Operator>(operator: &mut O, before: Streaks, after: Streaks)
     ensures told { O.told operator.new ≡ with_trouble (O.told operator.old) (trouble_between before after) }
-    ensures named { O.named operator.new ≡ O.named operator.old }
+    ensures handed { O.handed operator.new ≡ O.handed operator.old }
 {
     tell_of(operator, before.trouble_until(after));
     tell_of_ends(operator, before, after);
 }
 
-/// The operator is told of the event of a round, where the agent took one: a timer, silence, or the last datagram,
-/// which came from there.
+/// The operator is told of the event of a round, where the agent took one: a timer, news, or the last datagram, which
+/// came from there.
 pub(crate) fn tell_of_event<O: Operator>(
     operator: &mut O,
     agent: &Agent,
@@ -115,10 +119,10 @@ pub(crate) fn tell_of_event<O: Operator>(
     now: u64,
 )
     ensures told { O.told operator.new ≡ O.told operator.old }
-    ensures named { O.named operator.new ≡ O.named operator.old }
+    ensures handed { O.handed operator.new ≡ O.handed operator.old }
 {
     match round {
-        Round::Fired(Turned::Done(_, _)) | Round::Silenced(_, Turned::Done(_, _)) => {
+        Round::Fired(Turned::Done(_, _)) | Round::Heard(Turned::Done(_, _)) => {
             operator.noted(agent, None, now)
         }
         Round::Took(Turned::Done(_, _)) => operator.noted(agent, source, now),

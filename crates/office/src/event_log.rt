@@ -37,8 +37,8 @@ fn tells(level: LogLevel, note: Note) -> bool {
     }
 }
 
-/// Whether a level tells of calls.
-fn tells_of_calls(level: LogLevel) -> bool {
+/// Whether a level tells of calls, and of users.
+pub(crate) fn tells_of_calls(level: LogLevel) -> bool {
     matches!(level, LogLevel::Calls | LogLevel::All)
 }
 

@@ -19,15 +19,22 @@ mod shared;
 mod status_desk;
 mod telephony;
 mod troubles;
+mod user_desk;
+mod user_file;
 mod watch;
 mod wire;
 
 use crate::disk::Disk;
+use crate::shared::Shared;
 use crate::telephony::Telephony;
-use server::{CommandError, Ending, Host, run};
+use server::{Asked, CommandError, Ending, command, run};
+use std::alloc::{AllocError, Global};
 use std::fs::Files;
+use std::net::Net;
 use std::process::ExitCode;
-use std::rt::Env;
+use std::rt::{Clock, Env};
+use std::sync::Wait;
+use std::thread::Threads;
 use std::{env, io};
 
 /// All words of the command line, the program's own first.
@@ -46,21 +53,40 @@ fn words<R: Env + AllocGlobal>(rt: &R) -> Result<Vec<String>, CommandError> {
     Ok(words)
 }
 
-fn ending<R: Env + Files + Input + Print + AllocGlobal, H: Host>(
-    rt: &R,
-    host: &mut H,
-) -> Result<Ending, CommandError> {
+/// The path of the configuration that these words ask to be served, if they do.
+fn path_in(alloc: Global, words: &[&str]) -> Result<Option<String>, AllocError> {
+    match command(alloc, words) {
+        Ok(Asked::Serve { config, .. }) => Ok(Some(config.to_owned(alloc)?)),
+        _ => Ok(None),
+    }
+}
+
+fn ending<
+    R: Env
+        + Net
+        + Files
+        + Clock
+        + Threads
+        + Wait
+        + Sync
+        + Shared
+        + Input
+        + Print
+        + Eprint
+        + AllocGlobal,
+>(rt: &R, telephony: &mut Telephony<'_, R>) -> Result<Ending, CommandError> {
     let owned = words(rt)?;
     let mut words = Vec::new(rt.alloc());
     for word in &owned {
         words.push(word.as_str())?;
     }
+    telephony.path = path_in(rt.alloc(), &words)?;
     let disk = Disk { rt };
     Ok(run(
         rt.alloc(),
         &words,
         &disk,
-        host,
+        telephony,
         &mut rt.reader(),
         &mut io::writer(rt),
     ))
@@ -69,6 +95,7 @@ fn ending<R: Env + Files + Input + Print + AllocGlobal, H: Host>(
 fn main(rt: HostRuntime) -> ExitCode {
     let mut telephony = Telephony {
         rt: &rt,
+        path: None,
         request: None,
         refusal: None,
     };

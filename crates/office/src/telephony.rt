@@ -16,6 +16,7 @@ use crate::refusal::{Refusal, lacks_descriptors};
 use crate::shared::Shared;
 use crate::status_desk::StatusDesk;
 use crate::troubles::Troubles;
+use crate::user_desk::UserDesk;
 use crate::watch::Watch;
 use crate::wire::SipWire;
 use agent::Tally;
@@ -54,6 +55,8 @@ const ROOM_OF_PAGE: usize = 65_536;
 #[derive(Drop)]
 pub(crate) struct Telephony<'a, R> {
     pub(crate) rt: &'a R,
+    /// Where the file of the configuration is, which is looked at while telephones are served.
+    pub(crate) path: Option<String>,
     /// What was asked last. Only clauses read it.
     pub(crate) request: Option<(Snapshot<Config>, Option<u64>)>,
     /// Why no sockets were opened, where none were.
@@ -319,6 +322,21 @@ fn page_of(
     Ok((Some(status), Some(Page { server, desk })))
 }
 
+/// What the signalling has of the file of this path, where there is one.
+fn user_desk(
+    alloc: Global,
+    path: Option<String>,
+    config: &Config,
+) -> Result<Option<UserDesk>, HostFault> {
+    let Some(path) = path else {
+        return Ok(None);
+    };
+    match UserDesk::new(alloc, path, config.users.as_slice()) {
+        Ok(desk) => Ok(Some(desk)),
+        Err(_) => Err(HostFault::OutOfMemory),
+    }
+}
+
 /// The board with the rest of the signalling, and a worker for each viewer, where all sockets are open.
 fn parts_of<R: Wait>(
     rt: &R,
@@ -385,6 +403,7 @@ impl<R: Net + Files + Clock + Threads + Wait + Sync + Shared + Print + Eprint + 
         let (events, sending, writer) = open_log(self.rt, alloc)?;
         let second = start.as_secs();
         let (desk, page) = page_of(alloc, server, second).map_err(|_| HostFault::OutOfMemory)?;
+        let users = user_desk(alloc, self.path.take(), config)?;
         let (signalling, workers) = parts_of(self.rt, alloc, config, sockets, sending, start)?;
         let Ok(counts) = Counts::of_workers(alloc, &workers) else {
             signalling.close(self.rt);
@@ -395,7 +414,9 @@ impl<R: Net + Files + Clock + Threads + Wait + Sync + Shared + Print + Eprint + 
         let silence = config
             .silent_minutes
             .map(|minutes| 60_000 * u64::from(minutes));
-        let mut troubles = Troubles::new(alloc, config.log, silence, events, log, desk);
+        let mut troubles = Troubles::new(
+            self.rt, alloc, config.log, silence, events, log, desk, users,
+        );
         let (tally, served) = serve_on(
             self.rt,
             &Announcement {

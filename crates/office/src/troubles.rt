@@ -2,21 +2,24 @@
 
 ghost use Rattle.std.specs.Prelude.{◌≡◌};
 
-use crate::event_log::EventLog;
+use crate::event_log::{EventLog, tells_of_calls};
 use crate::log_lines::LogLines;
 use crate::status_desk::StatusDesk;
+use crate::user_desk::UserDesk;
 use agent::Agent;
 use configuration::LogLevel;
-use live::{NumberLog, Operator, Trouble};
+use live::{News, NewsLog, Operator, Trouble};
 use sip_uri::Addr;
 use std::alloc::Global;
+use std::fs::Files;
 
 /// Tells it to whoever reads the log.
 #[derive(Drop)]
-pub(crate) struct Troubles {
+pub(crate) struct Troubles<'a, R> {
+    rt: &'a R,
     told: Option<Trouble>,
-    /// The silent calls that it named. Only clauses read it.
-    named: NumberLog,
+    /// The news that it handed in. Only clauses read it.
+    handed: NewsLog,
     /// A call whose media stand still for so many milliseconds is silent.
     silence: Option<u64>,
     level: LogLevel,
@@ -25,32 +28,38 @@ pub(crate) struct Troubles {
     log: EventLog,
     /// Where a page is served.
     desk: Option<StatusDesk>,
+    /// Where the file of the configuration is looked at.
+    users: Option<UserDesk>,
 }
 
-impl Troubles {
+impl<'a, R: Files + AllocGlobal> Troubles<'a, R> {
     pub(crate) fn new(
+        rt: &'a R,
         alloc: Global,
         level: LogLevel,
         silence: Option<u64>,
         lines: LogLines,
         log: EventLog,
         desk: Option<StatusDesk>,
-    ) -> Troubles {
+        users: Option<UserDesk>,
+    ) -> Troubles<'a, R> {
         Troubles {
+            rt,
             told: None,
-            named: NumberLog::new(),
+            handed: NewsLog::new(alloc),
             silence,
             level,
             alloc,
             lines,
             log,
             desk,
+            users,
         }
     }
 
     fn put(&mut self, line: &[u8])
         ensures told { self.new.told ≡ self.old.told }
-        ensures named { self.new.named ≡ self.old.named }
+        ensures handed { self.new.handed ≡ self.old.handed }
     {
         if !matches!(self.level, LogLevel::Nothing) {
             self.hand_over(line);
@@ -60,7 +69,7 @@ impl Troubles {
     /// Hands lines over, each with its end: to the log, and to the page, where there is one.
     fn hand_over(&mut self, lines: &[u8])
         ensures told { self.new.told ≡ self.old.told }
-        ensures named { self.new.named ≡ self.old.named }
+        ensures handed { self.new.handed ≡ self.old.handed }
     {
         self.lines.put(lines);
         if let Some(desk) = &mut self.desk {
@@ -68,10 +77,49 @@ impl Troubles {
         }
     }
 
+    /// Looks at the file of the configuration, where it is time, and tells of it.
+    fn look_at_file(&mut self, now: u64)
+        ensures told { self.new.told ≡ self.old.told }
+        ensures handed { self.new.handed ≡ self.old.handed }
+    {
+        if let Some(users) = &mut self.users
+            && let Some(line) = users.look(self.rt, now)
+        {
+            self.put(line.as_bytes());
+        }
+    }
+
+    /// A silent call, or else other users.
+    fn find_news(&mut self, now: u64) -> Option<News>
+        ensures told { self.new.told ≡ self.old.told }
+        ensures handed { self.new.handed ≡ self.old.handed }
+    {
+        if let Some(limit) = self.silence
+            && let Some(number) = self.log.media.silent_call(now, limit)
+        {
+            return Some(News::Silent(number));
+        }
+        let users = self.users.as_mut()?.hand_in(now)?;
+        Some(News::Users(users))
+    }
+
+    /// The agent took the event of a round: tells of the users that it has from now on, where it was that.
+    fn settle_users(&mut self)
+        ensures told { self.new.told ≡ self.old.told }
+        ensures handed { self.new.handed ≡ self.old.handed }
+    {
+        if let Some(users) = &mut self.users
+            && let Some(line) = users.settle()
+            && tells_of_calls(self.level)
+        {
+            self.hand_over(line.as_bytes());
+        }
+    }
+
     /// Tells the page what the server is, where somebody asked.
     fn look_at(&mut self, agent: &Agent, now: u64)
         ensures told { self.new.told ≡ self.old.told }
-        ensures named { self.new.named ≡ self.old.named }
+        ensures handed { self.new.handed ≡ self.old.handed }
     {
         if let Some(desk) = &mut self.desk {
             desk.look(agent, &mut self.log.media, now);
@@ -79,15 +127,20 @@ impl Troubles {
     }
 }
 
-impl Operator for Troubles {
+impl<R: Files + AllocGlobal> Operator for Troubles<'_, R> {
     ghost told = { λ t. t.told };
 
-    ghost named = { λ t. t.named.entries };
+    ghost use Rattle.live.specs.News.{logged};
 
-    fn silent_call(&mut self, now: u64) -> Option<u64> {
-        let number = self.log.media.silent_call(now, self.silence?)?;
-        self.named.note(number);
-        Some(number)
+    ghost handed = { λ t. logged t.handed };
+
+    fn news(&mut self, now: u64) -> Option<News> {
+        self.look_at_file(now);
+        let news = self.find_news(now)?;
+        if self.handed.note(&news).is_err() {
+            return None;
+        }
+        Some(news)
     }
 
     fn tell(&mut self, trouble: Trouble) {
@@ -111,10 +164,14 @@ impl Operator for Troubles {
         if put.is_ok() && !lines.is_empty() {
             self.hand_over(lines.as_slice());
         }
+        self.settle_users();
         self.look_at(agent, now);
     }
 
     fn look(&mut self, agent: &Agent, now: u64) {
+        if let Some(users) = &mut self.users {
+            users.lose();
+        }
         let mut lines = Vec::new(self.alloc);
         let put = self.log.put_due(&mut lines, agent, now);
         if put.is_ok() && !lines.is_empty() {

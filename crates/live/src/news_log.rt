@@ -1,0 +1,37 @@
+//! News that were handed in, for clauses alone.
+
+ghost use Rattle.std.specs.Prelude.{◌≡◌, ◌∷◌, ◌++◌, [], OnErr, OnOk};
+ghost use Rattle.live.specs.News.{logged};
+
+use crate::news::News;
+use std::alloc::{AllocError, Global};
+use std::snapshot::Snapshot;
+
+/// News in the order in which they were noted. A program learns nothing of them by this, and they have no bytes: an
+/// operator tells by it in its clauses what it handed in.
+#[derive(Drop)]
+pub struct NewsLog {
+    entries: Vec<Snapshot<News>>,
+}
+
+impl NewsLog {
+    /// Nothing was noted. Takes no memory.
+    pub fn new(alloc: Global) -> NewsLog
+        ensures { logged result ≡ [] }
+    {
+        NewsLog {
+            entries: Vec::new(alloc),
+        }
+    }
+
+    /// Notes news behind the others.
+    pub fn note(&mut self, news: &News) -> Result<(), AllocError>
+        ensures ok { OnOk result (logged self.new ≡ logged self.old ++ news.now ∷ []) }
+        ensures err { OnErr result (logged self.new ≡ logged self.old) }
+    {
+        match self.entries.push(Snapshot::of(news)) {
+            Ok(()) => Ok(()),
+            Err(_) => Err(AllocError),
+        }
+    }
+}
