@@ -39,24 +39,24 @@ address_is_host t os h = rw h refl
 ip_lacks : (c : ℕ) → is_label_byte c ≡ false → is_ascii_digit c ≡ false → eqb 46 c ≡ false → (t os : List ℕ) → ip4_of t ≡ Some os → Lacks c t
 ip_lacks c label out apart t os h = host_lacks c label out apart t (address_is_host t os h)
 
-next_by : (text line kind fields behind : List ℕ) → before 10 text ≡ line → after 10 text ≡ Some behind → before 32 line ≡ kind → after 32 line ≡ Some fields
+pub next_by : (text line kind fields behind : List ℕ) → before 10 text ≡ line → after 10 text ≡ Some behind → before 32 line ≡ kind → after 32 line ≡ Some fields
     → next_of text ≡ entry_of kind fields behind
 unfolding next_of
 next_by text line kind fields behind a b c d = rw (a, b, c, d) refl
 
-timer_by : (fields now_text salt_text behind : List ℕ) (now salt : ℕ) → before 32 fields ≡ now_text → after 32 fields ≡ Some salt_text
+pub timer_by : (fields now_text salt_text behind : List ℕ) (now salt : ℕ) → before 32 fields ≡ now_text → after 32 fields ≡ Some salt_text
     → number_of max_number now_text ≡ Some now → number_of max_number salt_text ≡ Some salt → timer_of fields behind ≡ Some (entry (due_at now salt) behind)
 unfolding timer_of
 timer_by fields now_text salt_text behind now salt a b c d = rw (a, b, c, d) refl
 
-silent_by : (fields more now_text salt_text call_text behind : List ℕ) (now salt call : ℕ)
+pub silent_by : (fields more now_text salt_text call_text behind : List ℕ) (now salt call : ℕ)
     → before 32 fields ≡ now_text → after 32 fields ≡ Some more → before 32 more ≡ salt_text → after 32 more ≡ Some call_text
     → number_of max_number now_text ≡ Some now → number_of max_number salt_text ≡ Some salt → number_of max_number call_text ≡ Some call
     → silent_of fields behind ≡ Some (entry (silent_at now salt call) behind)
 unfolding silent_of
 silent_by fields more now_text salt_text call_text behind now salt call a b c d e f g = rw (b, d, a, c, e, f, g) refl
 
-users_by : (fields more now_text salt_text names_text behind : List ℕ) (now salt : ℕ) (users : List (List ℕ))
+pub users_by : (fields more now_text salt_text names_text behind : List ℕ) (now salt : ℕ) (users : List (List ℕ))
     → before 32 fields ≡ now_text → after 32 fields ≡ Some more → before 32 more ≡ salt_text → after 32 more ≡ Some names_text
     → number_of max_number now_text ≡ Some now → number_of max_number salt_text ≡ Some salt → names_of names_text ≡ users
     → users_of fields behind ≡ Some (entry (users_at now salt users) behind)
@@ -140,7 +140,7 @@ users_again text e rest h =
     h.now_is h.salt_is (names_again h.users h.some h.names)
     ∙ ap (λ (x : Event). Some (entry x rest)) (sym h.event)
 
-datagram_by : (fields behind : List ℕ) (x : Head) → head_of fields ≡ Some x → datagram_of fields behind ≡ bytes_of x behind
+pub datagram_by : (fields behind : List ℕ) (x : Head) → head_of fields ≡ Some x → datagram_of fields behind ≡ bytes_of x behind
 datagram_by fields behind x h = rw h refl
 
 datagram_again : (text : List ℕ) (e : Event) (rest : List ℕ) → BeginsDatagram text e rest → next_of text ≡ Some (entry e rest)
@@ -182,14 +182,14 @@ again text e rest (inr (inr (inr h))) = datagram_again text e rest h
 
 -- ---- from the function to the grammar
 
-some_is : {X : Type 0} (x y : X) → Some x ≡ Some y → x ≡ y
+pub some_is : {X : Type 0} (x y : X) → Some x ≡ Some y → x ≡ y
 some_is x y h = cc
 
 -- what was cut at a byte that stands there
-cut_is : (c : ℕ) (text rest : List ℕ) → after c text ≡ Some rest → text ≡ before c text ++ c ∷ rest
+pub cut_is : (c : ℕ) (text rest : List ℕ) → after c text ≡ Some rest → text ≡ before c text ++ c ∷ rest
 cut_is c text rest h = sym (joined c text) ∙ ap (λ (o : Option (List ℕ)). before c text ++ led_by c o) h
 
-spaced_is : (text rest : List ℕ) → after 32 text ≡ Some rest → text ≡ spaced (before 32 text) rest
+pub spaced_is : (text rest : List ℕ) → after 32 text ≡ Some rest → text ≡ spaced (before 32 text) rest
 spaced_is text rest h = cut_is 32 text rest h
 
 due_is : (text fields behind : List ℕ) (n : Entry) → text ≡ lined (spaced (codes "T") fields) behind → timer_of fields behind ≡ Some n → Begins text n.event n.rest
@@ -262,7 +262,7 @@ users_is text fields behind n lacks spelled h =
     subst (λ (x : Entry). Begins text x.event x.rest) (some_is (entry (users_at now.0 salt.0 (names_of names.0)) behind) n names.2) (inr (inr (inl begins)))
 
 -- the bytes of a datagram, and the line feed
-body_is : (x : Head) (behind : List ℕ) (n : Entry) → bytes_of x behind ≡ Some n
+pub body_is : (x : Head) (behind : List ℕ) (n : Entry) → bytes_of x behind ≡ Some n
     → (bytes : List ℕ) × (rest : List ℕ) × (behind ≡ lined bytes rest) × (x.count ≡ length bytes) × (entry (datagram_at x.now x.salt x.source bytes) rest ≡ n)
 unfolding bytes_of
 body_is x behind n h = step (ltb x.count (length behind)) (eqb (get_or behind x.count 0) 10) (λ e. ltb-true _ _ e) (λ e. eqb-true _ _ e) h where
@@ -279,16 +279,16 @@ body_is x behind n h = step (ltb x.count (length behind)) (eqb (get_or behind x.
   step false q lt feed h = absurd cc
 
 -- what the fields of a datagram's line are
-record SaysHead (fields : List ℕ) (x : Head) : Type 0 where
-  now_text : List ℕ
-  salt_text : List ℕ
-  ip_text : List ℕ
-  port_text : List ℕ
-  length_text : List ℕ
-  spelled : fields ≡ spaced now_text (spaced salt_text (spaced ip_text (spaced port_text length_text)))
-  values : head_from now_text salt_text ip_text port_text length_text ≡ Some x
+pub record SaysHead (fields : List ℕ) (x : Head) : Type 0 where
+  pub now_text : List ℕ
+  pub salt_text : List ℕ
+  pub ip_text : List ℕ
+  pub port_text : List ℕ
+  pub length_text : List ℕ
+  pub spelled : fields ≡ spaced now_text (spaced salt_text (spaced ip_text (spaced port_text length_text)))
+  pub values : head_from now_text salt_text ip_text port_text length_text ≡ Some x
 
-head_says : (fields : List ℕ) (x : Head) → head_of fields ≡ Some x → SaysHead fields x
+pub head_says : (fields : List ℕ) (x : Head) → head_of fields ≡ Some x → SaysHead fields x
 unfolding head_of
 head_says fields x h =
     let b = some_then (after 32 fields) _ x h in
@@ -329,7 +329,7 @@ has_values now_text salt_text ip_text port_text length_text x h =
     (record { now_is = now.1; salt_is = salt.1; ip_is = ip.1; port_is = port.1; length_is = count.1 })
 
 -- the line, and the bytes behind it
-datagram_with : (text fields behind : List ℕ) (x : Head) (bytes rest : List ℕ) (n : Entry) → text ≡ lined (spaced (codes "D") fields) behind → SaysHead fields x
+pub datagram_with : (text fields behind : List ℕ) (x : Head) (bytes rest : List ℕ) (n : Entry) → text ≡ lined (spaced (codes "D") fields) behind → SaysHead fields x
     → behind ≡ lined bytes rest → x.count ≡ length bytes → entry (datagram_at x.now x.salt x.source bytes) rest ≡ n → Begins text n.event n.rest
 datagram_with text fields behind x bytes rest n spelled says body long same =
     let v = has_values says.now_text says.salt_text says.ip_text says.port_text says.length_text x says.values in

@@ -2,4 +2,5 @@ mod NumberLaws
 mod NameLaws
 mod EntryLaws
 mod ScriptLaws
-mod PlaceLaws
+pub mod PlaceLaws
+pub mod MoreLaws

@@ -16,7 +16,7 @@ pub record Splits (text rest : List ℕ) : Type 0 where
 pub nothing_before : (text : List ℕ) → Splits text text
 nothing_before text = record { events = []; leads = refl; bound = omega arith }
 
-one_more : (text : List ℕ) (es : List Event) (rest : List ℕ) (e : Event) (behind : List ℕ) → LeadsTo text es rest → Begins rest e behind → LeadsTo text (es ++ e ∷ []) behind
+pub one_more : (text : List ℕ) (es : List Event) (rest : List ℕ) (e : Event) (behind : List ℕ) → LeadsTo text es rest → Begins rest e behind → LeadsTo text (es ++ e ∷ []) behind
 one_more text [] rest e behind same begins = (behind, subst (λ (t : List ℕ). Begins t e behind) (sym same) begins, refl)
 one_more text (f ∷ fs) rest e behind (next, first, more) begins = (next, first, one_more next fs rest e behind more begins)
 
@@ -41,7 +41,7 @@ malformed text rest splits more none = record {
   clash : (e : Event) (behind : List ℕ) → Some (entry e behind) ≡ None → ⊥
   clash e behind h = cc
 
-whole_read : (text : List ℕ) (es : List Event) (rest : List ℕ) → LeadsTo text es rest → rest ≡ [] → ReadsScript text es
+pub whole_read : (text : List ℕ) (es : List Event) (rest : List ℕ) → LeadsTo text es rest → rest ≡ [] → ReadsScript text es
 whole_read text [] rest same none = same ∙ none
 whole_read text (e ∷ es) rest (behind, begins, more) none = (behind, begins, whole_read behind es rest more none)
 

@@ -1,6 +1,7 @@
 -- What a script is.
-use Rattle.std.specs.Prelude.{◌≡◌, ℕ, Bool, true, not, ◌||◌, ◌==◌, List, [], ◌∷◌, ◌++◌, ◌+◌, ◌≢◌, length, codes, Some, ◌⊎◌}
+use Rattle.std.specs.Prelude.{◌≡◌, ℕ, Bool, true, not, ◌||◌, ◌==◌, List, [], ◌∷◌, ◌++◌, ◌+◌, ◌≢◌, length, codes, Some, None, ◌⊎◌}
 use Rattle.std.specs.List.{list_all, join_with_byte}
+use Rattle.text.specs.Cut.{after}
 use Rattle.sip_uri.specs.Hosts.{ip4_of}
 use Rattle.events.specs.declared.event.Event.{Event}
 use Rattle.scripts.specs.declared.error.ScriptError.{ScriptError}
@@ -107,3 +108,26 @@ pub record IsMalformedAt (text : List ℕ) (at : ℕ) : Type 0 where
   pub place : at + length rest ≡ length text
   pub more : rest ≢ []
   pub none : (e : Event) (behind : List ℕ) → ¬ (Begins rest e behind)
+
+-- ---- a text that may go on
+
+-- no event stands at its head
+abbrev pub BeginsNone : List ℕ → Type 0
+BeginsNone text = (e : Event) (rest : List ℕ) → ¬ (Begins text e rest)
+
+-- nor does one, whatever comes behind it
+abbrev pub NeverBegins : List ℕ → Type 0
+NeverBegins text = (more : List ℕ) → BeginsNone (text ++ more)
+
+-- what comes behind it can make it an event
+abbrev pub IsFront : List ℕ → Type 0
+IsFront text = (more : List ℕ) × (e : Event) × Begins (text ++ more) e []
+
+-- no event is whole, and the first line has no end, or the bytes of its datagram have none
+abbrev pub NeedsMore : List ℕ → Type 0
+NeedsMore text = BeginsNone text × ((after 10 text ≡ None) ⊎ IsFront text)
+
+-- why a text is refused that may go on: there is something, and no event ever begins it
+abbrev pub RefusesFirst : List ℕ → ScriptError → Type 0
+RefusesFirst text OutOfMemory = Unit {0}
+RefusesFirst text Malformed = (text ≢ []) × NeverBegins text

@@ -1,5 +1,5 @@
 -- The first event of a script, as a function of the text.
-use Rattle.std.specs.Prelude.{ℕ, ◌+◌, Bool, ◌&&◌, ◌==◌, nat_eq, nat_lt, List, length, slice_index, take, drop, codes, Option, Some, None, option_and_then, if◌then◌else◌}
+use Rattle.std.specs.Prelude.{ℕ, ◌+◌, Bool, true, false, ◌&&◌, ◌==◌, nat_eq, nat_le, nat_lt, List, length, slice_index, take, drop, codes, Option, Some, None, option_and_then, if◌then◌else◌}
 use Rattle.std.specs.Cmp.Lexicographic.{pointwise}
 use Rattle.text.specs.Cut.{before, after}
 use Rattle.sip_uri.specs.Hosts.{ip4_of}
@@ -89,3 +89,23 @@ next_of text =
     option_and_then (λ fields.
     option_and_then (λ behind. entry_of (before 32 (before 10 text)) fields behind)
     (after 10 text)) (after 32 (before 10 text))
+
+-- ---- a text that may go on
+
+-- fewer bytes than the line says, or as many and no line feed
+abbrev pub lacks_bytes : Option Head → List ℕ → Bool
+lacks_bytes None behind = false
+lacks_bytes (Some head) behind = nat_le (length behind) head.count
+
+-- the line is a datagram's, which is not yet whole
+abbrev pub lacks_datagram : List ℕ → Option (List ℕ) → List ℕ → Bool
+lacks_datagram kind None behind = false
+lacks_datagram kind (Some fields) behind = is_same kind (codes "D") && lacks_bytes (head_of fields) behind
+
+abbrev pub is_cut_behind : List ℕ → Option (List ℕ) → Bool
+is_cut_behind line None = true
+is_cut_behind line (Some behind) = lacks_datagram (before 32 line) (after 32 line) behind
+
+-- the first line has no end, or its datagram is not yet whole
+unfoldable pub is_cut_off : List ℕ → Bool
+is_cut_off text = is_cut_behind (before 10 text) (after 10 text)

@@ -87,7 +87,7 @@ fn datagram(alloc: Global, source: Addr, bytes: &[u8]) -> Result<What, AllocErro
     })
 }
 
-fn is_same(text: &[u8], other: &[u8]) -> bool
+pub(crate) fn is_same(text: &[u8], other: &[u8]) -> bool
     ensures { result ≡ is_same text.now other.now }
 {
     text == other

@@ -9,12 +9,14 @@
 
 mod entry;
 mod error;
+mod first;
 mod head;
 mod number;
 mod read;
 mod write;
 
 pub use error::ScriptError;
+pub use first::first_event;
 pub use number::number_of;
 pub use read::{malformed_at, read_script};
 pub use write::{put_call, put_hop, put_sent};

@@ -1,5 +1,6 @@
 pub mod InputLaws
 pub mod WordLaws
 pub mod ReplayLaws
+pub mod StreamLaws
 pub mod StateLaws
 pub mod LineLaws

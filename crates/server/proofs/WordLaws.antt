@@ -12,10 +12,10 @@ use Rattle.clap.specs.declared.parser.matches.Found.{Found}
 use Rattle.clap.specs.declared.parser.matches.MatchedArg.{MatchedArg}
 use Rattle.clap.proofs.OnLiterals.{clap_on_literals}
 use Rattle.server.specs.declared.words.Asked.{Asked}
-use Rattle.server.specs.declared.words.Asked.TheVariants.{Once, Replay, Serve}
+use Rattle.server.specs.declared.words.Asked.TheVariants.{Once, Replay, Follow, Serve}
 use Rattle.server.specs.declared.words.CommandError.{CommandError}
 use Rattle.server.specs.declared.words.CommandError.TheVariants.{Words}
-use Rattle.server.specs.Words.{office_app, name_in, value_in, is_set, turns_in, IsReplay, IsServe, LacksServe, AsksIn, RefusesWords, entered_by}
+use Rattle.server.specs.Words.{office_app, name_in, value_in, is_set, turns_in, IsFollow, IsReplay, IsServe, LacksServe, AsksIn, RefusesWords, entered_by}
 
 pub office_is_simple : is_simple office_app ≡ true
 unfolding clap_on_literals
@@ -78,10 +78,21 @@ serve_is_not_once e =
     let bad : ◌≡◌ {A = ℕ} 115 111 = ap first_code e in
     absurd (omega arith)
 
+replay_is_not_follow : Some (codes "replay") ≡ Some (codes "follow") → ⊥
+replay_is_not_follow e =
+    let bad : ◌≡◌ {A = ℕ} 114 102 = ap first_code e in
+    absurd (omega arith)
+
+serve_is_not_follow : Some (codes "serve") ≡ Some (codes "follow") → ⊥
+serve_is_not_follow e =
+    let bad : ◌≡◌ {A = ℕ} 115 102 = ap first_code e in
+    absurd (omega arith)
+
 pub asks_replay : (entered : Option (List ℕ × List Row)) (f : Found) (asked : Option Asked) → entered ≡ Some (codes "replay", rows_of f)
     → IfSome asked (λ a. IsReplay (first_value f (codes "config")) (first_value f (codes "script")) (first_value f (codes "notes")) a) → IfSome asked (λ a. AsksIn entered a)
 asks_replay entered f None e h = tt
 asks_replay entered f (Some Once) e h = absurd h
+asks_replay entered f (Some (Follow config notes)) e h = absurd h
 asks_replay entered f (Some (Serve config turns)) e h = absurd h
 asks_replay entered f (Some (Replay config script notes)) e h = (
   ap name_in e,
@@ -99,6 +110,7 @@ asks_nothing entered f None e h = go
   where
     go : (a : Asked) → AsksIn entered a → ⊥
     go Once k = replay_is_not_once (sym (ap name_in e) ∙ k)
+    go (Follow config notes) k = replay_is_not_follow (sym (ap name_in e) ∙ k.0)
     go (Serve config turns) k = replay_is_not_serve (sym (ap name_in e) ∙ k.0)
     go (Replay config script notes) k =
         let none = k.1.1 ∙ ap (value_in (codes "script")) e ∙ sym (first_is f (codes "script")) ∙ h in
@@ -112,9 +124,18 @@ pub asks_serve : (entered : Option (List ℕ × List Row)) (f : Found) (asked : 
     → IfSome asked (λ a. IsServe (first_value f (codes "config")) (first_value f (codes "turns")) a) → IfSome asked (λ a. AsksIn entered a)
 asks_serve entered f None e h = tt
 asks_serve entered f (Some Once) e h = absurd h
+asks_serve entered f (Some (Follow config notes)) e h = absurd h
 asks_serve entered f (Some (Replay config script notes)) e h = absurd h
 asks_serve entered f (Some (Serve config turns)) e h =
     (ap name_in e, (h.0 ∙ value_is entered f (codes "serve") (codes "config") e, h.1 ∙ ap turns_in (value_is entered f (codes "serve") (codes "turns") e)))
+
+pub asks_follow : (entered : Option (List ℕ × List Row)) (f : Found) (asked : Asked) → entered ≡ Some (codes "follow", rows_of f)
+    → IsFollow (first_value f (codes "config")) (first_value f (codes "notes")) asked → AsksIn entered asked
+asks_follow entered f Once e h = absurd h
+asks_follow entered f (Replay config script notes) e h = absurd h
+asks_follow entered f (Serve config turns) e h = absurd h
+asks_follow entered f (Follow config notes) e h =
+    (ap name_in e, (h.0 ∙ value_is entered f (codes "follow") (codes "config") e, h.1 ∙ ap is_set (value_is entered f (codes "follow") (codes "notes") e)))
 
 pub serves_nothing : (entered : Option (List ℕ × List Row)) (f : Found) (asked : Option Asked) → entered ≡ Some (codes "serve", rows_of f)
     → IfNone asked (LacksServe (first_value f (codes "config")) (first_value f (codes "turns"))) → IfNone asked ((a : Asked) → AsksIn entered a → ⊥)
@@ -123,6 +144,7 @@ serves_nothing entered f None e h = go
   where
     go : (a : Asked) → AsksIn entered a → ⊥
     go Once k = serve_is_not_once (sym (ap name_in e) ∙ k)
+    go (Follow config notes) k = serve_is_not_follow (sym (ap name_in e) ∙ k.0)
     go (Replay config script notes) k = replay_is_not_serve (sym k.0 ∙ ap name_in e)
     go (Serve config turns) k = lacks config turns k.1 h where
       lacks : (path : Bor (List ℕ)) (n : Option ℕ) → IsServe (value_in (codes "config") entered) (value_in (codes "turns") entered) (Serve path n)

@@ -5,10 +5,11 @@ use Rattle.server.specs.declared.ending.Ending.{Ending}
 use Rattle.server.specs.declared.ending.Ending.TheVariants.{Done, Refused, Broken}
 use Rattle.server.specs.declared.fault.Fault.{Fault}
 use Rattle.server.specs.declared.words.Asked.{Asked}
-use Rattle.server.specs.declared.words.Asked.TheVariants.{Once, Replay, Serve}
+use Rattle.server.specs.declared.words.Asked.TheVariants.{Once, Replay, Follow, Serve}
 use Rattle.server.specs.Leaves.{Leaves}
 use Rattle.server.specs.Once.{Answers}
 use Rattle.server.specs.Replay.{Replays, ReplayLeaves}
+use Rattle.server.specs.Stream.{Follows, FollowLeaves}
 use Rattle.server.specs.Serve.{Request, Serves, ServeLeaves}
 use Rattle.server.specs.Statuses.{status_of, fault_words_of, reason_of, command_status_of, command_words_of, command_help_of}
 use Rattle.server.specs.Words.{Asks, RefusesWords}
@@ -42,15 +43,19 @@ abbrev pub Does : Files → Asked → Option (List ℕ) → Option (List ℕ) �
 Does files Once left left_after held held_after host host_after = Answers left left_after held held_after × (host_after ≡ host)
 Does files (Replay config script notes) left left_after held held_after host host_after =
     Keeps left left_after × Replays notes (option_map (λ path. files path.now) config) (files script.now) held held_after × (host_after ≡ host)
+Does files (Follow config notes) left left_after held held_after host host_after =
+    Follows notes (option_map (λ path. files path.now) config) left left_after held held_after × (host_after ≡ host)
 Does files (Serve config turns) left left_after held held_after host host_after =
     Keeps left left_after × Keeps held held_after × Serves (files config.now) turns host_after
 
 -- and where a fault ended it
-abbrev pub Breaks : Files → Asked → Fault → Option (List ℕ) → Option (List ℕ) → Request → Request → Type 0
-Breaks files Once fault held held_after host host_after = Leaves fault held held_after × (host_after ≡ host)
-Breaks files (Replay config script notes) fault held held_after host host_after =
+abbrev pub Breaks : Files → Asked → Fault → Option (List ℕ) → Option (List ℕ) → Option (List ℕ) → Request → Request → Type 0
+Breaks files Once fault left held held_after host host_after = Leaves fault held held_after × (host_after ≡ host)
+Breaks files (Replay config script notes) fault left held held_after host host_after =
     ReplayLeaves notes (option_map (λ path. files path.now) config) (files script.now) fault held held_after × (host_after ≡ host)
-Breaks files (Serve config turns) fault held held_after host host_after = Keeps held held_after × ServeLeaves (files config.now) turns host host_after fault
+Breaks files (Follow config notes) fault left held held_after host host_after =
+    FollowLeaves notes (option_map (λ path. files path.now) config) left fault held held_after × (host_after ≡ host)
+Breaks files (Serve config turns) fault left held held_after host host_after = Keeps held held_after × ServeLeaves (files config.now) turns host host_after fault
 
 -- what was asked, and what became of the bytes and of the host
 abbrev pub Ends : List (List ℕ) → Files → Ending → Option (List ℕ) → Option (List ℕ) → Option (List ℕ) → Option (List ℕ) → Request → Request → Type 0
@@ -59,4 +64,4 @@ Ends words files Done left left_after held held_after host host_after =
 Ends words files (Refused error) left left_after held held_after host host_after =
     RefusesWords words error × Keeps left left_after × Keeps held held_after × (host_after ≡ host)
 Ends words files (Broken fault) left left_after held held_after host host_after =
-    (asked : Asked) × Asks words asked × Breaks files asked fault held held_after host host_after
+    (asked : Asked) × Asks words asked × Breaks files asked fault left held held_after host host_after

@@ -1,7 +1,9 @@
 -- What the faults of other crates are to the program.
 use Rattle.configuration.specs.declared.error.ConfigError.{ConfigError}
 use Rattle.configuration.specs.declared.error.ConfigError.TheVariants as refusals
-use Rattle.std.specs.Prelude.{None}
+use Rattle.scripts.specs.declared.error.ScriptError.{ScriptError}
+use Rattle.scripts.specs.declared.error.ScriptError.TheVariants as scripts
+use Rattle.std.specs.Prelude.{ℕ, None}
 use Rattle.server.specs.declared.host.HostFault.{HostFault}
 use Rattle.server.specs.declared.host.HostFault.TheVariants as hosts
 use Rattle.server.specs.declared.fault.Fault.{Fault}
@@ -26,6 +28,11 @@ unread_config (Config fault) = Config None
 unread_config Output = Config None
 unread_config Socket = Config None
 unread_config OutOfMemory = OutOfMemory
+
+-- of the event that begins so many bytes from the head of a script
+abbrev pub event_fault : ScriptError → ℕ → Fault
+event_fault scripts.Malformed at = Script at
+event_fault scripts.OutOfMemory at = OutOfMemory
 
 -- of what serves on sockets
 abbrev pub host_fault : HostFault → Fault

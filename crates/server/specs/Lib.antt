@@ -6,6 +6,7 @@ pub mod State
 pub mod Lines
 pub mod Notes
 pub mod Replay
+pub mod Stream
 pub mod Serve
 pub mod Turns
 pub mod Faults

@@ -7,7 +7,7 @@ use Rattle.clap.specs.Walk.{Row, Rule, first_of}
 use Rattle.clap.specs.Takes.{takes}
 use Rattle.clap.specs.Faults.{fault_of}
 use Rattle.server.specs.declared.words.Asked.{Asked}
-use Rattle.server.specs.declared.words.Asked.TheVariants.{Once, Replay, Serve}
+use Rattle.server.specs.declared.words.Asked.TheVariants.{Once, Replay, Follow, Serve}
 use Rattle.server.specs.Turns.{turns_of}
 use Rattle.server.specs.declared.words.CommandError.{CommandError}
 use Rattle.server.specs.declared.words.CommandError.TheVariants.{Words, Help, OutOfMemory}
@@ -44,13 +44,17 @@ once_app = new_app (codes "once")
 abbrev pub replay_app : App
 replay_app = with_rule (with_rule (with_rule (new_app (codes "replay")) config_rule) script_rule) notes_rule
 
+abbrev pub follow_app : App
+follow_app = with_rule (with_rule (new_app (codes "follow")) config_rule) notes_rule
+
 abbrev pub serve_app : App
 serve_app = with_rule (with_rule (new_app (codes "serve")) office_rule) turns_rule
 
--- `office once`, `office replay [--config FILE] [--notes] SCRIPT`, and `office serve --config FILE [--turns N]`
+-- `office once`, `office replay [--config FILE] [--notes] SCRIPT`, `office follow [--config FILE] [--notes]`, and
+-- `office serve --config FILE [--turns N]`
 abbrev pub office_app : App
 office_app =
-    with_subcommand (with_subcommand (with_subcommand (on_top requiring (on_top versioned (new_app (codes "office")))) once_app.top) replay_app.top) serve_app.top
+    with_subcommand (with_subcommand (with_subcommand (with_subcommand (on_top requiring (on_top versioned (new_app (codes "office")))) once_app.top) replay_app.top) follow_app.top) serve_app.top
 
 -- the subcommand that the words name, and what they give its arguments
 unfoldable pub entered_by : List (List ℕ) → Option (List ℕ × List Row)
@@ -79,9 +83,17 @@ is_set (Some value) = pointwise nat_eq value (codes "true")
 -- `replay` with these values of its arguments
 abbrev pub IsReplay : Option (List ℕ) → Option (List ℕ) → Option (List ℕ) → Asked → Type 0
 IsReplay config_text script_text notes_text Once = ⊥
+IsReplay config_text script_text notes_text (Follow config notes) = ⊥
 IsReplay config_text script_text notes_text (Serve config turns) = ⊥
 IsReplay config_text script_text notes_text (Replay config script notes) =
     (option_map (λ path. path.now) config ≡ config_text) × (Some script.now ≡ script_text) × (notes ≡ is_set notes_text)
+
+-- `follow` with these values of its arguments
+abbrev pub IsFollow : Option (List ℕ) → Option (List ℕ) → Asked → Type 0
+IsFollow config_text notes_text Once = ⊥
+IsFollow config_text notes_text (Replay config script notes) = ⊥
+IsFollow config_text notes_text (Serve config turns) = ⊥
+IsFollow config_text notes_text (Follow config notes) = (option_map (λ path. path.now) config ≡ config_text) × (notes ≡ is_set notes_text)
 
 abbrev pub given_turns : Option ℕ → Option (Option ℕ)
 given_turns None = None
@@ -95,6 +107,7 @@ turns_in (Some text) = given_turns (turns_of text)
 -- `serve` with these values of its arguments
 abbrev pub IsServe : Option (List ℕ) → Option (List ℕ) → Asked → Type 0
 IsServe config_text turns_text Once = ⊥
+IsServe config_text turns_text (Follow config notes) = ⊥
 IsServe config_text turns_text (Replay config script notes) = ⊥
 IsServe config_text turns_text (Serve config turns) = (Some config.now ≡ config_text) × (Some turns ≡ turns_in turns_text)
 
@@ -107,6 +120,8 @@ abbrev pub AsksIn : Option (List ℕ × List Row) → Asked → Type 0
 AsksIn entered Once = name_in entered ≡ Some (codes "once")
 AsksIn entered (Replay config script notes) =
     (name_in entered ≡ Some (codes "replay")) × IsReplay (value_in (codes "config") entered) (value_in (codes "script") entered) (value_in (codes "notes") entered) (Replay config script notes)
+AsksIn entered (Follow config notes) =
+    (name_in entered ≡ Some (codes "follow")) × IsFollow (value_in (codes "config") entered) (value_in (codes "notes") entered) (Follow config notes)
 AsksIn entered (Serve config turns) =
     (name_in entered ≡ Some (codes "serve")) × IsServe (value_in (codes "config") entered) (value_in (codes "turns") entered) (Serve config turns)
 

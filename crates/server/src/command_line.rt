@@ -1,7 +1,8 @@
 //! A whole run of the program, over its words, its files and its streams.
 
-ghost use Rattle.std.specs.Prelude.{map, option_map, IfErr, OnOk};
+ghost use Rattle.std.specs.Prelude.{◌≡◌, map, option_map, IfErr, OnOk};
 ghost use Rattle.server.specs.Endings.{Ends};
+ghost use Rattle.server.specs.Stream.{Follows, FollowLeaves};
 ghost use Rattle.server.specs.Replay.{Replays, ReplayLeaves};
 ghost use Rattle.server.specs.Serve.{Serves, ServeLeaves};
 
@@ -12,9 +13,20 @@ use crate::host::Host;
 use crate::service::serve;
 use crate::shelf::Shelf;
 use crate::single::once;
+use crate::stream::follow;
 use crate::words::{Asked, command};
 use std::alloc::Global;
 use std::io::{Read, Write};
+
+/// The file of a path, where there is one.
+fn file_of<F: Shelf>(shelf: &F, path: Option<&str>) -> Option<F::File>
+    ensures { option_map (λ f. F.File.remaining f) result ≡ option_map (λ p. F.contents shelf.now p.now) path.entry }
+{
+    match path {
+        Some(path) => Some(shelf.open(path)),
+        None => None,
+    }
+}
 
 /// `replay` over files.
 fn replay_files<F: Shelf, W: Write>(
@@ -28,11 +40,24 @@ fn replay_files<F: Shelf, W: Write>(
     ensures written { OnOk result (Replays notes (option_map (λ path. F.contents shelf.now path.now) config.entry) (F.contents shelf.now script.now) (W.contents writer.old) (W.contents writer.new)) }
     ensures refused { IfErr result (λ e. ReplayLeaves notes (option_map (λ path. F.contents shelf.now path.now) config.entry) (F.contents shelf.now script.now) e (W.contents writer.old) (W.contents writer.new)) }
 {
-    let config = match config {
-        Some(path) => Some(shelf.open(path)),
-        None => None,
-    };
+    let config = file_of(shelf, config);
     replay(alloc, config, shelf.open(script), notes, writer)
+}
+
+/// `follow` over a file and the input.
+fn follow_input<F: Shelf, R: Read, W: Write>(
+    alloc: Global,
+    shelf: &F,
+    config: Option<&str>,
+    reader: &mut R,
+    notes: bool,
+    writer: &mut W,
+) -> Result<(), Fault>
+    ensures written { OnOk result (Follows notes (option_map (λ path. F.contents shelf.now path.now) config.entry) (R.remaining reader.old) (R.remaining reader.new) (W.contents writer.old) (W.contents writer.new)) }
+    ensures refused { IfErr result (λ e. FollowLeaves notes (option_map (λ path. F.contents shelf.now path.now) config.entry) (R.remaining reader.old) e (W.contents writer.old) (W.contents writer.new)) }
+{
+    let config = file_of(shelf, config);
+    follow(alloc, config, reader, notes, writer)
 }
 
 /// `serve` over a file.
@@ -50,8 +75,8 @@ fn serve_file<F: Shelf, H: Host>(
 }
 
 /// Does what the words of the command line ask, of which the first is the program's own: `once` answers the datagram
-/// that the reader has on the writer, `replay` runs the script of a file, and `serve` has the host serve the
-/// configuration of a file.
+/// that the reader has on the writer, `replay` runs the script of a file, `follow` that of the reader, and `serve` has
+/// the host serve the configuration of a file.
 pub fn run<F: Shelf, H: Host, R: Read, W: Write>(
     alloc: Global,
     words: &[&str],
@@ -77,6 +102,12 @@ pub fn run<F: Shelf, H: Host, R: Read, W: Write>(
             Ok(()) => Ending::Done,
             Err(fault) => Ending::Broken(fault),
         },
+        Ok(Asked::Follow { config, notes }) => {
+            match follow_input(alloc, shelf, config, reader, notes, writer) {
+                Ok(()) => Ending::Done,
+                Err(fault) => Ending::Broken(fault),
+            }
+        }
         Ok(Asked::Serve { config, turns }) => {
             match serve_file(alloc, shelf, config, host, turns) {
                 Ok(()) => Ending::Done,

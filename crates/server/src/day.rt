@@ -62,7 +62,7 @@ pub(crate) fn config_of<C: Read + Drop>(alloc: Global, mut file: C) -> Result<Co
 }
 
 /// The configuration of a file, or the example office.
-fn office_of<C: Read + Drop>(alloc: Global, file: Option<C>) -> Result<Config, Fault>
+pub(crate) fn office_of<C: Read + Drop>(alloc: Global, file: Option<C>) -> Result<Config, Fault>
     ensures read { IfOk result (λ config. IsOffice (option_map (λ f. C.remaining f) file) config) }
     ensures kept { IfOk result (λ config. first_broken config ≡ None) }
     ensures refused { IfErr result (IsOfOffice (option_map (λ f. C.remaining f) file)) }
@@ -134,7 +134,7 @@ fn put_told(
 }
 
 /// Takes an event, and writes the text of what is sent, and what it was about, where that is asked for.
-fn play_event<W: Write>(
+pub(crate) fn play_event<W: Write>(
     alloc: Global,
     agent: &mut Agent,
     event: &Event,
@@ -173,7 +173,11 @@ fn play<W: Write>(
 }
 
 /// Writes the calls that stand, and the rows of the relay table.
-fn write_state<W: Write>(alloc: Global, agent: &Agent, writer: &mut W) -> Result<(), Fault>
+pub(crate) fn write_state<W: Write>(
+    alloc: Global,
+    agent: &Agent,
+    writer: &mut W,
+) -> Result<(), Fault>
     ensures written { OnOk result (Appends (W.contents writer.old) (W.contents writer.new) (state_text agent.now)) }
     ensures refused { IfErr result (λ e. EventLeaves e (W.contents writer.old) (W.contents writer.new)) }
 {

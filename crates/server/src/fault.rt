@@ -6,12 +6,13 @@ use std::alloc::{AllocError, AllocFailed};
 use std::fmt;
 use thiserror::Error;
 
-/// Why `once`, `replay` or `serve` gave up.
+/// Why `once`, `replay`, `follow` or `serve` gave up.
 #[derive(Debug, Drop, Error)]
 pub enum Fault {
-    /// The input or the script failed, or never ended. Nothing was written.
+    /// The input or the script failed, or never ended. Nothing was written but what `follow` did at the events before.
     Input,
-    /// At this place of the script, in bytes, no event begins. Nothing was written.
+    /// At this place of the script, in bytes, no event begins. Nothing was written but what `follow` did at the events
+    /// before.
     Script(usize),
     /// The file of the configuration failed or never ended, or has this fault. Nothing was written.
     Config(Option<ConfigFault>),

@@ -31,7 +31,7 @@ fn keep(whole: &mut Vec<u8>, bytes: &[u8]) -> Result<(), AllocError>
 }
 
 /// Some bytes of the reader: none only at its end.
-fn read_some<R: Read>(reader: &mut R, chunk: &mut [u8]) -> Result<usize, Fault>
+pub(crate) fn read_some<R: Read>(reader: &mut R, chunk: &mut [u8]) -> Result<usize, Fault>
     ensures bound { IfOk result (λ n. n ≤ length chunk.new) }
     ensures bytes { ReadConsumes (R.remaining reader.old) (R.remaining reader.new) result chunk.new }
     ensures fault { IfErr result (λ e. e ≡ Fault.Input) }

@@ -1,6 +1,6 @@
 //! The call server between the bytes of its files and streams: what a command line asks, what is sent for a datagram,
-//! and what is sent at the events of a script, with what stands at their end; and which configuration is served on
-//! sockets, which are handed in.
+//! and what is sent at the events of a script, whole or bit by bit, with what stands at their end; and which
+//! configuration is served on sockets, which are handed in.
 #![tactic(auto)]
 
 mod agents;
@@ -21,6 +21,7 @@ mod service;
 mod shelf;
 mod single;
 mod state;
+mod stream;
 mod turns;
 mod version;
 mod words;
@@ -38,5 +39,6 @@ pub use reason::Reason;
 pub use service::serve;
 pub use shelf::Shelf;
 pub use single::once;
+pub use stream::follow;
 pub use version::VERSION;
 pub use words::{Asked, CommandError, command};

@@ -4,7 +4,7 @@ ghost use Rattle.std.specs.Prelude.{◌≡◌, map, codes, Some, None, option_ma
 ghost use Rattle.clap.specs.declared.builder.command.Command.{Command};
 ghost use Rattle.clap.specs.Simple.{with_subcommand};
 ghost use Rattle.clap.specs.Words.{AddsSubcommand, app_of, first_value, found_of, subcommand_rows_of};
-ghost use Rattle.server.specs.Words.{given_turns, is_set, office_app, once_app, passes, replay_app, serve_app, turns_in, Asks, AsksIn, IsReplay, IsServe, LacksServe, RefusesWords};
+ghost use Rattle.server.specs.Words.{follow_app, given_turns, is_set, office_app, once_app, passes, replay_app, serve_app, turns_in, Asks, AsksIn, IsFollow, IsReplay, IsServe, LacksServe, RefusesWords};
 
 use crate::turns::turns_of;
 use crate::version::VERSION;
@@ -24,6 +24,12 @@ pub enum Asked<'a> {
     Replay {
         config: Option<&'a str>,
         script: &'a str,
+        notes: bool,
+    },
+    /// Follow a script on standard input, on the office of a configuration or on the example office. What each event was
+    /// about may be written, too.
+    Follow {
+        config: Option<&'a str>,
         notes: bool,
     },
     /// Serve telephones on the sockets of a configuration, until so many turns are made, or without an end. It is a
@@ -148,6 +154,20 @@ fn replay_words<'a>(alloc: Global) -> Result<Command<'a>, AllocError>
         .arg(notes)
 }
 
+/// The words of `follow`.
+fn follow_words<'a>(alloc: Global) -> Result<Command<'a>, AllocError>
+    ensures { IfOk result (λ c. (old new : Command) → AddsSubcommand old c new → app_of new ≡ with_subcommand (app_of old) follow_app.top) }
+{
+    let config = Arg::new(alloc, "config").long("config");
+    let notes = Arg::new(alloc, "notes")
+        .long("notes")
+        .action(ArgAction::SetTrue);
+    Command::new(alloc, "follow")
+        .about("Writes what is sent at the events of standard input, as they come")
+        .arg(config)?
+        .arg(notes)
+}
+
 /// The words that the program takes.
 fn office<'a>(alloc: Global) -> Result<Command<'a>, AllocError>
     ensures { IfOk result (λ c. app_of c ≡ office_app) }
@@ -160,6 +180,7 @@ fn office<'a>(alloc: Global) -> Result<Command<'a>, AllocError>
     office
         .subcommand(once)?
         .subcommand(replay_words(alloc)?)?
+        .subcommand(follow_words(alloc)?)?
         .subcommand(serve_words(alloc)?)
 }
 
@@ -184,6 +205,16 @@ fn replay_by<'a>(matches: &ArgMatches<'a>) -> Option<Asked<'a>>
         script,
         notes: is_set(matches.get_str("notes")),
     })
+}
+
+/// What the arguments of `follow` ask.
+fn follow_by<'a>(matches: &ArgMatches<'a>) -> Asked<'a>
+    ensures { IsFollow (first_value (found_of matches.now) (codes "config")) (first_value (found_of matches.now) (codes "notes")) result }
+{
+    Asked::Follow {
+        config: matches.get_str("config"),
+        notes: is_set(matches.get_str("notes")),
+    }
 }
 
 /// So many turns, where it is a number of turns.
@@ -225,6 +256,8 @@ fn asked_by<'a>(matches: &ArgMatches<'a>) -> Option<Asked<'a>>
         Some(Asked::Once)
     } else if name == "replay" {
         replay_by(below)
+    } else if name == "follow" {
+        Some(follow_by(below))
     } else if name == "serve" {
         serve_by(below)
     } else {
