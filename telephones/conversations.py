@@ -232,7 +232,7 @@ class Conversation:
     def speak(self, telephone, left=SPEAKS):
         hop = self.ends[telephone].hop
         if hop and not self.is_over and not telephone.is_off and left:
-            telephone.media.sendto(self.word, (telephone.ip, hop))
+            telephone.media.send(self.word, (telephone.ip, hop))
             self.loop.after(0.2, lambda: self.speak(telephone, left - 1))
 
     def vanish(self):

@@ -39,3 +39,7 @@ class Line:
     def is_to_blame(self, key):
         """Whether the line alone is why no response to this request arrived: it lost each copy of the one, or of the other."""
         return not self.arrived[key] and (not self.passed[key] or self.came[key] > 0)
+
+    def keep(self, keys):
+        """Forgets what was of other transactions."""
+        self.passed, self.came, self.arrived = (Counter({key: counts[key] for key in keys if key in counts}) for counts in (self.passed, self.came, self.arrived))

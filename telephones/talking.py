@@ -1,7 +1,5 @@
 """A telephone that sends again and answers again as RFC 3261 says (sections 13 and 17), one call at a time."""
 import re
-import socket
-import time
 
 T1, T2, WHOLE = 0.5, 4.0, 32.0
 # Behind so many seconds nothing of a transaction comes again.
@@ -30,7 +28,7 @@ class Asked:
 
     def __init__(self, telephone, text, took, gave_up):
         self.telephone, self.text, self.took, self.gave_up = telephone, text, took, gave_up
-        self.key, self.is_over, self.moment = key_of(text), False, time.monotonic()
+        self.key, self.is_over, self.moment = key_of(text), False, telephone.loop.now()
         self.stop_again = self.stop_whole = lambda: None
         telephone.asked[self.key] = self
         self.stop_whole = telephone.loop.after(WHOLE, self.end)
@@ -74,32 +72,28 @@ class Telephone:
     def __init__(self, loop, line, fate, user, server, domain, ip):
         self.loop, self.line, self.fate = loop, line, fate
         self.user, self.server, self.domain, self.ip = user, server, domain, ip
-        self.sip, self.media = (socket.socket(socket.AF_INET, socket.SOCK_DGRAM) for _ in range(2))
-        for it in (self.sip, self.media):
-            it.bind((ip, 0))
-        self.port, self.media_port = self.sip.getsockname()[1], self.media.getsockname()[1]
-        loop.watch(self.sip, self.come)
+        self.sip, self.media = loop.open(ip, self.come), loop.open(ip, lambda data: self.hears(data))
+        self.port, self.media_port = self.sip.number, self.media.number
         self.asked, self.said, self.number, self.version, self.is_off = {}, {}, 0, 0, False
         # What takes a request that is no repeat; and what the media are given to.
         self.takes = lambda request: None
         self.hears = lambda data: None
-        loop.watch(self.media, lambda data: self.hears(data))
 
     # ---- the line
 
     def put(self, text):
         data = text.encode()
         if not self.is_off:
-            self.line.out(key_of(text), lambda: self.sip.sendto(data, self.server))
+            self.line.out(key_of(text), lambda: self.sip.send(data, self.server))
 
     def come(self, data):
         text = data.decode(errors="replace")
-        self.line.back(key_of(text), lambda: self.is_off or self.take(text))
+        key = key_of(text)
+        self.line.back(key, lambda: self.is_off or self.take(text, key))
 
     # ---- messages
 
-    def take(self, text):
-        key = key_of(text)
+    def take(self, text, key):
         if status_of(text):
             asked = self.asked.get(key)
             if asked:
@@ -135,7 +129,7 @@ class Telephone:
         self.put(text)
 
     def say(self, key, text):
-        self.said[key] = text, time.monotonic()
+        self.said[key] = text, self.loop.now()
 
     def description(self, way="sendrecv"):
         self.version += 1
@@ -145,7 +139,7 @@ class Telephone:
     def register(self, took, gave_up):
         self.number += 1
         to = f"<sip:{self.user}@{self.domain}>"
-        self.ask("REGISTER", f"sip:{self.domain}", to, f"r{self.port}", self.number, f"r{self.user}", took, gave_up, further="Expires: 3600\r\n")
+        return self.ask("REGISTER", f"sip:{self.domain}", to, f"r{self.port}", self.number, f"r{self.user}", took, gave_up, further="Expires: 3600\r\n")
 
     def lose_power(self):
         """It sends nothing and takes nothing, and knows nothing of what was."""
@@ -156,6 +150,7 @@ class Telephone:
 
     def forget(self):
         """Forgets the transactions of which nothing comes again."""
-        since = time.monotonic() - FORGOTTEN
+        since = self.loop.now() - FORGOTTEN
         self.asked = {key: it for key, it in self.asked.items() if it.moment > since}
         self.said = {key: it for key, it in self.said.items() if it[1] > since}
+        self.line.keep(self.asked.keys() | self.said.keys())
