@@ -98,7 +98,7 @@ class Patience:
         self.moments, self.waits = moments, {}
 
     def look(self, milliseconds):
-        self.moments.later(milliseconds, lambda: self.moments.happen(b"T", b"\n"))
+        self.moments.later(milliseconds, lambda: self.moments.happen(b"T"))
 
     def came(self, text):
         """From a telephone."""
@@ -128,22 +128,22 @@ class Patience:
         """It is sent again behind an interval that doubles, and given up at last."""
         before = self.waits.get(key)
         interval = self.waits[key] = min(2 * before, longest) if before else T1
-        self.moments.after(interval, lambda: self.waits.get(key) == interval and self.moments.happen(b"T", b"\n"))
+        self.moments.after(interval, lambda: self.waits.get(key) == interval and self.moments.happen(b"T"))
         if not before:
             self.moments.after(WHOLE, lambda: self.give_up(key))
 
     def give_up(self, key):
         if self.waits.pop(key, None):
             for _ in range(2):
-                self.moments.happen(b"T", b"\n")
+                self.moments.happen(b"T")
                 self.look(1)
 
 
 class Moments:
     """The loop of telephones whose moments are a heap's."""
 
-    def __init__(self, program, server, fate):
-        self.program, self.server, self.fate = program, server, fate
+    def __init__(self, program, server):
+        self.program, self.server = program, server
         self.due, self.order, self.moment = [], itertools.count(), 0
         self.places, self.events, self.waiting, self.marks = {}, 0, [], 0
         self.patience, self.heed = Patience(self), lambda note: None
@@ -172,14 +172,14 @@ class Moments:
         self.places[number] = Place(self, ip, number, take)
         return self.places[number]
 
-    def happen(self, kind, more):
+    def happen(self, kind, more=b""):
         """An event of this moment. Its salt is its number."""
         self.events += 1
-        self.waiting.append(b"%s %d %d%s%s" % (kind, self.moment, self.events, more, b"\n" if kind == b"D" else b""))
+        self.waiting.append(b"%s %d %d%s\n" % (kind, self.moment, self.events, more))
 
     def sweep(self):
         for _ in range(SWEPT):
-            self.happen(b"T", b"\n")
+            self.happen(b"T")
         self.later(SWEEPS, self.sweep)
 
     def question(self):

@@ -10,12 +10,13 @@ IP, SERVER, DOMAIN, TELEPHONES = "192.0.2.10", "192.0.2.1", "office.example", 10
 # So many pairs as calls hold and leave to rest for 32 seconds.
 PAIRS = 512
 DAY, HOUR, HURRIES = 86_400, 3_600, 60
-# Calls of a day, of which so many begin in the same minute, its first; so many hours it has in which the others do.
-CALLS, RUSH, OPEN = 900, 40, 10
-# Seconds: until telephones have registered; how often they do, and how soon behind a failure; until a call is ended in which nothing is heard, and how long it may then stand; until all ends.
-BEGINS, REGISTERS, AGAIN, SILENT, ENDS = 100, 1_800, 60, 60, 600
-# So many in a hundred of the events come before memory stands, and so many looks are made at it.
-STANDS, LOOKS, GROWTH = 3, 400, 1.05
+# Calls of a day, and the hours in which they begin; so many of them in one minute, and on the first day more: so no memory is taken first on a later day.
+CALLS, OPEN, RUSH, FIRST = 970, 10, 30, 60
+# Seconds: until telephones have registered; how often they do, and how soon behind a failure; how long they speak at most behind an answer, and are then
+# silent before the server ends the call; until all ends behind the last day.
+BEGINS, REGISTERS, AGAIN, SPEAK, SILENT, ENDS = 100, 1_800, 60, 5, 60, 600
+# So many events come before memory stands, three in a hundred of a month's; seconds between two looks at it.
+STANDS, LOOKS, GROWTH = 30_000, 1_800, 1.05
 
 
 def configuration():
@@ -29,7 +30,7 @@ class Month:
         with open(f"{folder}/month.toml", "w", encoding="utf-8") as it:
             it.write(configuration())
         self.program, self.fate, self.days = Program(program, f"{folder}/month.toml"), fate, days
-        self.moments = Moments(self.program, (SERVER, 5_060), fate)
+        self.moments = Moments(self.program, (SERVER, 5_060))
         self.moments.heed = self.heed
         self.lines = [Line(self.moments, fate, loss) for _ in range(TELEPHONES)]
         self.telephones = [Telephone(self.moments, line, fate, str(1_000 + at), self.moments.server, DOMAIN, IP) for at, line in enumerate(self.lines)]
@@ -72,24 +73,24 @@ class Month:
         elif word in ("call-refused", "call-cancelled", "call-ended"):
             self.standing.pop(said["call"], None)
         elif word == "call-answered":
-            self.moments.after(SILENT + 5, lambda: self.fall_silent(said["call"]))
+            self.moments.after(SPEAK + SILENT, lambda: self.fall_silent(said["call"]))
 
     def fall_silent(self, number):
         """No media have come for long in a call."""
         if number in self.standing:
-            self.moments.happen(b"Q", b" %s\n" % number.encode())
+            self.moments.happen(b"Q", b" " + number.encode())
 
     def plan(self, day):
         """The calls of a day: some in one minute, the others in its hours."""
-        start = day * DAY + BEGINS - self.moments.now()
+        start, rush = day * DAY + BEGINS - self.moments.now(), RUSH if day else FIRST
         for at in range(CALLS):
-            self.moments.after(start + self.fate.random() * (HURRIES if at < RUSH else OPEN * HOUR), self.begin)
+            self.moments.after(start + self.fate.random() * (HURRIES if at < rush else OPEN * HOUR), self.begin)
         if day + 1 < self.days:
             self.moments.after(start + DAY - BEGINS, lambda: self.plan(day + 1))
 
     def look(self):
         self.looks.append((self.moments.events, self.program.memory()))
-        self.moments.after(self.days * DAY / LOOKS, self.look)
+        self.moments.after(LOOKS, self.look)
 
     def carry(self):
         for at, it in enumerate(self.telephones):
@@ -102,7 +103,7 @@ class Month:
     # ---- what is looked at
 
     def stale(self):
-        """How many last REGISTERs the server still knows, as a repeat shows: it is then answered as before, with the same tag."""
+        """How many last REGISTERs the server still knows, of how many: a repeat of such a one is answered as before, with the same tag."""
         stale = []
         for it, (request, response) in self.registered.items():
             it.sip.take = lambda data, response=response: stale.append(data.decode() == response)
@@ -116,15 +117,14 @@ class Month:
         events = self.moments.events
         stale = self.stale()
         rest, status = self.program.end()
-        stands = max(events * STANDS / 100, self.looks[0][0])
-        early, late = ([kilobytes for event, kilobytes in self.looks if (event > stands) == is_late] for is_late in (False, True))
+        early, late = ([kilobytes for event, kilobytes in self.looks if (event > STANDS) == is_late] for is_late in (False, True))
         print(f"{self.days} days, {events} events; {len(self.ended)} calls: {dict(Counter(it.kind for it in self.ended))}; failed: {dict(failed)}")
         print(f"lost {sum(it.losses for it in self.lines)} datagrams; notes: {dict(self.words)}")
-        print(f"resident in the first {STANDS} of a hundred events: {min(early)} to {max(early)} kB, and behind them {min(late)} to {max(late)} kB")
+        print(f"resident in the first {STANDS} events: {min(early)} to {max(early)} kB, and behind them {min(late, default=0)} to {max(late, default=0)} kB")
         return {
             "each call that failed has a line's fault": all(it.endswith("the line's") for it in failed),
             "each call ends, at its telephones and in the server": len(self.ended) == self.begun and not self.standing,
             "no call and no row stands at the end": not rest and not status,
             "no transaction of a REGISTER stands": stale == (0, TELEPHONES),
-            "memory is what it was": max(late) <= GROWTH * max(early),
+            "memory is what it was": not late or max(late) <= GROWTH * max(early),
         }
