@@ -114,7 +114,7 @@ module _ {X : Type 0} (p : X → Bool) where
 
   -- ---- how many they are
 
-  numbers_many : (xs : List X) (n : ℕ) → length (numbers_from p n xs) ≡ count_by p xs
+  pub numbers_many : (xs : List X) (n : ℕ) → length (numbers_from p n xs) ≡ count_by p xs
   numbers_many [] n = refl
   numbers_many (x ∷ xs) n =
       let rest = numbers_many xs (1 + n) in
