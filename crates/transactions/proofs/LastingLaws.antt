@@ -25,6 +25,7 @@ use Rattle.transactions.specs.declared.transaction.Transaction.{Transaction}
 use Rattle.transaction_machines.specs.Machines.{row_of, is_server}
 use Rattle.sip_message.specs.Words.{is_method}
 use Rattle.transactions.specs.Matching.{is_copy}
+use Rattle.transactions.specs.Places.{KeepsSide}
 use Rattle.transactions.specs.Slots.{at, is_asked, is_answered, free_number}
 use Rattle.transactions.specs.Transactions.{went, served, served_state, asking, asking_timers}
 use Rattle.transactions.specs.Contents.{Contents, stepped_by, table_at, placed, stray, reception_of, request_reception, input_of, response_input, answer_input, ack_at, IsNew}
@@ -42,6 +43,18 @@ side_to state given step next h =
     let two = (and_parts _ _ h).0 in
     let three = (and_parts _ _ two).0 in
     (booleans_Decides (is_server next) (is_server state)).0 (and_parts _ _ three).0
+
+keeps_to : (state : State) (given : Bool) (step : Step) (next : Option State) → follows_to state given step next ≡ true → IfSome next (λ s. is_server s ≡ is_server state)
+keeps_to state given step None h = tt
+keeps_to state given step (Some next) h = side_to state given step next h
+
+pub sides_kept : (slots : List (Option Transaction)) (id : ℕ) (given : Bool) (step : Step) → ((t : Transaction) → at slots id ≡ Some t → follows t.state given step ≡ true)
+    → IfSome step.next (KeepsSide slots id)
+unfolding follows
+sides_kept slots id given step follow = by step.next (λ t there. keeps_to t.state given step step.next (follow t there)) where
+  by : (next : Option State) → ((t : Transaction) → at slots id ≡ Some t → IfSome next (λ s. is_server s ≡ is_server t.state)) → IfSome next (KeepsSide slots id)
+  by None keeps = tt
+  by (Some state) keeps = λ t there. keeps t there
 
 -- ---- slots
 

@@ -5,6 +5,7 @@ pub mod FreeLaws
 pub mod LastingLaws
 pub mod FireLaws
 pub mod ReplyLaws
+pub mod CountLaws
 pub mod ServerLaws
 pub mod UntouchedLaws
 pub mod WaitLaws
@@ -16,3 +17,4 @@ pub mod PrintLaws
 pub mod NumberLaws
 pub mod PlaceLaws
 pub mod NotedLaws
+pub mod ShareLaws

@@ -7,7 +7,10 @@ use Rattle.transaction_machines.specs.declared.state.State.{State}
 use Rattle.transactions.specs.declared.print.Prints.{Prints}
 use Rattle.transactions.specs.declared.transaction.Transaction.{Transaction}
 use Rattle.transactions.specs.KeptPrints.{AreNoted}
-use Rattle.transactions.specs.Prints.{prints_at}
+use Rattle.index.specs.PrintKeys.{print_of}
+use Rattle.std.specs.Prelude.{IfSome}
+use Rattle.transaction_machines.specs.Machines.{is_server}
+use Rattle.transactions.specs.Prints.{branch_print, ip_print, prints_at, tag_print}
 use Rattle.transactions.specs.Transactions.{went}
 
 -- ---- what is made of each element, behind a change of one
@@ -58,15 +61,16 @@ begun_noted key slots after prints after_prints used used' capacity capacity' ro
 }
 
 -- one goes on, with the same prints
-same_prints : (key : PrintKey) (o : Option Transaction) (fresh : Option (List ℕ)) (state : State) → prints_at key (option_map (λ t. went t fresh state) o) ≡ prints_at key o
-same_prints key None fresh state = refl
-same_prints key (Some t) fresh state = refl
+same_prints : (key : PrintKey) (o : Option Transaction) (fresh : Option (List ℕ)) (state : State) → IfSome o (λ t. is_server state ≡ is_server t.state)
+    → prints_at key (option_map (λ t. went t fresh state) o) ≡ prints_at key o
+same_prints key None fresh state side = refl
+same_prints key (Some t) fresh state side = ap (λ b. record { branch = branch_print key t.parts.vias; call = print_of key t.parts.call_id; tag = tag_print key t.parts.from.params; source = cond b (ip_print t.place.ip) 0 }) side
 
 pub advanced_noted : (key : PrintKey) (slots : List (Option Transaction)) (prints : List Prints) (used capacity room id : ℕ) (d new : Option Transaction) (fresh : Option (List ℕ)) (state : State)
-    → AreNoted key slots prints used capacity room → new ≡ option_map (λ t. went t fresh state) (get_or slots id d)
+    → AreNoted key slots prints used capacity room → IfSome (get_or slots id d) (λ t. is_server state ≡ is_server t.state) → new ≡ option_map (λ t. went t fresh state) (get_or slots id d)
     → AreNoted key (set slots id new) prints used capacity room
-advanced_noted key slots prints used capacity room id d new fresh state h is = record {
-  noted = h.noted ∙ sym (map-set_same (prints_at key) slots id new d (ap (prints_at key) is ∙ same_prints key (get_or slots id d) fresh state));
+advanced_noted key slots prints used capacity room id d new fresh state h side is = record {
+  noted = h.noted ∙ sym (map-set_same (prints_at key) slots id new d (ap (prints_at key) is ∙ same_prints key (get_or slots id d) fresh state side));
   for_prints = h.for_prints;
 }
 

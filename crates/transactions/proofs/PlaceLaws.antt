@@ -1,10 +1,10 @@
 -- The places of the table: what is found by the index, and the index behind a change.
-use Rattle.std.proofs.Common.{◌≡◌, ℕ, ◌+◌, ◌-◌, ◌<◌, ◌≤◌, Bool, true, false, cond, ltb, eqb, List, [], ◌∷◌, ◌++◌, drop, length, map, get_or, set, Option, Some, None, is_none, is_some, option_map, count_by, find, position, slice_get, unwrap_or, refl, sym, ap, ◌∙◌, arith}
+use Rattle.std.proofs.Common.{◌≡◌, ℕ, ◌+◌, ◌-◌, ◌<◌, ◌≤◌, Bool, true, false, ◌&&◌, cond, ltb, eqb, List, [], ◌∷◌, ◌++◌, drop, length, map, get_or, set, Option, Some, None, is_none, is_some, option_map, count_by, find, position, slice_get, unwrap_or, refl, sym, ap, ◌∙◌, inl, inr, arith}
 use Rattle.std.specs.Prelude.{IsSome}
 use Rattle.std.specs.List.{list_any}
-use Rattle.std.proofs.lemmas.Bool.{false≢true, ne_eqb, eq-eqb, eqb-true, eqb-false}
-use Rattle.std.proofs.lemmas.List.{get_or_default}
-use Rattle.std.proofs.lemmas.List.Sums.{sum_by-set, get_or-le-sum_by}
+use Rattle.std.proofs.lemmas.Bool.{cases_eq, false≢true, ne_eqb, eq-eqb, eqb-true, eqb-false}
+use Rattle.std.proofs.lemmas.List.{get_or_default, length-map}
+use Rattle.std.proofs.lemmas.List.Sums.{sum_by-cons, sum_by-set, get_or-le-sum_by}
 use Rattle.index.specs.declared.index.Entry.{Entry}
 use Rattle.index.specs.Buckets.{Bucketed, numbers_in}
 use Rattle.index.specs.Numbers.{Indexed, put_number, remove_number}
@@ -14,11 +14,12 @@ use Rattle.transaction_machines.specs.Machines.{is_server}
 use Rattle.transactions.specs.declared.transaction.Transaction.{Transaction}
 use Rattle.transactions.specs.Contents.{placed}
 use Rattle.transactions.specs.FreeNumbers.{Free}
-use Rattle.transactions.specs.Places.{has_branch, has_call, has_tag, IsIndexed, HasRoom}
+use Rattle.transactions.specs.Places.{has_branch, has_call, has_tag, has_source, IsIndexed, HasRoom, KeepsSide}
 use Rattle.index.specs.declared.print.PrintKey.{PrintKey}
 use Rattle.index.specs.PrintKeys.{print_of}
-use Rattle.transactions.specs.Prints.{branch_print, prints_at, tag_print}
+use Rattle.transactions.specs.Prints.{branch_print, ip_print, prints_at, source_print, tag_print}
 use Rattle.transactions.specs.Slots.{at, free_number, is_serving}
+use Rattle.transactions.specs.Shares.{ip_number, serves, serving_from}
 use Rattle.transactions.specs.Transactions.{went}
 use Rattle.transactions.proofs.LastingLaws.{within}
 use Rattle.index.proofs.NumberLaws as numbers
@@ -133,35 +134,74 @@ tag_none k p = refl
 tag_some : (k : PrintKey) (p : ℕ) (t : Transaction) → has_tag k p (Some t) ≡ eqb (tag_print k t.parts.from.params) p
 tag_some k p t = refl
 
-pub advanced : (key : PrintKey) (slots : Slots) (bs cs ts : List Indexed) (fs : List ℕ) (n id was is : ℕ) (d new : Option Transaction) (fresh : Option (List ℕ)) (state : State)
-    → IsIndexed key slots bs cs ts fs n → IsSome (at slots id) → new ≡ option_map (λ t. went t fresh state) (get_or slots id d) → was ≡ cond (is_serving (get_or slots id d)) 1 0 → is ≡ cond (is_server state) 1 0
-    → IsIndexed key (set slots id new) bs cs ts fs (n - was + is)
-advanced key slots bs cs ts fs n id was is d new fresh state h some e was_e is_e =
+source_none : (p : ℕ) → has_source p None ≡ false
+source_none p = refl
+
+source_some : (p : ℕ) (t : Transaction) → has_source p (Some t) ≡ eqb (source_print t) p
+source_some p t = refl
+
+-- the side and the place of a transaction stay where it goes on, so its source does
+source_stays : (t : Transaction) (fresh : Option (List ℕ)) (state : State) → is_server state ≡ is_server t.state → source_print (went t fresh state) ≡ source_print t
+source_stays t fresh state side = ap (λ b. cond b (ip_print t.place.ip) 0) side
+
+-- ---- how many of one address
+
+side_counts : (server : Bool) (n m : ℕ) → (server && eqb n m) ≡ eqb (cond server (1 + n) 0) (1 + m)
+side_counts true n m = elim (cases_eq n m) [
+  | inl e ↦ eq-eqb n m e ∙ sym (eq-eqb (1 + n) (1 + m) (ap (λ k. 1 + k) e))
+  | inr other ↦ ne_eqb n m other ∙ sym (ne_eqb (1 + n) (1 + m) (λ e. other (omega (arith, e))))
+]
+side_counts false n m = sym (ne_eqb 0 (1 + m) (λ e. omega (arith, e)))
+
+of_address : (ip : List ℕ) (slot : Option Transaction) → serves ip slot ≡ has_source (ip_print ip) slot
+unfolding serves
+of_address ip None = refl
+of_address ip (Some t) = side_counts (is_server t.state) (ip_number t.place.ip) (ip_number ip)
+
+pub count_agree : (p q : Option Transaction → Bool) → ((slot : Option Transaction) → p slot ≡ q slot) → (slots : Slots) → count_by p slots ≡ count_by q slots
+count_agree p q e [] = refl
+count_agree p q e (x ∷ xs) =
+    let rest = count_agree p q e xs in
+    let one = ap (λ b. cond {A = ℕ} b 1 0) (e x) in
+    omega (arith, sum_by-cons (λ s. cond (p s) 1 0) x xs, sum_by-cons (λ s. cond (q s) 1 0) x xs, rest, one)
+
+pub counted_from : (ip : List ℕ) (slots : Slots) (print : ℕ) (es : List Entry) → print ≡ ip_print ip
+    → map (λ e. e.number) es ≡ numbers_from (has_source print) 0 slots → length es ≡ serving_from ip slots
+counted_from ip slots print es is found =
+    sym (length-map es (λ e. e.number)) ∙ ap length found ∙ numbers.numbers_many (has_source print) slots 0
+    ∙ ap (λ n. count_by (has_source n) slots) is ∙ sym (count_agree (serves ip) (has_source (ip_print ip)) (of_address ip) slots)
+
+pub advanced : (key : PrintKey) (slots : Slots) (bs cs ts os : List Indexed) (fs : List ℕ) (n id : ℕ) (d new : Option Transaction) (fresh : Option (List ℕ)) (state : State)
+    → IsIndexed key slots bs cs ts os fs n → IsSome (at slots id) → KeepsSide slots id state → new ≡ option_map (λ t. went t fresh state) (get_or slots id d)
+    → IsIndexed key (set slots id new) bs cs ts os fs n
+advanced key slots bs cs ts os fs n id d new fresh state h some keeps e =
     let one = stands slots id some in
     let t = one.0 in
     let less = within slots id t one.1 in
     let there : get_or slots id d ≡ Some t = get_or_default slots id d None less ∙ one.1 in
     let next : new ≡ Some (went t fresh state) = e ∙ ap (option_map (λ u. went u fresh state)) there in
+    let side = keeps t one.1 in
     let count = sum_by-set (λ s. cond (is_serving s) 1 0) slots id new d less in
-    let fewer = get_or-le-sum_by (λ s. cond (is_serving s) 1 0) slots id d less in
-    let counts : cond (is_serving new) 1 0 ≡ is = rw (next, server_is (went t fresh state)) (sym is_e) in
+    let same : cond {A = ℕ} (is_serving new) 1 0 ≡ cond (is_serving (get_or slots id d)) 1 0 = rw (next, there, server_is (went t fresh state), server_is t, side) refl in
     record {
       by_branch = λ p. h.by_branch p ∙ sym (kept (has_branch key) (λ u. branch_print key u.parts.vias) (branch_none key) (branch_some key) slots id d new t (went t fresh state) there next refl p);
       by_call = λ p. h.by_call p ∙ sym (kept (has_call key) (λ u. print_of key u.parts.call_id) (call_none key) (call_some key) slots id d new t (went t fresh state) there next refl p);
       by_tag = λ p. h.by_tag p ∙ sym (kept (has_tag key) (λ u. tag_print key u.parts.from.params) (tag_none key) (tag_some key) slots id d new t (went t fresh state) there next refl p);
+      by_source = λ p. h.by_source p ∙ sym (kept has_source source_print source_none source_some slots id d new t (went t fresh state) there next (source_stays t fresh state side) p);
       without = h.without ∙ sym (numbers.set_same is_none slots id 0 new d (rw (there, next) refl));
-      servers = omega (arith, h.servers, count, fewer, counts, was_e);
+      servers = omega (arith, h.servers, count, same);
     }
 
-pub ended_all : (key : PrintKey) (slots : Slots) (bs cs ts : List Indexed) (fs : List ℕ) (bs' cs' ts' : List Indexed) (fs' : List ℕ) (n id was b c g : ℕ) (d new : Option Transaction)
-    → IsIndexed key slots bs cs ts fs n → IsSome (at slots id) → new ≡ None → was ≡ cond (is_serving (get_or slots id d)) 1 0
-    → b ≡ (prints_at key (get_or slots id d)).branch → c ≡ (prints_at key (get_or slots id d)).call → g ≡ (prints_at key (get_or slots id d)).tag
+pub ended_all : (key : PrintKey) (slots : Slots) (bs cs ts os : List Indexed) (fs : List ℕ) (bs' cs' ts' os' : List Indexed) (fs' : List ℕ) (n id was b c g o : ℕ) (d new : Option Transaction)
+    → IsIndexed key slots bs cs ts os fs n → IsSome (at slots id) → new ≡ None → was ≡ cond (is_serving (get_or slots id d)) 1 0
+    → b ≡ (prints_at key (get_or slots id d)).branch → c ≡ (prints_at key (get_or slots id d)).call → g ≡ (prints_at key (get_or slots id d)).tag → o ≡ (prints_at key (get_or slots id d)).source
     → ((p : ℕ) → numbers_in bs' p ≡ cond (eqb p b) (remove_number (numbers_in bs b) id) (numbers_in bs p))
     → ((p : ℕ) → numbers_in cs' p ≡ cond (eqb p c) (remove_number (numbers_in cs c) id) (numbers_in cs p))
     → ((p : ℕ) → numbers_in ts' p ≡ cond (eqb p g) (remove_number (numbers_in ts g) id) (numbers_in ts p))
+    → ((p : ℕ) → numbers_in os' p ≡ cond (eqb p o) (remove_number (numbers_in os o) id) (numbers_in os p))
     → fs' ≡ put_number fs id
-    → IsIndexed key (set slots id new) bs' cs' ts' fs' (n - was)
-ended_all key slots bs cs ts fs bs' cs' ts' fs' n id was b c g d new h some is was_e b_e c_e g_e bs_e cs_e ts_e fs_e =
+    → IsIndexed key (set slots id new) bs' cs' ts' os' fs' (n - was)
+ended_all key slots bs cs ts os fs bs' cs' ts' os' fs' n id was b c g o d new h some is was_e b_e c_e g_e o_e bs_e cs_e ts_e os_e fs_e =
     let one = stands slots id some in
     let t = one.0 in
     let less = within slots id t one.1 in
@@ -173,19 +213,21 @@ ended_all key slots bs cs ts fs bs' cs' ts' fs' n id was b c g d new h some is w
       by_branch = ended (has_branch key) (λ u. branch_print key u.parts.vias) (branch_none key) (branch_some key) slots id b d t bs bs' less there (b_e ∙ ap (λ s. (prints_at key s).branch) there) h.by_branch bs_e;
       by_call = ended (has_call key) (λ u. print_of key u.parts.call_id) (call_none key) (call_some key) slots id c d t cs cs' less there (c_e ∙ ap (λ s. (prints_at key s).call) there) h.by_call cs_e;
       by_tag = ended (has_tag key) (λ u. tag_print key u.parts.from.params) (tag_none key) (tag_some key) slots id g d t ts ts' less there (g_e ∙ ap (λ s. (prints_at key s).tag) there) h.by_tag ts_e;
+      by_source = ended has_source source_print source_none source_some slots id o d t os os' less there (o_e ∙ ap (λ s. (prints_at key s).source) there) h.by_source os_e;
       without = fs_e ∙ ap (λ ns. put_number ns id) h.without ∙ sym put;
       servers = omega (arith, h.servers, count, fewer, none_counts, was_e);
     })
 
-pub begun_all : (key : PrintKey) (slots : Slots) (bs cs ts : List Indexed) (fs : List ℕ) (bs' cs' ts' : List Indexed) (fs' : List ℕ) (n is b c g id : ℕ) (t : Transaction) (slot : Option Transaction) (after : Slots)
-    → IsIndexed key slots bs cs ts fs n → id ≡ free_number slots → slot ≡ Some t → is ≡ cond (is_serving slot) 1 0 → b ≡ (prints_at key slot).branch → c ≡ (prints_at key slot).call → g ≡ (prints_at key slot).tag
+pub begun_all : (key : PrintKey) (slots : Slots) (bs cs ts os : List Indexed) (fs : List ℕ) (bs' cs' ts' os' : List Indexed) (fs' : List ℕ) (n is b c g o id : ℕ) (t : Transaction) (slot : Option Transaction) (after : Slots)
+    → IsIndexed key slots bs cs ts os fs n → id ≡ free_number slots → slot ≡ Some t → is ≡ cond (is_serving slot) 1 0 → b ≡ (prints_at key slot).branch → c ≡ (prints_at key slot).call → g ≡ (prints_at key slot).tag → o ≡ (prints_at key slot).source
     → after ≡ cond (ltb id (length slots)) (set slots id slot) (slots ++ slot ∷ [])
     → ((p : ℕ) → numbers_in bs' p ≡ cond (eqb p b) (put_number (numbers_in bs b) id) (numbers_in bs p))
     → ((p : ℕ) → numbers_in cs' p ≡ cond (eqb p c) (put_number (numbers_in cs c) id) (numbers_in cs p))
     → ((p : ℕ) → numbers_in ts' p ≡ cond (eqb p g) (put_number (numbers_in ts g) id) (numbers_in ts p))
+    → ((p : ℕ) → numbers_in os' p ≡ cond (eqb p o) (put_number (numbers_in os o) id) (numbers_in os p))
     → fs' ≡ drop 1 fs
-    → IsIndexed key after bs' cs' ts' fs' (n + is)
-begun_all key slots bs cs ts fs bs' cs' ts' fs' n is b c g id t slot after h id_e slot_e is_e b_e c_e g_e after_e bs_e cs_e ts_e fs_e =
+    → IsIndexed key after bs' cs' ts' os' fs' (n + is)
+begun_all key slots bs cs ts os fs bs' cs' ts' os' fs' n is b c g o id t slot after h id_e slot_e is_e b_e c_e g_e o_e after_e bs_e cs_e ts_e os_e fs_e =
     let then : after ≡ placed slots (free_number slots) t = after_e ∙ rw (slot_e, id_e) refl in
     let counts : is ≡ cond (is_serving (Some t)) 1 0 = is_e ∙ rw slot_e refl in
     let count = count_placed is_serving none_serves t slots in
@@ -193,6 +235,7 @@ begun_all key slots bs cs ts fs bs' cs' ts' fs' n is b c g id t slot after h id_
       by_branch = begun (has_branch key) (λ u. branch_print key u.parts.vias) (branch_none key) (branch_some key) slots b t bs bs' (b_e ∙ ap (λ s. (prints_at key s).branch) slot_e) h.by_branch (rw (← id_e) bs_e);
       by_call = begun (has_call key) (λ u. print_of key u.parts.call_id) (call_none key) (call_some key) slots c t cs cs' (c_e ∙ ap (λ s. (prints_at key s).call) slot_e) h.by_call (rw (← id_e) cs_e);
       by_tag = begun (has_tag key) (λ u. tag_print key u.parts.from.params) (tag_none key) (tag_some key) slots g t ts ts' (g_e ∙ ap (λ s. (prints_at key s).tag) slot_e) h.by_tag (rw (← id_e) ts_e);
+      by_source = begun has_source source_print source_none source_some slots o t os os' (o_e ∙ ap (λ s. (prints_at key s).source) slot_e) h.by_source (rw (← id_e) os_e);
       without = fs_e ∙ least_taken slots fs h.without ∙ ap (λ ns. remove_number ns (free_number slots)) h.without ∙ sym (placed_remove t slots 0 (free_number slots) (omega arith));
       servers = omega (arith, h.servers, count, counts);
     })
@@ -200,38 +243,40 @@ begun_all key slots bs cs ts fs bs' cs' ts' fs' n is b c g id t slot after h id_
 -- ---- the room
 
 -- an end takes room that there is
-pub end_fits : (key : PrintKey) (slots : Slots) (bs cs ts : List Indexed) (free : Free) (n id used capacity room : ℕ) (branches calls tags : Bucketed)
-    → IsIndexed key slots bs cs ts free.numbers n → HasRoom used capacity branches calls tags free room → used ≡ length slots → IsSome (at slots id) → 0 < free.room
-end_fits key slots bs cs ts free n id used capacity room branches calls tags h fits is some =
+pub end_fits : (key : PrintKey) (slots : Slots) (bs cs ts os : List Indexed) (free : Free) (n id used capacity room : ℕ) (branches calls tags sources : Bucketed)
+    → IsIndexed key slots bs cs ts os free.numbers n → HasRoom used capacity branches calls tags sources free room → used ≡ length slots → IsSome (at slots id) → 0 < free.room
+end_fits key slots bs cs ts os free n id used capacity room branches calls tags sources h fits is some =
     let one = stands slots id some in
     let less = within slots id one.0 one.1 in
     let fewer = numbers.numbers_fewer is_none slots id 0 None less (rw one.1 refl) in
     let same = ap length h.without in
     omega (arith, fits.for_ends, is, fewer, same)
 
-pub room_ended : (used capacity room id : ℕ) (branches calls tags branches' calls' tags' : Bucketed) (free free' : Free) → HasRoom used capacity branches calls tags free room
+pub room_ended : (used capacity room id : ℕ) (branches calls tags sources branches' calls' tags' sources' : Bucketed) (free free' : Free) → HasRoom used capacity branches calls tags sources free room
     → free'.numbers ≡ put_number free.numbers id
-    → branches.room ≤ branches'.room → calls.room ≤ calls'.room → tags.room ≤ tags'.room → free.room ≤ free'.room + 1
-    → HasRoom used capacity branches' calls' tags' free' room
-room_ended used capacity room id branches calls tags branches' calls' tags' free free' fits fs_e bs_r cs_r ts_r fs_r =
+    → branches.room ≤ branches'.room → calls.room ≤ calls'.room → tags.room ≤ tags'.room → sources.room ≤ sources'.room → free.room ≤ free'.room + 1
+    → HasRoom used capacity branches' calls' tags' sources' free' room
+room_ended used capacity room id branches calls tags sources branches' calls' tags' sources' free free' fits fs_e bs_r cs_r ts_r os_r fs_r =
     let fs_l = ap length fs_e ∙ numbers.put_length free.numbers id in
     record {
       for_slots = fits.for_slots;
       for_branches = omega (arith, fits.for_branches, bs_r);
       for_calls = omega (arith, fits.for_calls, cs_r);
       for_tags = omega (arith, fits.for_tags, ts_r);
+      for_sources = omega (arith, fits.for_sources, os_r);
       for_ends = omega (arith, fits.for_ends, fs_l, fs_r);
     }
 
-pub room_begun : (used used' capacity capacity' room : ℕ) (branches calls tags branches' calls' tags' : Bucketed) (free free' : Free) → HasRoom used capacity branches calls tags free room → 0 < room
-    → used' ≤ used + 1 → capacity ≤ capacity' → branches.room ≤ branches'.room + 1 → calls.room ≤ calls'.room + 1 → tags.room ≤ tags'.room + 1
+pub room_begun : (used used' capacity capacity' room : ℕ) (branches calls tags sources branches' calls' tags' sources' : Bucketed) (free free' : Free) → HasRoom used capacity branches calls tags sources free room → 0 < room
+    → used' ≤ used + 1 → capacity ≤ capacity' → branches.room ≤ branches'.room + 1 → calls.room ≤ calls'.room + 1 → tags.room ≤ tags'.room + 1 → sources.room ≤ sources'.room + 1
     → length free.numbers + free.room ≤ length free'.numbers + free'.room
-    → HasRoom used' capacity' branches' calls' tags' free' (room - 1)
-room_begun used used' capacity capacity' room branches calls tags branches' calls' tags' free free' fits some more most bs_r cs_r ts_r fs_r =
+    → HasRoom used' capacity' branches' calls' tags' sources' free' (room - 1)
+room_begun used used' capacity capacity' room branches calls tags sources branches' calls' tags' sources' free free' fits some more most bs_r cs_r ts_r os_r fs_r =
     record {
       for_slots = omega (arith, fits.for_slots, some, more, most);
       for_branches = omega (arith, fits.for_branches, bs_r);
       for_calls = omega (arith, fits.for_calls, cs_r);
       for_tags = omega (arith, fits.for_tags, ts_r);
+      for_sources = omega (arith, fits.for_sources, os_r);
       for_ends = omega (arith, fits.for_ends, some, more, fs_r);
     }

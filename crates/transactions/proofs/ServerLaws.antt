@@ -3,7 +3,7 @@ use Rattle.std.proofs.Common.{◌≡◌, ◌≢◌, ◌≤◌, ◌<◌, ◌+◌,
 use Rattle.std.specs.List.{list_any}
 use Rattle.std.specs.Cmp.Lexicographic.{pointwise, bytes_decides}
 use Rattle.std.specs.Str.{str_to_ascii_lowercase}
-use Rattle.std.proofs.lemmas.Bool.{false≢true, and_parts, and_from, cases_lt, cases_eq, eqb-true, eq-eqb, ltb-false, ltb-true}
+use Rattle.std.proofs.lemmas.Bool.{false≢true, and_parts, and_from, or_parts, cases_lt, cases_eq, eqb-true, eq-eqb, leb-false, ltb-false, ltb-true}
 use Rattle.std.proofs.lemmas.List.{get_or-set_other, get_or-set_same, get_or_append_left, get_or_past, length-append}
 use Rattle.std.proofs.lemmas.List.Folds.{list_any_at}
 use Rattle.std.proofs.lemmas.List.Sums.{sum_by-set, sum_by-append, sum_by-cons, prefix_len-le-length}
@@ -38,6 +38,7 @@ use Rattle.transactions.specs.declared.transaction.Transaction.{Transaction}
 use Rattle.transactions.specs.Limits.{max_served}
 use Rattle.transactions.specs.Matching.{is_copy, same_top, same_sent_by}
 use Rattle.sip_uri.specs.Address.{default_port}
+use Rattle.transactions.specs.Shares.{has_no_room}
 use Rattle.transactions.specs.Slots.{at, free_number, is_asked, is_answered, is_serving, serving}
 use Rattle.transactions.specs.Transactions.{served, asking, asking_timers, went}
 use Rattle.transactions.specs.Contents.{Contents, stepped_by, table_at, opened, placed, reception_of, request_reception, stray, answer_input, IsNew}
@@ -45,6 +46,7 @@ use Rattle.transactions.specs.Changes.{entered, request_change, response_change,
 use Rattle.transactions.specs.Calls.{Call, Receive, Start, Answer, Abandon, Fire, Leave, after, after_all, is_end}
 use Rattle.transactions.specs.Once.{IsLeftBy}
 use Rattle.transactions.specs.Servers.{same_key, KeysOnce, AreServers, IsFree, MayEnter, WasDone, WereDone}
+use Rattle.transactions.proofs.CountLaws.{one, one_more, told_few}
 use Rattle.transactions.proofs.LastingLaws.{none_some, within, placed_own, own_left, other_left}
 use Rattle.transactions.proofs.ReplyLaws.{text_is}
 use Rattle.transactions.proofs.OnceLaws.{own_text}
@@ -148,10 +150,6 @@ told_once table id input fresh now once i j t u apart at_i at_j server_t server_
     let b = told_was table id j u (at table.slots id) input fresh now refl at_j in
     rw (a.parts, b.parts) (once i j a.t b.t apart a.there b.there (sym a.side ∙ server_t) (sym b.side ∙ server_u))
 
--- one for a server transaction
-abbrev one : Option Transaction → ℕ
-one o = cond (is_serving o) 1 0
-
 nobody_serves : is_serving None ≡ false
 unfolding is_serving
 nobody_serves = refl
@@ -160,33 +158,8 @@ serves : (t : Transaction) → is_serving (Some t) ≡ is_server t.state
 unfolding is_serving
 serves t = refl
 
-one_left : (t : Transaction) (b : Bool) (o : Option Transaction) → IsLeftBy t b o → one o ≤ one (Some t)
-one_left t true o left =
-    let none : one o ≡ 0 = ap one left ∙ ap (λ s. cond s 1 0) nobody_serves in
-    omega (arith, none)
-one_left t false None left = absurd left
-one_left t false (Some u) left =
-    let same : one (Some u) ≡ one (Some t) = ap (λ s. cond s 1 0) (serves u ∙ left.side ∙ sym (serves t)) in
-    omega (arith, same)
-
-stepped_few : (table : Contents) (id : ℕ) (t : Transaction) (input : Input) (fresh : Option (List ℕ)) (now : ℕ) (line : Option Step) → at table.slots id ≡ Some t
-    → IsLeftBy t (is_end line) (at (stepped_by table id t fresh now line).slots id) → serving (stepped_by table id t fresh now line).slots ≤ serving table.slots
-stepped_few table id t input fresh now None there left = omega arith
-stepped_few table id t input fresh now (Some step) there left =
-    let y : Option Transaction = option_map (went t fresh) step.next in
-    let lt = within table.slots id t there in
-    let here : at (set table.slots id y) id ≡ y = get_or-set_same table.slots id y None lt in
-    let less : one y ≤ one (Some t) = one_left t (is_end (Some step)) y (subst (λ o. IsLeftBy t (is_end (Some step)) o) here left) in
-    let sums = sum_by-set one table.slots id y None lt in
-    let was : one (at table.slots id) ≡ one (Some t) = ap one there in
-    omega (arith, less, sums, was)
-
-told_few : (table : Contents) (id : ℕ) (o : Option Transaction) (input : Input) (fresh : Option (List ℕ)) (now : ℕ) → at table.slots id ≡ o
-    → serving (table_at table id o input fresh now).slots ≤ serving table.slots
-told_few table id None input fresh now there = omega arith
-told_few table id (Some t) input fresh now there =
-    stepped_few table id t input fresh now (row_of t.state input) there
-    (own_left table id t (Some t) input fresh now (is_end (row_of t.state input)) there refl refl)
+stays : (t u : Transaction) → is_server u.state ≡ is_server t.state → u.place ≡ t.place → is_serving (Some u) ≡ is_serving (Some t)
+stays t u side place = serves u ∙ side ∙ sym (serves t)
 
 at_most : (a b n : ℕ) → a ≤ b → b ≤ n → a ≤ n
 at_most a b n h k = omega (arith, h, k)
@@ -196,7 +169,7 @@ told_servers : (table : Contents) (id : ℕ) (input : Input) (fresh : Option (Li
 told_servers table id input fresh now h = record {
   once = told_once table id input fresh now h.once;
   few = at_most (serving (table_at table id (at table.slots id) input fresh now).slots) (serving table.slots) max_served
-      (told_few table id (at table.slots id) input fresh now refl) h.few;
+      (told_few is_serving nobody_serves stays table id (at table.slots id) input fresh now refl) h.few;
 }
 
 -- ---- a transaction begins
@@ -248,14 +221,6 @@ begun_once slots t free once i j u v apart at_i at_j server_u server_v = elim (c
   ]
 ]
 
-one_more_by : (slots : List (Option Transaction)) (place : ℕ) (t : Transaction) (b : Bool) → (b ≡ true → place < length slots)
-    → serving (cond b (set slots place (Some t)) (slots ++ Some t ∷ [])) ≤ serving slots + one (Some t)
-one_more_by slots place t true lt = omega (arith, sum_by-set one slots place (Some t) None (lt refl))
-one_more_by slots place t false lt = omega (arith, sum_by-append one slots (Some t ∷ []), sum_by-cons one (Some t) [])
-
-one_more : (slots : List (Option Transaction)) (t : Transaction) → serving (placed slots (free_number slots) t) ≤ serving slots + one (Some t)
-one_more slots t = one_more_by slots (free_number slots) t (nat_lt (free_number slots) (length slots)) (λ e. ltb-true (free_number slots) (length slots) e)
-
 begun_few_by : (before then more : ℕ) (server : Bool) → then ≤ before + more → more ≡ cond server 1 0 → (server ≡ true → before < max_served) → before ≤ max_served → then ≤ max_served
 begun_few_by before then more true h e room few = omega (arith, h, e, room refl)
 begun_few_by before then more false h e room few = omega (arith, h, e, few)
@@ -264,7 +229,7 @@ begun_servers : (table : Contents) (t : Transaction) (starts : Starts) (now : �
     → AreServers (opened table t starts now).slots
 begun_servers table t starts now free h = record {
   once = begun_once table.slots t free h.once;
-  few = begun_few_by (serving table.slots) (serving (placed table.slots (free_number table.slots) t)) (one (Some t)) (is_server t.state) (one_more table.slots t)
+  few = begun_few_by (serving table.slots) (serving (placed table.slots (free_number table.slots) t)) (one is_serving (Some t)) (is_server t.state) (one_more is_serving table.slots t)
       (ap (λ s. cond s 1 0) (serves t)) (λ server. (free server).room) h.few;
 }
 
@@ -280,14 +245,18 @@ entered_servers now table Leaves h may = h
 abbrev begun_new : Contents → Reception
 begun_new table = record { verdict = verdicts.New (free_number table.slots); before = None; send = None }
 
+-- where there is room for a source, there is room
+room_left : (table : Contents) (source : Addr) → has_no_room table source ≡ false → serving table.slots < max_served
+room_left table source h = leb-false max_served (serving table.slots) (or_parts _ _ h).0
+
 -- what a request begins may be entered, where there is room
 request_may_by : (table : Contents) (r : Request) (source : Addr) (b : Bool) → is_method (codes "ACK") r.parts ≡ b → list_any (is_asked r.parts) table.slots ≡ false
-    → (IsNew (cond b stray (begun_new table)).verdict → serving table.slots < max_served) → MayEnter table.slots (cond b Leaves (Opens (served r source) NoTimer))
+    → (IsNew (cond b stray (begun_new table)).verdict → has_no_room table source ≡ false) → MayEnter table.slots (cond b Leaves (Opens (served r source) NoTimer))
 request_may_by table r source true e none room = tt
-request_may_by table r source false e none room = λ server. record { no_ack = e; new = none; room = room tt }
+request_may_by table r source false e none room = λ server. record { no_ack = e; new = none; room = room_left table source (room tt) }
 
 request_may : (table : Contents) (r : Request) (source : Addr) (number : Option ℕ) → position (is_asked r.parts) table.slots ≡ number
-    → (IsNew (request_reception table r number).verdict → serving table.slots < max_served) → MayEnter table.slots (request_change r source number)
+    → (IsNew (request_reception table r number).verdict → has_no_room table source ≡ false) → MayEnter table.slots (request_change r source number)
 request_may table r source None e room =
     request_may_by table r source (is_method (codes "ACK") r.parts) refl (sym (is_some-position (is_asked r.parts) table.slots) ∙ rw e refl) room
 request_may table r source (Some id) e room = tt
@@ -296,13 +265,13 @@ response_may : (table : Contents) (r : Response) (number : Option ℕ) → MayEn
 response_may table r None = tt
 response_may table r (Some id) = tt
 
-pub foreseen_may : (table : Contents) (message : Message) (source : Addr) → (IsNew (reception_of table message).verdict → serving table.slots < max_served)
+pub foreseen_may : (table : Contents) (message : Message) (source : Addr) → (IsNew (reception_of table message).verdict → has_no_room table source ≡ false)
     → MayEnter table.slots (change_of table message source)
 unfolding reception_of change_of
 foreseen_may table (Kinds.Request r) source room = request_may table r source (position (is_asked r.parts) table.slots) refl room
 foreseen_may table (Kinds.Response r) source room = response_may table r (position (is_answered r.parts) table.slots)
 
-asking_side : (b : Bool) → is_server (cond b (machine.InviteClient (Calling t1 false)) (machine.OtherClient (other_client.Trying t1))) ≡ false
+pub asking_side : (b : Bool) → is_server (cond b (machine.InviteClient (Calling t1 false)) (machine.OtherClient (other_client.Trying t1))) ≡ false
 asking_side true = refl
 asking_side false = refl
 

@@ -112,7 +112,7 @@ begun_untouched : (table : Contents) (u : Transaction) (ss : Starts) (now id : �
 begun_untouched table u ss now id t true there = left_alone table id t there
 begun_untouched table u ss now id t false there = record {
   same = placed_other table.slots id u t there;
-  timers = own_started id (free_number table.slots) table.timers (starts_within table.first_wait u.parts ss) now (λ is. not_free table.slots id t there (sym is));
+  timers = own_started id (free_number table.slots) table.timers (starts_within table.rules.first_wait u.parts ss) now (λ is. not_free table.slots id t there (sym is));
 }
 
 request_untouched : (table : Contents) (r : Request) (source : Addr) (now id : ℕ) (t : Transaction) (number : Option ℕ) → at table.slots id ≡ Some t

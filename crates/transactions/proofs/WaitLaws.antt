@@ -72,11 +72,11 @@ method_set timers id now wait begins false = last_set timers id now wait (timer 
 
 begun_set : (table : Contents) (r : Request) (to : Addr) (now : ℕ) (ack : Bool) → ack ≡ false
     → moment same_timer (entered now table (cond ack Leaves (Opens (asking r to (message_text (Kinds.Request r))) (asking_timers r.parts)))).timers
-    (timer_of (free_number table.slots) (last_timer r.parts)) ≡ Some (now + longest_wait table.first_wait r.parts)
+    (timer_of (free_number table.slots) (last_timer r.parts)) ≡ Some (now + longest_wait table.rules.first_wait r.parts)
 unfolding starts_within
 begun_set table r to now true no_ack = absurd (false≢true (sym no_ack))
 begun_set table r to now false no_ack =
-    method_set table.timers (free_number table.slots) now table.first_wait (begins_dialog r.parts) (is_method (codes "INVITE") r.parts)
+    method_set table.timers (free_number table.slots) now table.rules.first_wait (begins_dialog r.parts) (is_method (codes "INVITE") r.parts)
 
 pub gives_up : (table : Contents) (r : Request) (to : Addr) (now : ℕ) → GivesUp table r to now
 gives_up table r to now no_ack = begun_set table r to now (is_method (codes "ACK") r.parts) no_ack

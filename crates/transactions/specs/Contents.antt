@@ -26,25 +26,24 @@ use Rattle.transaction_machines.specs.declared.step.Starts.{Starts}
 use Rattle.transaction_machines.specs.declared.step.Told.{Told}
 use Rattle.transaction_machines.specs.declared.step.Told.TheVariants.{Silent, Up, TimedOut, Ended}
 use Rattle.transaction_machines.specs.declared.step.Step.{Step}
+use Rattle.transactions.specs.declared.rules.TableRules.{TableRules}
 use Rattle.transactions.specs.declared.transaction.TimerId.{TimerId}
 use Rattle.transactions.specs.declared.transaction.Transaction.{Transaction}
 use Rattle.transactions.specs.SameBranch.{ack_of}
 use Rattle.sip_message.specs.Words.{class_of, is_method, tag_value}
-use Rattle.transactions.specs.Limits.{max_served}
 use Rattle.transaction_machines.specs.Lines.{starts_none}
 use Rattle.transaction_machines.specs.Machines.{row_of}
-use Rattle.transactions.specs.Slots.{at, free_number, is_asked, is_answered, is_merged, is_serving, serving}
+use Rattle.transactions.specs.Slots.{at, free_number, is_asked, is_answered, is_merged, is_serving}
 use Rattle.transactions.specs.Timing.{same_timer, stopped_by, started}
 use Rattle.transactions.specs.Transactions.{went, sent, outgoing}
 use Rattle.transactions.specs.Waiting.{starts_within}
 
 -- Place i of the slots has the transaction with the number i. The timers stand in the order in which they are due, each
--- key once: that is what `next`, `first_due` and `timer_count` say of every table. An INVITE of the server's own that
--- begins a dialog waits so many milliseconds for its first response.
+-- key once: that is what `next`, `first_due` and `timer_count` say of every table.
 pub record Contents : Type 0 where
   pub slots : List (Option Transaction)
   pub timers : List (Timer TimerId)
-  pub first_wait : ℕ
+  pub rules : TableRules
 
 -- ---- a step, and a new transaction
 
@@ -53,7 +52,7 @@ abbrev pub stepped : Contents → ℕ → Transaction → Step → Option (List 
 stepped table id t step fresh now = record {
   slots = slice_set table.slots id (option_map (went t fresh) step.next);
   timers = started (stopped_by table.timers id step.stops) id step.starts now;
-  first_wait = table.first_wait;
+  rules = table.rules;
 }
 
 abbrev pub stepped_by : Contents → ℕ → Transaction → Option (List ℕ) → ℕ → Option Step → Contents
@@ -91,12 +90,12 @@ abbrev pub placed_with : Contents → Transaction → Starts → ℕ → Content
 placed_with table t starts now = record {
   slots = placed table.slots (free_number table.slots) t;
   timers = started table.timers (free_number table.slots) starts now;
-  first_wait = table.first_wait;
+  rules = table.rules;
 }
 
 -- the same, where an INVITE that begins a dialog is given up sooner
 abbrev pub opened : Contents → Transaction → Starts → ℕ → Contents
-opened table t starts now = placed_with table t (starts_within table.first_wait t.parts starts) now
+opened table t starts now = placed_with table t (starts_within table.rules.first_wait t.parts starts) now
 
 -- ---- a message comes
 
@@ -186,20 +185,6 @@ response_takes table r (Some id) = takes_memory (line_at table id (response_inpu
 unfoldable pub message_takes : Contents → Message → Bool
 message_takes table (Kinds.Request r) = request_takes table r (position (is_asked r.parts) table.slots)
 message_takes table (Kinds.Response r) = response_takes table r (position (is_answered r.parts) table.slots)
-
--- which message is refused: one that would begin a transaction, where there are as many as there may be
-abbrev pub RefusesMessage : Contents → Message → TableError → Type 0
-RefusesMessage table message OutOfMemory = message_takes table message ≡ true
-RefusesMessage table message Full = IsNew (reception_of table message).verdict × (max_served ≤ serving table.slots)
-RefusesMessage table message Unknown = ⊥
-RefusesMessage table message AfterFinal = ⊥
-
--- the same, of a request that belongs to no transaction
-abbrev pub RefusesBegun : Contents → Parts → TableError → Type 0
-RefusesBegun table parts OutOfMemory = is_method (codes "ACK") parts ≡ false
-RefusesBegun table parts Full = IsNew (begun table parts).verdict × (max_served ≤ serving table.slots)
-RefusesBegun table parts Unknown = ⊥
-RefusesBegun table parts AfterFinal = ⊥
 
 -- ---- the core asks, answers and abandons
 

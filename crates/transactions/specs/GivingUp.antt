@@ -26,4 +26,4 @@ longest_wait first_wait parts = if begins_dialog parts then min first_wait timeo
 abbrev pub GivesUp : Contents → Request → Addr → ℕ → Type 0
 GivesUp table r to now =
     is_method (codes "ACK") r.parts ≡ false
-    → moment same_timer (after_start table r to now).timers (timer_of (free_number table.slots) (last_timer r.parts)) ≡ Some (now + longest_wait table.first_wait r.parts)
+    → moment same_timer (after_start table r to now).timers (timer_of (free_number table.slots) (last_timer r.parts)) ≡ Some (now + longest_wait table.rules.first_wait r.parts)

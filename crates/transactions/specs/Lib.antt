@@ -7,6 +7,7 @@ pub mod OwnRequests
 pub mod Replies
 pub mod Slots
 pub mod Prints
+pub mod Shares
 pub mod KeptPrints
 pub mod KnownPrints
 pub mod Places

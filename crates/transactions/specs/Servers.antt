@@ -10,6 +10,7 @@ use Rattle.transactions.specs.declared.change.Entry.TheVariants.{Opens, Tells, A
 use Rattle.transactions.specs.declared.transaction.Transaction.{Transaction}
 use Rattle.transactions.specs.Limits.{max_served}
 use Rattle.transactions.specs.Matching.{same_top}
+use Rattle.transactions.specs.Shares.{has_no_room}
 use Rattle.transactions.specs.Slots.{at, is_asked, serving}
 use Rattle.transactions.specs.Contents.{Contents, reception_of, IsNew}
 use Rattle.transactions.specs.Calls.{Call, Receive, Start, Answer, Abandon, Fire, Leave, after}
@@ -43,10 +44,10 @@ MayEnter slots (Tells id input fresh) = Unit {0}
 MayEnter slots (Answers id class bytes) = Unit {0}
 MayEnter slots Leaves = Unit {0}
 
--- ---- calls that were done: at the limit no message began a transaction, which is the clause `room` of `receive`
+-- ---- calls that were done: where there is no room no message began a transaction, which is the clause `room` of `receive`
 
 abbrev pub WasDone : Contents → Call → Type 0
-WasDone table (Receive message source now) = IsNew (reception_of table message).verdict → serving table.slots < max_served
+WasDone table (Receive message source now) = IsNew (reception_of table message).verdict → has_no_room table source ≡ false
 WasDone table (Start r to now) = Unit {0}
 WasDone table (Answer id r now) = Unit {0}
 WasDone table (Abandon id now) = Unit {0}

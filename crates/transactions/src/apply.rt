@@ -1,6 +1,7 @@
 //! Changes as they are entered: first the room that they take, which may be refused, then the changes, which cannot.
 
 ghost use Rattle.std.specs.Prelude.{ℕ, ◌≡◌, ◌+◌, ◌*◌, ◌<◌, ◌≤◌, ◌^◌, OnOk, OnErr, IfSome, IsTrue, IsSome, Some, None, is_some, true, length, option_map, slice_set, vec_len};
+ghost use Rattle.transactions.specs.declared.rules.TableRules.{TableRules};
 ghost use Rattle.transactions.specs.declared.transaction.Transaction.{Transaction};
 ghost use Rattle.transaction_machines.specs.Lines.{follows, is_answer, starts_with_lines};
 ghost use Rattle.transactions.specs.Fireable.{IsFireable, has_sent};
@@ -14,6 +15,7 @@ ghost use Rattle.transactions.specs.Changes.{entered, entered_all, starts_count,
 use crate::change::{Change, Entry};
 use crate::places::Places;
 use crate::print::BranchPrint;
+use crate::rules::TableRules;
 use crate::slot::Slot;
 use crate::slots::transaction_at;
 use crate::timer_changes::{set_all, stop};
@@ -114,18 +116,18 @@ pub(crate) fn enter_all(
     places: &mut Places,
     timers: &mut Timers<TimerId>,
     changes: Vec<Change>,
-    first_wait: u64,
+    rules: TableRules,
     now: u64,
 )
     requires moment { now < 2 ^ 60 }
     requires fireable { IsFireable places.old.slots timers.old.timers }
     requires places_room { length changes.items ≤ places.old.room }
     requires timers_room { 2 * length changes.items ≤ timers.old.room }
-    ensures table { record { slots = places.new.slots; timers = timers.new.timers; first_wait = first_wait } ≡ entered_all now (record { slots = places.old.slots; timers = timers.old.timers; first_wait = first_wait }) changes.items }
+    ensures table { record { slots = places.new.slots; timers = timers.new.timers; rules = rules } ≡ entered_all now (record { slots = places.old.slots; timers = timers.old.timers; rules = rules }) changes.items }
     ensures fireable { IsFireable places.new.slots timers.new.timers }
 {
     for change in changes {
-        enter(places, timers, change, first_wait, now);
+        enter(places, timers, change, rules, now);
     }
 }
 
@@ -134,14 +136,14 @@ pub(crate) fn enter(
     places: &mut Places,
     timers: &mut Timers<TimerId>,
     change: Change,
-    first_wait: u64,
+    rules: TableRules,
     now: u64,
 )
     requires moment { now < 2 ^ 60 }
     requires fireable { IsFireable places.old.slots timers.old.timers }
     requires places_room { places_of change ≤ places.old.room }
     requires timers_room { timers_of places.old.slots change ≤ timers.old.room }
-    ensures table { record { slots = places.new.slots; timers = timers.new.timers; first_wait = first_wait } ≡ entered now (record { slots = places.old.slots; timers = timers.old.timers; first_wait = first_wait }) change }
+    ensures table { record { slots = places.new.slots; timers = timers.new.timers; rules = rules } ≡ entered now (record { slots = places.old.slots; timers = timers.old.timers; rules = rules }) change }
     ensures fireable { IsFireable places.new.slots timers.new.timers }
     ensures places_room { places.old.room ≤ places.new.room + 1 }
     ensures timers_room { timers.old.room ≤ timers.new.room + 2 }
@@ -149,7 +151,7 @@ pub(crate) fn enter(
     let Change { entry, known } = change;
     match entry {
         Entry::Opens(transaction, starts) => {
-            open(places, timers, transaction, known, starts, first_wait, now);
+            open(places, timers, transaction, known, starts, rules, now);
         }
         Entry::Tells(id, input, fresh) => tell(places, timers, id, input, fresh, now),
         Entry::Answers(id, class, bytes) => {
@@ -166,7 +168,7 @@ fn open(
     transaction: Boxed<Transaction>,
     known: Option<BranchPrint>,
     starts: Starts,
-    first_wait: u64,
+    rules: TableRules,
     now: u64,
 )
     requires moment { now < 2 ^ 60 }
@@ -177,12 +179,12 @@ fn open(
     requires fireable { IsFireable places.old.slots timers.old.timers }
     requires places_room { 0 < places.old.room }
     requires timers_room { starts_count starts ≤ timers.old.room }
-    ensures table { record { slots = places.new.slots; timers = timers.new.timers; first_wait = first_wait } ≡ opened (record { slots = places.old.slots; timers = timers.old.timers; first_wait = first_wait }) transaction starts now }
+    ensures table { record { slots = places.new.slots; timers = timers.new.timers; rules = rules } ≡ opened (record { slots = places.old.slots; timers = timers.old.timers; rules = rules }) transaction starts now }
     ensures fireable { IsFireable places.new.slots timers.new.timers }
     ensures places_room { places.old.room ≤ places.new.room + 1 }
     ensures timers_room { timers.old.room ≤ timers.new.room + 2 }
 {
-    let within = starts_within(first_wait, &transaction.get().parts, starts);
+    let within = starts_within(rules.first_wait, &transaction.get().parts, starts);
     let id = places.open(transaction, known);
     set_all(timers, id, within, now);
 }
@@ -200,7 +202,7 @@ fn tell(
     requires given { is_answer input ≡ true → is_some fresh ≡ true }
     requires fireable { IsFireable places.old.slots timers.old.timers }
     requires timers_room { line_timers places.old.slots id input ≤ timers.old.room }
-    ensures table { (first_wait : ℕ) → record { slots = places.new.slots; timers = timers.new.timers; first_wait = first_wait } ≡ table_at (record { slots = places.old.slots; timers = timers.old.timers; first_wait = first_wait }) id (at places.old.slots id) input fresh.entry now }
+    ensures table { (rules : TableRules) → record { slots = places.new.slots; timers = timers.new.timers; rules = rules } ≡ table_at (record { slots = places.old.slots; timers = timers.old.timers; rules = rules }) id (at places.old.slots id) input fresh.entry now }
     ensures fireable { IsFireable places.new.slots timers.new.timers }
     ensures places_room { places.old.room ≤ places.new.room + 1 }
     ensures timers_room { timers.old.room ≤ timers.new.room + 2 }
@@ -232,7 +234,7 @@ fn carry_out(
     requires follows { (t : Transaction) → at places.old.slots id ≡ Some t → IsTrue (follows t.state (is_some fresh) step) }
     requires fireable { IsFireable places.old.slots timers.old.timers }
     requires timers_room { starts_count step.starts ≤ timers.old.room }
-    ensures table { (first_wait : ℕ) (t : Transaction) → at places.old.slots id ≡ Some t → record { slots = places.new.slots; timers = timers.new.timers; first_wait = first_wait } ≡ stepped (record { slots = places.old.slots; timers = timers.old.timers; first_wait = first_wait }) id t step fresh.entry now }
+    ensures table { (rules : TableRules) (t : Transaction) → at places.old.slots id ≡ Some t → record { slots = places.new.slots; timers = timers.new.timers; rules = rules } ≡ stepped (record { slots = places.old.slots; timers = timers.old.timers; rules = rules }) id t step fresh.entry now }
     ensures fireable { IsFireable places.new.slots timers.new.timers }
     ensures places_room { places.old.room ≤ places.new.room + 1 }
     ensures timers_room { timers.old.room ≤ timers.new.room + 2 }

@@ -4,10 +4,10 @@ ghost use Rattle.std.specs.Prelude.{◌≡◌, ◌<◌, IfOk, IfErr, Some, None,
 ghost use Rattle.sip_uri.specs.declared.uri.Addr.{Addr};
 ghost use Rattle.sip_message.specs.declared.message.Message.TheVariants as Kinds;
 ghost use Rattle.transactions.specs.declared.change.Entry.TheVariants.{Tells, Leaves};
-ghost use Rattle.transactions.specs.Limits.{max_served};
 ghost use Rattle.transaction_machines.specs.Lines.{is_answer};
-ghost use Rattle.transactions.specs.Slots.{at, serving};
-ghost use Rattle.transactions.specs.Contents.{stray, reception_at, reception_of, begun, ack_at, IsNew, RefusesMessage, RefusesBegun, fired_of, is_due, RefusesFire, line_in, response_input, takes_memory, message_takes};
+ghost use Rattle.transactions.specs.Shares.{RefusesBegun, RefusesMessage, has_no_room, meets, serving_from};
+ghost use Rattle.transactions.specs.Slots.{at};
+ghost use Rattle.transactions.specs.Contents.{stray, reception_at, reception_of, begun, ack_at, IsNew, fired_of, is_due, RefusesFire, line_in, response_input, takes_memory, message_takes};
 ghost use Rattle.transactions.specs.Changes.{change_of, request_change, fire_of};
 ghost use Rattle.transactions.specs.Prints.{branch_print};
 
@@ -63,9 +63,9 @@ impl Table {
     pub fn foresee(&self, message: &Message, source: Addr) -> Result<Foreseen, TableError>
         ensures reception { IfOk result (λ f. f.reception ≡ reception_of self.now message.now) }
         ensures change { IfOk result (λ f. f.change ≡ change_of self.now message.now source) }
-        // At the limit no transaction of another begins.
-        ensures room { IfOk result (λ f. IsNew f.reception.verdict → serving self.now.slots < max_served) }
-        ensures refused { IfErr result (RefusesMessage self.now message.now) }
+        // Where there is no room, no transaction of another begins.
+        ensures room { IfOk result (λ f. IsNew f.reception.verdict → has_no_room self.now source ≡ false) }
+        ensures refused { IfErr result (RefusesMessage self.now message.now source) }
     {
         match message {
             Message::Request(request) => self.foresee_request(request, source),
@@ -102,8 +102,8 @@ impl Table {
     fn foresee_request(&self, request: &Request, source: Addr) -> Result<Foreseen, TableError>
         ensures reception { IfOk result (λ f. f.reception ≡ reception_of self.now (Kinds.Request request.now)) }
         ensures change { IfOk result (λ f. f.change ≡ change_of self.now (Kinds.Request request.now) source) }
-        ensures room { IfOk result (λ f. IsNew f.reception.verdict → serving self.now.slots < max_served) }
-        ensures refused { IfErr result (RefusesMessage self.now (Kinds.Request request.now)) }
+        ensures room { IfOk result (λ f. IsNew f.reception.verdict → has_no_room self.now source ≡ false) }
+        ensures refused { IfErr result (RefusesMessage self.now (Kinds.Request request.now) source) }
     {
         let key = self.places.key();
         let print = branch_print(key, &request.parts.vias);
@@ -144,13 +144,13 @@ impl Table {
         requires { branch.print ≡ branch_print branch.key request.now.parts.vias }
         ensures reception { IfOk result (λ f. f.reception ≡ begun self.now request.now.parts) }
         ensures change { IfOk result (λ f. f.change ≡ request_change request.now source None) }
-        ensures room { IfOk result (λ f. IsNew f.reception.verdict → serving self.now.slots < max_served) }
-        ensures refused { IfErr result (RefusesBegun self.now request.now.parts) }
+        ensures room { IfOk result (λ f. IsNew f.reception.verdict → has_no_room self.now source ≡ false) }
+        ensures refused { IfErr result (RefusesBegun self.now request.now.parts source) }
     {
         if is_method(&request.parts, b"ACK") {
             return Ok(Foreseen::stray());
         }
-        if self.places.serving_count() >= MAX_SERVED {
+        if self.has_no_room(source) {
             return Err(TableError::Full);
         }
         let change = Change::serves(self.alloc, request, source, branch)?;
@@ -160,6 +160,23 @@ impl Table {
             send: None,
         };
         Ok(Foreseen { reception, change })
+    }
+
+    // Whether a request of this source would be one too many.
+    fn has_no_room(&self, source: Addr) -> bool
+        ensures { result ≡ has_no_room self.now source }
+    {
+        self.places.serving_count() >= MAX_SERVED || self.meets_share(source.ip)
+    }
+
+    // Whether so many server transactions of this address stand as its share is.
+    fn meets_share(&self, ip: [u8; 4]) -> bool
+        ensures { result ≡ meets self.now.rules.share (serving_from ip self.now.slots) }
+    {
+        match self.rules.share {
+            None => false,
+            Some(share) => self.places.serving_from(ip) >= share,
+        }
     }
 }
 

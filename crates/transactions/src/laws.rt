@@ -1,6 +1,6 @@
 //! What holds of the table over its calls.
 
-ghost use Rattle.std.specs.Prelude.{◌≡◌, ◌↔◌, ◌<◌, ℕ, List, [], true, false};
+ghost use Rattle.std.specs.Prelude.{◌≡◌, ◌↔◌, ℕ, List, [], true, false};
 ghost use Rattle.sip_uri.specs.declared.uri.Addr.{Addr};
 ghost use Rattle.sip_message.specs.declared.message.Message.{Message};
 ghost use Rattle.sip_message.specs.declared.message.Message.TheVariants as Kinds;
@@ -12,10 +12,9 @@ ghost use Rattle.transactions.specs.declared.change.Entry.{Entry};
 ghost use Rattle.transactions.specs.declared.transaction.Transaction.{Transaction};
 ghost use Rattle.transactions.specs.Calls.{Call, after_all};
 ghost use Rattle.transactions.specs.GivingUp.{GivesUp};
-ghost use Rattle.transactions.specs.Limits.{max_served};
 ghost use Rattle.transactions.specs.Repeats.{KeepsFinal, LeavesAnswer, KeepsOver, RepeatsAnswer, ResendsAnswer};
 ghost use Rattle.transactions.specs.Servers.{AreServers, MayEnter, WereDone};
-ghost use Rattle.transactions.specs.Slots.{serving};
+ghost use Rattle.transactions.specs.Shares.{AreShared, SameNumberSameIp, has_no_room};
 ghost use Rattle.transactions.specs.Untouched.{LeavesOthers};
 ghost use Rattle.transactions.specs.Contents.{Contents, reception_of, IsNew};
 ghost use Rattle.transactions.specs.Changes.{after_message, change_of, entered};
@@ -48,17 +47,21 @@ pub fn replies()
 {}
 
 /// No two server transactions have one key (method, branch and sent-by), and there are no more than 4,096: of a table
-/// without transactions, and after any calls that were done, since none begins one at the limit; and after any change
-/// that may be entered, as what is foreseen of a message may, where that is entered before other messages come.
+/// without transactions, and after any calls that were done, since none begins one where there is no room; and after any change
+/// that may be entered, as what is foreseen of a message may, where that is entered before other messages come. Nor has an
+/// address more than its share, of an empty table and after any calls that were done.
 pub fn servers()
     ensures none { AreServers [] }
     ensures change { (now : ℕ) (table : Contents) (change : Entry) →
         AreServers table.slots → MayEnter table.slots change → AreServers (entered now table change).slots }
     ensures message { (table : Contents) (message : Message) (source : Addr) →
-        (IsNew (reception_of table message).verdict → serving table.slots < max_served)
+        (IsNew (reception_of table message).verdict → has_no_room table source ≡ false)
         → MayEnter table.slots (change_of table message source) }
     ensures calls { (table : Contents) (calls : List Call) →
         AreServers table.slots → WereDone table calls → AreServers (after_all table calls).slots }
+    ensures empty { (table : Contents) → table.slots ≡ [] → AreShared table }
+    ensures shared { (table : Contents) (calls : List Call) →
+        AreShared table → WereDone table calls → AreShared (after_all table calls) }
 {}
 
 /// A call that tells a transaction nothing leaves it as it was, with its timers.
@@ -82,4 +85,9 @@ pub fn answers_are_repeated()
 /// has it sooner, where the table is made so.
 pub fn requests_are_given_up()
     ensures { (table : Contents) (request : Request) (to : Addr) (now : ℕ) → GivesUp table request to now }
+{}
+
+/// An address is known by its number: two addresses have one number only where they are one (RFC 791 section 3.2).
+pub fn sources_are_numbered()
+    ensures { (a b : List ℕ) → SameNumberSameIp a b }
 {}

@@ -14,6 +14,7 @@ mod outcome;
 mod own_request;
 mod places;
 mod print;
+mod rules;
 mod same_branch;
 mod slot;
 mod slots;
@@ -28,9 +29,11 @@ pub use error::TableError;
 pub use foresee::{Foreseen, ForeseenFire};
 pub use laws::{
     answers_are_repeated, once, others_are_untouched, replies, requests_are_given_up, servers,
+    sources_are_numbered,
 };
 pub use outcome::{Fired, Outgoing, Reception, Started, Verdict};
 pub use own_request::OwnRequest;
+pub use rules::TableRules;
 pub use same_branch::{ack_of, cancel_of};
 pub use table::Table;
 pub use transaction::{TimerId, Transaction};

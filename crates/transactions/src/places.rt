@@ -1,17 +1,18 @@
 //! The places of the table: transactions by their numbers, and an index of what they are looked up by.
 
-ghost use Rattle.std.specs.Prelude.{◌≡◌, ◌+◌, ◌≤◌, ◌<◌, [], ◌∷◌, ◌++◌, length, map, vec_len, OnOk, OnErr, IsSome, Some, None, option_map, slice_set, nat_lt, if◌then◌else◌};
+ghost use Rattle.std.specs.Prelude.{◌≡◌, ◌+◌, ◌≤◌, ◌<◌, [], ◌∷◌, ◌++◌, length, map, vec_len, OnOk, OnErr, IfSome, IsSome, Some, None, option_map, slice_set, nat_lt, if◌then◌else◌};
 ghost use Rattle.std.specs.Vec.{vec_capacity};
 ghost use Rattle.index.specs.Passing.{numbers_from};
 ghost use Rattle.transactions.specs.declared.transaction.Transaction.{Transaction};
 ghost use Rattle.transactions.specs.Contents.{placed};
 ghost use Rattle.transactions.specs.KnownPrints.{IsPrintOf};
-ghost use Rattle.transactions.specs.Places.{has_branch, has_call, has_tag};
+ghost use Rattle.transactions.specs.Places.{KeepsSide, has_branch, has_call, has_tag};
+ghost use Rattle.transactions.specs.Shares.{serving_from};
 ghost use Rattle.transactions.specs.Slots.{at, free_number, serving};
 ghost use Rattle.transactions.specs.Transactions.{went};
 
 use crate::free_numbers::FreeNumbers;
-use crate::print::{BranchPrint, Prints};
+use crate::print::{BranchPrint, Prints, ip_print};
 use crate::slot::Slot;
 use crate::transaction::Transaction;
 use boxed::Boxed;
@@ -19,7 +20,7 @@ use index::{Buckets, Entry, PrintKey};
 use std::alloc::{AllocError, Global};
 use std::marker::Model;
 use text::Text;
-use transaction_machines::{State, is_server};
+use transaction_machines::State;
 
 /// For so many transactions there is room made at once, where room is asked for at all: so it is seldom asked for.
 const SPARE: usize = 16;
@@ -38,6 +39,8 @@ pub(crate) struct Places {
     calls: Buckets,
     /// Under the print of the tag of From.
     tags: Buckets,
+    /// Under the print of the address that a server transaction's request came from.
+    sources: Buckets,
     free: FreeNumbers,
     /// How many server transactions there are.
     serving: usize,
@@ -55,8 +58,8 @@ impl Model for Places {
 
     ghost view = { λ p. record { slots = p.slots.items; key = p.key; room = p.room } };
 
-    ghost invariant = { λ p. IsIndexed p.key p.slots.items p.branches.buckets p.calls.buckets p.tags.buckets p.free.numbers p.serving
-        × HasRoom (vec_len p.slots) (vec_capacity p.slots) p.branches p.calls p.tags p.free p.room
+    ghost invariant = { λ p. IsIndexed p.key p.slots.items p.branches.buckets p.calls.buckets p.tags.buckets p.sources.buckets p.free.numbers p.serving
+        × HasRoom (vec_len p.slots) (vec_capacity p.slots) p.branches p.calls p.tags p.sources p.free p.room
         × AreNoted p.key p.slots.items p.prints.items (vec_len p.prints) (vec_capacity p.prints) p.room };
 }
 
@@ -72,6 +75,7 @@ impl Places {
             branches: Buckets::new(alloc),
             calls: Buckets::new(alloc),
             tags: Buckets::new(alloc),
+            sources: Buckets::new(alloc),
             free: FreeNumbers::new(alloc),
             serving: 0,
             room: 0,
@@ -126,6 +130,13 @@ impl Places {
         self.serving
     }
 
+    /// How many server transactions there are whose requests came from this address.
+    pub(crate) fn serving_from(&self, ip: [u8; 4]) -> usize
+        ensures { result ≡ serving_from ip self.now.slots }
+    {
+        self.sources.numbers(ip_print(ip)).len()
+    }
+
     /// Makes room for `n` transactions more, and for the end of each that there is.
     pub(crate) fn reserve(&mut self, n: usize) -> Result<(), AllocError>
         ensures slots { self.new.slots ≡ self.old.slots }
@@ -151,6 +162,7 @@ impl Places {
         self.branches.reserve(n)?;
         self.calls.reserve(n)?;
         self.tags.reserve(n)?;
+        self.sources.reserve(n)?;
         let used = self.slots.len() - self.free.len();
         self.free.reserve(used + n)?;
         self.room = n;
@@ -175,6 +187,7 @@ impl Places {
         self.branches.put(prints.branch, number);
         self.calls.put(prints.call, number);
         self.tags.put(prints.tag, number);
+        self.sources.put(prints.source, number);
         self.serving += count_of(slot.is_serving());
         self.free.take_least();
         place(&mut self.slots, number, slot);
@@ -185,7 +198,8 @@ impl Places {
 
     /// The next state of a transaction, or its end. Takes no memory.
     pub(crate) fn write(&mut self, id: usize, next: Option<State>, fresh: Option<Text<'static>>)
-        requires { IsSome (at self.old.slots id) }
+        requires there { IsSome (at self.old.slots id) }
+        requires side { IfSome next (KeepsSide self.old.slots id) }
         ensures slots { (t : Transaction) → at self.old.slots id ≡ Some t →
             self.new.slots ≡ slice_set self.old.slots id (option_map (went t fresh.entry) next) }
         ensures room { self.old.room ≤ self.new.room }
@@ -196,16 +210,15 @@ impl Places {
         }
     }
 
-    // The next state of a transaction.
+    // The next state of a transaction, on the same side.
     fn advance(&mut self, id: usize, state: State, fresh: Option<Text<'static>>)
-        requires { IsSome (at self.old.slots id) }
+        requires there { IsSome (at self.old.slots id) }
+        requires side { KeepsSide self.old.slots id state }
         ensures slots { (t : Transaction) → at self.old.slots id ≡ Some t →
             self.new.slots ≡ slice_set self.old.slots id (Some (went t fresh.entry state)) }
         ensures room { self.old.room ≤ self.new.room }
     {
-        self.serving -= count_of(self.slots[id].is_serving());
         self.slots[id].advance(fresh, state);
-        self.serving += count_of(is_server(state));
     }
 
     // The end of a transaction: its number is free.
@@ -219,6 +232,7 @@ impl Places {
         self.branches.remove(prints.branch, id);
         self.calls.remove(prints.call, id);
         self.tags.remove(prints.tag, id);
+        self.sources.remove(prints.source, id);
         self.slots[id] = Slot::free();
         self.prints[id] = Prints::none();
         self.free.put(id);

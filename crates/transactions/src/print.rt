@@ -3,13 +3,14 @@
 ghost use Rattle.std.specs.Prelude.{◌≡◌, Some, None, IsTrue};
 ghost use Rattle.std.specs.Option.{option_copied};
 ghost use Rattle.transactions.specs.KnownPrints.{IsPrintOf};
-ghost use Rattle.transactions.specs.Prints.{print_by, branch_print, tag_print, prints_at};
+ghost use Rattle.transactions.specs.Prints.{ip_print, print_by, branch_print, tag_print, source_print, prints_at};
 
 use crate::transaction::Transaction;
 use index::PrintKey;
 use sip_message::{Vias, tag_value, top_branch};
 use sip_uri::Param;
 use text::Text;
+use transaction_machines::is_server;
 
 /// The prints of a place of the table, all 0 where it has no transaction.
 #[derive(Clone, Copy)]
@@ -20,6 +21,8 @@ pub(crate) struct Prints {
     pub(crate) call: u64,
     /// Of the tag of From.
     pub(crate) tag: u64,
+    /// Of the address that a server transaction's request came from.
+    pub(crate) source: u64,
 }
 
 /// A print of the branch of a top Via, with the key that it was made under.
@@ -75,6 +78,25 @@ fn tag_print(key: PrintKey, params: &[Param<'_>]) -> u64
     print_by(key, tag_value(params))
 }
 
+/// The print of an address, which is no other address's, and not 0.
+#[tactic(auto, unfolding(crate::specs::Shares::ip_number))]
+pub(crate) fn ip_print(ip: [u8; 4]) -> u64
+    ensures { result ≡ ip_print ip }
+{
+    1 + u64::from(u32::from_be_bytes(ip))
+}
+
+// The print of the address that a server transaction's request came from; 0 of a request of the server's own.
+fn source_print(transaction: &Transaction) -> u64
+    ensures { result ≡ source_print transaction.now }
+{
+    if is_server(transaction.state) {
+        ip_print(transaction.place.ip)
+    } else {
+        0
+    }
+}
+
 impl Prints {
     /// Of a place without a transaction.
     pub(crate) fn none() -> Prints
@@ -84,6 +106,7 @@ impl Prints {
             branch: 0,
             call: 0,
             tag: 0,
+            source: 0,
         }
     }
 
@@ -97,6 +120,7 @@ impl Prints {
             branch: known_or_made(key, &parts.vias, known),
             call: key.print_of(parts.call_id.as_bytes()),
             tag: tag_print(key, parts.from.params.as_slice()),
+            source: source_print(transaction),
         }
     }
 }

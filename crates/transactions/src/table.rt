@@ -1,6 +1,6 @@
 //! The table of transactions, with its timers.
 
-ghost use Rattle.std.specs.Prelude.{◌≡◌, ◌<◌, ◌^◌, [], OnOk, OnErr, IfOk, IfErr, Some, IfSome, IsSome, is_some, option_map, length, true, IsTrue};
+ghost use Rattle.std.specs.Prelude.{◌≡◌, ◌<◌, ◌^◌, [], OnOk, OnErr, IfOk, IfErr, Some, IfSome, IsSome, is_some, option_map, length, true, false, IsTrue};
 ghost use Rattle.std.specs.Option.{option_copied};
 ghost use Rattle.timers.specs.Queue.{EachKeyOnce, first, first_due};
 ghost use Rattle.timers.specs.Settings.{IsDue, IsNext};
@@ -9,11 +9,11 @@ ghost use Rattle.sip_message.specs.Grammar.{ReadsMessage};
 ghost use Rattle.sip_writing.specs.Writing.{message_text};
 ghost use Rattle.sip_writing.specs.WritingMessage.{IsWrittenMessage};
 ghost use Rattle.sip_message.specs.declared.message.Message.TheVariants as Kinds;
-ghost use Rattle.transactions.specs.Limits.{max_served};
 ghost use Rattle.transactions.specs.Slots.{at, named, serving, is_serving, waiting_invite};
+ghost use Rattle.transactions.specs.Shares.{RefusesMessage, has_no_room};
 ghost use Rattle.transactions.specs.Transactions.{outgoing};
 ghost use Rattle.sip_message.specs.Words.{class_of};
-ghost use Rattle.transactions.specs.Contents.{line_at, reception_of, IsNew, RefusesMessage, answer_input, after_answer, answer_sent, RefusesAnswer, after_abandon, RefusesAbandon, fired_of, after_fire, is_due, RefusesFire, merged};
+ghost use Rattle.transactions.specs.Contents.{line_at, reception_of, IsNew, answer_input, after_answer, answer_sent, RefusesAnswer, after_abandon, RefusesAbandon, fired_of, after_fire, is_due, RefusesFire, merged};
 ghost use Rattle.transactions.specs.Changes.{entered, entered_all, after_message, after_start, started_number, needs_room};
 
 use crate::apply::{enter, enter_all, make_room, make_room_for};
@@ -24,6 +24,7 @@ use crate::matches::has_to_tag;
 use crate::outcome::{Fired, Outgoing, Reception, Started};
 use crate::own_request::OwnRequest;
 use crate::places::Places;
+use crate::rules::TableRules;
 use crate::slots::{any_merged, cancelled_place, transaction_at, waiting_invite};
 use crate::timer_changes::{has_come, moment};
 use crate::transaction::{TimerId, Transaction};
@@ -43,8 +44,7 @@ pub struct Table {
     pub(crate) alloc: Global,
     pub(crate) places: Places,
     pub(crate) timers: Timers<TimerId>,
-    /// So many milliseconds an INVITE of the server's own that begins a dialog waits for its first response.
-    pub(crate) first_wait: u64,
+    pub(crate) rules: TableRules,
 }
 
 impl Drop for Table {
@@ -53,7 +53,7 @@ impl Drop for Table {
             alloc: _,
             places: _,
             timers: _,
-            first_wait: _,
+            rules: _,
         } = self;
     }
 }
@@ -64,26 +64,25 @@ impl Model for Table {
 
     ghost Value = { Contents };
 
-    ghost view = { λ t. record { slots = t.places.slots; timers = t.timers.timers; first_wait = t.first_wait } };
+    ghost view = { λ t. record { slots = t.places.slots; timers = t.timers.timers; rules = t.rules } };
 
     // So each timer that is due does something when it fires.
     ghost invariant = { λ t. IsFireable t.places.slots t.timers.timers };
 }
 
 impl Table {
-    /// A table without transactions, which are looked up by prints under this key. No result depends on the key. An
-    /// INVITE of the server's own that begins a dialog waits so many milliseconds for its first response, and 64*T1 at
-    /// most (timer B, RFC 3261 section 17.1.1.2). Takes no memory.
-    pub fn new(alloc: Global, key: PrintKey, first_wait: u64) -> Self
+    /// A table without transactions, which keeps to these rules and looks them up by prints under this key. No result
+    /// depends on the key. Takes no memory.
+    pub fn new(alloc: Global, key: PrintKey, rules: TableRules) -> Self
         ensures slots { result.slots ≡ [] }
         ensures timers { result.timers ≡ [] }
-        ensures first_wait { result.first_wait ≡ first_wait }
+        ensures rules { result.rules ≡ rules }
     {
         Table {
             alloc,
             places: Places::new(alloc, key),
             timers: Timers::new(alloc),
-            first_wait,
+            rules,
         }
     }
 
@@ -100,9 +99,9 @@ impl Table {
         requires { now < 2 ^ 60 }
         ensures reception { IfOk result (λ r. r ≡ reception_of self.old message.now) }
         ensures table { OnOk result (self.new ≡ after_message self.old message.now source now) }
-        // At the limit no transaction of another begins.
-        ensures room { IfOk result (λ r. IsNew r.verdict → serving self.old.slots < max_served) }
-        ensures refused { IfErr result (RefusesMessage self.old message.now) }
+        // Where there is no room, no transaction of another begins.
+        ensures room { IfOk result (λ r. IsNew r.verdict → has_no_room self.old source ≡ false) }
+        ensures refused { IfErr result (RefusesMessage self.old message.now source) }
         ensures err { OnErr result (self.new ≡ self.old) }
     {
         let Foreseen { reception, change } = self.foresee(message, source)?;
@@ -204,13 +203,7 @@ impl Table {
         ensures err { OnErr result (self.new ≡ self.old) }
     {
         make_room(&mut self.places, &mut self.timers, changes.as_slice().len())?;
-        enter_all(
-            &mut self.places,
-            &mut self.timers,
-            changes,
-            self.first_wait,
-            now,
-        );
+        enter_all(&mut self.places, &mut self.timers, changes, self.rules, now);
         Ok(())
     }
 
@@ -316,13 +309,7 @@ impl Table {
         ensures needed { OnErr result (needs_room self.old.slots change ≡ true) }
     {
         make_room_for(&mut self.places, &mut self.timers, &change)?;
-        enter(
-            &mut self.places,
-            &mut self.timers,
-            change,
-            self.first_wait,
-            now,
-        );
+        enter(&mut self.places, &mut self.timers, change, self.rules, now);
         Ok(())
     }
 }

@@ -15,10 +15,10 @@ carry_out-requires-clause-follows c =
     c.in-Some-advance.ensures.follows
 
 pub returns-clause-table : goal.returns-clause-table
-returns-clause-table c = λ wait.
+returns-clause-table c = λ rules.
     let t = c.in-Some.transaction.now in
-    let table : Contents = record { slots = c.args.places.now.slots; timers = c.args.timers.now.timers; first_wait = wait } in
+    let table : Contents = record { slots = c.args.places.now.slots; timers = c.args.timers.now.timers; rules = rules } in
     let there = c.in-Some.ensures ∙ ap (λ l. at l c.args.id) c.slots.ensures in
-    c.carry_out.ensures.table wait t (sym there)
+    c.carry_out.ensures.table rules t (sym there)
     ∙ ap (λ (line : Option Step). stepped_by table c.args.id t c.args.fresh c.args.now line) c.in-Some-advance.ensures.row
     ∙ ap (λ (found : Option Transaction). table_at table c.args.id found c.args.input c.args.fresh c.args.now) there

@@ -22,7 +22,7 @@ put-requires c =
     let slots = c.self.inside.slots.items in
     let some : IsSome (at slots c.args.id) = subst (λ (v : Placed). IsSome (at v.slots c.args.id)) (sym c.self.view_is) c.requires in
     let p = c.self.inside in
-    end_fits p.key slots p.branches.buckets p.calls.buckets p.tags.buckets p.free p.serving c.args.id p.slots.len p.slots.cap p.room p.branches p.calls p.tags c.self.invariant.0 c.self.invariant.1 p.slots.ok.0 some
+    end_fits p.key slots p.branches.buckets p.calls.buckets p.tags.buckets p.sources.buckets p.free p.serving c.args.id p.slots.len p.slots.cap p.room p.branches p.calls p.tags p.sources c.self.invariant.0 c.self.invariant.1 p.slots.ok.0 some
 
 pub invariant_of-self : goal.invariant_of-self
 invariant_of-self c =
@@ -33,10 +33,10 @@ invariant_of-self c =
     let p = c.self.inside in
     let one = stands slots c.args.id some in
     let print = noted_at p.key slots p.prints.items p.prints.len p.prints.cap p.room c.args.id c.index-prints.result.now c.index-prints.result.now c.index.result.now c.self.invariant.2 (within slots c.args.id one.0 one.1) c.index-prints.ensures in (
-      ended_all p.key slots p.branches.buckets p.calls.buckets p.tags.buckets p.free.numbers c.remove.new.self.buckets c.remove-2.new.self.buckets c.remove-3.new.self.buckets c.put.new.self.numbers p.serving c.args.id c.count_of.result
-          c.index-prints.result.now.branch c.index-prints.result.now.call c.index-prints.result.now.tag c.index.result.now c.free.result c.self.invariant.0 some c.free.ensures was
-          (ap (λ q. q.branch) print) (ap (λ q. q.call) print) (ap (λ q. q.tag) print) c.remove.ensures.numbers c.remove-2.ensures.numbers c.remove-3.ensures.numbers c.put.ensures.numbers,
-      room_ended p.slots.len p.slots.cap p.room c.args.id p.branches p.calls p.tags c.remove.new.self c.remove-2.new.self c.remove-3.new.self p.free c.put.new.self
-          c.self.invariant.1 c.put.ensures.numbers c.remove.ensures.room c.remove-2.ensures.room c.remove-3.ensures.room c.put.ensures.room,
+      ended_all p.key slots p.branches.buckets p.calls.buckets p.tags.buckets p.sources.buckets p.free.numbers c.remove.new.self.buckets c.remove-2.new.self.buckets c.remove-3.new.self.buckets c.remove-4.new.self.buckets c.put.new.self.numbers p.serving c.args.id c.count_of.result
+          c.index-prints.result.now.branch c.index-prints.result.now.call c.index-prints.result.now.tag c.index-prints.result.now.source c.index.result.now c.free.result c.self.invariant.0 some c.free.ensures was
+          (ap (λ q. q.branch) print) (ap (λ q. q.call) print) (ap (λ q. q.tag) print) (ap (λ q. q.source) print) c.remove.ensures.numbers c.remove-2.ensures.numbers c.remove-3.ensures.numbers c.remove-4.ensures.numbers c.put.ensures.numbers,
+      room_ended p.slots.len p.slots.cap p.room c.args.id p.branches p.calls p.tags p.sources c.remove.new.self c.remove-2.new.self c.remove-3.new.self c.remove-4.new.self p.free c.put.new.self
+          c.self.invariant.1 c.put.ensures.numbers c.remove.ensures.room c.remove-2.ensures.room c.remove-3.ensures.room c.remove-4.ensures.room c.put.ensures.room,
       ended_noted p.key slots p.prints.items p.prints.len p.prints.cap p.room c.args.id c.free.result c.none.result c.self.invariant.2 (c.none.ensures p.key ∙ ap (prints_at p.key) (sym c.free.ensures)),
     )
