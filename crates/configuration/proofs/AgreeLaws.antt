@@ -17,12 +17,12 @@ use Rattle.configuration.specs.declared.key.Key.{Key}
 use Rattle.configuration.specs.declared.key.Key.TheVariants as keys
 use Rattle.configuration.specs.declared.flaw.Flaw.{Flaw}
 use Rattle.configuration.specs.declared.flaw.Flaw.TheVariants.{OtherType, OutOfRange, Odd, PastLastPort, RelayPort, Malformed, RandomKey, UserCount, UserTwice}
-use Rattle.configuration.specs.Rules.{has_room_for_ports, is_relay_port, is_server_address, has_relay_ports, has_address, is_user_list, has_users, has_lifetime, has_longest_lifetime, has_domain, has_silence_limit, has_length_limit, first_broken}
-use Rattle.configuration.specs.Files.{is_known_key, has_known_keys, few, few_of, natural, answer_within_at, workers_at, number_at, numbers_at, text_at, octets_of, ip_at, key_of, key_at, domain_of, domain_at, texts_of, users_at, level_named, log_of, log_at, config_from, config_of, duration_if_there, max_expires_at, silent_minutes_at, longest_call_hours_at, oldest_leaves_at, duration_of}
+use Rattle.configuration.specs.Rules.{has_room_for_ports, is_relay_port, is_server_address, has_relay_ports, has_address, is_user_list, has_users, has_lifetime, has_longest_lifetime, has_domain, has_silence_limit, has_length_limit, has_share, first_broken}
+use Rattle.configuration.specs.Files.{is_known_key, has_known_keys, few, few_of, natural, answer_within_at, workers_at, number_at, numbers_at, text_at, octets_of, ip_at, key_of, key_at, domain_of, domain_at, texts_of, users_at, level_named, log_of, log_at, config_from, config_of, number_if_there, max_expires_at, silent_minutes_at, longest_call_hours_at, source_share_at, oldest_leaves_at, number_of}
 use Rattle.configuration.specs.Flags.{flag_of}
 use Rattle.configuration.specs.Ranges.{expanded}
 use Rattle.configuration.specs.Status.{page_at, status_of, status_at}
-use Rattle.configuration.specs.Flaws.{key_rule, rule_of, unknown_key, unknown_flaw, unless, has_type_of, required_flaw, optional_flaw, count_flaw, few_flaw, digits_flaw, random_key_flaw, are_texts, list_flaw, users_type_flaw, word_flaw, log_flaw, page_text_flaw, page_flaw, status_flaw, said_flaw, said_number, relay_flaw, address_flaw, malformed_user, user_twice, users_flaw, lifetime_flaw, domain_flaw, duration_flaw, rules_flaw, flaw_behind, flaw_in}
+use Rattle.configuration.specs.Flaws.{key_rule, rule_of, unknown_key, unknown_flaw, unless, has_type_of, required_flaw, optional_flaw, count_flaw, few_flaw, digits_flaw, random_key_flaw, are_texts, list_flaw, users_type_flaw, word_flaw, log_flaw, page_text_flaw, page_flaw, status_flaw, said_flaw, said_number, relay_flaw, address_flaw, malformed_user, user_twice, users_flaw, lifetime_flaw, domain_flaw, duration_flaw, share_flaw, rules_flaw, flaw_behind, flaw_in}
 
 -- ---- what is read
 
@@ -109,10 +109,10 @@ users_type (Some value) = list (as_array value) where
   list None = refl
   list (Some items) = texts items
 
-duration : (key : Key) → ((value : Data) → has_type_of key value ≡ is_some (as_integer value)) → (o : Option Data) → Judges (optional_flaw key o) (duration_if_there o)
-duration key same None = tt
-duration key same (Some value) =
-    judges_map (optional_flaw key (Some value)) (as_integer value) (λ z. Some (duration_of z)) (judges_type key (as_integer value) (has_type_of key value) (same value))
+optional_number : (key : Key) → ((value : Data) → has_type_of key value ≡ is_some (as_integer value)) → (o : Option Data) → Judges (optional_flaw key o) (number_if_there o)
+optional_number key same None = tt
+optional_number key same (Some value) =
+    judges_map (optional_flaw key (Some value)) (as_integer value) (λ z. Some (number_of z)) (judges_type key (as_integer value) (has_type_of key value) (same value))
 
 leaves_type : (o : Option Data) → Judges (optional_flaw keys.OldestLeaves o) (flag_of o)
 leaves_type None = tt
@@ -140,17 +140,19 @@ status (Some value) p = step (as_bool value) where
   step None = refl
   step (Some is_open) = page is_open p
 
-regrouped : (a b c d e f g h i rest : Option Flaw) → option_or (option_or a (option_or b (option_or c (option_or d (option_or e (option_or f (option_or g (option_or h i)))))))) rest
-    ≡ option_or a (option_or b (option_or c (option_or d (option_or e (option_or f (option_or g (option_or h (option_or i rest))))))))
-regrouped (Some x) b c d e f g h i rest = refl
-regrouped None (Some x) c d e f g h i rest = refl
-regrouped None None (Some x) d e f g h i rest = refl
-regrouped None None None (Some x) e f g h i rest = refl
-regrouped None None None None (Some x) f g h i rest = refl
-regrouped None None None None None (Some x) g h i rest = refl
-regrouped None None None None None None (Some x) h i rest = refl
-regrouped None None None None None None None (Some x) i rest = refl
-regrouped None None None None None None None None i rest = refl
+regrouped : (a b c d e f g h i j rest : Option Flaw) → option_or (option_or a (option_or b (option_or c (option_or d (option_or e (option_or f (option_or g (option_or h (option_or i j))))))))) rest
+    ≡ option_or a (option_or b (option_or c (option_or d (option_or e (option_or f (option_or g (option_or h (option_or i (option_or j rest)))))))))
+regrouped (Some x) b c d e f g h i j rest = refl
+regrouped None (Some x) c d e f g h i j rest = refl
+regrouped None None (Some x) d e f g h i j rest = refl
+regrouped None None None (Some x) e f g h i j rest = refl
+regrouped None None None None (Some x) f g h i j rest = refl
+regrouped None None None None None (Some x) g h i j rest = refl
+regrouped None None None None None None (Some x) h i j rest = refl
+regrouped None None None None None None None (Some x) i j rest = refl
+regrouped None None None None None None None None (Some x) j rest = refl
+regrouped None None None None None None None None None (Some x) rest = refl
+regrouped None None None None None None None None None None rest = refl
 
 abbrev at : (Option Data → Option Flaw) → List ℕ → Members → Option Flaw
 at flaw key ms = flaw (get_member key ms)
@@ -160,8 +162,8 @@ numbers_flaw ms =
     option_or (at (required_flaw keys.RelayFirst) (codes "relay_first") ms) (option_or (at (required_flaw keys.RelayPairs) (codes "relay_pairs") ms)
     (option_or (at (required_flaw keys.SipPort) (codes "sip_port") ms) (option_or (at (required_flaw keys.MinExpires) (codes "min_expires") ms)
     (option_or (at (optional_flaw keys.MaxExpires) (codes "max_expires") ms) (option_or (at (optional_flaw keys.SilentMinutes) (codes "silent_minutes") ms)
-    (option_or (at (optional_flaw keys.LongestCallHours) (codes "longest_call_hours") ms)
-    (option_or (at (few_flaw keys.Workers max_workers) (codes "workers") ms) (at (few_flaw keys.AnswerWithin max_answer_within) (codes "answer_within") ms))))))))
+    (option_or (at (optional_flaw keys.LongestCallHours) (codes "longest_call_hours") ms) (option_or (at (optional_flaw keys.SourceShare) (codes "source_share") ms)
+    (option_or (at (few_flaw keys.Workers max_workers) (codes "workers") ms) (at (few_flaw keys.AnswerWithin max_answer_within) (codes "answer_within") ms)))))))))
 
 abbrev texts_flaw : Members → Option Flaw
 texts_flaw ms =
@@ -176,11 +178,12 @@ numbers ms =
     judges_then _ _ (number_at (codes "relay_pairs") ms) _ (required keys.RelayPairs as_integer (λ value. refl) (get_member (codes "relay_pairs") ms)) (λ pairs.
     judges_then _ _ (number_at (codes "sip_port") ms) _ (required keys.SipPort as_integer (λ value. refl) (get_member (codes "sip_port") ms)) (λ port.
     judges_then _ _ (number_at (codes "min_expires") ms) _ (required keys.MinExpires as_integer (λ value. refl) (get_member (codes "min_expires") ms)) (λ expires.
-    judges_then _ _ (max_expires_at ms) _ (duration keys.MaxExpires (λ value. refl) (get_member (codes "max_expires") ms)) (λ most.
-    judges_then _ _ (silent_minutes_at ms) _ (duration keys.SilentMinutes (λ value. refl) (get_member (codes "silent_minutes") ms)) (λ minutes.
-    judges_then _ _ (longest_call_hours_at ms) _ (duration keys.LongestCallHours (λ value. refl) (get_member (codes "longest_call_hours") ms)) (λ hours.
+    judges_then _ _ (max_expires_at ms) _ (optional_number keys.MaxExpires (λ value. refl) (get_member (codes "max_expires") ms)) (λ most.
+    judges_then _ _ (silent_minutes_at ms) _ (optional_number keys.SilentMinutes (λ value. refl) (get_member (codes "silent_minutes") ms)) (λ minutes.
+    judges_then _ _ (longest_call_hours_at ms) _ (optional_number keys.LongestCallHours (λ value. refl) (get_member (codes "longest_call_hours") ms)) (λ hours.
+    judges_then _ _ (source_share_at ms) _ (optional_number keys.SourceShare (λ value. refl) (get_member (codes "source_share") ms)) (λ share.
     judges_then _ _ (workers_at ms) _ (number keys.Workers max_workers usual_workers (get_member (codes "workers") ms) refl) (λ workers.
-    judges_last _ (answer_within_at ms) _ (number keys.AnswerWithin max_answer_within max_answer_within (get_member (codes "answer_within") ms) refl)))))))))
+    judges_last _ (answer_within_at ms) _ (number keys.AnswerWithin max_answer_within max_answer_within (get_member (codes "answer_within") ms) refl))))))))))
 
 -- the configuration with these numbers
 abbrev with_numbers : Members → Numbers → Option Config
@@ -213,7 +216,7 @@ said ms =
     let same = regrouped (at (required_flaw keys.RelayFirst) (codes "relay_first") ms) (at (required_flaw keys.RelayPairs) (codes "relay_pairs") ms)
     (at (required_flaw keys.SipPort) (codes "sip_port") ms) (at (required_flaw keys.MinExpires) (codes "min_expires") ms) (at (optional_flaw keys.MaxExpires) (codes "max_expires") ms)
     (at (optional_flaw keys.SilentMinutes) (codes "silent_minutes") ms) (at (optional_flaw keys.LongestCallHours) (codes "longest_call_hours") ms)
-    (at (few_flaw keys.Workers max_workers) (codes "workers") ms) (at (few_flaw keys.AnswerWithin max_answer_within) (codes "answer_within") ms) (texts_flaw ms) in
+    (at (optional_flaw keys.SourceShare) (codes "source_share") ms) (at (few_flaw keys.Workers max_workers) (codes "workers") ms) (at (few_flaw keys.AnswerWithin max_answer_within) (codes "answer_within") ms) (texts_flaw ms) in
     let known = subst (λ (f : Option Flaw). Judges f (option_and_then (with_numbers ms) (numbers_at ms))) same (table ms) in
     unknown ms _ (option_and_then (with_numbers ms) (numbers_at ms)) known
 
@@ -309,6 +312,13 @@ duration_rule ms c = parts (has_silence_limit c) (has_length_limit c) where
   parts true false = refl
   parts false b = refl
 
+share_rule : (ms : Members) (c : Config) → option_map rule_of (share_flaw ms c) ≡ broken_unless (has_share c) rules.SourceShare
+unfolding share_flaw
+share_rule ms c = parts (has_share c) where
+  parts : (a : Bool) → option_map rule_of (cond a None (Some (OutOfRange keys.SourceShare (said_number ms keys.SourceShare)))) ≡ broken_unless a rules.SourceShare
+  parts true = refl
+  parts false = refl
+
 pub rules_agree : (ms : Members) (c : Config) → option_map rule_of (rules_flaw ms c) ≡ first_broken c
 unfolding rules_flaw first_broken
 rules_agree ms c =
@@ -316,19 +326,21 @@ rules_agree ms c =
     (map_or (address_flaw ms c) _ ∙ ap₂ option_or (address ms c)
     (map_or (users_flaw c) _ ∙ ap₂ option_or (users c)
     (map_or (lifetime_flaw ms c) _ ∙ ap₂ option_or (lifetime ms c)
-    (map_or (domain_flaw c) (duration_flaw ms c) ∙ ap₂ option_or (domain c) (duration_rule ms c)))))
-    ∙ first (has_relay_ports c) (has_address c) (has_users c) (has_lifetime c && has_longest_lifetime c) (has_domain c) (has_silence_limit c && has_length_limit c) where
-      first : (a b d e f g : Bool)
+    (map_or (domain_flaw c) _ ∙ ap₂ option_or (domain c)
+    (map_or (duration_flaw ms c) (share_flaw ms c) ∙ ap₂ option_or (duration_rule ms c) (share_rule ms c))))))
+    ∙ first (has_relay_ports c) (has_address c) (has_users c) (has_lifetime c && has_longest_lifetime c) (has_domain c) (has_silence_limit c && has_length_limit c) (has_share c) where
+      first : (a b d e f g h : Bool)
           → option_or (broken_unless a rules.RelayPorts) (option_or (broken_unless b rules.Address) (option_or (broken_unless d rules.Users) (option_or (broken_unless e rules.MinExpires)
-          (option_or (broken_unless f rules.Domain) (broken_unless g rules.CallDuration)))))
-          ≡ cond a (cond b (cond d (cond e (cond f (cond g None (Some rules.CallDuration)) (Some rules.Domain)) (Some rules.MinExpires)) (Some rules.Users)) (Some rules.Address)) (Some rules.RelayPorts)
-      first true true true true true true = refl
-      first true true true true true false = refl
-      first true true true true false g = refl
-      first true true true false f g = refl
-      first true true false e f g = refl
-      first true false d e f g = refl
-      first false b d e f g = refl
+          (option_or (broken_unless f rules.Domain) (option_or (broken_unless g rules.CallDuration) (broken_unless h rules.SourceShare))))))
+          ≡ cond a (cond b (cond d (cond e (cond f (cond g (cond h None (Some rules.SourceShare)) (Some rules.CallDuration)) (Some rules.Domain)) (Some rules.MinExpires)) (Some rules.Users)) (Some rules.Address)) (Some rules.RelayPorts)
+      first true true true true true true true = refl
+      first true true true true true true false = refl
+      first true true true true true false h = refl
+      first true true true true false g h = refl
+      first true true true false f g h = refl
+      first true true false e f g h = refl
+      first true false d e f g h = refl
+      first false b d e f g h = refl
 
 -- ---- both
 

@@ -2,27 +2,28 @@
 use Rattle.std.proofs.Common.{◌≡◌, ◌&&◌, ℕ, Bool, true, false, cond, List, Some, None, Result, Ok, Err, IfOk, IfErr, MatchResult, refl, sym, ap, ◌∙◌}
 use Rattle.configuration.specs.declared.config.Config.{Config}
 use Rattle.configuration.specs.declared.error.ConfigError.{ConfigError}
-use Rattle.configuration.specs.declared.error.ConfigError.TheVariants.{OutOfMemory, RelayPorts, Address, Users, MinExpires, Domain, File, CallDuration}
-use Rattle.configuration.specs.Rules.{has_relay_ports, has_address, has_users, has_lifetime, has_longest_lifetime, has_domain, has_silence_limit, has_length_limit, first_broken, KeepsRules}
+use Rattle.configuration.specs.declared.error.ConfigError.TheVariants.{OutOfMemory, RelayPorts, Address, Users, MinExpires, Domain, File, CallDuration, SourceShare}
+use Rattle.configuration.specs.Rules.{has_relay_ports, has_address, has_users, has_lifetime, has_longest_lifetime, has_domain, has_silence_limit, has_length_limit, has_share, first_broken, KeepsRules}
 use Rattle.configuration.specs.Files.{config_of}
 use Rattle.configuration.proofs.RuleLaws.{kept}
 use Rattle.configuration.specs.Reading.{Says, ReadsConfig, BreaksFirst, Refuses}
 
 -- a file is refused before any rule is looked at
-never_file : (a b c d e f : Bool)
-    → cond a (cond b (cond c (cond d (cond e (cond f None (Some CallDuration)) (Some Domain)) (Some MinExpires)) (Some Users)) (Some Address)) (Some RelayPorts) ≡ Some File
+never_file : (a b c d e f g : Bool)
+    → cond a (cond b (cond c (cond d (cond e (cond f (cond g None (Some SourceShare)) (Some CallDuration)) (Some Domain)) (Some MinExpires)) (Some Users)) (Some Address)) (Some RelayPorts) ≡ Some File
     → ⊥
-never_file true true true true true true h = cc
-never_file true true true true true false h = cc
-never_file true true true true false f h = cc
-never_file true true true false e f h = cc
-never_file true true false d e f h = cc
-never_file true false c d e f h = cc
-never_file false b c d e f h = cc
+never_file true true true true true true true h = cc
+never_file true true true true true true false h = cc
+never_file true true true true true false g h = cc
+never_file true true true true false f g h = cc
+never_file true true true false e f g h = cc
+never_file true true false d e f g h = cc
+never_file true false c d e f g h = cc
+never_file false b c d e f g h = cc
 
 no_rule_of_files : (c : Config) → first_broken c ≡ Some File → ⊥
 unfolding first_broken
-no_rule_of_files c h = never_file (has_relay_ports c) (has_address c) (has_users c) (has_lifetime c && has_longest_lifetime c) (has_domain c) (has_silence_limit c && has_length_limit c) h
+no_rule_of_files c h = never_file (has_relay_ports c) (has_address c) (has_users c) (has_lifetime c && has_longest_lifetime c) (has_domain c) (has_silence_limit c && has_length_limit c) (has_share c) h
 
 -- the bytes say one configuration at most
 pub one_said : (bytes : List ℕ) (c d : Config) → Says bytes c → Says bytes d → c ≡ d
@@ -42,6 +43,7 @@ refused_by_rule bytes c MinExpires says broken = record { config = c; says = say
 refused_by_rule bytes c Domain says broken = record { config = c; says = says; broken = broken }
 refused_by_rule bytes c File says broken = absurd (no_rule_of_files c broken)
 refused_by_rule bytes c CallDuration says broken = record { config = c; says = says; broken = broken }
+refused_by_rule bytes c SourceShare says broken = record { config = c; says = says; broken = broken }
 
 -- what a judgment of what is said refuses
 pub refused_at : (bytes : List ℕ) (c : Config) (r : Result Config ConfigError) → Says bytes c
@@ -71,3 +73,4 @@ only_at bytes (Err MinExpires) found refused c reads = absurd (breaks_none bytes
 only_at bytes (Err Domain) found refused c reads = absurd (breaks_none bytes c Domain refused reads)
 only_at bytes (Err File) found refused c reads = absurd (refused c reads.says)
 only_at bytes (Err CallDuration) found refused c reads = absurd (breaks_none bytes c CallDuration refused reads)
+only_at bytes (Err SourceShare) found refused c reads = absurd (breaks_none bytes c SourceShare refused reads)

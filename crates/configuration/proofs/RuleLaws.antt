@@ -3,20 +3,21 @@ use Rattle.std.proofs.Common.{◌≡◌, ◌≢◌, ◌≤◌, ℕ, Bool, true, 
 use Rattle.std.proofs.lemmas.Bool.{leb-true, eqb-true, eqb-false}
 use Rattle.configuration.specs.declared.config.Config.{Config}
 use Rattle.configuration.specs.declared.error.ConfigError.{ConfigError}
-use Rattle.configuration.specs.Limits.{max_silent_minutes, max_longest_call_hours}
-use Rattle.configuration.specs.Rules.{is_server_address, has_relay_ports, has_address, is_user_list, has_users, has_lifetime, has_longest_lifetime, reaches, has_domain, is_upto, has_silence_limit, has_length_limit, first_broken, KeepsRules}
+use Rattle.configuration.specs.Limits.{max_silent_minutes, max_longest_call_hours, max_source_share}
+use Rattle.configuration.specs.Rules.{is_server_address, has_relay_ports, has_address, is_user_list, has_users, has_lifetime, has_longest_lifetime, reaches, has_domain, is_upto, has_silence_limit, has_length_limit, has_share, first_broken, KeepsRules}
 
 -- no rule is broken where each is kept alone
-pub all_kept : (a b c d e f : Bool) (u v w x y z : ConfigError)
-    → cond a (cond b (cond c (cond d (cond e (cond f None (Some z)) (Some y)) (Some x)) (Some w)) (Some v)) (Some u) ≡ None
-    → (a ≡ true) × (b ≡ true) × (c ≡ true) × (d ≡ true) × (e ≡ true) × (f ≡ true)
-all_kept true true true true true true u v w x y z h = (refl, refl, refl, refl, refl, refl)
-all_kept true true true true true false u v w x y z h = absurd cc
-all_kept true true true true false f u v w x y z h = absurd cc
-all_kept true true true false e f u v w x y z h = absurd cc
-all_kept true true false d e f u v w x y z h = absurd cc
-all_kept true false c d e f u v w x y z h = absurd cc
-all_kept false b c d e f u v w x y z h = absurd cc
+pub all_kept : (a b c d e f g : Bool) (t u v w x y z : ConfigError)
+    → cond a (cond b (cond c (cond d (cond e (cond f (cond g None (Some z)) (Some y)) (Some x)) (Some w)) (Some v)) (Some u)) (Some t) ≡ None
+    → (a ≡ true) × (b ≡ true) × (c ≡ true) × (d ≡ true) × (e ≡ true) × (f ≡ true) × (g ≡ true)
+all_kept true true true true true true true t u v w x y z h = (refl, refl, refl, refl, refl, refl, refl)
+all_kept true true true true true true false t u v w x y z h = absurd cc
+all_kept true true true true true false g t u v w x y z h = absurd cc
+all_kept true true true true false f g t u v w x y z h = absurd cc
+all_kept true true true false e f g t u v w x y z h = absurd cc
+all_kept true true false d e f g t u v w x y z h = absurd cc
+all_kept true false c d e f g t u v w x y z h = absurd cc
+all_kept false b c d e f g t u v w x y z h = absurd cc
 
 two : (a b : Bool) → (a && b) ≡ true → (a ≡ true) × (b ≡ true)
 two true true h = (refl, refl)
@@ -58,9 +59,9 @@ upto most None h = tt
 upto most (Some n) h = let both = two _ _ h in (leb-true 1 n both.0, leb-true n most both.1)
 
 pub kept : (c : Config) → first_broken c ≡ None → KeepsRules c
-unfolding first_broken has_relay_ports has_address has_users is_user_list has_lifetime has_longest_lifetime has_domain has_silence_limit has_length_limit
+unfolding first_broken has_relay_ports has_address has_users is_user_list has_lifetime has_longest_lifetime has_domain has_silence_limit has_length_limit has_share
 kept c h =
-    let rules = all_kept (has_relay_ports c) (has_address c) (has_users c) (has_lifetime c && has_longest_lifetime c) (has_domain c) (has_silence_limit c && has_length_limit c) _ _ _ _ _ _ h in
+    let rules = all_kept (has_relay_ports c) (has_address c) (has_users c) (has_lifetime c && has_longest_lifetime c) (has_domain c) (has_silence_limit c && has_length_limit c) (has_share c) _ _ _ _ _ _ _ h in
     let ports = six _ _ _ _ _ _ rules.0 in
     let place = two _ _ rules.1 in
     let users = four _ _ _ _ rules.2 in
@@ -88,4 +89,5 @@ kept c h =
       domain = rules.4;
       silent_minutes = upto max_silent_minutes c.silent_minutes durations.0;
       longest_call_hours = upto max_longest_call_hours c.longest_call_hours durations.1;
+      source_share = upto max_source_share c.source_share rules.6;
     }

@@ -1,7 +1,7 @@
 -- What a list of users has, and that a configuration that keeps the rules has one.
-use Rattle.std.proofs.Common.{◌≡◌, ◌&&◌, None}
+use Rattle.std.proofs.Common.{◌&&◌}
 use Rattle.std.proofs.lemmas.Bool.{leb-true}
-use Rattle.configuration.specs.Rules.{has_relay_ports, has_address, has_users, has_lifetime, has_longest_lifetime, has_domain, has_silence_limit, has_length_limit, first_broken, is_user_list}
+use Rattle.configuration.specs.Rules.{has_relay_ports, has_address, has_users, has_lifetime, has_longest_lifetime, has_domain, has_silence_limit, has_length_limit, has_share, first_broken, is_user_list}
 use Rattle.configuration.specs.UserLists.{KeptUsersAreAList, UserListHolds}
 use Rattle.configuration.proofs.RuleLaws.{all_kept, four}
 
@@ -14,4 +14,4 @@ holds users h =
 pub kept_users : KeptUsersAreAList
 unfolding first_broken has_users
 kept_users c h =
-    (all_kept (has_relay_ports c) (has_address c) (has_users c) (has_lifetime c && has_longest_lifetime c) (has_domain c) (has_silence_limit c && has_length_limit c) _ _ _ _ _ _ h).2
+    (all_kept (has_relay_ports c) (has_address c) (has_users c) (has_lifetime c && has_longest_lifetime c) (has_domain c) (has_silence_limit c && has_length_limit c) (has_share c) _ _ _ _ _ _ _ h).2

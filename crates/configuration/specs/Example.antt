@@ -17,6 +17,7 @@ example = record {
   oldest_leaves = false;
   silent_minutes = None;
   longest_call_hours = None;
+  source_share = None;
   domain = Some (codes "office.example");
   workers = 2;
   answer_within = 32;

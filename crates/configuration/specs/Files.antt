@@ -31,7 +31,7 @@ abbrev pub is_optional_key : List ℕ → Bool
 is_optional_key key =
     is_same key (codes "domain") || is_same key (codes "workers") || is_same key (codes "log") || is_same key (codes "answer_within")
     || is_same key (codes "status") || is_same key (codes "status_open") || is_same key (codes "max_expires") || is_same key (codes "oldest_leaves")
-    || is_same key (codes "silent_minutes") || is_same key (codes "longest_call_hours")
+    || is_same key (codes "silent_minutes") || is_same key (codes "longest_call_hours") || is_same key (codes "source_share")
 
 abbrev pub is_known_key : List ℕ → Bool
 is_known_key key = is_required_key key || is_optional_key key
@@ -58,9 +58,9 @@ fitting most z = unwrap_or (natural most z) 0
 abbrev pub port_of : ℤ → ℕ
 port_of z = fitting 65535 z
 
--- seconds, minutes or hours
-abbrev pub duration_of : ℤ → ℕ
-duration_of z = fitting 4294967295 z
+-- seconds, minutes, hours or transactions
+abbrev pub number_of : ℤ → ℕ
+number_of z = fitting 4294967295 z
 
 abbrev pub few : ℕ → ℕ → Option ℕ
 few most n = if nat_le 1 n && nat_le n most then Some n else None
@@ -82,25 +82,29 @@ workers_at ms = few_of max_workers usual_workers (get_member (codes "workers") m
 abbrev pub answer_within_at : Members → Option ℕ
 answer_within_at ms = few_of max_answer_within max_answer_within (get_member (codes "answer_within") ms)
 
--- seconds, minutes or hours, which may be missing
-abbrev pub duration_if_there : Option Data → Option (Option ℕ)
-duration_if_there None = Some None
-duration_if_there (Some value) = option_map (λ z. Some (duration_of z)) (as_integer value)
+-- such a number, which may be missing
+abbrev pub number_if_there : Option Data → Option (Option ℕ)
+number_if_there None = Some None
+number_if_there (Some value) = option_map (λ z. Some (number_of z)) (as_integer value)
 
 -- the seconds that a binding lasts at most
 abbrev pub max_expires_at : Members → Option (Option ℕ)
-max_expires_at ms = duration_if_there (get_member (codes "max_expires") ms)
+max_expires_at ms = number_if_there (get_member (codes "max_expires") ms)
 
 -- the minutes after which a call without media is ended
 abbrev pub silent_minutes_at : Members → Option (Option ℕ)
-silent_minutes_at ms = duration_if_there (get_member (codes "silent_minutes") ms)
+silent_minutes_at ms = number_if_there (get_member (codes "silent_minutes") ms)
 
 -- the hours after which a call is ended
 abbrev pub longest_call_hours_at : Members → Option (Option ℕ)
-longest_call_hours_at ms = duration_if_there (get_member (codes "longest_call_hours") ms)
+longest_call_hours_at ms = number_if_there (get_member (codes "longest_call_hours") ms)
 
--- the numbers, each key of which has to be there but those of the greatest lifetime, of a call's limits, of the workers
--- and of the first response
+-- the transactions that stand at most for one source address
+abbrev pub source_share_at : Members → Option (Option ℕ)
+source_share_at ms = number_if_there (get_member (codes "source_share") ms)
+
+-- the numbers, each key of which has to be there but those of the greatest lifetime, of a call's limits, of a source
+-- address's share, of the workers and of the first response
 unfoldable pub numbers_at : Members → Option Numbers
 numbers_at ms =
     option_and_then (λ first.
@@ -110,19 +114,21 @@ numbers_at ms =
     option_and_then (λ most.
     option_and_then (λ minutes.
     option_and_then (λ hours.
+    option_and_then (λ share.
     option_and_then (λ workers.
     option_and_then (λ within. Some (record {
       relay_first = port_of first;
       relay_pairs = port_of pairs;
       sip_port = port_of port;
-      min_expires = duration_of expires;
+      min_expires = number_of expires;
       max_expires = most;
       silent_minutes = minutes;
       longest_call_hours = hours;
+      source_share = share;
       workers = workers;
       answer_within = within;
     }))
-    (answer_within_at ms)) (workers_at ms)) (longest_call_hours_at ms)) (silent_minutes_at ms)) (max_expires_at ms)) (number_at (codes "min_expires") ms)) (number_at (codes "sip_port") ms)) (number_at (codes "relay_pairs") ms))
+    (answer_within_at ms)) (workers_at ms)) (source_share_at ms)) (longest_call_hours_at ms)) (silent_minutes_at ms)) (max_expires_at ms)) (number_at (codes "min_expires") ms)) (number_at (codes "sip_port") ms)) (number_at (codes "relay_pairs") ms))
     (number_at (codes "relay_first") ms)
 
 -- ---- texts
@@ -204,6 +210,7 @@ config_from numbers oldest_leaves ip key domain users log status = record {
   oldest_leaves = oldest_leaves;
   silent_minutes = numbers.silent_minutes;
   longest_call_hours = numbers.longest_call_hours;
+  source_share = numbers.source_share;
   domain = domain;
   workers = numbers.workers;
   random_key = key;

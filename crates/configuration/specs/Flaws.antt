@@ -8,7 +8,7 @@ use Rattle.toml.specs.Data.{Data, Items, no_items, item, Members, no_members, me
 use Rattle.registrar.specs.Limits.{max_users}
 use Rattle.configuration.specs.Limits.{min_relay_port, max_answer_within, max_relay_pairs, max_workers}
 use Rattle.configuration.specs.Names.{is_user}
-use Rattle.configuration.specs.Rules.{has_room_for_ports, is_relay_port, is_server_address, has_lifetime, has_longest_lifetime, has_domain, has_silence_limit, has_length_limit}
+use Rattle.configuration.specs.Rules.{has_room_for_ports, is_relay_port, is_server_address, has_lifetime, has_longest_lifetime, has_domain, has_silence_limit, has_length_limit, has_share}
 use Rattle.configuration.specs.Files.{is_known_key, few, natural, number_at, text_at, key_of, level_named, config_of}
 use Rattle.configuration.specs.Flags.{flag_of}
 use Rattle.configuration.specs.Status.{page_at}
@@ -40,6 +40,7 @@ key_name keys.MaxExpires = codes "max_expires"
 key_name keys.OldestLeaves = codes "oldest_leaves"
 key_name keys.SilentMinutes = codes "silent_minutes"
 key_name keys.LongestCallHours = codes "longest_call_hours"
+key_name keys.SourceShare = codes "source_share"
 
 -- the rule of a key's value
 abbrev pub key_rule : Key → ConfigError
@@ -60,6 +61,7 @@ key_rule keys.MaxExpires = rules.MinExpires
 key_rule keys.OldestLeaves = rules.File
 key_rule keys.SilentMinutes = rules.CallDuration
 key_rule keys.LongestCallHours = rules.CallDuration
+key_rule keys.SourceShare = rules.SourceShare
 
 -- the rule that a flaw breaks
 abbrev pub rule_of : Flaw → ConfigError
@@ -110,6 +112,7 @@ has_type_of keys.MaxExpires value = is_some (as_integer value)
 has_type_of keys.OldestLeaves value = is_some (as_bool value)
 has_type_of keys.SilentMinutes value = is_some (as_integer value)
 has_type_of keys.LongestCallHours value = is_some (as_integer value)
+has_type_of keys.SourceShare value = is_some (as_integer value)
 
 abbrev pub type_flaw : Key → Data → Option Flaw
 type_flaw key value = if has_type_of key value then None else Some (OtherType key)
@@ -187,6 +190,7 @@ said_flaw ms =
     (option_or (optional_flaw keys.MaxExpires (get_member (codes "max_expires") ms))
     (option_or (optional_flaw keys.SilentMinutes (get_member (codes "silent_minutes") ms))
     (option_or (optional_flaw keys.LongestCallHours (get_member (codes "longest_call_hours") ms))
+    (option_or (optional_flaw keys.SourceShare (get_member (codes "source_share") ms))
     (option_or (few_flaw keys.Workers max_workers (get_member (codes "workers") ms))
     (option_or (few_flaw keys.AnswerWithin max_answer_within (get_member (codes "answer_within") ms))
     (option_or (optional_flaw keys.OldestLeaves (get_member (codes "oldest_leaves") ms))
@@ -195,7 +199,7 @@ said_flaw ms =
     (option_or (optional_flaw keys.Domain (get_member (codes "domain") ms))
     (option_or (users_type_flaw (get_member (codes "users") ms))
     (option_or (log_flaw (get_member (codes "log") ms))
-    (status_flaw (get_member (codes "status_open") ms) (get_member (codes "status") ms)))))))))))))))))
+    (status_flaw (get_member (codes "status_open") ms) (get_member (codes "status") ms))))))))))))))))))
 
 -- ---- the rules
 
@@ -252,11 +256,14 @@ duration_flaw ms c =
     then (if has_length_limit c then None else Some (OutOfRange keys.LongestCallHours (said_number ms keys.LongestCallHours)))
     else Some (OutOfRange keys.SilentMinutes (said_number ms keys.SilentMinutes))
 
+unfoldable pub share_flaw : Members → Config → Option Flaw
+share_flaw ms c = if has_share c then None else Some (OutOfRange keys.SourceShare (said_number ms keys.SourceShare))
+
 -- the first flaw for which a configuration that a table says breaks a rule
 unfoldable pub rules_flaw : Members → Config → Option Flaw
 rules_flaw ms c =
     option_or (relay_flaw ms c) (option_or (address_flaw ms c) (option_or (users_flaw c) (option_or (lifetime_flaw ms c)
-    (option_or (domain_flaw c) (duration_flaw ms c)))))
+    (option_or (domain_flaw c) (option_or (duration_flaw ms c) (share_flaw ms c))))))
 
 -- ---- both
 

@@ -34,6 +34,10 @@ max_silent_minutes = 1440
 abbrev pub max_longest_call_hours : ℕ
 max_longest_call_hours = 168
 
+-- the server transactions that stand for the requests of one source address
+abbrev pub max_source_share : ℕ
+max_source_share = 4096
+
 -- the seconds that a callee's telephone has for its first response, at most and where none are named: 64*T1 (RFC 3261
 -- section 17.1.1.2)
 abbrev pub max_answer_within : ℕ

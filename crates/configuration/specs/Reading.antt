@@ -6,7 +6,7 @@ use Rattle.toml.specs.Errors.{IsMemory}
 use Rattle.toml.specs.declared.de.error.Error.{Error}
 use Rattle.configuration.specs.declared.config.Config.{Config}
 use Rattle.configuration.specs.declared.error.ConfigError.{ConfigError}
-use Rattle.configuration.specs.declared.error.ConfigError.TheVariants.{OutOfMemory, RelayPorts, Address, Users, MinExpires, Domain, File, CallDuration}
+use Rattle.configuration.specs.declared.error.ConfigError.TheVariants.{OutOfMemory, RelayPorts, Address, Users, MinExpires, Domain, File, CallDuration, SourceShare}
 use Rattle.configuration.specs.Rules.{first_broken}
 use Rattle.sip_uri.specs.Hosts.{ip4_of}
 use Rattle.configuration.specs.Files.{number_at, text_at, config_of}
@@ -25,6 +25,7 @@ IsErrorOf error MinExpires = ⊥
 IsErrorOf error Domain = ⊥
 IsErrorOf error File = ¬ (IsMemory error)
 IsErrorOf error CallDuration = ⊥
+IsErrorOf error SourceShare = ⊥
 
 -- why bytes have no table
 abbrev pub RefusesText : List ℕ → ConfigError → Type 0
@@ -36,6 +37,7 @@ RefusesText bytes MinExpires = ⊥
 RefusesText bytes Domain = ⊥
 RefusesText bytes File = (ms : Members) → ¬ (IsTextOf bytes ms)
 RefusesText bytes CallDuration = ⊥
+RefusesText bytes SourceShare = ⊥
 
 -- the bytes say this configuration, whether or not it keeps the rules
 abbrev pub Says : List ℕ → Config → Type 0
@@ -56,6 +58,7 @@ RefusesSaid bytes MinExpires = ⊥
 RefusesSaid bytes Domain = ⊥
 RefusesSaid bytes File = (c : Config) → ¬ (Says bytes c)
 RefusesSaid bytes CallDuration = ⊥
+RefusesSaid bytes SourceShare = ⊥
 
 -- the bytes say a configuration, and this is the first rule that it breaks
 pub record BreaksFirst (bytes : List ℕ) (e : ConfigError) : Type 0 where
@@ -73,6 +76,7 @@ Refuses bytes MinExpires = BreaksFirst bytes MinExpires
 Refuses bytes Domain = BreaksFirst bytes Domain
 Refuses bytes File = (c : Config) → ¬ (Says bytes c)
 Refuses bytes CallDuration = BreaksFirst bytes CallDuration
+Refuses bytes SourceShare = BreaksFirst bytes SourceShare
 
 -- what a table says of a configuration, key by key: the very numbers, and the address of the very text
 pub record IsWritten (ms : Members) (c : Config) : Type 0 where
@@ -83,6 +87,7 @@ pub record IsWritten (ms : Members) (c : Config) : Type 0 where
   pub max_expires : number_at (codes "max_expires") ms ≡ option_map pos c.max_expires
   pub silent_minutes : number_at (codes "silent_minutes") ms ≡ option_map pos c.silent_minutes
   pub longest_call_hours : number_at (codes "longest_call_hours") ms ≡ option_map pos c.longest_call_hours
+  pub source_share : number_at (codes "source_share") ms ≡ option_map pos c.source_share
   pub ip : (text : List ℕ) × (text_at (codes "ip") ms ≡ Some text) × (ip4_of text ≡ Some c.ip)
 
 abbrev pub IsWrittenIn : List ℕ → Config → Type 0
@@ -99,3 +104,4 @@ Gives (Err MinExpires) said = ⊥
 Gives (Err Domain) said = ⊥
 Gives (Err File) said = said ≡ None
 Gives (Err CallDuration) said = ⊥
+Gives (Err SourceShare) said = ⊥

@@ -3,12 +3,12 @@ use Rattle.std.specs.Prelude.{◌≡◌, ◌≢◌, ◌==◌, ◌≤◌, ℕ, �
 use Rattle.std.specs.List.{list_all}
 use Rattle.text.specs.Class.{passes_if_there}
 use Rattle.registrar.specs.Registering.{are_distinct}
-use Rattle.configuration.specs.Limits.{min_relay_port, max_relay_pairs, all_ports, max_silent_minutes, max_longest_call_hours}
+use Rattle.configuration.specs.Limits.{min_relay_port, max_relay_pairs, all_ports, max_silent_minutes, max_longest_call_hours, max_source_share}
 use Rattle.registrar.specs.Limits.{max_users, max_min_expires}
 use Rattle.configuration.specs.Names.{is_user, is_domain}
 use Rattle.configuration.specs.declared.config.Config.{Config}
 use Rattle.configuration.specs.declared.error.ConfigError.{ConfigError}
-use Rattle.configuration.specs.declared.error.ConfigError.TheVariants.{RelayPorts, Address, Users, MinExpires, Domain, CallDuration}
+use Rattle.configuration.specs.declared.error.ConfigError.TheVariants.{RelayPorts, Address, Users, MinExpires, Domain, CallDuration, SourceShare}
 
 -- ---- the relay's ports
 
@@ -77,6 +77,11 @@ has_silence_limit c = is_upto max_silent_minutes c.silent_minutes
 unfoldable pub has_length_limit : Config → Bool
 has_length_limit c = is_upto max_longest_call_hours c.longest_call_hours
 
+-- ---- how many requests of one source address are in work
+
+unfoldable pub has_share : Config → Bool
+has_share c = is_upto max_source_share c.source_share
+
 -- ---- all of them
 
 -- the first rule that is broken, in this order
@@ -87,7 +92,9 @@ first_broken c =
     then (if has_users c
     then (if has_lifetime c && has_longest_lifetime c
     then (if has_domain c
-    then (if has_silence_limit c && has_length_limit c then None else Some CallDuration)
+    then (if has_silence_limit c && has_length_limit c
+    then (if has_share c then None else Some SourceShare)
+    else Some CallDuration)
     else Some Domain)
     else Some MinExpires)
     else Some Users)
@@ -116,3 +123,4 @@ pub record KeepsRules (c : Config) : Type 0 where
   pub domain : IsTrue (passes_if_there is_domain c.domain)
   pub silent_minutes : IfSome c.silent_minutes (λ n. (1 ≤ n) × (n ≤ max_silent_minutes))
   pub longest_call_hours : IfSome c.longest_call_hours (λ n. (1 ≤ n) × (n ≤ max_longest_call_hours))
+  pub source_share : IfSome c.source_share (λ n. (1 ≤ n) × (n ≤ max_source_share))

@@ -29,6 +29,9 @@ pub struct Config {
     pub silent_minutes: Option<u32>,
     /// The hours after its first answer at which a call is ended, if there are any.
     pub longest_call_hours: Option<u32>,
+    /// The server transactions that stand at most for the requests of one source address, 1 to 4,096; none where no
+    /// address has a limit of its own.
+    pub source_share: Option<u32>,
     /// The office's domain. Where none is named, it is the server's address.
     pub domain: Option<Text<'static>>,
     /// How many threads carry media.
@@ -56,6 +59,7 @@ impl Drop for Config {
             oldest_leaves: _,
             silent_minutes: _,
             longest_call_hours: _,
+            source_share: _,
             domain: _,
             workers: _,
             random_key: _,

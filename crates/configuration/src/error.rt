@@ -36,6 +36,9 @@ pub enum ConfigError {
     /// The minutes without media are not 1 to 1440, or the hours of the longest call not 1 to 168.
     #[error("C7: call duration limit")]
     CallDuration,
+    /// The transactions that stand at most for one source address are not 1 to 4096.
+    #[error("C8: share of one source address")]
+    SourceShare,
 }
 
 impl From<AllocError> for ConfigError {

@@ -39,6 +39,7 @@ pub fn example_config(alloc: Global) -> Result<Config, AllocError>
         oldest_leaves: false,
         silent_minutes: None,
         longest_call_hours: None,
+        source_share: None,
         domain: Some(domain),
         workers: 2,
         random_key: [0; 32],

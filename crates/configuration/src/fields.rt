@@ -3,13 +3,13 @@
 ghost use Rattle.std.specs.Prelude.{◌≡◌, option_and_then};
 ghost use Rattle.toml.specs.Data.{as_str, get_member};
 ghost use Rattle.toml.specs.View.{view, array_view, table_view};
-ghost use Rattle.configuration.specs.Files.{few, few_in, few_of, natural, answer_within_at, workers_at, duration_if_there, numbers_at, octets_of, ip_at, key_of, key_at, domain_at, texts_of, users_at, log_in, log_at, config_of};
+ghost use Rattle.configuration.specs.Files.{few, few_in, few_of, natural, answer_within_at, workers_at, number_if_there, numbers_at, octets_of, ip_at, key_of, key_at, domain_at, texts_of, users_at, log_in, log_at, config_of};
 ghost use Rattle.configuration.specs.Reading.{Gives};
 
 use crate::config::Config;
 use crate::error::ConfigError;
 use crate::level::{LogLevel, USUAL_LEVEL, level_named};
-use crate::numbers::{Numbers, below_2_8, duration_of, port_of};
+use crate::numbers::{Numbers, below_2_8, number_of, port_of};
 use crate::ranges::expanded;
 use crate::status::status_at;
 use crate::tables::{array_at, flag_at, has_known_keys, number_at, text_at, value_at};
@@ -73,12 +73,12 @@ fn answer_within_at(table: &Table) -> Option<u8>
     few_at(table, "answer_within", MAX_ANSWER_WITHIN, MAX_ANSWER_WITHIN)
 }
 
-/// Seconds, minutes or hours, where the key is there; none where the value is of another type.
-fn duration_if_there(table: &Table, key: &str) -> Option<Option<u32>>
-    ensures { result ≡ duration_if_there (get_member key.now (table_view table.now)) }
+/// A number that may be missing: seconds, minutes, hours or transactions; none where the value is of another type.
+fn number_if_there(table: &Table, key: &str) -> Option<Option<u32>>
+    ensures { result ≡ number_if_there (get_member key.now (table_view table.now)) }
 {
     match value_at(table, key) {
-        Some(value) => Some(Some(duration_of(value.as_integer()?))),
+        Some(value) => Some(Some(number_of(value.as_integer()?))),
         None => Some(None),
     }
 }
@@ -91,19 +91,21 @@ fn numbers_at(table: &Table) -> Option<Numbers>
     let pairs = number_at(table, "relay_pairs")?;
     let port = number_at(table, "sip_port")?;
     let expires = number_at(table, "min_expires")?;
-    let max_expires = duration_if_there(table, "max_expires")?;
-    let silent_minutes = duration_if_there(table, "silent_minutes")?;
-    let longest_call_hours = duration_if_there(table, "longest_call_hours")?;
+    let max_expires = number_if_there(table, "max_expires")?;
+    let silent_minutes = number_if_there(table, "silent_minutes")?;
+    let longest_call_hours = number_if_there(table, "longest_call_hours")?;
+    let source_share = number_if_there(table, "source_share")?;
     let workers = workers_at(table)?;
     let answer_within = answer_within_at(table)?;
     Some(Numbers {
         relay_first: port_of(first),
         relay_pairs: port_of(pairs),
         sip_port: port_of(port),
-        min_expires: duration_of(expires),
+        min_expires: number_of(expires),
         max_expires,
         silent_minutes,
         longest_call_hours,
+        source_share,
         workers,
         answer_within,
     })
@@ -214,6 +216,7 @@ pub(crate) fn config_of(alloc: Global, table: &Table) -> Result<Config, ConfigEr
         oldest_leaves,
         silent_minutes: numbers.silent_minutes,
         longest_call_hours: numbers.longest_call_hours,
+        source_share: numbers.source_share,
         domain,
         workers: numbers.workers,
         random_key: key,

@@ -42,6 +42,7 @@ fn key_rule(key: Key) -> ConfigError
         Key::MinExpires | Key::MaxExpires => ConfigError::MinExpires,
         Key::Domain => ConfigError::Domain,
         Key::SilentMinutes | Key::LongestCallHours => ConfigError::CallDuration,
+        Key::SourceShare => ConfigError::SourceShare,
         Key::Workers
         | Key::RandomKey
         | Key::Log

@@ -6,7 +6,7 @@ ghost use Rattle.std.specs.Cmp.Lexicographic.{pointwise};
 ghost use Rattle.std.specs.Option.{option_copied};
 ghost use Rattle.toml.specs.Data.{get_member};
 ghost use Rattle.toml.specs.View.{view, table_view, array_view};
-ghost use Rattle.configuration.specs.Flaws.{key_name, unknown_key, unknown_flaw, type_flaw, required_flaw, optional_flaw, count_flaw, few_flaw, digits_flaw, random_key_flaw, users_type_flaw, word_flaw, log_flaw, page_text_flaw, page_flaw, status_flaw, said_flaw, said_number, relay_flaw, address_flaw, are_texts, malformed_user, user_twice, users_flaw, lifetime_flaw, domain_flaw, duration_flaw, rules_flaw, flaw_in};
+ghost use Rattle.configuration.specs.Flaws.{key_name, unknown_key, unknown_flaw, type_flaw, required_flaw, optional_flaw, count_flaw, few_flaw, digits_flaw, random_key_flaw, users_type_flaw, word_flaw, log_flaw, page_text_flaw, page_flaw, status_flaw, said_flaw, said_number, relay_flaw, address_flaw, are_texts, malformed_user, user_twice, users_flaw, lifetime_flaw, domain_flaw, duration_flaw, share_flaw, rules_flaw, flaw_in};
 
 use crate::config::Config;
 use crate::error::ConfigError;
@@ -17,7 +17,8 @@ use crate::level::level_named;
 use crate::names::{is_among, is_user};
 use crate::rules::{
     MAX_RELAY_PAIRS, MIN_RELAY_PORT, has_domain, has_length_limit, has_lifetime,
-    has_longest_lifetime, has_room_for_ports, has_silence_limit, is_relay_port, is_server_address,
+    has_longest_lifetime, has_room_for_ports, has_share, has_silence_limit, is_relay_port,
+    is_server_address,
 };
 use crate::status::page_at;
 use crate::tables::{flag_at, is_known_key, number_at, text_at, value_at};
@@ -203,6 +204,7 @@ fn said_flaw(table: &Table) -> Option<Flaw<'_>>
         .or(optional_flaw(table, Key::MaxExpires))
         .or(optional_flaw(table, Key::SilentMinutes))
         .or(optional_flaw(table, Key::LongestCallHours))
+        .or(optional_flaw(table, Key::SourceShare))
         .or(few_flaw(table, Key::Workers, MAX_WORKERS))
         .or(few_flaw(table, Key::AnswerWithin, MAX_ANSWER_WITHIN))
         .or(optional_flaw(table, Key::OldestLeaves))
@@ -340,6 +342,16 @@ fn duration_flaw<'t>(table: &'t Table, config: &Config) -> Option<Flaw<'t>>
     None
 }
 
+#[tactic(auto, unfolding(crate::specs::Flaws::share_flaw))]
+fn share_flaw<'t>(table: &'t Table, config: &Config) -> Option<Flaw<'t>>
+    ensures { result ≡ share_flaw (table_view table.now) config.now }
+{
+    if !has_share(config) {
+        return Some(Flaw::OutOfRange(Key::SourceShare, said_number(table, Key::SourceShare)));
+    }
+    None
+}
+
 /// The first flaw for which a configuration that a table says breaks a rule.
 #[tactic(auto, unfolding(crate::specs::Flaws::rules_flaw))]
 fn rules_flaw<'c>(table: &'c Table, config: &'c Config) -> Option<Flaw<'c>>
@@ -351,6 +363,7 @@ fn rules_flaw<'c>(table: &'c Table, config: &'c Config) -> Option<Flaw<'c>>
         .or(lifetime_flaw(table, config))
         .or(domain_flaw(config))
         .or(duration_flaw(table, config))
+        .or(share_flaw(table, config))
 }
 
 /// A flaw that borrows nothing, if there is one.

@@ -22,6 +22,7 @@ pub enum Key {
     OldestLeaves,
     SilentMinutes,
     LongestCallHours,
+    SourceShare,
 }
 
 impl Key {
@@ -51,6 +52,7 @@ impl Key {
             Key::OldestLeaves => "oldest_leaves",
             Key::SilentMinutes => "silent_minutes",
             Key::LongestCallHours => "longest_call_hours",
+            Key::SourceShare => "source_share",
         }
     }
 
@@ -66,6 +68,7 @@ impl Key {
             | Key::MaxExpires
             | Key::SilentMinutes
             | Key::LongestCallHours
+            | Key::SourceShare
             | Key::Workers
             | Key::AnswerWithin => value.as_integer().is_some(),
             Key::Ip | Key::Domain | Key::RandomKey | Key::Log | Key::Status => {
@@ -97,6 +100,7 @@ impl Key {
             Key::MaxExpires => "a number of seconds from min_expires to 4294967295",
             Key::SilentMinutes => "a number of minutes from 1 to 1440",
             Key::LongestCallHours => "a number of hours from 1 to 168",
+            Key::SourceShare => "a number from 1 to 4096",
         }
     }
 }

@@ -1,6 +1,6 @@
 //! The line of a text on which the definition of a key begins.
 
-ghost use Rattle.std.specs.Prelude.{◌≡◌, ◌≤◌, ◌<◌, ℕ, true, length, string_bytes, Some, ◌⊎◌, IfOk, IfSome, IfNone};
+ghost use Rattle.std.specs.Prelude.{◌≡◌, ◌≤◌, ◌<◌, ℕ, true, false, length, take, string_bytes, Some, ◌⊎◌, IfOk, IfSome, IfNone};
 ghost use Rattle.std.specs.List.{list_any};
 ghost use Rattle.std.specs.Map.{keys_of};
 ghost use Rattle.toml.specs.View.{table_view};
@@ -13,7 +13,7 @@ use crate::tables::is_same;
 use std::alloc::{AllocError, Global};
 use toml::Table;
 
-/// A line is looked for in texts of so many bytes at most: each of its lines costs a look at all before it.
+/// A line is looked for in texts of so many bytes at most: each line of one value costs a look at all before it.
 const MAX_LOOKED: usize = 65_536;
 
 /// The line that stands behind a text, from 1.
@@ -68,13 +68,49 @@ fn line_end(text: &[u8], from: usize) -> usize
     text.len()
 }
 
+/// A place from which the key can be looked for as well, found by halving: the lines before it make a table without the
+/// key. A value of many lines, whose lines make no table, is passed, or the place is before it.
+fn nearer(
+    alloc: Global,
+    text: &[u8],
+    key: &[u8],
+    from: usize,
+    passes: bool,
+) -> Result<usize, AllocError>
+    requires before { SaysOf (take from text.now) key.now (Some false) }
+    requires bound { from ≤ length text.now }
+    ensures before { IfOk result (λ at. SaysOf (take at text.now) key.now (Some false)) }
+    ensures bound { IfOk result (λ at. at ≤ length text.now) }
+{
+    let (mut at, mut passed) = (from, from);
+    let mut step = text.len() / 2;
+    while step > 0 {
+        if step <= text.len() - passed {
+            let end = line_end(text, passed + step - 1);
+            match look(alloc, &text[..end], key)? {
+                Some(false) => {
+                    at = end;
+                    passed = end;
+                }
+                None if passes => passed = end,
+                _ => {}
+            }
+        }
+        step /= 2;
+    }
+    Ok(at)
+}
+
 /// Where the line begins on which the definition of a key does; none where the text has no such key.
 fn place_of(alloc: Global, text: &[u8], key: &[u8]) -> Result<Option<usize>, AllocError>
     ensures some { IfOk result (λ place. IfSome place (BeginsAt text.now key.now)) }
     ensures bound { IfOk result (λ place. IfSome place (λ at. at ≤ length text.now)) }
     ensures none { IfOk result (λ place. IfNone place (SaysOf text.now key.now (Some true) → ⊥)) }
 {
-    let (mut at, mut end) = (0, 0);
+    // A value of many lines may stand before the key, or behind it.
+    let passed = nearer(alloc, text, key, 0, true)?;
+    let near = nearer(alloc, text, key, passed, false)?;
+    let (mut at, mut end) = (near, near);
     while end < text.len() {
         end = line_end(text, end);
         match look(alloc, &text[..end], key)? {

@@ -1,7 +1,7 @@
 //! The whole numbers of a file.
 
 ghost use Rattle.std.specs.Prelude.{◌≡◌};
-ghost use Rattle.configuration.specs.Files.{natural, port_of, duration_of};
+ghost use Rattle.configuration.specs.Files.{natural, port_of, number_of};
 
 /// The numbers of a configuration, each of which fits its field.
 #[derive(Clone, Copy)]
@@ -13,6 +13,7 @@ pub(crate) struct Numbers {
     pub max_expires: Option<u32>,
     pub silent_minutes: Option<u32>,
     pub longest_call_hours: Option<u32>,
+    pub source_share: Option<u32>,
     pub workers: u8,
     pub answer_within: u8,
 }
@@ -43,9 +44,9 @@ pub(crate) fn port_of(number: i64) -> u16
     below_2_16(number).unwrap_or(0)
 }
 
-/// Seconds, minutes or hours. A number that is none reads as 0.
-pub(crate) fn duration_of(number: i64) -> u32
-    ensures { result ≡ duration_of number }
+/// Seconds, minutes, hours or transactions. A number that is none reads as 0.
+pub(crate) fn number_of(number: i64) -> u32
+    ensures { result ≡ number_of number }
 {
     below_2_32(number).unwrap_or(0)
 }

@@ -2,7 +2,7 @@
 
 ghost use Rattle.std.specs.Prelude.{◌≡◌, ◌==◌, None, Some, MatchResult, OnOk};
 ghost use Rattle.std.specs.List.{list_all};
-ghost use Rattle.configuration.specs.Rules.{is_relay_port, has_room_for_ports, has_relay_ports, is_server_address, has_address, has_users, has_lifetime, has_longest_lifetime, has_domain, is_upto, has_silence_limit, has_length_limit, first_broken, KeepsRules};
+ghost use Rattle.configuration.specs.Rules.{is_relay_port, has_room_for_ports, has_relay_ports, is_server_address, has_address, has_users, has_lifetime, has_longest_lifetime, has_domain, is_upto, has_silence_limit, has_length_limit, has_share, first_broken, KeepsRules};
 
 use crate::config::Config;
 use crate::error::ConfigError;
@@ -24,6 +24,9 @@ const MAX_SILENT_MINUTES: u32 = 1440;
 
 /// The hours that a call may last, at most: a week.
 const MAX_LONGEST_CALL_HOURS: u32 = 168;
+
+/// The server transactions that may stand for one source address, at most.
+const MAX_SOURCE_SHARE: u32 = 4096;
 
 /// Whether the port is one of the relay's.
 pub(crate) fn is_relay_port(config: &Config, port: u16) -> bool
@@ -133,6 +136,14 @@ pub(crate) fn has_length_limit(config: &Config) -> bool
     is_upto(MAX_LONGEST_CALL_HOURS, config.longest_call_hours)
 }
 
+/// Whether the transactions that stand at most for one source address are 1 to 4096, where there is such a limit.
+#[tactic(auto, unfolding(crate::specs::Rules::has_share))]
+pub(crate) fn has_share(config: &Config) -> bool
+    ensures { result ≡ has_share config.now }
+{
+    is_upto(MAX_SOURCE_SHARE, config.source_share)
+}
+
 #[tactic(auto, unfolding(crate::specs::Rules::first_broken))]
 fn first_broken(config: &Config) -> Option<ConfigError>
     ensures { result ≡ first_broken config.now }
@@ -154,6 +165,9 @@ fn first_broken(config: &Config) -> Option<ConfigError>
     }
     if !(has_silence_limit(config) && has_length_limit(config)) {
         return Some(ConfigError::CallDuration);
+    }
+    if !has_share(config) {
+        return Some(ConfigError::SourceShare);
     }
     None
 }

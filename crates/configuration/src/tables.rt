@@ -46,6 +46,7 @@ fn is_optional_key(key: &[u8]) -> bool
         || is_same(key, b"oldest_leaves")
         || is_same(key, b"silent_minutes")
         || is_same(key, b"longest_call_hours")
+        || is_same(key, b"source_share")
 }
 
 /// Whether it is a key of a configuration.

@@ -3,12 +3,15 @@ use Rattle.configuration.specs.Lines.{SaysOf}
 use Rattle.configuration.proofs.LineLaws.{nothing_says, none_yet, parts_to, one_more, not_there}
 use Rattle.configuration.proofs.lines.place_of.Goals as goal
 
+pub nearer-requires-clause-before : goal.nearer-requires-clause-before
+nearer-requires-clause-before c = nothing_says c.args.key.now
+
 pub loop-end-init : goal.loop-end-init
 loop-end-init c = record {
-  before = nothing_says c.args.key.now;
-  parts = none_yet c.args.text.now c.args.key.now 0;
+  before = c.in_ok-near.ensures.before;
+  parts = none_yet c.args.text.now c.args.key.now c.in_ok-near.near;
   order = omega arith;
-  bound = omega arith;
+  bound = c.in_ok-near.ensures.bound;
 }
 
 pub returns-in-Some-true-clause-some : goal.returns-in-Some-true-clause-some
