@@ -4,7 +4,7 @@ ghost use Rattle.std.specs.Prelude.{◌≡◌, [], IfOk, IfErr, OnOk};
 ghost use Rattle.configuration.specs.Rules.{KeepsRules};
 ghost use Rattle.registrar.specs.Registrar.{StandsAfter};
 ghost use Rattle.event_rows.specs.Lifetimes.{lifetime_of};
-ghost use Rattle.event_rows.specs.State.{IsNew, RefusesConfig, binding_rules_of, first_wait_of, range_of, rules_by, server_of};
+ghost use Rattle.event_rows.specs.State.{IsNew, RefusesConfig, binding_rules_of, range_of, rules_by, server_of, table_rules_of};
 ghost use Rattle.media_laws.specs.Standing.{AgentStands};
 
 use crate::agent::Agent;
@@ -20,7 +20,7 @@ use registrar::{BindingRules, Registrar};
 use sip_uri::Addr;
 use std::alloc::{AllocError, Global};
 use text::{Text, Texts};
-use transactions::Table;
+use transactions::{Table, TableRules};
 
 pub(crate) fn kept_texts(
     alloc: Global,
@@ -71,11 +71,14 @@ fn server_of(config: &Config) -> Addr
     }
 }
 
-/// How many milliseconds a callee's telephone has for its first response.
-fn first_wait_of(config: &Config) -> u64
-    ensures { result ≡ first_wait_of config.now }
+/// How long a callee's telephone has for its first response, and how many server transactions one address may have.
+fn table_rules_of(config: &Config) -> TableRules
+    ensures { result ≡ table_rules_of config.now }
 {
-    1_000 * u64::from(config.answer_within)
+    TableRules {
+        first_wait: 1_000 * u64::from(config.answer_within),
+        share: config.source_share.map(|count| count as usize),
+    }
 }
 
 fn range_of(config: &Config) -> OwnRange
@@ -126,7 +129,7 @@ impl Agent {
         Ok(Agent {
             alloc,
             registrar,
-            table: Table::new(alloc, key, first_wait_of(config)),
+            table: Table::new(alloc, key, table_rules_of(config)),
             calls,
             acks: Vec::new(alloc),
             changes: Vec::new(alloc),

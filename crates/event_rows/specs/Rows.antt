@@ -30,8 +30,8 @@ use Rattle.transactions.specs.declared.transaction.TimerId.{TimerId}
 use Rattle.transactions.specs.declared.transaction.Transaction.{Transaction}
 use Rattle.transactions.specs.Changes.{change_of, fire_of}
 use Rattle.transactions.specs.Contents.{reception_of, fired_of}
-use Rattle.transactions.specs.Limits.{max_served}
-use Rattle.transactions.specs.Slots.{at, serving}
+use Rattle.transactions.specs.Shares.{has_no_room}
+use Rattle.transactions.specs.Slots.{at}
 use Rattle.events.specs.declared.event.Event.{Event}
 use Rattle.events.specs.declared.event.What.{What}
 use Rattle.events.specs.declared.event.What.TheVariants as whats
@@ -98,13 +98,13 @@ begins verdicts.Swallowed = false
 begins (verdicts.Up id) = false
 begins verdicts.Stray = false
 
--- there are as many server transactions as there may be
-abbrev pub is_full : Office → Reception → Bool
-is_full s reception = begins reception.verdict && nat_le max_served (serving s.table.slots)
+-- a request would begin a server transaction, and there is no room for one from its source
+abbrev pub is_full : Office → Setting → Reception → Bool
+is_full s e reception = begins reception.verdict && has_no_room s.table e.source
 
 unfoldable pub received : Office → Setting → Message → Effect
 received s e message =
-    if is_full s (reception_of s.table message) then of_plan s (nothing Shed)
+    if is_full s e (reception_of s.table message) then of_plan s (nothing Shed)
     else received_by s e message (change_of s.table message e.source ∷ []) (reception_of s.table message).verdict (reception_of s.table message).send
 
 -- ---- a branch that does not begin as it has to

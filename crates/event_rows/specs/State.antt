@@ -2,7 +2,7 @@
 use Rattle.std.specs.Prelude.{◌≡◌, ◌≢◌, ℕ, ◌<◌, ◌≤◌, ◌^◌, ◌+◌, ◌-◌, ◌*◌, max, List, [], Option, Some, None, option_and_then}
 use Rattle.configuration.specs.declared.config.Config.{Config}
 use Rattle.configuration.specs.declared.error.ConfigError.{ConfigError}
-use Rattle.configuration.specs.declared.error.ConfigError.TheVariants.{OutOfMemory, RelayPorts, Address, Users, MinExpires, Domain, CallDuration, File}
+use Rattle.configuration.specs.declared.error.ConfigError.TheVariants.{OutOfMemory, RelayPorts, Address, Users, MinExpires, Domain, CallDuration, SourceShare, File}
 use Rattle.configuration.specs.Domain.{domain_text}
 use Rattle.configuration.specs.Rules.{first_broken}
 use Rattle.registrar.specs.Registering.{Rules}
@@ -12,6 +12,7 @@ use Rattle.registrar.specs.Registrar.{StandsAfter, rules_given}
 use Rattle.registrar.specs.declared.change.RegistrarChange.{RegistrarChange}
 use Rattle.registrar.specs.Registrar as registrar
 use Rattle.transactions.specs.Contents as transactions
+use Rattle.transactions.specs.declared.rules.TableRules.{TableRules}
 use Rattle.transactions.specs.Changes.{entered_all}
 use Rattle.event_rows.specs.declared.tally.Tally.{Tally}
 use Rattle.plans.specs.declared.note.Note.{Note}
@@ -125,16 +126,16 @@ server_of c = record { ip = c.ip; port = c.sip_port }
 abbrev pub range_of : Config → OwnRange
 range_of c = record { ip = c.ip; first = c.relay_first; last = c.relay_first + (2 * c.relay_pairs - 1) }
 
--- how many milliseconds a callee's telephone has for its first response
-abbrev pub first_wait_of : Config → ℕ
-first_wait_of c = 1000 * c.answer_within
+-- a callee's telephone has so many milliseconds for its first response, and one address so many server transactions
+abbrev pub table_rules_of : Config → TableRules
+table_rules_of c = record { first_wait = 1000 * c.answer_within; share = c.source_share }
 
 -- nothing has happened: no REGISTER was taken, no transaction stands, and no timer is set
 pub record IsNew (c : Config) (s : Contents) : Type 0 where
   pub registers : StandsAfter s.registrar (rules_by c) []
   pub slots : s.table.slots ≡ []
   pub timers : s.table.timers ≡ []
-  pub first_wait : s.table.first_wait ≡ first_wait_of c
+  pub table_rules : s.table.rules ≡ table_rules_of c
   pub calls : s.calls.calls ≡ []
   pub begun : s.calls.begun ≡ 0
   pub call_timers : s.calls.timers ≡ []
@@ -160,4 +161,5 @@ RefusesConfig c Users = first_broken c ≡ Some Users
 RefusesConfig c MinExpires = first_broken c ≡ Some MinExpires
 RefusesConfig c Domain = first_broken c ≡ Some Domain
 RefusesConfig c CallDuration = first_broken c ≡ Some CallDuration
+RefusesConfig c SourceShare = first_broken c ≡ Some SourceShare
 RefusesConfig c File = ⊥

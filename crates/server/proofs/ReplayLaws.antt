@@ -9,7 +9,7 @@ use Rattle.configuration.specs.declared.config.Config.{Config}
 use Rattle.configuration.specs.declared.error.ConfigError.{ConfigError}
 use Rattle.configuration.specs.declared.error.ConfigError.TheVariants as refusals
 use Rattle.configuration.specs.Example.{example}
-use Rattle.configuration.specs.Rules.{first_broken, has_address, has_domain, has_lifetime, has_length_limit, has_longest_lifetime, has_relay_ports, has_silence_limit, has_users, is_user_list}
+use Rattle.configuration.specs.Rules.{first_broken, has_address, has_domain, has_lifetime, has_length_limit, has_longest_lifetime, has_relay_ports, has_share, has_silence_limit, has_users, is_user_list}
 use Rattle.sip_uri.specs.Hosts.{ip4_of, is_host, is_hostname}
 use Rattle.events.specs.declared.event.Event.{Event}
 use Rattle.events.specs.declared.sent.Sent.{Sent}
@@ -29,7 +29,7 @@ use Rattle.server.proofs.InputLaws.{appends_kept, appends_more, appends_nothing,
 
 -- the example office breaks no rule
 pub example_keeps : first_broken example ≡ None
-unfolding first_broken has_relay_ports has_address has_users is_user_list has_lifetime has_longest_lifetime has_domain has_silence_limit has_length_limit is_host ip4_of is_hostname
+unfolding first_broken has_relay_ports has_address has_users is_user_list has_lifetime has_longest_lifetime has_domain has_silence_limit has_length_limit has_share is_host ip4_of is_hostname
 example_keeps = refl
 
 -- an office that breaks no rule is refused for want of memory alone
@@ -41,6 +41,7 @@ only_memory c refusals.Users kept h = let bad = sym kept ∙ h in cc
 only_memory c refusals.MinExpires kept h = let bad = sym kept ∙ h in cc
 only_memory c refusals.Domain kept h = let bad = sym kept ∙ h in cc
 only_memory c refusals.CallDuration kept h = let bad = sym kept ∙ h in cc
+only_memory c refusals.SourceShare kept h = let bad = sym kept ∙ h in cc
 only_memory c refusals.File kept h = absurd h
 
 pub of_office : (file : Option (List ℕ)) (e : Fault) → IsOfConfig file e → IsOfOffice (Some file) e

@@ -18,6 +18,7 @@ config_fault refusals.Users = Config None
 config_fault refusals.MinExpires = Config None
 config_fault refusals.Domain = Config None
 config_fault refusals.CallDuration = Config None
+config_fault refusals.SourceShare = Config None
 config_fault refusals.File = Config None
 
 -- of reading the file of a configuration

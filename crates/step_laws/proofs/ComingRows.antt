@@ -1,14 +1,13 @@
 -- The row of an event with a message that counts: what the agent does for it.
-use Rattle.std.proofs.Common.{◌≡◌, ◌∙◌, ℕ, false, cond, nat_le, ◌&&◌, List, [], ◌∷◌, Option, refl, ap}
-use Rattle.std.proofs.lemmas.Bool.{and_right, lt-leb}
+use Rattle.std.proofs.Common.{◌≡◌, ◌∙◌, ℕ, false, cond, ◌&&◌, List, [], ◌∷◌, Option, refl, ap}
+use Rattle.std.proofs.lemmas.Bool.{and_right}
 use Rattle.sip_uri.specs.declared.uri.Addr.{Addr}
 use Rattle.sip_message.specs.declared.message.Message.{Message}
 use Rattle.sip_message.specs.declared.message.Message.TheVariants as Kinds
 use Rattle.sip_message.specs.declared.message.Request.{Request}
 use Rattle.sip_message.specs.declared.message.Response.{Response}
 use Rattle.transactions.specs.Contents.{reception_of}
-use Rattle.transactions.specs.Limits.{max_served}
-use Rattle.transactions.specs.Slots.{serving}
+use Rattle.transactions.specs.Shares.{has_no_room}
 use Rattle.transactions.specs.Changes.{change_of}
 use Rattle.transactions.specs.declared.change.Entry.{Entry}
 use Rattle.transactions.specs.declared.outcome.Outgoing.{Outgoing}
@@ -54,7 +53,7 @@ module _ (s : Contents) (event : Event) (source : Addr) (bytes : List ℕ) where
       ∙ (ap (λ b. cond b (fit_row (office s) e m) (of_plan (office s) (unfit_branch e m))) h.branch
       ∙ ap (λ b. cond b (of_plan (office s) (nothing (Dropped Stray))) (received (office s) e m)) reached)
 
-  not_full : (m : Message) → is_full (office s) (reception_of s.table m) ≡ false
+  not_full : (m : Message) → is_full (office s) e (reception_of s.table m) ≡ false
       → received (office s) e m ≡ received_by (office s) e m (change_of s.table m source ∷ []) (reception_of s.table m).verdict (reception_of s.table m).send
   unfolding received
   not_full m full =
@@ -66,7 +65,7 @@ module _ (s : Contents) (event : Event) (source : Addr) (bytes : List ℕ) where
   begun_row r id h =
       let x = reception_of s.table (Kinds.Request r) in
       received_row (Kinds.Request r) h.comes refl
-      ∙ (not_full (Kinds.Request r) (and_right (begins x.verdict) (nat_le max_served (serving s.table.slots)) (lt-leb max_served (serving s.table.slots) h.room))
+      ∙ (not_full (Kinds.Request r) (and_right (begins x.verdict) (has_no_room s.table source) h.room)
       ∙ ap (λ v. request_by (office s) e r (change_of s.table (Kinds.Request r) source ∷ []) v x.send) h.new)
 
   -- a message that its transaction keeps for itself
@@ -92,7 +91,7 @@ module _ (s : Contents) (event : Event) (source : Addr) (bytes : List ℕ) where
   still_row m comes reached still =
       let x = reception_of s.table m in
       received_row m comes reached
-      ∙ (not_full m (ap (λ b. b && nat_le max_served (serving s.table.slots)) (still_begins x.verdict still)) ∙ still_by m (change_of s.table m source ∷ []) x.send x.verdict still)
+      ∙ (not_full m (ap (λ b. b && has_no_room s.table source) (still_begins x.verdict still)) ∙ still_by m (change_of s.table m source ∷ []) x.send x.verdict still)
 
   none_begins : (v : Verdict) → NoneTakes v → begins v ≡ false
   none_begins (verdicts.New id) h = absurd h
@@ -114,7 +113,7 @@ module _ (s : Contents) (event : Event) (source : Addr) (bytes : List ℕ) where
   passed_row r comes none =
       let x = reception_of s.table (Kinds.Request r) in
       received_row (Kinds.Request r) comes refl
-      ∙ (not_full (Kinds.Request r) (ap (λ b. b && nat_le max_served (serving s.table.slots)) (none_begins x.verdict none)) ∙ none_row r (change_of s.table (Kinds.Request r) source ∷ []) x.send x.verdict none)
+      ∙ (not_full (Kinds.Request r) (ap (λ b. b && has_no_room s.table source) (none_begins x.verdict none)) ∙ none_row r (change_of s.table (Kinds.Request r) source ∷ []) x.send x.verdict none)
 
   -- a response that goes up, by the rule of the request that it responds to
   pub up_row : (r : Response) (id : ℕ) (asked : Transaction) → GoesUp s event source bytes r id asked
@@ -124,5 +123,5 @@ module _ (s : Contents) (event : Event) (source : Addr) (bytes : List ℕ) where
       let x = reception_of s.table (Kinds.Response r) in
       let begun = change_of s.table (Kinds.Response r) source ∷ [] in
       received_row (Kinds.Response r) h.comes h.reached
-      ∙ (not_full (Kinds.Response r) (ap (λ v. begins v && nat_le max_served (serving s.table.slots)) h.up)
+      ∙ (not_full (Kinds.Response r) (ap (λ v. begins v && has_no_room s.table source) h.up)
       ∙ (ap (λ v. response_by (office s) e r begun v x.send) h.up ∙ ap (response_by_asked (office s) e r begun x.send id) h.stands))

@@ -1,7 +1,7 @@
 -- Whether an event brings a REGISTER, or a list of users, can be decided: so there is a list of those that any entries
 -- bring.
-use Rattle.std.proofs.Common.{◌≡◌, ◌∙◌, ◌<◌, ◌⊎◌, ℕ, Bool, true, false, nat_lt, List, [], ◌∷◌, Option, Some, None, Result, Ok, Err, ap, arith, inl, inr, refl, subst, sym}
-use Rattle.std.proofs.lemmas.Bool.{false≢true, ltb-false, ltb-true}
+use Rattle.std.proofs.Common.{◌≡◌, ◌∙◌, ◌⊎◌, ℕ, Bool, true, false, List, [], ◌∷◌, Option, Some, None, Result, Ok, Err, ap, inl, inr, refl, subst, sym}
+use Rattle.std.proofs.lemmas.Bool.{false≢true}
 use Rattle.std.proofs.lemmas.Option.{none-some}
 use Rattle.sip_uri.specs.declared.uri.Addr.{Addr}
 use Rattle.sip_message.specs.Read.{message_of}
@@ -12,8 +12,7 @@ use Rattle.sip_message.specs.declared.message.Request.{Request}
 use Rattle.registrar.specs.Bound.{Event as RegistrarEvent, Listed}
 use Rattle.registrar.specs.Registering.{Rules}
 use Rattle.transactions.specs.Contents.{reception_of}
-use Rattle.transactions.specs.Limits.{max_served}
-use Rattle.transactions.specs.Slots.{serving}
+use Rattle.transactions.specs.Shares.{has_no_room}
 use Rattle.transactions.specs.declared.outcome.Verdict.{Verdict}
 use Rattle.transactions.specs.declared.outcome.Verdict.TheVariants as verdicts
 use Rattle.events.specs.declared.event.Event.{Event}
@@ -45,6 +44,9 @@ Decided s event = Brought s event ⊎ IsNoRegister s event
 same_bytes : (one other : Addr) (bytes more : List ℕ) → whats.Datagram one bytes ≡ whats.Datagram other more → bytes ≡ more
 same_bytes one other bytes more is = cc
 
+same_source : (one other : Addr) (bytes more : List ℕ) → whats.Datagram one bytes ≡ whats.Datagram other more → one ≡ other
+same_source one other bytes more is = cc
+
 same_request : (r other : Request) (read : Result Message MessageError) → read ≡ Ok (Kinds.Request r) → read ≡ Ok (Kinds.Request other) → r ≡ other
 same_request r other read is too = cc
 
@@ -56,7 +58,7 @@ module _ (s : Contents) (event : Event) (source : Addr) (bytes : List ℕ) (data
         let same = same_bytes source from bytes h.bytes (sym datagram ∙ h.begins.comes.datagram) in
         sym (same_request r other (message_of bytes) read (ap message_of same ∙ h.begins.comes.read))
 
-    by_rule : (id : ℕ) (rule : Rule) → only_counts s event ≡ None → has_fit_branch r.parts.vias ≡ true → (reception_of s.table (Kinds.Request r)).verdict ≡ verdicts.New id → serving s.table.slots < max_served
+    by_rule : (id : ℕ) (rule : Rule) → only_counts s event ≡ None → has_fit_branch r.parts.vias ≡ true → (reception_of s.table (Kinds.Request r)).verdict ≡ verdicts.New id → has_no_room s.table source ≡ false
         → request_rule (office s) r (moment_at s event.now) ≡ rule → (IsNoRegister s event) ⊎ (rule ≡ rules.Alone replies.Registration) → Decided s event
     by_rule id rule counts fit new room is (inl none) = inr none
     by_rule id rule counts fit new room is (inr registers) =
@@ -75,18 +77,20 @@ module _ (s : Contents) (event : Event) (source : Addr) (bytes : List ℕ) (data
     which_rule (rules.Alone reply) is = by_reply reply is
     which_rule (rules.Call rule) is = inl (none_ruled _ is (λ e. cc))
 
-    by_room : (id : ℕ) (room : Bool) → only_counts s event ≡ None → has_fit_branch r.parts.vias ≡ true → (reception_of s.table (Kinds.Request r)).verdict ≡ verdicts.New id → nat_lt (serving s.table.slots) max_served ≡ room
+    by_room : (id : ℕ) (full : Bool) → only_counts s event ≡ None → has_fit_branch r.parts.vias ≡ true → (reception_of s.table (Kinds.Request r)).verdict ≡ verdicts.New id → has_no_room s.table source ≡ full
         → Decided s event
-    by_room id true counts fit new room =
+    by_room id false counts fit new room =
         let rule = request_rule (office s) r (moment_at s event.now) in
-        by_rule id rule counts fit new (ltb-true (serving s.table.slots) max_served room) refl (which_rule rule refl)
-    by_room id false counts fit new full = inr (λ from one other h. let over = ltb-false (serving s.table.slots) max_served full in let under = h.begins.room in absurd (omega (arith, over, under)))
+        by_rule id rule counts fit new room refl (which_rule rule refl)
+    by_room id true counts fit new full = inr (λ from one other h.
+        let same = same_source source from bytes h.bytes (sym datagram ∙ h.begins.comes.datagram) in
+        false≢true (sym h.begins.room ∙ ap (has_no_room s.table) (sym same) ∙ full))
 
     none_new : (verdict : Verdict) → (reception_of s.table (Kinds.Request r)).verdict ≡ verdict → ((id : ℕ) → verdict ≡ verdicts.New id → ⊥) → IsNoRegister s event
     none_new verdict is other = λ from one id h. other id (sym is ∙ subst (λ x. (reception_of s.table (Kinds.Request x)).verdict ≡ verdicts.New id) (is_it from one id h) h.begins.new)
 
     by_verdict : (verdict : Verdict) → only_counts s event ≡ None → has_fit_branch r.parts.vias ≡ true → (reception_of s.table (Kinds.Request r)).verdict ≡ verdict → Decided s event
-    by_verdict (verdicts.New id) counts fit is = by_room id (nat_lt (serving s.table.slots) max_served) counts fit is refl
+    by_verdict (verdicts.New id) counts fit is = by_room id (has_no_room s.table source) counts fit is refl
     by_verdict verdicts.Repeat counts fit is = inr (none_new _ is (λ id e. cc))
     by_verdict verdicts.Swallowed counts fit is = inr (none_new _ is (λ id e. cc))
     by_verdict (verdicts.Up other) counts fit is = inr (none_new _ is (λ id e. cc))

@@ -1,8 +1,8 @@
 -- An event, as a list of cases: it counts as not come, for a reason; or it is done, and leaves the registrar; or it
 -- brings a REGISTER. The changes of all of them are ready.
 use Rattle.std.proofs.Common.{◌≡◌, ℕ, true, false, nat_le, nat_lt, List, [], ◌∷◌, codes, length, Option, Some, None, Result, Ok, Err, inl, inr, is_some, refl, subst, sym}
-use Rattle.std.specs.Prelude.{◌||◌, ◌&&◌, ◌<◌, cond, slice_get}
-use Rattle.std.proofs.lemmas.Bool.{and_parts, cond_both, false≢true, leb-false, leb-true, ltb-true}
+use Rattle.std.specs.Prelude.{◌||◌, ◌&&◌, cond, slice_get}
+use Rattle.std.proofs.lemmas.Bool.{and_parts, cond_both, false≢true, leb-true, ltb-true}
 use Rattle.sip_uri.specs.declared.uri.Addr.{Addr}
 use Rattle.sip_message.specs.AnswerableParts.{answerable_of}
 use Rattle.sip_message.specs.Read.{max_datagram, message_of}
@@ -25,8 +25,8 @@ use Rattle.transactions.specs.declared.outcome.Verdict.TheVariants as verdicts
 use Rattle.transactions.specs.declared.transaction.TimerId.{TimerId}
 use Rattle.transactions.specs.Changes.{change_of, fire_of}
 use Rattle.transactions.specs.Contents.{fired_of, reception_of}
-use Rattle.transactions.specs.Limits.{max_served}
-use Rattle.transactions.specs.Slots.{at, serving}
+use Rattle.transactions.specs.Shares.{has_no_room}
+use Rattle.transactions.specs.Slots.{at}
 use Rattle.call_core.specs.declared.input.Input.TheVariants as inputs
 use Rattle.call_steps.specs.Rows.{counts as number_counts}
 use Rattle.call_core.specs.declared.action.CallTimer.TheVariants.{Lifetime}
@@ -115,14 +115,6 @@ new_id verdicts.Swallowed is = absurd (false≢true is)
 new_id (verdicts.Up id) is = absurd (false≢true is)
 new_id verdicts.Stray is = absurd (false≢true is)
 
--- where one begins and it is not full, there is room
-room_left : (verdict : Verdict) (id most serve : ℕ) → verdict ≡ verdicts.New id → (begins verdict && nat_le most serve) ≡ false → serve < most
-room_left (verdicts.New id) other most serve is fits = leb-false most serve fits
-room_left verdicts.Repeat other most serve is fits = cc
-room_left verdicts.Swallowed other most serve is fits = cc
-room_left (verdicts.Up id) other most serve is fits = cc
-room_left verdicts.Stray other most serve is fits = cc
-
 module _ (s : Contents) (event : Event) (source : Addr) (bytes : List ℕ) (datagram : event.what ≡ whats.Datagram source bytes) (counts : only_counts s event ≡ None) where
   abbrev e : Setting
   e = setting (moment_at s event.now) event.salt source
@@ -149,7 +141,7 @@ module _ (s : Contents) (event : Event) (source : Addr) (bytes : List ℕ) (data
     entries_ready = one_ready (change_of s.table (Kinds.Request r) source) (change_ready s.table (Kinds.Request r) source)
 
     -- a reply of the rules
-    replied_case : (id : ℕ) (reply : Reply) → (reception_of s.table (Kinds.Request r)).verdict ≡ verdicts.New id → serving s.table.slots < max_served → request_rule (office s) r (moment_at s event.now) ≡ rules.Alone reply
+    replied_case : (id : ℕ) (reply : Reply) → (reception_of s.table (Kinds.Request r)).verdict ≡ verdicts.New id → has_no_room s.table source ≡ false → request_rule (office s) r (moment_at s event.now) ≡ rules.Alone reply
         → Case (of_plan (office s) (reply_row (office s) e r entries id reply))
     unfolding reply_row
     replied_case id (replies.CancelOf other) new room is = went (reply_done (office s) e r entries id entries_ready (replies.CancelOf other) tt)
@@ -158,7 +150,7 @@ module _ (s : Contents) (event : Event) (source : Addr) (bytes : List ℕ) (data
     replied_case id replies.Registration new room is =
         registered source r id (record { bytes = bytes; begins = record { comes = record { datagram = datagram; counts = counts; read = read; branch = fit }; new = new; room = room }; rule = is }) refl
 
-    row_case : (id : ℕ) (x : Effect) → (reception_of s.table (Kinds.Request r)).verdict ≡ verdicts.New id → serving s.table.slots < max_served → requests.RequestRow (office s) e r entries id x → Case x
+    row_case : (id : ℕ) (x : Effect) → (reception_of s.table (Kinds.Request r)).verdict ≡ verdicts.New id → has_no_room s.table source ≡ false → requests.RequestRow (office s) e r entries id x → Case x
     row_case id x new room (requests.replied reply rule is) = subst Case (sym is) (replied_case id reply new room rule)
     row_case id x new room (requests.unfit reason is) = subst Case (sym is) (went (refuses_done (office s) e r entries id entries_ready reason))
     row_case id x new room (requests.asks_callee to offer why is) = subst Case (sym is) (went (first_done (office s) e r entries id entries_ready to offer))
@@ -178,11 +170,11 @@ module _ (s : Contents) (event : Event) (source : Addr) (bytes : List ℕ) (data
     unfolding ack_row
     ack_case is up = ack_by_case (place_by_ack r.parts s.calls.calls) is up refl
 
-    request_case : (verdict : Verdict) (send : Option Outgoing) → (reception_of s.table (Kinds.Request r)).verdict ≡ verdict → IsAckIf r verdict → (begins verdict && nat_le max_served (serving s.table.slots)) ≡ false
+    request_case : (verdict : Verdict) (send : Option Outgoing) → (reception_of s.table (Kinds.Request r)).verdict ≡ verdict → IsAckIf r verdict → (begins verdict && has_no_room s.table source) ≡ false
         → Case (request_by (office s) e r entries verdict send)
     unfolding request_by
     request_case (verdicts.New id) send is ack free =
-        row_case id (rule_row (office s) e r entries id (request_rule (office s) r (moment_at s event.now))) is (room_left (verdicts.New id) id max_served (serving s.table.slots) refl free) (requests.request_view (office s) e r entries id)
+        row_case id (rule_row (office s) e r entries id (request_rule (office s) r (moment_at s event.now))) is free (requests.request_view (office s) e r entries id)
     request_case verdicts.Repeat send is ack free = went (moves_done entries send entries_ready)
     request_case verdicts.Swallowed send is ack free = went (moves_done entries send entries_ready)
     request_case (verdicts.Up id) send is ack free = ack_case ack (subst NoneTakes (sym is) tt)
@@ -202,7 +194,7 @@ module _ (s : Contents) (event : Event) (source : Addr) (bytes : List ℕ) (data
 
   -- ---- a message
 
-  received_by_case : (m : Message) → message_of bytes ≡ Ok m → has_fit_branch (parts_of m).vias ≡ true → is_full (office s) (reception_of s.table m) ≡ false
+  received_by_case : (m : Message) → message_of bytes ≡ Ok m → has_fit_branch (parts_of m).vias ≡ true → is_full (office s) e (reception_of s.table m) ≡ false
       → Case (received_by (office s) e m (change_of s.table m source ∷ []) (reception_of s.table m).verdict (reception_of s.table m).send)
   received_by_case (Kinds.Request r) read fit free =
       request_case r read fit (reception_of s.table (Kinds.Request r)).verdict (reception_of s.table (Kinds.Request r)).send refl (up_is_ack s.table r) free
@@ -211,21 +203,22 @@ module _ (s : Contents) (event : Event) (source : Addr) (bytes : List ℕ) (data
       let ready = one_ready change (change_ready s.table (Kinds.Response r) source) in
       response_case r (change ∷ []) (reception_of s.table (Kinds.Response r)).verdict (reception_of s.table (Kinds.Response r)).send ready read fit refl (response_not_new s.table r)
 
-  shed_case : (m : Message) → message_of bytes ≡ Ok m → has_fit_branch (parts_of m).vias ≡ true → is_full (office s) (reception_of s.table m) ≡ true → Case (nothing_for Shed)
+  shed_case : (m : Message) → message_of bytes ≡ Ok m → has_fit_branch (parts_of m).vias ≡ true → is_full (office s) e (reception_of s.table m) ≡ true → Case (nothing_for Shed)
+  unfolding branched_as read_as
   shed_case (Kinds.Request r) read fit full =
       let verdict = (reception_of s.table (Kinds.Request r)).verdict in
-      let both = and_parts (begins verdict) (nat_le max_served (serving s.table.slots)) full in
+      let both = and_parts (begins verdict) (has_no_room s.table source) full in
       let new = new_id verdict both.0 in
-      ignored Shed (record { request = r; comes = branched_as (Kinds.Request r) read fit; id = new.0; new = new.1; full = leb-true max_served (serving s.table.slots) both.1 }) refl
+      ignored Shed (record { request = r; comes = branched_as (Kinds.Request r) read fit; id = new.0; new = new.1; full = both.1 }) refl
   shed_case (Kinds.Response r) read fit full =
       let verdict = (reception_of s.table (Kinds.Response r)).verdict in
-      let new = new_id verdict (and_parts (begins verdict) (nat_le max_served (serving s.table.slots)) full).0 in
+      let new = new_id verdict (and_parts (begins verdict) (has_no_room s.table source) full).0 in
       absurd (subst IsNotNew new.1 (response_not_new s.table r))
 
   received_case : (m : Message) → message_of bytes ≡ Ok m → has_fit_branch (parts_of m).vias ≡ true → Case (received (office s) e m)
   unfolding received
   received_case m read fit =
-      cond_both (is_full (office s) (reception_of s.table m)) (nothing_for Shed)
+      cond_both (is_full (office s) e (reception_of s.table m)) (nothing_for Shed)
       (received_by (office s) e m (change_of s.table m source ∷ []) (reception_of s.table m).verdict (reception_of s.table m).send) Case
       (λ full. shed_case m read fit full) (λ free. received_by_case m read fit free)
 

@@ -1,5 +1,5 @@
 -- What comes to the agent in an event: a message that was read, and what the transactions say of it.
-use Rattle.std.specs.Prelude.{◌≡◌, ◌<◌, ℕ, List, Some, None, Ok, true, false}
+use Rattle.std.specs.Prelude.{◌≡◌, ℕ, List, Some, None, Ok, true, false}
 use Rattle.sip_uri.specs.declared.uri.Addr.{Addr}
 use Rattle.sip_message.specs.Read.{message_of}
 use Rattle.sip_message.specs.declared.message.Message.{Message}
@@ -7,8 +7,8 @@ use Rattle.sip_message.specs.declared.message.Message.TheVariants as Kinds
 use Rattle.sip_message.specs.declared.message.Request.{Request}
 use Rattle.sip_message.specs.declared.message.Response.{Response}
 use Rattle.transactions.specs.Contents.{reception_of}
-use Rattle.transactions.specs.Limits.{max_served}
-use Rattle.transactions.specs.Slots.{at, serving}
+use Rattle.transactions.specs.Shares.{has_no_room}
+use Rattle.transactions.specs.Slots.{at}
 use Rattle.transactions.specs.declared.outcome.Verdict.TheVariants as verdicts
 use Rattle.transactions.specs.declared.transaction.Transaction.{Transaction}
 use Rattle.events.specs.declared.event.Event.{Event}
@@ -30,7 +30,7 @@ pub record Comes (s : Contents) (event : Event) (source : Addr) (bytes : List �
 pub record BeginsTransaction (s : Contents) (event : Event) (source : Addr) (bytes : List ℕ) (r : Request) (id : ℕ) : Type 0 where
   pub comes : Comes s event source bytes (Kinds.Request r)
   pub new : (reception_of s.table (Kinds.Request r)).verdict ≡ verdicts.New id
-  pub room : serving s.table.slots < max_served
+  pub room : has_no_room s.table source ≡ false
 
 -- a response to the request of the server's own in the transaction of this number, which hands it up (section 17.1.3);
 -- a 2xx says where its sender is reached

@@ -11,8 +11,7 @@ use Rattle.sip_message.specs.declared.message.Request.{Request}
 use Rattle.sip_message.specs.declared.message.Response.{Response}
 use Rattle.timers.specs.Queue.{first_due}
 use Rattle.transactions.specs.Contents.{reception_of}
-use Rattle.transactions.specs.Limits.{max_served}
-use Rattle.transactions.specs.Slots.{serving}
+use Rattle.transactions.specs.Shares.{has_no_room}
 use Rattle.transactions.specs.declared.outcome.Verdict.{Verdict}
 use Rattle.transactions.specs.declared.outcome.Verdict.TheVariants as verdicts
 use Rattle.events.specs.declared.event.Event.{Event}
@@ -93,13 +92,13 @@ IsDroppedFor s event NoBranch = HasNoBranch event
 IsDroppedFor s event Clock = moments_end ≤ event.now
 IsDroppedFor s event Spent = max_tokens ≤ s.tokens
 
--- a request that would begin a transaction, where as many stand as may
+-- a request that would begin a transaction, where as many stand as may, of all or of those from its address
 pub record IsShed (s : Contents) (event : Event) : Type 0 where
   pub request : Request
   pub comes : IsBranched event (Kinds.Request request)
   pub id : ℕ
   pub new : (reception_of s.table (Kinds.Request request)).verdict ≡ verdicts.New id
-  pub full : max_served ≤ serving s.table.slots
+  pub full : has_no_room s.table comes.is_read.source ≡ true
 
 -- a timer is looked for, and none is due
 pub record LooksInVain (s : Contents) (event : Event) : Type 0 where

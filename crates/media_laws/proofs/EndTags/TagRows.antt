@@ -195,7 +195,7 @@ module _ (laws : Laws) (s : Office) (begun : List Transaction) (sent : List Sent
   unfolding received
   request_received from text r read =
       let m = Kinds.Request r in
-      by_if Sends (is_full s (reception_of s.table m)) (of_plan s (nothing takens.Shed)) (received_by s e m (begun_by s e m) (reception_of s.table m).verdict (reception_of s.table m).send) (λ full. none_sent)
+      by_if Sends (is_full s e (reception_of s.table m)) (of_plan s (nothing takens.Shed)) (received_by s e m (begun_by s e m) (reception_of s.table m).verdict (reception_of s.table m).send) (λ full. none_sent)
       (λ room. request_by_sent from text r read (begun_by s e m) (reception_of s.table m).verdict)
 
   -- ---- a response to a request of the server's own

@@ -185,7 +185,7 @@ ReceivedCase s e m x = MessageCase s e m (begun_by s e m) (reception_of s.table 
 received_case : (s : Office) (e : Setting) (m : Message) → ReceivedCase s e m (received s e m)
 unfolding received
 received_case s e m =
-    by_if (ReceivedCase s e m) (is_full s (reception_of s.table m)) (of_plan s (nothing takens.Shed))
+    by_if (ReceivedCase s e m) (is_full s e (reception_of s.table m)) (of_plan s (nothing takens.Shed))
     (received_by s e m (begun_by s e m) (reception_of s.table m).verdict (reception_of s.table m).send) (λ b. dropped takens.Shed tt refl)
     (λ b. received_by_case s e m (begun_by s e m) (reception_of s.table m).send)
 

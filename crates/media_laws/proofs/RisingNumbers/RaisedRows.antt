@@ -146,7 +146,7 @@ module _ (s : Office) (k : IsReady s) (e : Setting) where
   unfolding received
   request_received r =
       let m = Kinds.Request r in
-      by_if P (is_full s (reception_of s.table m)) (of_plan s (nothing takens.Shed)) (received_by s e m (begun_by s e m) (reception_of s.table m).verdict (reception_of s.table m).send) (λ full. same_calls)
+      by_if P (is_full s e (reception_of s.table m)) (of_plan s (nothing takens.Shed)) (received_by s e m (begun_by s e m) (reception_of s.table m).verdict (reception_of s.table m).send) (λ full. same_calls)
       (λ room. request_by_rises r (begun_by s e m) (reception_of s.table m).verdict (reception_of s.table m).send)
 
   -- ---- a response to a request of the server's own

@@ -104,7 +104,7 @@ request_received : BodiesDescribe → (bytes : List ℕ) (s : Office) → IsRead
 unfolding received
 request_received describes bytes s k e r read from =
     let m = Kinds.Request r in
-    by_if (AskedEffect s) (is_full s (reception_of s.table m)) (of_plan s (nothing takens.Shed)) (received_by s e m (begun_by s e m) (reception_of s.table m).verdict (reception_of s.table m).send)
+    by_if (AskedEffect s) (is_full s e (reception_of s.table m)) (of_plan s (nothing takens.Shed)) (received_by s e m (begun_by s e m) (reception_of s.table m).verdict (reception_of s.table m).send)
     (λ full. nothing_asks s k takens.Shed)
     (λ room. request_asks s k e r (begun_by s e m) (reception_of s.table m).verdict (reception_of s.table m).send (can_answer bytes s e r read from k.few) (message_begun bytes s e m read) (message_goes s k m)
     (λ id new. new_begun s e r id new) (λ offer said. body_read describes bytes (Kinds.Request r) offer read said))

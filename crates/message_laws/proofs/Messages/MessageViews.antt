@@ -154,6 +154,6 @@ ReceivedRow s e m x = MessageRow s e m (begun_by s e m) (reception_of s.table m)
 pub received_view : (s : Office) (e : Setting) (m : Message) → ReceivedRow s e m (received s e m)
 unfolding received
 received_view s e m =
-    by_if (ReceivedRow s e m) (is_full s (reception_of s.table m)) (of_plan s (nothing Shed))
+    by_if (ReceivedRow s e m) (is_full s e (reception_of s.table m)) (of_plan s (nothing Shed))
     (received_by s e m (begun_by s e m) (reception_of s.table m).verdict (reception_of s.table m).send) (λ b. dropped Shed refl)
     (λ b. received_by_view s e m (begun_by s e m) (reception_of s.table m).send)

@@ -114,7 +114,7 @@ pub request_received : (laws : Laws) (s : Office) (e : Setting) → IsReady s �
 unfolding received
 request_received laws s e k text r read from can =
     let m = Kinds.Request r in
-    by_if SendsRead (is_full s (reception_of s.table m)) _ (received_by s e m (begun_by s e m) (reception_of s.table m).verdict (reception_of s.table m).send) (λ full. All-nil IsReadDatagram)
+    by_if SendsRead (is_full s e (reception_of s.table m)) _ (received_by s e m (begun_by s e m) (reception_of s.table m).verdict (reception_of s.table m).send) (λ full. All-nil IsReadDatagram)
     (λ room. request_reads laws s e k text r read from can (begun_by s e m) (reception_of s.table m).verdict (reception_of s.table m).send (message_goes laws.reading s k text m read))
 
 -- ---- a response to a request of the server's own

@@ -86,7 +86,7 @@ by_place law s k e r begun send (Some id) is done = slot_branch law s k r id (at
 
 received_done : ReplyLaw → (s : Office) → KnowsTokens s → (e : Setting) (r : Response) → IsDone (received s e (Kinds.Response r)).plan → IsMadeBranch s.tokens (top_branch r.parts.vias)
 unfolding received reception_of
-received_done law s k e r done = by_full (is_full s (reception_of s.table (Kinds.Response r))) done
+received_done law s k e r done = by_full (is_full s e (reception_of s.table (Kinds.Response r))) done
   where
     by_full : (b : Bool) → IsDone (cond b (of_plan s (nothing Shed)) (response_by s e r (begun_by s e (Kinds.Response r)) (reception_of s.table (Kinds.Response r)).verdict (reception_of s.table (Kinds.Response r)).send)).plan
         → IsMadeBranch s.tokens (top_branch r.parts.vias)
