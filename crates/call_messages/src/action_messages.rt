@@ -277,11 +277,11 @@ impl Scene<'_, '_> {
         ensures dressed { IfOk result (λ d. d ≡ dressed self.now tokens actions.now) }
         ensures few { IfOk result (λ d. d.made ≤ length actions.now) }
     {
-        let [action, later @ ..] = actions else {
-            return Ok(Dressed::no_message(alloc));
-        };
-        let first = self.dress_one(alloc, tokens, *action)?;
-        let later = self.dress(alloc, tokens + first.made, later)?;
-        first.before(later)
+        let mut dressed = Dressed::no_message(alloc);
+        for action in actions {
+            let saying = self.dress_one(alloc, tokens + dressed.made, *action)?;
+            saying.put_behind(&mut dressed)?;
+        }
+        Ok(dressed)
     }
 }

@@ -4,23 +4,22 @@ ghost use Rattle.std.specs.Prelude.{◌≡◌, [], ◌∷◌, IfOk};
 ghost use Rattle.call_messages.specs.Messages.{contact, content_type, description_headers, retry_after};
 
 use sip_message::{FieldValue, Header};
-use sip_uri::{Addr, put_ip4};
+use sip_uri::Addr;
+use sip_writing::put_socket_address;
 use std::alloc::{AllocError, Global};
-use text::{Text, put_number};
+use text::{Room, Text};
 
 /// Where the server is reached: `Contact: <sip:ADDRESS:PORT>` (RFC 3261 sections 8.1.1.8 and 12.1.1).
 pub fn contact_header(alloc: Global, server: Addr) -> Result<Header<'static>, AllocError>
     ensures contact { IfOk result (λ h. h ≡ contact server) }
 {
-    let mut out = Vec::with_capacity(alloc, 64)?;
-    out.extend_from_slice(b"<sip:")?;
-    put_ip4(&mut out, &server.ip)?;
-    out.extend_from_slice(b":")?;
-    put_number(&mut out, u64::from(server.port))?;
-    out.extend_from_slice(b">")?;
+    let mut room = Room::new();
+    room.put(b"<sip:");
+    put_socket_address(&mut room, server);
+    room.put_byte(b'>');
     Ok(Header {
         name: Text::lent(b"Contact"),
-        value: FieldValue::whole(Text::from_vec(out)),
+        value: FieldValue::whole(room.text(alloc)?),
     })
 }
 

@@ -1,6 +1,6 @@
 //! What one action comes to.
 
-ghost use Rattle.std.specs.Prelude.{◌≡◌, ◌<◌, ◌+◌, ◌^◌, ◌++◌, ◌∷◌, [], codes, true, IfOk, option_to_list};
+ghost use Rattle.std.specs.Prelude.{◌≡◌, ◌<◌, ◌+◌, ◌^◌, ◌∷◌, [], codes, true, IfOk, OnOk};
 ghost use Rattle.sip_message.specs.declared.message.Message.TheVariants as Kinds;
 ghost use Rattle.sip_message.specs.declared.message.Request.{Request};
 ghost use Rattle.sip_message.specs.Words.{class_of, is_method};
@@ -18,7 +18,7 @@ use sip_uri::{Uri, address_of};
 use sip_writing::reply_address;
 use std::alloc::{AllocError, Global};
 use std::marker::Model;
-use text::{Text, both};
+use text::Text;
 use transactions::{Change, OwnRequest};
 
 /// What an action comes to: a change of a transaction at most, a datagram at most, and how many tokens are made.
@@ -37,16 +37,6 @@ impl Model for Saying {
     ghost Value = { words.Dressed };
 
     ghost view = { λ s. record { changes = option_to_list s.change; sends = option_to_list s.send; made = s.made } };
-}
-
-/// This list, with the value before it, if there is one.
-fn with_first<T: Drop>(first: Option<T>, mut later: Vec<T>) -> Result<Vec<T>, AllocError>
-    ensures { IfOk result (λ all. all.items ≡ option_to_list first ++ later.items) }
-{
-    if let Some(first) = first {
-        later.insert(0, first)?;
-    }
-    Ok(later)
 }
 
 impl Saying {
@@ -127,24 +117,19 @@ impl Saying {
         })
     }
 
-    /// What an action comes to, and behind it what later ones do.
-    pub fn before(self, later: Dressed) -> Result<Dressed, AllocError>
-        requires { self.made + later.made < 2 ^ 64 }
-        ensures { IfOk result (λ d. d ≡ behind self later) }
+    /// Puts what an action comes to behind what earlier ones did.
+    pub fn put_behind(self, dressed: &mut Dressed) -> Result<(), AllocError>
+        requires { dressed.old.made + self.made < 2 ^ 64 }
+        ensures { OnOk result (dressed.new ≡ behind dressed.old self) }
     {
         let Saying { change, send, made } = self;
-        let Dressed {
-            changes,
-            sends,
-            made: later_made,
-        } = later;
-        let changes = with_first(change, changes);
-        let sends = with_first(send, sends);
-        let (changes, sends) = both(changes, sends)?;
-        Ok(Dressed {
-            changes,
-            sends,
-            made: made + later_made,
-        })
+        if let Some(change) = change {
+            dressed.changes.push(change)?;
+        }
+        if let Some(send) = send {
+            dressed.sends.push(send)?;
+        }
+        dressed.made += made;
+        Ok(())
     }
 }

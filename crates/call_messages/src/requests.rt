@@ -9,7 +9,7 @@ ghost use Rattle.call_messages.specs.Messages.{ack, bye, next_request, offer, on
 use crate::fields::description_headers;
 use dialogs::{Dialog, DialogError, Extras, Method};
 use sdp::{Description, write_description};
-use sip_message::MAX_FORWARDS;
+use sip_message::{MAX_FORWARDS, Via};
 use sip_uri::Addr;
 use sip_writing::server_via;
 use std::alloc::{AllocError, Global};
@@ -22,12 +22,13 @@ fn next_request(
     alloc: Global,
     dialog: &Dialog,
     method: Method,
+    via: Via<'static>,
     extras: &Extras<'_, '_>,
 ) -> Result<Option<OwnRequest>, AllocError>
-    ensures { IfOk result (λ own. own ≡ option_map own_of (next_request dialog.now method extras.now.via.now extras.now.max_forwards
+    ensures { IfOk result (λ own. own ≡ option_map own_of (next_request dialog.now method via.entry extras.now.max_forwards
         extras.now.further.now extras.now.body.now)) }
 {
-    match dialog.next_request(alloc, method, extras) {
+    match dialog.next_request(alloc, method, via, extras) {
         Ok(next) => {
             let uri = dialog.target.keep(alloc)?;
             Ok(Some(OwnRequest {
@@ -67,12 +68,11 @@ pub fn offer(
     let further = description_headers(alloc, server)?;
     let body = write_description(alloc, description)?;
     let extras = Extras {
-        via: &via,
         max_forwards: one_hop_less(hops),
         further: &further,
         body: body.as_bytes(),
     };
-    next_request(alloc, dialog, method, &extras)
+    next_request(alloc, dialog, method, via, &extras)
 }
 
 /// The ACK of the 2xx to the last INVITE in this dialog (RFC 3261 section 13.2.2.4), with a branch of this token.
@@ -86,12 +86,11 @@ pub fn ack(
 {
     let via = server_via(alloc, server, token)?;
     let extras = Extras {
-        via: &via,
         max_forwards: MAX_FORWARDS,
         further: &[],
         body: b"",
     };
-    dialog.ack(alloc, dialog.local_number.unwrap_or(0), &extras)
+    dialog.ack(alloc, dialog.local_number.unwrap_or(0), &via, &extras)
 }
 
 /// A BYE (RFC 3261 section 15.1.1), with a branch of this token. None where no number is left.
@@ -105,10 +104,9 @@ pub fn bye(
 {
     let via = server_via(alloc, server, token)?;
     let extras = Extras {
-        via: &via,
         max_forwards: MAX_FORWARDS,
         further: &[],
         body: b"",
     };
-    next_request(alloc, dialog, Method::Bye, &extras)
+    next_request(alloc, dialog, Method::Bye, via, &extras)
 }

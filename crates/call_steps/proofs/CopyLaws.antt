@@ -1,17 +1,19 @@
 -- What an action sends is the same, whether it is dressed alone or among others: an ACK that is the first has the first
 -- token, and an answer makes none.
-use Rattle.std.proofs.Common.{◌≡◌, ◌≤◌, ◌+◌, ◌-◌, ℕ, Bool, true, cond, List, [], ◌∷◌, ◌++◌, length, take, drop, slice_index_or, find, Some, refl, ap, sym, ◌∙◌, arith}
-use Rattle.std.proofs.Math.Seq.{take-length}
+use Rattle.std.proofs.Common.{◌≡◌, ◌<◌, ℕ, zero, suc, Bool, true, false, not, ◌&&◌, ◌||◌, cond, eqb, List, [], ◌∷◌, ◌++◌, length, take, slice_index_or, find, Option, Some, None, is_some, refl, ap, sym, ◌∙◌, arith}
+use Rattle.std.specs.Option.{option_or}
+use Rattle.std.proofs.lemmas.Bool.{and_parts, ne_eqb}
 use Rattle.events.specs.declared.sent.Sent.{Sent}
 use Rattle.call_messages.specs.declared.scene.Scene.{Scene}
 use Rattle.call_media.specs.declared.end.End.{End}
 use Rattle.call_core.specs.declared.action.Action.{Action}
 use Rattle.call_core.specs.declared.action.Action.TheVariants.{Trying, Offer, Provisional, Ack, Answer, AnswerAgain, Refusal, Okay, Cancel, Bye, PutRows, Release, RemoveRows, Set, Stop, Abandon}
-use Rattle.call_messages.specs.Dressed.{Dressed, behind}
-use Rattle.call_messages.specs.Dressing.{dress_one, dressed}
-use Rattle.call_steps.specs.Messages.{ack_kept, answer_kept, first_sent, is_answer, sent_alone}
-use Rattle.call_steps.specs.Values.{dressed_in, scene_value}
-use Rattle.call_steps.proofs.SceneLaws.{dressed_lent, one_lent}
+use Rattle.call_messages.specs.Dressed.{Dressed}
+use Rattle.call_messages.specs.Dressing.{dress_one}
+use Rattle.call_steps.specs.Messages.{ack_kept, answer_kept, first_sent, is_ack, is_answer, sent_alone}
+use Rattle.call_steps.specs.Values.{SceneValue, scene_value}
+use Rattle.call_steps.proofs.FirstFound.{as_before, find_more, is_first}
+use Rattle.call_steps.proofs.SceneLaws.{one_lent}
 
 first_of : (sends : List Sent) → first_sent sends ≡ first_sent (sends ++ [])
 first_of [] = refl
@@ -50,30 +52,131 @@ answer_alone s tokens (Set timer after) is = absurd cc
 answer_alone s tokens (Stop timer) is = absurd cc
 answer_alone s tokens (Abandon end) is = absurd cc
 
--- ---- the first of some actions
+-- ---- an ACK, which is kept where it is the first
 
-pub first_answer : (s : Scene) (tokens : ℕ) (actions : List Action) (d : Action) → 1 ≤ length actions → is_answer (slice_index_or actions 0 d) ≡ true →
-    first_sent (dress_one s tokens (slice_index_or actions 0 d)).sends ≡ answer_kept (scene_value s) (find is_answer actions)
-first_answer s tokens [] d some is = absurd (omega arith)
-first_answer s tokens (action ∷ later) d some is =
-    answer_alone s tokens action is
-    ∙ ap (λ (b : Bool). answer_kept (scene_value s) (cond b (Some action) (find is_answer later))) (sym is)
+an_ack_alone : (s : Scene) (action : Action) → is_ack action ≡ true →
+    first_sent (dress_one s s.tokens action).sends ≡ sent_alone (scene_value s) action
+an_ack_alone s (Trying end) is = absurd cc
+an_ack_alone s (Offer end method) is = absurd cc
+an_ack_alone s (Provisional end status) is = absurd cc
+an_ack_alone s (Ack end) is = ack_alone s end
+an_ack_alone s (Answer end) is = absurd cc
+an_ack_alone s (AnswerAgain end) is = absurd cc
+an_ack_alone s (Refusal end status) is = absurd cc
+an_ack_alone s (Okay end) is = absurd cc
+an_ack_alone s (Cancel end) is = absurd cc
+an_ack_alone s (Bye end) is = absurd cc
+an_ack_alone s PutRows is = absurd cc
+an_ack_alone s Release is = absurd cc
+an_ack_alone s RemoveRows is = absurd cc
+an_ack_alone s (Set timer after) is = absurd cc
+an_ack_alone s (Stop timer) is = absurd cc
+an_ack_alone s (Abandon end) is = absurd cc
 
-pub first_ack : (s : Scene) (actions : List Action) (d : Action) (end : End) → 1 ≤ length actions → slice_index_or actions 0 d ≡ Ack end →
-    first_sent (dress_one s s.tokens (Ack end)).sends ≡ ack_kept (scene_value s) actions
-first_ack s [] d end some is = absurd (omega arith)
-first_ack s (action ∷ later) d end some is =
-    ack_alone s end ∙ ap (λ (a : Action). ack_kept (scene_value s) (a ∷ later)) (sym is)
+kept_if_ack : (s : SceneValue) (action : Action) (later : List Action) → is_ack action ≡ true → sent_alone s action ≡ ack_kept s (action ∷ later)
+kept_if_ack s (Trying end) later is = absurd cc
+kept_if_ack s (Offer end method) later is = absurd cc
+kept_if_ack s (Provisional end status) later is = absurd cc
+kept_if_ack s (Ack end) later is = refl
+kept_if_ack s (Answer end) later is = absurd cc
+kept_if_ack s (AnswerAgain end) later is = absurd cc
+kept_if_ack s (Refusal end status) later is = absurd cc
+kept_if_ack s (Okay end) later is = absurd cc
+kept_if_ack s (Cancel end) later is = absurd cc
+kept_if_ack s (Bye end) later is = absurd cc
+kept_if_ack s PutRows later is = absurd cc
+kept_if_ack s Release later is = absurd cc
+kept_if_ack s RemoveRows later is = absurd cc
+kept_if_ack s (Set timer after) later is = absurd cc
+kept_if_ack s (Stop timer) later is = absurd cc
+kept_if_ack s (Abandon end) later is = absurd cc
 
-others : (action : Action) (later : List Action) → take (length (action ∷ later) - 1) later ≡ later
-others action later = let same : length (action ∷ later) - 1 ≡ length later = omega arith in rw same (take-length later)
+none_if_no_ack : (s : SceneValue) (action : Action) (later : List Action) → is_ack action ≡ false → None ≡ ack_kept s (action ∷ later)
+none_if_no_ack s (Trying end) later is = refl
+none_if_no_ack s (Offer end method) later is = refl
+none_if_no_ack s (Provisional end status) later is = refl
+none_if_no_ack s (Ack end) later is = absurd cc
+none_if_no_ack s (Answer end) later is = refl
+none_if_no_ack s (AnswerAgain end) later is = refl
+none_if_no_ack s (Refusal end status) later is = refl
+none_if_no_ack s (Okay end) later is = refl
+none_if_no_ack s (Cancel end) later is = refl
+none_if_no_ack s (Bye end) later is = refl
+none_if_no_ack s PutRows later is = refl
+none_if_no_ack s Release later is = refl
+none_if_no_ack s RemoveRows later is = refl
+none_if_no_ack s (Set timer after) later is = refl
+none_if_no_ack s (Stop timer) later is = refl
+none_if_no_ack s (Abandon end) later is = refl
 
-pub behind_ack : (s : Scene) (actions : List Action) (d : Action) (end : End) → 1 ≤ length actions → slice_index_or actions 0 d ≡ Ack end →
-    behind (dress_one s s.tokens (Ack end)) (dressed s (s.tokens + (dress_one s s.tokens (Ack end)).made) (take (length actions - 1) (drop 1 actions)))
-    ≡ dressed_in (scene_value s) actions
-behind_ack s [] d end some is = absurd (omega arith)
-behind_ack s (action ∷ later) d end some is =
-    let first = dress_one s s.tokens (Ack end) in
-    ap (λ (l : List Action). behind first (dressed s (s.tokens + first.made) l)) (others action later)
-    ∙ ap (λ (a : Action). dressed s s.tokens (a ∷ later)) (sym is)
-    ∙ dressed_lent s (action ∷ later)
+alike : (s : SceneValue) (action : Action) (xs ys : List Action) → ack_kept s (action ∷ xs) ≡ ack_kept s (action ∷ ys)
+alike s (Trying end) xs ys = refl
+alike s (Offer end method) xs ys = refl
+alike s (Provisional end status) xs ys = refl
+alike s (Ack end) xs ys = refl
+alike s (Answer end) xs ys = refl
+alike s (AnswerAgain end) xs ys = refl
+alike s (Refusal end status) xs ys = refl
+alike s (Okay end) xs ys = refl
+alike s (Cancel end) xs ys = refl
+alike s (Bye end) xs ys = refl
+alike s PutRows xs ys = refl
+alike s Release xs ys = refl
+alike s RemoveRows xs ys = refl
+alike s (Set timer after) xs ys = refl
+alike s (Stop timer) xs ys = refl
+alike s (Abandon end) xs ys = refl
+
+later_kept : (s : SceneValue) (actions : List Action) (n : ℕ) → ack_kept s (take (suc n) actions) ≡ ack_kept s (take (suc (suc n)) actions)
+later_kept s [] n = refl
+later_kept s (action ∷ later) n = alike s action (take n later) (take (suc n) later)
+
+first_kept : (s : Scene) (tokens : ℕ) (actions : List Action) (d : Action) → 0 < length actions → tokens ≡ s.tokens
+    → cond (is_ack (slice_index_or actions 0 d)) (first_sent (dress_one s tokens (slice_index_or actions 0 d)).sends) None ≡ ack_kept (scene_value s) (take 1 actions)
+first_kept s tokens [] d some first = absurd (omega arith)
+first_kept s tokens (action ∷ later) d some first =
+    elim (is_ack action) as (λ b. is_ack action ≡ b → cond b (first_sent (dress_one s tokens action).sends) None ≡ ack_kept (scene_value s) (action ∷ [])) [
+      | true ↦ λ is. ap (λ (n : ℕ). first_sent (dress_one s n action).sends) first ∙ an_ack_alone s action is ∙ kept_if_ack (scene_value s) action [] is
+      | false ↦ λ is. none_if_no_ack (scene_value s) action [] is
+    ] refl
+
+-- with one action more: an ACK is kept where it is the first
+pub ack_step : (s : Scene) (tokens : ℕ) (actions : List Action) (at : ℕ) (d : Action) (kept : Option Sent) → at < length actions → (at ≡ 0 → tokens ≡ s.tokens)
+    → kept ≡ ack_kept (scene_value s) (take at actions)
+    → cond (eqb at 0 && is_ack (slice_index_or actions at d)) (first_sent (dress_one s tokens (slice_index_or actions at d)).sends) kept ≡ ack_kept (scene_value s) (take (suc at) actions)
+ack_step s tokens actions zero d kept there first is =
+    ap (λ (k : Option Sent). cond (is_ack (slice_index_or actions 0 d)) (first_sent (dress_one s tokens (slice_index_or actions 0 d)).sends) k) is
+    ∙ first_kept s tokens actions d there (first refl)
+ack_step s tokens actions (suc n) d kept there first is =
+    ap (λ (b : Bool). cond (b && is_ack (slice_index_or actions (suc n) d)) (first_sent (dress_one s tokens (slice_index_or actions (suc n) d)).sends) kept) (ne_eqb (suc n) 0 (λ e. omega (arith, e)))
+    ∙ is
+    ∙ later_kept (scene_value s) actions n
+
+-- and an answer where none is kept yet
+pub answer_step : (s : Scene) (tokens : ℕ) (actions : List Action) (at : ℕ) (d : Action) (answered : Bool) (kept : Option Sent) → at < length actions
+    → answered ≡ is_some (find is_answer (take at actions))
+    → kept ≡ answer_kept (scene_value s) (find is_answer (take at actions))
+    → cond (not answered && is_answer (slice_index_or actions at d)) (first_sent (dress_one s tokens (slice_index_or actions at d)).sends) kept
+    ≡ answer_kept (scene_value s) (find is_answer (take (suc at) actions))
+answer_step s tokens actions at d answered kept there so is =
+    let action = slice_index_or actions at d in
+    let found = find is_answer (take at actions) in
+    let more = find_more is_answer actions at d there in
+    rw so (elim (not (is_some found) && is_answer action) as (λ b. (not (is_some found) && is_answer action) ≡ b → cond b (first_sent (dress_one s tokens action).sends) kept ≡ answer_kept (scene_value s) (find is_answer (take (suc at) actions))) [
+      | true ↦ λ e. answer_alone s tokens action (and_parts (not (is_some found)) (is_answer action) e).1 ∙ ap (λ (o : Option Action). answer_kept (scene_value s) o) (sym (more ∙ is_first is_answer found action e))
+      | false ↦ λ e. is ∙ ap (λ (o : Option Action). answer_kept (scene_value s) o) (sym (more ∙ as_before is_answer found action e))
+    ] refl)
+
+pub answered_step : (actions : List Action) (at : ℕ) (d : Action) (answered : Bool) → at < length actions
+    → answered ≡ is_some (find is_answer (take at actions))
+    → (answered || (not answered && is_answer (slice_index_or actions at d))) ≡ is_some (find is_answer (take (suc at) actions))
+answered_step actions at d answered there so =
+    let action = slice_index_or actions at d in
+    let found = find is_answer (take at actions) in
+    rw so (so_far found action) ∙ ap (λ (o : Option Action). is_some o) (sym (find_more is_answer actions at d there)) where
+      so_far : (found : Option Action) (action : Action) → (is_some found || (not (is_some found) && is_answer action)) ≡ is_some (option_or found (find is_answer (action ∷ [])))
+      so_far (Some x) action = refl
+      so_far None action = elim (is_answer action) as (λ b. b ≡ is_some (cond b (Some action) None)) [
+        | true ↦ refl
+        | false ↦ refl
+      ]

@@ -1,4 +1,6 @@
 mod SceneLaws
+mod FirstFound
 mod CopyLaws
+mod PassedLaws
 mod ContactLaws
 mod StepLaws

@@ -5,7 +5,7 @@ use Rattle.transaction_machines.specs.declared.input.Input.TheVariants as inputs
 use Rattle.transactions.specs.declared.change.Entry.{Entry}
 use Rattle.transactions.specs.declared.change.Entry.TheVariants.{Tells}
 use Rattle.call_core.specs.declared.action.Action.{Action}
-use Rattle.call_core.specs.declared.action.Action.TheVariants.{Abandon, Ack, Answer}
+use Rattle.call_core.specs.declared.action.Action.TheVariants.{Abandon, Ack, Answer, Cancel}
 use Rattle.call_messages.specs.Dressed.{Dressed}
 use Rattle.call_steps.specs.declared.messages.StepMessages.{StepMessages}
 use Rattle.call_steps.specs.Values.{SceneValue, dressed_in}
@@ -14,9 +14,19 @@ abbrev pub is_answer : Action → Bool
 is_answer (Answer end) = true
 is_answer action = false
 
+abbrev pub is_ack : Action → Bool
+is_ack (Ack end) = true
+is_ack action = false
+
 abbrev pub is_abandon : Action → Bool
 is_abandon (Abandon end) = true
 is_abandon action = false
+
+-- an action that has to do with the offer that was passed on, once it has been
+abbrev pub ends_offer : Action → Bool
+ends_offer (Cancel end) = true
+ends_offer (Abandon end) = true
+ends_offer action = false
 
 -- ---- what is kept
 

@@ -1,9 +1,9 @@
 //! The messages of a step, and those of them that are kept.
 
-ghost use Rattle.std.specs.Prelude.{◌≡◌, ◌<◌, ◌≤◌, ◌+◌, ◌^◌, ◌++◌, IfOk, None, find, length, option_to_list};
+ghost use Rattle.std.specs.Prelude.{◌≡◌, ◌==◌, ◌≤◌, ◌+◌, ◌^◌, ◌&&◌, not, IfOk, OnOk, None, find, if◌then◌else◌, length, option_to_list};
 ghost use Rattle.std.specs.Option.{option_copied};
-ghost use Rattle.call_steps.specs.Messages.{ack_kept, answer_kept, first_sent, given_up, is_abandon, is_answer, messages, with_changes};
-ghost use Rattle.call_messages.specs.Dressing.{dressed};
+ghost use Rattle.call_steps.specs.Messages.{ack_kept, answer_kept, first_sent, is_abandon, is_ack, is_answer, messages};
+ghost use Rattle.call_messages.specs.Dressed.{no_message};
 ghost use Rattle.call_steps.specs.Values.{dressed_in, scene_value};
 
 use call_core::Action;
@@ -22,11 +22,55 @@ pub struct StepMessages {
     pub ack: Option<Sent>,
 }
 
+impl StepMessages {
+    /// No message. Takes no memory.
+    fn none(alloc: Global) -> StepMessages
+        ensures { result ≡ record { dressed = no_message; answer = None; ack = None } }
+    {
+        StepMessages {
+            dressed: Dressed::no_message(alloc),
+            answer: None,
+            ack: None,
+        }
+    }
+
+    /// Keeps what an action sends, where it is the 200 with the answer or the ACK that goes again.
+    fn keep(
+        &mut self,
+        alloc: Global,
+        answers: bool,
+        acknowledges: bool,
+        send: Option<&Sent>,
+    ) -> Result<(), AllocError>
+        ensures { OnOk result (self.new ≡ record self.old {
+          answer = if answers then first_sent (option_to_list (option_copied send.entry)) else self.old.answer;
+          ack = if acknowledges then first_sent (option_to_list (option_copied send.entry)) else self.old.ack;
+        }) }
+    {
+        if answers {
+            self.answer = first_sent(alloc, send)?;
+        }
+        if acknowledges {
+            self.ack = first_sent(alloc, send)?;
+        }
+        Ok(())
+    }
+}
+
 fn is_answer(action: Action) -> bool
     ensures { result ≡ is_answer action }
 {
     match action {
         Action::Answer(_) => true,
+        _ => false,
+    }
+}
+
+fn is_ack(action: Action) -> bool
+    ensures { result ≡ is_ack action }
+{
+    match action {
+        Action::Ack(_) => true,
         _ => false,
     }
 }
@@ -58,31 +102,18 @@ fn first_sent(alloc: Global, send: Option<&Sent>) -> Result<Option<Sent>, AllocE
     Ok(Some(Sent { to: sent.to, bytes }))
 }
 
-/// The messages of these actions, where so many tokens were made before the first, and what the first answer among them
-/// sends.
-fn with_answer(
-    alloc: Global,
-    scene: &Scene<'_, '_>,
-    tokens: u64,
-    actions: &[Action],
-) -> Result<(Dressed, Option<Sent>), AllocError>
-    requires { tokens + length actions.now < 2 ^ 64 }
-    ensures dressed { IfOk result (λ said. said.0 ≡ dressed scene.now tokens actions.now) }
-    ensures answer { IfOk result (λ said. said.1 ≡ answer_kept (scene_value scene.now) (find is_answer actions.now)) }
-    ensures few { IfOk result (λ said. said.0.made ≤ length actions.now) }
+/// Whether an action is an answer, and the first among some.
+fn answers_first(answered: bool, action: Action) -> bool
+    ensures { result ≡ (not answered && is_answer action) }
 {
-    let [action, later @ ..] = actions else {
-        return Ok((Dressed::no_message(alloc), None));
-    };
-    let first = scene.dress_one(alloc, tokens, *action)?;
-    let tokens = tokens + first.made;
-    if is_answer(*action) {
-        let answer = first_sent(alloc, first.send.as_ref())?;
-        let later = scene.dress(alloc, tokens, later)?;
-        return Ok((first.before(later)?, answer));
-    }
-    let (later, answer) = with_answer(alloc, scene, tokens, later)?;
-    Ok((first.before(later)?, answer))
+    !answered && is_answer(action)
+}
+
+/// Whether an action at this place is an ACK, and the first among some.
+fn acknowledges_first(at: usize, action: Action) -> bool
+    ensures { result ≡ (at == 0 && is_ack action) }
+{
+    at == 0 && is_ack(action)
 }
 
 /// The messages of these actions, with copies of those that go again: the 200 with the answer, and an ACK that is the
@@ -99,61 +130,17 @@ fn with_copies(
     ensures ack { IfOk result (λ m. m.ack ≡ ack_kept (scene_value scene.now) actions.now) }
     ensures few { IfOk result (λ m. m.dressed.made ≤ length actions.now) }
 {
-    let [Action::Ack(end), later @ ..] = actions else {
-        let (dressed, answer) = with_answer(alloc, scene, scene.tokens, actions)?;
-        return Ok(StepMessages {
-            dressed,
-            answer,
-            ack: None,
-        });
-    };
-    let first = scene.dress_one(alloc, scene.tokens, Action::Ack(*end))?;
-    let ack = first_sent(alloc, first.send.as_ref())?;
-    let (later, answer) = with_answer(alloc, scene, scene.tokens + first.made, later)?;
-    Ok(StepMessages {
-        dressed: first.before(later)?,
-        answer,
-        ack,
-    })
-}
-
-// ---- transactions
-
-/// The INVITE that was passed on is given up.
-fn given_up(
-    alloc: Global,
-    passed: Option<usize>,
-    abandon: Option<&Action>,
-) -> Result<Vec<Change>, AllocError>
-    ensures { IfOk result (λ changes. changes.items ≡ given_up passed (option_copied abandon.entry)) }
-{
-    let mut changes = Vec::new(alloc);
-    let Some(id) = passed else {
-        return Ok(changes);
-    };
-    let Some(_) = abandon else {
-        return Ok(changes);
-    };
-    changes.push(Change::abandons(id))?;
-    Ok(changes)
-}
-
-/// These changes come behind those of the messages.
-fn with_changes(mut later: Vec<Change>, dressed: Dressed) -> Result<Dressed, AllocError>
-    ensures dressed { IfOk result (λ d. d ≡ with_changes later.items dressed) }
-    ensures few { IfOk result (λ d. d.made ≡ dressed.made) }
-{
-    let Dressed {
-        mut changes,
-        sends,
-        made,
-    } = dressed;
-    changes.append(&mut later)?;
-    Ok(Dressed {
-        changes,
-        sends,
-        made,
-    })
+    let mut said = StepMessages::none(alloc);
+    let mut answered = false;
+    for at in 0..actions.len() {
+        let saying = scene.dress_one(alloc, scene.tokens + said.dressed.made, actions[at])?;
+        let answers = answers_first(answered, actions[at]);
+        let acknowledges = acknowledges_first(at, actions[at]);
+        said.keep(alloc, answers, acknowledges, saying.send.as_ref())?;
+        answered |= answers;
+        saying.put_behind(&mut said.dressed)?;
+    }
+    Ok(said)
 }
 
 /// The messages of these actions, where this INVITE was passed on and still waits for a final response.
@@ -168,15 +155,9 @@ pub(crate) fn messages(
     ensures messages { IfOk result (λ m. m ≡ messages (scene_value scene.now) passed actions.now) }
     ensures few { IfOk result (λ m. m.dressed.made ≤ length actions.now) }
 {
-    let StepMessages {
-        dressed,
-        answer,
-        ack,
-    } = with_copies(alloc, scene, actions)?;
-    let later = given_up(alloc, passed, abandon_among(actions))?;
-    Ok(StepMessages {
-        dressed: with_changes(later, dressed)?,
-        answer,
-        ack,
-    })
+    let mut said = with_copies(alloc, scene, actions)?;
+    if let (Some(id), Some(_)) = (passed, abandon_among(actions)) {
+        said.dressed.changes.push(Change::abandons(id))?;
+    }
+    Ok(said)
 }

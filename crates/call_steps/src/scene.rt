@@ -1,11 +1,13 @@
 //! What a call's actions are dressed with.
 
-ghost use Rattle.std.specs.Prelude.{◌≡◌, ◌≤◌, ◌^◌, ℕ, IfOk, length, option_map};
+ghost use Rattle.std.specs.Prelude.{◌≡◌, ◌≤◌, ◌^◌, ℕ, IfOk, None, if◌then◌else◌, length, option_map};
+ghost use Rattle.std.specs.List.{list_any};
 ghost use Rattle.std.specs.Option.{option_copied};
 ghost use Rattle.port_pool.specs.Pool.{Contents};
 ghost use Rattle.transactions.specs.Slots.{at};
 ghost use Rattle.call_core.specs.Calls.{dialog_of};
 ghost use Rattle.call_core.specs.Plans.{carried};
+ghost use Rattle.call_steps.specs.Messages.{ends_offer};
 ghost use Rattle.call_steps.specs.Rows.{messages_of};
 ghost use Rattle.call_steps.specs.Scenes.{asker_by, asker_in, at_id, dialog_in, offerer_tag, passed_id, scene, tag_or, tag_to, tag_with};
 ghost use Rattle.call_steps.specs.Values.{asker_value, coming_value, scene_value};
@@ -13,7 +15,7 @@ ghost use Rattle.call_steps.specs.Values.{asker_value, coming_value, scene_value
 use crate::arrival::Coming;
 use crate::messages::{StepMessages, messages};
 use crate::occasion::Occasion;
-use call_core::{Call, End, Plan};
+use call_core::{Action, Call, End, Plan};
 use call_messages::{Asker, Scene};
 use calls::{LegDialog, StandingCall, offerer_of};
 use dialogs::Dialog;
@@ -154,8 +156,9 @@ fn scene<'m, 'a>(
     description: Option<&'m Description<'a>>,
     passed: Option<usize>,
 ) -> Scene<'m, 'a>
-    requires passed { passed ≡ passed_id table.now call.now }
-    ensures scene { scene_value result ≡ scene table.now occasion (coming_value coming.now) call.now (option_copied description.entry) }
+    ensures scene { scene_value result ≡ record (scene table.now occasion (coming_value coming.now) call.now (option_copied description.entry)) {
+      passed = at_id table.now.slots passed;
+    } }
     ensures tokens { result.tokens ≡ occasion.tokens }
 {
     let leg = coming.leg.as_ref();
@@ -178,6 +181,32 @@ fn scene<'m, 'a>(
     }
 }
 
+/// Whether an action ends an offer that was passed on.
+fn ends_offer(action: Action) -> bool
+    ensures { result ≡ ends_offer action }
+{
+    match action {
+        Action::Cancel(_) | Action::Abandon(_) => true,
+        _ => false,
+    }
+}
+
+fn any_ends_offer(actions: &[Action]) -> bool
+    ensures { result ≡ list_any ends_offer actions.now }
+{
+    actions.iter().any(|action| ends_offer(*action))
+}
+
+/// The INVITE that was passed on, which is looked up only where an action ends it.
+fn passed_for(table: &Table, call: &StandingCall, actions: &[Action]) -> Option<usize>
+    ensures { result ≡ (if list_any ends_offer actions.now then passed_id table.now call.now else None) }
+{
+    if any_ends_offer(actions) {
+        return passed_id(table, call);
+    }
+    None
+}
+
 /// The messages of what was planned for a call.
 pub(crate) fn messages_of(
     alloc: Global,
@@ -192,7 +221,8 @@ pub(crate) fn messages_of(
         (carried call.now.call pool now plan.now)) }
     ensures few { IfOk result (λ m. m.dressed.made ≤ length plan.now.actions) }
 {
-    let passed = passed_id(table, call);
+    let actions = plan.actions.as_slice();
+    let passed = passed_for(table, call, actions);
     let scene = scene(
         table,
         occasion,
@@ -201,5 +231,5 @@ pub(crate) fn messages_of(
         plan.media.description(),
         passed,
     );
-    messages(alloc, &scene, passed, plan.actions.as_slice())
+    messages(alloc, &scene, passed, actions)
 }

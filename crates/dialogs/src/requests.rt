@@ -2,6 +2,7 @@
 
 ghost use Rattle.std.specs.Prelude.{◌≡◌, ◌≤◌, OnOk, IfOk, IfErr};
 ghost use Rattle.sip_message.specs.declared.message.Message.TheVariants as Kinds;
+ghost use Rattle.sip_message.specs.declared.via.Via.{Via};
 ghost use Rattle.sip_writing.specs.Writing.{message_text};
 ghost use Rattle.dialogs.specs.Counting.{method_text, following, max_for, RefusesNext};
 ghost use Rattle.sip_writing.specs.Unkept.{end_name};
@@ -21,8 +22,6 @@ use text::{Text, both};
 /// What a request in a dialog has besides what the dialog says.
 #[derive(Clone, Copy)]
 pub struct Extras<'m, 'a> {
-    /// The server's Via, with the branch of the request.
-    pub via: &'m Via<'a>,
     /// One less than it came with in a request that is passed on, and 70 in all others (RFC 3261 sections 8.1.1.6 and
     /// 16.6).
     pub max_forwards: u8,
@@ -44,11 +43,11 @@ pub struct NextRequest {
 fn parts_in(
     alloc: Global,
     dialog: &Dialog,
-    via: &Via<'_>,
+    via: Via<'static>,
     method: &[u8],
     number: u32,
 ) -> Result<Parts<'static>, AllocError>
-    ensures { IfOk result (λ parts. parts ≡ parts_in dialog.now via.now method.now number) }
+    ensures { IfOk result (λ parts. parts ≡ parts_in dialog.now via.entry method.now number) }
 {
     let id = &dialog.id;
     let ours = &dialog.ours;
@@ -70,9 +69,8 @@ fn text_in(
     number: u32,
     extras: &Extras<'_, '_>,
 ) -> Result<Text<'static>, AllocError>
-    requires { parts.now ≡ parts_in dialog.now extras.now.via.now method.now number }
-    ensures { IfOk result (λ t. t ≡ message_text (Kinds.Request (request_in dialog.now extras.now.via.now method.now number
-        extras.now.max_forwards extras.now.further.now extras.now.body.now))) }
+    ensures { (via : Via) → parts.now ≡ parts_in dialog.now via method.now number → IfOk result (λ t. t ≡ message_text (Kinds.Request
+        (request_in dialog.now via method.now number extras.now.max_forwards extras.now.further.now extras.now.body.now))) }
 {
     let _ = number;
     let outline = Outline {
@@ -87,22 +85,24 @@ fn text_in(
 }
 
 impl Dialog {
-    /// The next request of this method, and its number, which `keep_number` keeps. G2 comes where no number is left.
+    /// The next request of this method with the server's Via, and its number, which `keep_number` keeps. G2 comes where no
+    /// number is left.
     pub fn next_request(
         &self,
         alloc: Global,
         method: Method,
+        via: Via<'static>,
         extras: &Extras<'_, '_>,
     ) -> Result<NextRequest, DialogError>
         ensures number { IfOk result (λ next. next.number ≡ following self.now) }
         ensures left { OnOk result (following self.now ≤ max_for method) }
-        ensures parts { IfOk result (λ next. next.parts ≡ parts_in self.now extras.now.via.now (method_text method) (following self.now)) }
-        ensures bytes { IfOk result (λ next. next.bytes ≡ message_text (Kinds.Request (request_in self.now extras.now.via.now (method_text method)
+        ensures parts { IfOk result (λ next. next.parts ≡ parts_in self.now via.entry (method_text method) (following self.now)) }
+        ensures bytes { IfOk result (λ next. next.bytes ≡ message_text (Kinds.Request (request_in self.now via.entry (method_text method)
             (following self.now) extras.now.max_forwards extras.now.further.now extras.now.body.now))) }
         ensures refused { IfErr result (RefusesNext self.now method) }
     {
         let number = self.next_number(method)?;
-        let parts = parts_in(alloc, self, extras.via, method.as_bytes(), number)?;
+        let parts = parts_in(alloc, self, via, method.as_bytes(), number)?;
         let bytes = text_in(alloc, self, &parts, method.as_bytes(), number, extras)?;
         Ok(NextRequest {
             number,
@@ -131,19 +131,19 @@ impl Dialog {
         }
     }
 
-    /// The ACK of a 2xx to the INVITE with this number, as it is sent (RFC 3261 section 13.2.2.4).
+    /// The ACK of a 2xx to the INVITE with this number, with the server's Via, as it is sent (RFC 3261 section 13.2.2.4).
     #[tactic(auto, unfolding(sip_writing::specs::Unkept::unkept_request, crate::specs::Requests::request_in, crate::specs::Requests::parts_in))]
     pub fn ack(
         &self,
         alloc: Global,
         number: u32,
+        via: &Via<'_>,
         extras: &Extras<'_, '_>,
     ) -> Result<Text<'static>, AllocError>
-        ensures bytes { IfOk result (λ t. t ≡ message_text (Kinds.Request (request_in self.now extras.now.via.now ack_text number
+        ensures bytes { IfOk result (λ t. t ≡ message_text (Kinds.Request (request_in self.now via.now ack_text number
             extras.now.max_forwards extras.now.further.now extras.now.body.now))) }
     {
         let Extras {
-            via,
             max_forwards,
             further,
             body,

@@ -60,7 +60,10 @@ fn one_header(alloc: Global, header: Header<'static>) -> Result<Vec<Header<'stat
 pub fn allow_header(alloc: Global) -> Result<Vec<Header<'static>>, AllocError>
     ensures { IfOk result (λ hs. hs.items ≡ allow ∷ []) }
 {
-    let header = Header::of(alloc, b"Allow", ALLOW)?;
+    let header = Header {
+        name: Text::lent(b"Allow"),
+        value: FieldValue::whole(Text::lent(ALLOW)),
+    };
     one_header(alloc, header)
 }
 

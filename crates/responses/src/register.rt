@@ -1,16 +1,16 @@
 //! What a REGISTER request asks of the registrar.
 
-ghost use Rattle.std.specs.Prelude.{◌≡◌, ◌++◌, Some, IfOk, OnOk, count_by, option_map};
+ghost use Rattle.std.specs.Prelude.{◌≡◌, ◌++◌, ◌∷◌, [], Some, None, IfOk, OnOk, count_by, if◌then◌else◌, nat_lt, option_map};
 ghost use Rattle.std.specs.List.{list_any, filter_map};
 ghost use Rattle.std.specs.Option.{option_copied, option_to_list};
 ghost use Rattle.registrar.specs.Registrar.{rules_of};
-ghost use Rattle.responses.specs.Registering.{seconds_of, seconds_by, expires_of, is_star, contact_from, contacts_without_star, further_star, contacts_from, register_of};
+ghost use Rattle.responses.specs.Registering.{seconds_of, seconds_by, expires_of, is_star, contact_from, contacts_without_star, contacts_from, register_of};
 
 use registrar::{Contact, Contacts, Register, Registrar};
 use sip_message::{ContactValue, FieldValue, Request, contact_values, first_value};
 use sip_uri::{NameAddr, Param, param_named};
 use std::alloc::{AllocError, Global};
-use text::{Text, both, is_run_of_digits, number_upto};
+use text::{Text, is_run_of_digits, number_upto};
 
 /// The seconds of a text that is no number below 2^32.
 const UNREADABLE_SECONDS: u32 = 3600;
@@ -58,58 +58,50 @@ fn any_star(values: &[ContactValue<'_>]) -> bool
     values.iter().any(|value| is_star(value))
 }
 
-fn address_contact(alloc: Global, name: &NameAddr<'_>) -> Result<Contact<'static>, AllocError>
-    ensures { IfOk result (λ c. c ≡ record { uri = Some name.now.uri; expires = expires_of name.now.params }) }
+fn address_contact(name: NameAddr<'_>) -> Contact<'_>
+    ensures { result ≡ record { uri = Some name.entry.uri; expires = expires_of name.entry.params } }
 {
-    let uri = name.uri.keep(alloc)?;
-    let expires = expires_of(name.params.as_slice());
-    Ok(Contact {
+    let (uri, params) = name.into_uri_and_params();
+    Contact {
         uri: Some(uri),
-        expires,
-    })
-}
-
-fn contact_from(
-    alloc: Global,
-    value: &ContactValue<'_>,
-) -> Result<Option<Contact<'static>>, AllocError>
-    ensures { IfOk result (λ c. c ≡ contact_from value.now) }
-{
-    match value {
-        ContactValue::Star => Ok(None),
-        ContactValue::Address(name) => Ok(Some(address_contact(alloc, name)?)),
-        ContactValue::Unreadable => Ok(Some(Contact {
-            uri: None,
-            expires: None,
-        })),
+        expires: expires_of(params.as_slice()),
     }
 }
 
-fn push_contact(
-    alloc: Global,
-    contacts: &mut Vec<Contact<'static>>,
-    value: &ContactValue<'_>,
-) -> Result<(), AllocError>
-    ensures { OnOk result (contacts.new.items ≡ contacts.old.items ++ option_to_list (contact_from value.now)) }
+fn contact_from(value: ContactValue<'_>) -> Option<Contact<'_>>
+    ensures { result ≡ contact_from value.entry }
 {
-    match contact_from(alloc, value)? {
-        Some(contact) => {
-            contacts.push(contact)?;
-            Ok(())
-        }
+    match value {
+        ContactValue::Star => None,
+        ContactValue::Address(name) => Some(address_contact(name)),
+        ContactValue::Unreadable => Some(Contact {
+            uri: None,
+            expires: None,
+        }),
+    }
+}
+
+fn push_contact<'a>(
+    contacts: &mut Vec<Contact<'a>>,
+    value: ContactValue<'a>,
+) -> Result<(), AllocError>
+    ensures { OnOk result (contacts.new.items ≡ contacts.old.items ++ option_to_list (contact_from value.entry)) }
+{
+    match contact_from(value) {
+        Some(contact) => Ok(contacts.push(contact)?),
         None => Ok(()),
     }
 }
 
-fn contacts_without_star(
+fn contacts_without_star<'a>(
     alloc: Global,
-    values: &[ContactValue<'_>],
-) -> Result<Vec<Contact<'static>>, AllocError>
-    ensures { IfOk result (λ cs. cs.items ≡ contacts_without_star values.now) }
+    values: Vec<ContactValue<'a>>,
+) -> Result<Vec<Contact<'a>>, AllocError>
+    ensures { IfOk result (λ cs. cs.items ≡ contacts_without_star values.entry.items) }
 {
     let mut contacts = Vec::new(alloc);
     for value in values {
-        push_contact(alloc, &mut contacts, value)?;
+        push_contact(&mut contacts, value)?;
     }
     Ok(contacts)
 }
@@ -120,13 +112,10 @@ fn count_of_stars(values: &[ContactValue<'_>]) -> usize
     values.iter().filter(|value| is_star(value)).count()
 }
 
-fn push_further_star(
-    contacts: &mut Vec<Contact<'static>>,
-    values: &[ContactValue<'_>],
-) -> Result<(), AllocError>
-    ensures { OnOk result (contacts.new.items ≡ contacts.old.items ++ further_star values.now) }
+fn push_further_star(contacts: &mut Vec<Contact<'_>>, stars: usize) -> Result<(), AllocError>
+    ensures { OnOk result (contacts.new.items ≡ contacts.old.items ++ (if nat_lt 1 stars then record { uri = None; expires = None } ∷ [] else [])) }
 {
-    if count_of_stars(values) > 1 {
+    if stars > 1 {
         contacts.push(Contact {
             uri: None,
             expires: None,
@@ -135,24 +124,23 @@ fn push_further_star(
     Ok(())
 }
 
-fn contacts_from(
+fn contacts_from<'a>(
     alloc: Global,
-    values: &[ContactValue<'_>],
-) -> Result<Contacts<'static>, AllocError>
-    ensures { IfOk result (λ cs. cs ≡ contacts_from values.now) }
+    values: Vec<ContactValue<'a>>,
+) -> Result<Contacts<'a>, AllocError>
+    ensures { IfOk result (λ cs. cs ≡ contacts_from values.entry.items) }
 {
+    let stars = count_of_stars(&values);
     let mut contacts = contacts_without_star(alloc, values)?;
-    push_further_star(&mut contacts, values)?;
+    push_further_star(&mut contacts, stars)?;
     Ok(Contacts::from_vec(contacts))
 }
 
-fn kept_user(alloc: Global, user: Option<&Text<'_>>) -> Result<Option<Text<'static>>, AllocError>
-    ensures { IfOk result (λ u. u ≡ option_copied user.entry) }
+/// The same text, lent.
+fn lent_text<'m>(text: &'m Text<'_>) -> Text<'m>
+    ensures { result ≡ text.now }
 {
-    match user {
-        None => Ok(None),
-        Some(user) => Ok(Some(user.keep(alloc)?)),
-    }
+    Text::lent(text.as_bytes())
 }
 
 fn header_seconds(alloc: Global, value: Option<&FieldValue<'_>>) -> Result<Option<u32>, AllocError>
@@ -164,29 +152,27 @@ fn header_seconds(alloc: Global, value: Option<&FieldValue<'_>>) -> Result<Optio
     }
 }
 
-/// What a REGISTER asks of a registrar.
+/// What a REGISTER asks of a registrar, lent of both.
 #[tactic(auto, unfolding(crate::specs::Registering::register_of))]
-pub fn register_of(
+pub fn register_of<'m>(
     alloc: Global,
-    registrar: &Registrar,
-    request: &Request<'_>,
-) -> Result<Register<'static>, AllocError>
+    registrar: &'m Registrar,
+    request: &'m Request<'m>,
+) -> Result<Register<'m>, AllocError>
     ensures { IfOk result (λ r. r ≡ register_of (rules_of registrar.now) request.now) }
 {
-    let values = contact_values(alloc, request.headers.as_slice())?;
-    let expires = header_seconds(alloc, first_value(request.headers.as_slice(), b"Expires"))?;
-    let user = kept_user(alloc, registrar.user_of(&request.parts.to.uri));
-    let contacts = contacts_from(alloc, &values);
-    let (user, (contacts, call_id)) = both(
-        user,
-        both(contacts, request.parts.call_id.keep(alloc)),
-    )?;
+    let headers = request.headers.as_slice();
+    let values = contact_values(alloc, headers)?;
+    let expires = header_seconds(alloc, first_value(headers, b"Expires"))?;
+    let star = any_star(&values);
     Ok(Register {
-        user,
-        star: any_star(&values),
-        contacts,
+        user: registrar
+            .user_of(&request.parts.to.uri)
+            .map(|user| lent_text(user)),
+        star,
+        contacts: contacts_from(alloc, values)?,
         expires,
-        call_id,
+        call_id: lent_text(&request.parts.call_id),
         cseq: request.parts.cseq.number,
     })
 }

@@ -4,6 +4,7 @@ pub mod WrittenLaws
 pub mod ReadWritten
 pub mod FaultLaws
 pub mod ViaLaws
+pub mod SeenLaws
 pub mod StartLaws
 pub mod SaysLaws
 pub mod FaultOrder

@@ -5,6 +5,7 @@ pub mod MediaType
 pub mod MaxForwards
 pub mod Hops
 pub mod HeaderNames
+pub mod Seen
 pub mod Lookup
 pub mod Party
 pub mod Start

@@ -3,11 +3,12 @@
 ghost use Rattle.std.specs.Prelude.{◌≡◌};
 ghost use Rattle.std.specs.Option.{option_copied};
 ghost use Rattle.sip_message.specs.Faults.{Gives};
+ghost use Rattle.sip_message.specs.Lookup.{IsFound};
 ghost use Rattle.sip_message.specs.ContentLength.{body_by, body_of, long_enough, without_length};
 
 use crate::error::MessageError;
 use crate::header_names::HeaderName;
-use crate::lookup::at_most_one;
+use crate::lookup::Found;
 use header_fields::{FieldValue, Header, Headers, is_named};
 use std::alloc::Global;
 use text::{Text, is_run_of_digits, number_upto};
@@ -46,12 +47,13 @@ fn body_by<'a>(
 #[tactic(auto, unfolding(crate::specs::ContentLength::body_of), using(crate::proofs::FaultLaws::fails_itself))]
 pub(crate) fn read_body<'a>(
     alloc: Global,
-    headers: &[Header<'_>],
+    found: &Found<'_, '_>,
     rest: &'a [u8],
 ) -> Result<Text<'a>, MessageError>
-    ensures { Gives result (body_of headers.now rest.now) }
+    requires { IsFound found.now }
+    ensures { Gives result (body_of found.now.headers.now rest.now) }
 {
-    let length = at_most_one(headers, b"Content-Length", HeaderName::ContentLength)?;
+    let length = found.content_length()?;
     body_by(alloc, length, rest)
 }
 

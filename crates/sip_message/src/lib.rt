@@ -19,6 +19,7 @@ mod media_type;
 mod message;
 mod party;
 mod read;
+mod seen;
 mod start;
 mod values;
 mod via;

@@ -5,6 +5,7 @@ ghost use Rattle.std.specs.Option.{option_copied};
 ghost use Rattle.sip_message.specs.Repeatable.{CanBeRepeated, parts_in};
 ghost use Rattle.sip_message.specs.Contact.{headers_in};
 ghost use Rattle.sip_message.specs.Faults.{Gives};
+ghost use Rattle.sip_message.specs.Lookup.{IsFound};
 ghost use Rattle.sip_message.specs.Places.{IsPlaced};
 ghost use Rattle.sip_message.specs.Grammar.{ReadsMessage, IsWithin, Refuses};
 ghost use Rattle.header_fields.specs.Lines.{is_clean, before_line_end, after_line_end};
@@ -13,10 +14,11 @@ ghost use Rattle.sip_message.specs.declared.message.Message.{Message};
 
 use crate::content_length::{read_body, without_length};
 use crate::error::MessageError;
+use crate::lookup::{Found, found_in};
 use crate::message::{Message, Request, Response};
 use crate::start::{Start, read_start};
 use crate::values::{Values, read_hops_behind, read_parts};
-use header_fields::{HeadError, Header, Headers, first_line, is_clean, next_line, read_head};
+use header_fields::{HeadError, Headers, first_line, is_clean, next_line, read_head};
 use std::alloc::Global;
 use text::Text;
 
@@ -38,14 +40,15 @@ pub(crate) struct Contents<'a> {
 fn read_contents<'a>(
     alloc: Global,
     start: &Start<'_>,
-    headers: &[Header<'a>],
+    found: &Found<'_, 'a>,
     rest: &'a [u8],
 ) -> Result<Contents<'a>, MessageError>
-    ensures { Gives result (contents_of start.now headers.now rest.now) }
+    requires { IsFound found.now }
+    ensures { Gives result (contents_of start.now found.now.headers.now rest.now) }
 {
-    let parts = read_parts(alloc, start, headers)?;
-    let max_forwards = read_hops_behind(alloc, start, &parts.cseq.method, headers)?;
-    let body = read_body(alloc, headers, rest)?;
+    let parts = read_parts(alloc, start, found)?;
+    let max_forwards = read_hops_behind(alloc, start, &parts.cseq.method, found)?;
+    let body = read_body(alloc, found, rest)?;
     let values = Values {
         parts,
         max_forwards,
@@ -93,7 +96,7 @@ fn behind_start<'a>(
         Err(HeadError::OutOfMemory) => return Err(MessageError::OutOfMemory),
         Err(HeadError::Line) => return Err(MessageError::HeaderLine),
     };
-    let contents = read_contents(alloc, &start, headers.as_slice(), rest)?;
+    let contents = read_contents(alloc, &start, &found_in(headers.as_slice()), rest)?;
     Ok(message(start, headers, contents))
 }
 

@@ -1,6 +1,7 @@
 //! What the header fields of a message say.
 
 ghost use Rattle.sip_message.specs.Faults.{Gives};
+ghost use Rattle.sip_message.specs.Lookup.{IsFound};
 ghost use Rattle.sip_message.specs.declared.contact.ContactNeed.TheVariants.{AtMostOne};
 ghost use Rattle.sip_message.specs.Values.{from_for, to_of, call_id_of, cseq_for, one_address, contacts_for, contact_for, hops_of, type_of, parts_of, hops_behind};
 
@@ -9,7 +10,7 @@ use crate::contact::{ContactNeed, ContactValue, contact_need, contact_values};
 use crate::cseq::{Sequence, is_method_for, read_cseq};
 use crate::error::MessageError;
 use crate::header_names::HeaderName;
-use crate::lookup::{at_most_one, exactly_one};
+use crate::lookup::Found;
 use crate::max_forwards::{MAX_FORWARDS, read_max_forwards};
 use crate::media_type::is_media_type;
 use crate::message::Parts;
@@ -31,11 +32,12 @@ pub(crate) struct Values<'a> {
 fn read_from<'a>(
     alloc: Global,
     start: &Start<'_>,
-    headers: &[Header<'a>],
+    found: &Found<'_, 'a>,
 ) -> Result<Party<'a>, MessageError>
-    ensures { Gives result (from_for start.now headers.now) }
+    requires { IsFound found.now }
+    ensures { Gives result (from_for start.now found.now.headers.now) }
 {
-    let text = exactly_one(headers, b"From", HeaderName::From)?.text(alloc)?;
+    let text = found.from()?.text(alloc)?;
     let Some(name) = read_party(alloc, &text)? else {
         return Err(MessageError::Unreadable(HeaderName::From));
     };
@@ -46,10 +48,11 @@ fn read_from<'a>(
 }
 
 #[tactic(auto, using(crate::proofs::FaultLaws::fails_itself))]
-fn read_to<'a>(alloc: Global, headers: &[Header<'a>]) -> Result<Party<'a>, MessageError>
-    ensures { Gives result (to_of headers.now) }
+fn read_to<'a>(alloc: Global, found: &Found<'_, 'a>) -> Result<Party<'a>, MessageError>
+    requires { IsFound found.now }
+    ensures { Gives result (to_of found.now.headers.now) }
 {
-    let text = exactly_one(headers, b"To", HeaderName::To)?.text(alloc)?;
+    let text = found.to()?.text(alloc)?;
     let Some(name) = read_party(alloc, &text)? else {
         return Err(MessageError::Unreadable(HeaderName::To));
     };
@@ -57,10 +60,11 @@ fn read_to<'a>(alloc: Global, headers: &[Header<'a>]) -> Result<Party<'a>, Messa
 }
 
 #[tactic(auto, using(crate::proofs::FaultLaws::fails_itself))]
-fn read_call_id<'a>(alloc: Global, headers: &[Header<'a>]) -> Result<Text<'a>, MessageError>
-    ensures { Gives result (call_id_of headers.now) }
+fn read_call_id<'a>(alloc: Global, found: &Found<'_, 'a>) -> Result<Text<'a>, MessageError>
+    requires { IsFound found.now }
+    ensures { Gives result (call_id_of found.now.headers.now) }
 {
-    let text = exactly_one(headers, b"Call-ID", HeaderName::CallId)?.text(alloc)?;
+    let text = found.call_id()?.text(alloc)?;
     if !is_call_id(text.as_bytes()) {
         return Err(MessageError::Unreadable(HeaderName::CallId));
     }
@@ -71,11 +75,12 @@ fn read_call_id<'a>(alloc: Global, headers: &[Header<'a>]) -> Result<Text<'a>, M
 fn read_cseq_for<'a>(
     alloc: Global,
     start: &Start<'_>,
-    headers: &[Header<'a>],
+    found: &Found<'_, 'a>,
 ) -> Result<Sequence<'a>, MessageError>
-    ensures { Gives result (cseq_for start.now headers.now) }
+    requires { IsFound found.now }
+    ensures { Gives result (cseq_for start.now found.now.headers.now) }
 {
-    let text = exactly_one(headers, b"CSeq", HeaderName::CSeq)?.text(alloc)?;
+    let text = found.cseq()?.text(alloc)?;
     let Some(cseq) = read_cseq(alloc, &text)? else {
         return Err(MessageError::Unreadable(HeaderName::CSeq));
     };
@@ -86,10 +91,11 @@ fn read_cseq_for<'a>(
 }
 
 #[tactic(auto, using(crate::proofs::FaultLaws::fails_itself))]
-fn read_hops(alloc: Global, headers: &[Header<'_>]) -> Result<u8, MessageError>
-    ensures { Gives result (hops_of headers.now) }
+fn read_hops(alloc: Global, found: &Found<'_, '_>) -> Result<u8, MessageError>
+    requires { IsFound found.now }
+    ensures { Gives result (hops_of found.now.headers.now) }
 {
-    let Some(value) = at_most_one(headers, b"Max-Forwards", HeaderName::MaxForwards)? else {
+    let Some(value) = found.max_forwards()? else {
         return Ok(MAX_FORWARDS);
     };
     let text = value.text(alloc)?;
@@ -100,10 +106,11 @@ fn read_hops(alloc: Global, headers: &[Header<'_>]) -> Result<u8, MessageError>
 }
 
 #[tactic(auto, using(crate::proofs::FaultLaws::fails_itself))]
-fn read_type<'a>(alloc: Global, headers: &[Header<'a>]) -> Result<Option<Text<'a>>, MessageError>
-    ensures { Gives result (type_of headers.now) }
+fn read_type<'a>(alloc: Global, found: &Found<'_, 'a>) -> Result<Option<Text<'a>>, MessageError>
+    requires { IsFound found.now }
+    ensures { Gives result (type_of found.now.headers.now) }
 {
-    let Some(value) = at_most_one(headers, b"Content-Type", HeaderName::ContentType)? else {
+    let Some(value) = found.content_type()? else {
         return Ok(None);
     };
     let text = value.text(alloc)?;
@@ -153,15 +160,16 @@ fn check_contact(
 pub(crate) fn read_parts<'a>(
     alloc: Global,
     start: &Start<'_>,
-    headers: &[Header<'a>],
+    found: &Found<'_, 'a>,
 ) -> Result<Parts<'a>, MessageError>
-    ensures { Gives result (parts_of start.now headers.now) }
+    requires { IsFound found.now }
+    ensures { Gives result (parts_of start.now found.now.headers.now) }
 {
-    let vias = read_vias(alloc, headers)?;
-    let from = read_from(alloc, start, headers)?;
-    let to = read_to(alloc, headers)?;
-    let call_id = read_call_id(alloc, headers)?;
-    let sequence = read_cseq_for(alloc, start, headers)?;
+    let vias = read_vias(alloc, found.headers)?;
+    let from = read_from(alloc, start, found)?;
+    let to = read_to(alloc, found)?;
+    let call_id = read_call_id(alloc, found)?;
+    let sequence = read_cseq_for(alloc, start, found)?;
     Ok(Parts {
         vias,
         from: from.name,
@@ -180,12 +188,13 @@ pub(crate) fn read_hops_behind(
     alloc: Global,
     start: &Start<'_>,
     method: &Text<'_>,
-    headers: &[Header<'_>],
+    found: &Found<'_, '_>,
 ) -> Result<u8, MessageError>
-    ensures { Gives result (hops_behind start.now method.now headers.now) }
+    requires { IsFound found.now }
+    ensures { Gives result (hops_behind start.now method.now found.now.headers.now) }
 {
-    check_contact(alloc, start, method, headers)?;
-    let max_forwards = read_hops(alloc, headers)?;
-    let _content_type = read_type(alloc, headers)?;
+    check_contact(alloc, start, method, found.headers)?;
+    let max_forwards = read_hops(alloc, found)?;
+    let _content_type = read_type(alloc, found)?;
     Ok(max_forwards)
 }

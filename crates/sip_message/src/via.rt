@@ -1,6 +1,6 @@
 //! The Via header fields of a message (RFC 3261 section 20.42).
 
-ghost use Rattle.std.specs.Prelude.{◌≡◌, ◌++◌, ◌∷◌, true, nat_eq, Some, None, option_map, IfOk, OnOk, if◌then◌else◌};
+ghost use Rattle.std.specs.Prelude.{◌≡◌, ◌++◌, ◌∷◌, true, nat_eq, codes, Some, None, option_map, IfOk, IfSome, OnOk, if◌then◌else◌};
 ghost use Rattle.std.specs.Cmp.Lexicographic.{pointwise};
 ghost use Rattle.std.specs.Option.{option_copied};
 ghost use Rattle.text.specs.Pieces.{pieces};
@@ -116,11 +116,39 @@ fn port_text(text: Option<&[u8]>) -> Option<&[u8]>
     }
 }
 
+/// What stands behind `SIP/2.0/UDP` and a space, as which nearly every Via begins.
+fn behind_usual(text: &[u8]) -> Option<&[u8]>
+    ensures { IfSome result (λ behind. text.now ≡ codes "SIP/2.0/UDP " ++ behind.now) }
+{
+    text.strip_prefix(b"SIP/2.0/UDP ")
+}
+
+/// The parts of a Via with this behind its usual beginning, and where host and port stand.
+#[tactic(auto, unfolding(crate::specs::Via::raw_via_of))]
+fn usual_via(behind: &[u8]) -> (ViaText<'_>, &[u8])
+    ensures { result.0 ≡ raw_via_of (codes "SIP/2.0/UDP " ++ behind.now) }
+{
+    let (sent_by, params) = cut(behind, b';');
+    let (host, port) = cut(sent_by, b':');
+    let parts = ViaText {
+        name: b"SIP",
+        version: b"2.0",
+        transport: b"UDP",
+        host: trim_blanks(host),
+        port: port_text(port),
+        params,
+    };
+    (parts, trim_blanks(sent_by))
+}
+
 /// The parts, and where host and port stand.
 #[tactic(auto, unfolding(crate::specs::Via::raw_via_of))]
 fn via_text(text: &[u8]) -> (ViaText<'_>, &[u8])
     ensures { result.0 ≡ raw_via_of text.now }
 {
+    if let Some(behind) = behind_usual(text) {
+        return usual_via(behind);
+    }
     let (front, params) = cut(text, b';');
     let (name, behind) = cut(front, b'/');
     let (version, behind) = cut(behind.unwrap_or(&[]), b'/');

@@ -115,3 +115,19 @@ impl Drop for NameAddr<'_> {
         } = self;
     }
 }
+
+impl<'a> NameAddr<'a> {
+    ghost use Rattle.std.specs.Prelude.{◌≡◌};
+
+    /// The URI and the header's parameters, without the display. Takes no memory.
+    pub fn into_uri_and_params(self) -> (Uri<'a>, Params<'a>)
+        ensures { result ≡ (self.entry.uri, self.entry.params) }
+    {
+        let NameAddr {
+            display: _,
+            uri,
+            params,
+        } = self;
+        (uri, params)
+    }
+}

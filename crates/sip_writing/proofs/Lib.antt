@@ -15,3 +15,4 @@ pub mod ServerViaTrip
 pub mod RequestTrip
 pub mod RequiredLines
 pub mod MarkedText
+mod RoomLengths

@@ -12,6 +12,7 @@ mod reply_text;
 mod request_text;
 mod requests;
 mod room;
+mod socket_address;
 mod unkept;
 mod write;
 
@@ -20,5 +21,6 @@ pub use reply::{reply_address, reply_to, tag_param, via_headers};
 pub use reply_text::{Reply, write_reply};
 pub use request_text::{Outline, write_outline};
 pub use requests::{Draft, build_request, name_with_tag, parts_with_names, server_via};
+pub use socket_address::put_socket_address;
 pub use unkept::{EndName, Unkept, write_unkept};
 pub use write::{write_message, write_request, write_response};

@@ -12,12 +12,16 @@ ghost use Rattle.sip_writing.specs.WritingMessage.{IsWrittenMessage};
 
 use crate::received::numbers_fit;
 use crate::reply::{tag_param, via_headers};
+use crate::socket_address::put_socket_address;
 use sip_message::{
     CSeq, Ends, Header, Headers, Parts, Party, Request, Sequence, Via, Vias, parts_with,
 };
-use sip_uri::{Addr, Host, NameAddr, Param, Params, Uri, keep_text, put_ip4, write_name_addr};
+use sip_uri::{Addr, Host, NameAddr, Param, Params, Uri, keep_text, write_name_addr};
 use std::alloc::{AllocError, Global};
-use text::{Text, both, put_number};
+use text::{Room, Text, both, put_number};
+
+/// So many bytes of a text fit a room behind a number of 32 bits and a space, or behind the front of a branch.
+const MOST_BEHIND: usize = 40;
 
 /// What a request is made of. The body's length is written of the body.
 #[derive(Clone, Copy)]
@@ -36,25 +40,40 @@ pub struct Draft<'m, 'a> {
     pub body: &'m [u8],
 }
 
+/// The value of a branch: the front that RFC 3261 section 8.1.1.7 asks for, and the token.
+fn branch_text(alloc: Global, token: &[u8]) -> Result<Text<'static>, AllocError>
+    ensures { IfOk result (λ text. text ≡ branch_text token.now) }
+{
+    if token.len() > MOST_BEHIND {
+        let mut branch = Vec::with_capacity(alloc, 7 + token.len())?;
+        branch.extend_from_slice(b"z9hG4bK")?;
+        branch.extend_from_slice(token)?;
+        return Ok(Text::from_vec(branch));
+    }
+    let mut room = Room::new();
+    room.put(b"z9hG4bK");
+    room.put(token);
+    room.text(alloc)
+}
+
 fn branch_param(alloc: Global, token: &[u8]) -> Result<Param<'static>, AllocError>
     ensures { IfOk result (λ p. p ≡ record { name = codes "branch"; value = Some (branch_text token.now) }) }
 {
     let name = Text::from_slice(alloc, b"branch")?;
-    let mut branch = Vec::with_capacity(alloc, 7 + token.len())?;
-    branch.extend_from_slice(b"z9hG4bK")?;
-    branch.extend_from_slice(token)?;
+    let branch = branch_text(alloc, token)?;
     Ok(Param {
         name,
-        value: Some(Text::from_vec(branch)),
+        value: Some(branch),
     })
 }
 
-fn put_address(out: &mut Vec<u8>, server: Addr) -> Result<(), AllocError>
-    ensures { OnOk result (out.new.items ≡ out.old.items ++ ip4_text server.ip ++ led_by 58 (Some (decimal server.port))) }
+/// The server's address as sent-by has it.
+fn sent_by_text(alloc: Global, server: Addr) -> Result<Text<'static>, AllocError>
+    ensures { IfOk result (λ text. text ≡ ip4_text server.ip ++ led_by 58 (Some (decimal server.port))) }
 {
-    put_ip4(out, &server.ip)?;
-    out.push(b':')?;
-    put_number(out, u64::from(server.port))
+    let mut room = Room::new();
+    put_socket_address(&mut room, server);
+    room.text(alloc)
 }
 
 #[tactic(auto, unfolding(crate::specs::Requests::server_via))]
@@ -63,10 +82,8 @@ fn made_via(alloc: Global, server: Addr, token: &[u8]) -> Result<Via<'static>, A
 {
     let mut params = Vec::new(alloc);
     params.push(branch_param(alloc, token)?)?;
-    let mut sent_by = Vec::with_capacity(alloc, 21)?;
-    put_address(&mut sent_by, server)?;
     Ok(Via {
-        sent_by: Text::from_vec(sent_by),
+        sent_by: sent_by_text(alloc, server)?,
         host: Host::Ip4(server.ip),
         port: Some(server.port),
         params: Params::from_vec(params),
@@ -144,11 +161,18 @@ fn ends_of(
 fn cseq_text(alloc: Global, number: u32, method: &[u8]) -> Result<Text<'static>, AllocError>
     ensures { IfOk result (λ text. text ≡ cseq_text number method.now) }
 {
-    let mut out = Vec::with_capacity(alloc, 11 + method.len())?;
-    put_number(&mut out, u64::from(number))?;
-    out.push(b' ')?;
-    out.extend_from_slice(method)?;
-    Ok(Text::from_vec(out))
+    if method.len() > MOST_BEHIND {
+        let mut out = Vec::with_capacity(alloc, 11 + method.len())?;
+        put_number(&mut out, u64::from(number))?;
+        out.push(b' ')?;
+        out.extend_from_slice(method)?;
+        return Ok(Text::from_vec(out));
+    }
+    let mut room = Room::new();
+    room.put_number(u64::from(number));
+    room.put_byte(b' ');
+    room.put(method);
+    room.text(alloc)
 }
 
 fn sequence_of(alloc: Global, number: u32, method: &[u8]) -> Result<Sequence<'static>, AllocError>
@@ -163,25 +187,25 @@ fn sequence_of(alloc: Global, number: u32, method: &[u8]) -> Result<Sequence<'st
     })
 }
 
-fn one_via(alloc: Global, via: &Via<'_>) -> Result<Vias<'static>, AllocError>
-    ensures { IfOk result (λ vias. vias ≡ via.now ∷ []) }
+fn one_via(alloc: Global, via: Via<'static>) -> Result<Vias<'static>, AllocError>
+    ensures { IfOk result (λ vias. vias ≡ via.entry ∷ []) }
 {
     let mut vias = Vec::new(alloc);
-    vias.push(via.keep(alloc)?)?;
+    vias.push(via)?;
     Ok(Vias::from_vec(vias))
 }
 
 /// The parts of a request of the server's own, with these names in From and To.
 pub fn parts_with_names(
     alloc: Global,
-    via: &Via<'_>,
+    via: Via<'static>,
     from: NameAddr<'static>,
     to: NameAddr<'static>,
     call_id: &[u8],
     number: u32,
     method: &[u8],
 ) -> Result<Parts<'static>, AllocError>
-    ensures parts { IfOk result (λ parts. parts ≡ parts_with_names via.now from.entry to.entry call_id.now number method.now) }
+    ensures parts { IfOk result (λ parts. parts ≡ parts_with_names via.entry from.entry to.entry call_id.now number method.now) }
 {
     let way = both(one_via(alloc, via), ends_of(alloc, from, to));
     let call_id = Text::from_slice(alloc, call_id);
@@ -194,10 +218,11 @@ pub fn parts_with_names(
 fn parts_of(alloc: Global, draft: &Draft<'_, '_>) -> Result<Parts<'static>, AllocError>
     ensures { IfOk result (λ parts. parts ≡ parts_of draft.now) }
 {
-    let (from, to) = both(draft.from.keep(alloc), draft.to.keep(alloc))?;
+    let ends = both(draft.from.keep(alloc), draft.to.keep(alloc));
+    let (via, (from, to)) = both(draft.via.keep(alloc), ends)?;
     parts_with_names(
         alloc,
-        draft.via,
+        via,
         from,
         to,
         draft.call_id,

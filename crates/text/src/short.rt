@@ -4,8 +4,9 @@ ghost use Rattle.std.specs.Prelude.{◌≡◌, IfSome};
 
 use std::marker::Model;
 
-/// So many bytes stand in place at most: with their count they take the room that a list's handle takes.
-const MAX_IN_PLACE: usize = 23;
+/// So many bytes stand in place at most: with their count and the form of a text they take 32 bytes, as a list's handle
+/// does with that form.
+const MAX_IN_PLACE: usize = 30;
 
 /// The bytes of a short text.
 #[derive(Clone, Drop)]

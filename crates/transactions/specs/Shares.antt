@@ -13,7 +13,7 @@ use Rattle.transactions.specs.Contents.{Contents, IsNew, begun, message_takes, r
 use Rattle.transactions.specs.Limits.{max_served}
 use Rattle.transactions.specs.Slots.{serving}
 
--- an address as a number of 32 bits (RFC 791 section 3.2)
+-- an address as a number of 32 bits (RFC 791 section 2.3)
 unfoldable pub ip_number : List ℕ → ℕ
 ip_number ip = from_be_bytes w32 ip
 

@@ -87,7 +87,7 @@ pub fn requests_are_given_up()
     ensures { (table : Contents) (request : Request) (to : Addr) (now : ℕ) → GivesUp table request to now }
 {}
 
-/// An address is known by its number: two addresses have one number only where they are one (RFC 791 section 3.2).
+/// An address is known by its number: two addresses have one number only where they are one (RFC 791 section 2.3).
 pub fn sources_are_numbered()
     ensures { (a b : List ℕ) → SameNumberSameIp a b }
 {}

@@ -1,7 +1,7 @@
-use Rattle.std.proofs.Common.{◌≡◌, ◌++◌, drop}
+use Rattle.std.proofs.Common.{◌≡◌}
 use Rattle.responses.specs.Registering.{contacts_without_star}
 use Rattle.responses.proofs.register.contacts_without_star.Given as goal
 
--- the contacts so far and those of what is left are all
+-- the contacts so far are those of what was passed
 abbrev pub invariant-loop-value : goal.invariant-loop-value
-invariant-loop-value l = l.contacts.items ++ contacts_without_star (drop l.value-index l.values) ≡ contacts_without_star l.values
+invariant-loop-value l = l.contacts.items ≡ contacts_without_star l.yielded
