@@ -230,7 +230,6 @@ impl Agent {
     }
 
     #[tactic(auto, using(crate::proofs::StepLaws::sends_counted, crate::proofs::StepLaws::after_counted))]
-    #[inline(never)]
     fn take(&mut self, event: &Event, sent: &mut Vec<Sent>) -> Result<Taken, AllocError>
         ensures answer { IfOk result (λ taken. taken ≡ (row self.old event.entry.now).plan.taken) }
         ensures sends { OnOk result (sent.new.items ≡ sent.old.items ++ (row self.old event.entry.now).plan.sends) }
@@ -250,7 +249,6 @@ impl Agent {
     }
 
     #[tactic(auto, using(crate::proofs::StepLaws::early, crate::proofs::StepLaws::few, crate::proofs::StepLaws::looked, crate::proofs::StepLaws::after_looked))]
-    #[inline(never)]
     fn carry_on(&mut self, event: &Event, sent: &mut Vec<Sent>) -> Result<Taken, AllocError>
         requires { only_counts self.old event.now ≡ None }
         ensures answer { IfOk result (λ taken. taken ≡ (row self.old event.entry.now).plan.taken) }
@@ -266,7 +264,6 @@ impl Agent {
     }
 
     #[tactic(auto, unfolding(event_rows::specs::State::after_event))]
-    #[inline(never)]
     fn carry_out(
         &mut self,
         doing: Doing,

@@ -17,13 +17,25 @@ use std::alloc::AllocError;
 use text::Text;
 use transactions::{Change, Table};
 
+/// Puts these behind what stands in the list; where nothing stands there, they are the list.
+fn put_behind(sent: &mut Vec<Sent>, mut sends: Vec<Sent>) -> Result<(), AllocError>
+    ensures ok { OnOk result (sent.new.items ≡ sent.old.items ++ sends.items) }
+    ensures err { OnErr result (sent.new.items ≡ sent.old.items) }
+{
+    if sent.is_empty() {
+        *sent = sends;
+        return Ok(());
+    }
+    sent.append(&mut sends)
+}
+
 /// What is sent goes behind what stands in the list, and the changes of the transactions are entered. Where memory is
 /// refused, neither.
 pub(crate) fn commit(
     table: &mut Table,
     sent: &mut Vec<Sent>,
     changes: Vec<Change>,
-    mut sends: Vec<Sent>,
+    sends: Vec<Sent>,
     now: u64,
 ) -> Result<(), AllocError>
     requires { now < 2 ^ 60 }
@@ -33,7 +45,7 @@ pub(crate) fn commit(
     ensures err_sends { OnErr result (sent.new.items ≡ sent.old.items) }
 {
     let length = sent.len();
-    sent.append(&mut sends)?;
+    put_behind(sent, sends)?;
     if let Err(error) = table.apply(changes, now) {
         sent.truncate(length);
         return Err(error);

@@ -117,7 +117,6 @@ impl Agent {
     }
 
     #[tactic(auto, using(crate::proofs::ConfigLaws::refuses))]
-    #[inline(never)]
     fn made(alloc: Global, key: PrintKey, config: &Config) -> Result<Agent, ConfigError>
         ensures new { IfOk result (IsNew config.now) }
         ensures kept { OnOk result (KeepsRules config.now) }

@@ -1,15 +1,10 @@
 -- What actions come to, one behind the other.
 use Rattle.std.proofs.Common.{◌≡◌, ◌∙◌, ◌+◌, ℕ, List, ◌∷◌, ◌++◌, ap, sym, arith}
 use Rattle.std.proofs.lemmas.List.{append_assoc, append-nil}
-use Rattle.events.specs.declared.sent.Sent.{Sent}
 use Rattle.call_core.specs.declared.action.Action.{Action}
 use Rattle.call_messages.specs.Dressed.{Dressed, behind, no_message}
 use Rattle.call_messages.specs.Dressing.{dress_one, dressed}
 use Rattle.call_messages.specs.declared.scene.Scene.{Scene}
-use Rattle.transactions.specs.declared.change.Entry.{Entry}
-
-made : List Entry → List Sent → ℕ → Dressed
-made changes sends count = record { changes = changes; sends = sends; made = count }
 
 pub behind_behind : (a b c : Dressed) → behind (behind a b) c ≡ behind a (behind b c)
 behind_behind a b c =

@@ -1,13 +1,12 @@
 //! The actions of a call as messages.
 
-ghost use Rattle.std.specs.Prelude.{◌≡◌, ◌≤◌, ◌<◌, ◌+◌, ◌^◌, IfOk, Option, length, option_map};
+ghost use Rattle.std.specs.Prelude.{◌≡◌, ◌≤◌, ◌<◌, ◌+◌, ◌^◌, IfOk, Option, option_map};
 ghost use Rattle.std.specs.Option.{option_copied};
 ghost use Rattle.sip_message.specs.declared.message.Request.{Request};
 ghost use Rattle.transactions.specs.OwnRequests.{own_of};
 ghost use Rattle.transactions.specs.SameBranch.{cancel_of};
-ghost use Rattle.call_messages.specs.Dressing.{says_ack, says_answer, asks_if, branch, says_bye, says_cancel, dialog_with, dress_one, dressed, says_again, method_of, says_offer, says_okay, says_provisional, says_refusal, says_trying};
+ghost use Rattle.call_messages.specs.Dressing.{says_ack, says_answer, asks_if, branch, says_bye, says_cancel, dialog_with, dress_one, says_again, method_of, says_offer, says_okay, says_provisional, says_refusal, says_trying};
 
-use crate::dress_result::Dressed;
 use crate::end_responses::{answer, okay, provisional, refusal, trying};
 use crate::one_action::Saying;
 use crate::requests::{ack, bye, offer};
@@ -262,26 +261,5 @@ impl Scene<'_, '_> {
             | Action::Stop(_)
             | Action::Abandon(_) => Ok(Saying::nothing()),
         }
-    }
-
-    /// What these actions come to, in order, where so many tokens were made before the first. An offer, an ACK and a
-    /// BYE make a token each, that of their branch. An action that sends nothing, or for which something is missing,
-    /// comes to nothing.
-    pub fn dress(
-        &self,
-        alloc: Global,
-        tokens: u64,
-        actions: &[Action],
-    ) -> Result<Dressed, AllocError>
-        requires { tokens + length actions.now < 2 ^ 64 }
-        ensures dressed { IfOk result (λ d. d ≡ dressed self.now tokens actions.now) }
-        ensures few { IfOk result (λ d. d.made ≤ length actions.now) }
-    {
-        let mut dressed = Dressed::no_message(alloc);
-        for action in actions {
-            let saying = self.dress_one(alloc, tokens + dressed.made, *action)?;
-            saying.put_behind(&mut dressed)?;
-        }
-        Ok(dressed)
     }
 }

@@ -9,11 +9,15 @@ use sip_uri::{Addr, Uri, put_ip4};
 use std::alloc::{AllocError, Global};
 use text::{Text, both};
 
+/// The bytes of an @ and of the longest address, 255.255.255.255.
+const HOST_BYTES: usize = 16;
+
 fn leg_call_id(alloc: Global, server: Addr, token: &[u8]) -> Result<Text<'static>, AllocError>
     ensures { IfOk result (λ text. text ≡ leg_call_id server token.now) }
 {
-    let mut out = Vec::from_slice(alloc, token)?;
-    out.extend_from_slice(b"@")?;
+    let mut out = Vec::with_capacity(alloc, token.len() + HOST_BYTES)?;
+    out.extend_from_slice(token)?;
+    out.push(b'@')?;
     put_ip4(&mut out, &server.ip)?;
     Ok(Text::from_vec(out))
 }
@@ -23,7 +27,7 @@ fn leg_id(alloc: Global, server: Addr, token: &[u8], tag: &[u8]) -> Result<Dialo
 {
     let call_id = leg_call_id(alloc, server, token)?;
     let ours = Text::from_slice(alloc, tag)?;
-    let theirs = Text::from_slice(alloc, b"")?;
+    let theirs = Text::lent(b"");
     Ok(DialogId {
         call_id,
         ours,

@@ -1,6 +1,6 @@
 //! What one action comes to.
 
-ghost use Rattle.std.specs.Prelude.{◌≡◌, ◌<◌, ◌+◌, ◌^◌, ◌∷◌, [], codes, true, IfOk, OnOk};
+ghost use Rattle.std.specs.Prelude.{◌≡◌, ◌<◌, ◌+◌, ◌^◌, ◌∷◌, [], codes, true, IfOk, OnErr, OnOk};
 ghost use Rattle.sip_message.specs.declared.message.Message.TheVariants as Kinds;
 ghost use Rattle.sip_message.specs.declared.message.Request.{Request};
 ghost use Rattle.sip_message.specs.Words.{class_of, is_method};
@@ -117,17 +117,22 @@ impl Saying {
         })
     }
 
-    /// Puts what an action comes to behind what earlier ones did.
+    /// Puts what an action comes to behind what earlier ones did. Where memory is refused, puts nothing.
     pub fn put_behind(self, dressed: &mut Dressed) -> Result<(), AllocError>
         requires { dressed.old.made + self.made < 2 ^ 64 }
-        ensures { OnOk result (dressed.new ≡ behind dressed.old self) }
+        ensures ok { OnOk result (dressed.new ≡ behind dressed.old self) }
+        ensures err { OnErr result (dressed.new ≡ dressed.old) }
     {
         let Saying { change, send, made } = self;
+        let length = dressed.changes.len();
         if let Some(change) = change {
             dressed.changes.push(change)?;
         }
-        if let Some(send) = send {
-            dressed.sends.push(send)?;
+        if let Some(send) = send
+            && let Err(error) = dressed.sends.push(send)
+        {
+            dressed.changes.truncate(length);
+            return Err(error.into());
         }
         dressed.made += made;
         Ok(())

@@ -73,63 +73,33 @@ an_ack_alone s (Set timer after) is = absurd cc
 an_ack_alone s (Stop timer) is = absurd cc
 an_ack_alone s (Abandon end) is = absurd cc
 
+kept_by_kind : (s : SceneValue) (action : Action) (later : List Action) → ack_kept s (action ∷ later) ≡ cond (is_ack action) (sent_alone s action) None
+kept_by_kind s (Trying end) later = refl
+kept_by_kind s (Offer end method) later = refl
+kept_by_kind s (Provisional end status) later = refl
+kept_by_kind s (Ack end) later = refl
+kept_by_kind s (Answer end) later = refl
+kept_by_kind s (AnswerAgain end) later = refl
+kept_by_kind s (Refusal end status) later = refl
+kept_by_kind s (Okay end) later = refl
+kept_by_kind s (Cancel end) later = refl
+kept_by_kind s (Bye end) later = refl
+kept_by_kind s PutRows later = refl
+kept_by_kind s Release later = refl
+kept_by_kind s RemoveRows later = refl
+kept_by_kind s (Set timer after) later = refl
+kept_by_kind s (Stop timer) later = refl
+kept_by_kind s (Abandon end) later = refl
+
 kept_if_ack : (s : SceneValue) (action : Action) (later : List Action) → is_ack action ≡ true → sent_alone s action ≡ ack_kept s (action ∷ later)
-kept_if_ack s (Trying end) later is = absurd cc
-kept_if_ack s (Offer end method) later is = absurd cc
-kept_if_ack s (Provisional end status) later is = absurd cc
-kept_if_ack s (Ack end) later is = refl
-kept_if_ack s (Answer end) later is = absurd cc
-kept_if_ack s (AnswerAgain end) later is = absurd cc
-kept_if_ack s (Refusal end status) later is = absurd cc
-kept_if_ack s (Okay end) later is = absurd cc
-kept_if_ack s (Cancel end) later is = absurd cc
-kept_if_ack s (Bye end) later is = absurd cc
-kept_if_ack s PutRows later is = absurd cc
-kept_if_ack s Release later is = absurd cc
-kept_if_ack s RemoveRows later is = absurd cc
-kept_if_ack s (Set timer after) later is = absurd cc
-kept_if_ack s (Stop timer) later is = absurd cc
-kept_if_ack s (Abandon end) later is = absurd cc
+kept_if_ack s action later is = sym (kept_by_kind s action later ∙ ap (λ (b : Bool). cond b (sent_alone s action) None) is)
 
 none_if_no_ack : (s : SceneValue) (action : Action) (later : List Action) → is_ack action ≡ false → None ≡ ack_kept s (action ∷ later)
-none_if_no_ack s (Trying end) later is = refl
-none_if_no_ack s (Offer end method) later is = refl
-none_if_no_ack s (Provisional end status) later is = refl
-none_if_no_ack s (Ack end) later is = absurd cc
-none_if_no_ack s (Answer end) later is = refl
-none_if_no_ack s (AnswerAgain end) later is = refl
-none_if_no_ack s (Refusal end status) later is = refl
-none_if_no_ack s (Okay end) later is = refl
-none_if_no_ack s (Cancel end) later is = refl
-none_if_no_ack s (Bye end) later is = refl
-none_if_no_ack s PutRows later is = refl
-none_if_no_ack s Release later is = refl
-none_if_no_ack s RemoveRows later is = refl
-none_if_no_ack s (Set timer after) later is = refl
-none_if_no_ack s (Stop timer) later is = refl
-none_if_no_ack s (Abandon end) later is = refl
-
-alike : (s : SceneValue) (action : Action) (xs ys : List Action) → ack_kept s (action ∷ xs) ≡ ack_kept s (action ∷ ys)
-alike s (Trying end) xs ys = refl
-alike s (Offer end method) xs ys = refl
-alike s (Provisional end status) xs ys = refl
-alike s (Ack end) xs ys = refl
-alike s (Answer end) xs ys = refl
-alike s (AnswerAgain end) xs ys = refl
-alike s (Refusal end status) xs ys = refl
-alike s (Okay end) xs ys = refl
-alike s (Cancel end) xs ys = refl
-alike s (Bye end) xs ys = refl
-alike s PutRows xs ys = refl
-alike s Release xs ys = refl
-alike s RemoveRows xs ys = refl
-alike s (Set timer after) xs ys = refl
-alike s (Stop timer) xs ys = refl
-alike s (Abandon end) xs ys = refl
+none_if_no_ack s action later is = sym (kept_by_kind s action later ∙ ap (λ (b : Bool). cond b (sent_alone s action) None) is)
 
 later_kept : (s : SceneValue) (actions : List Action) (n : ℕ) → ack_kept s (take (suc n) actions) ≡ ack_kept s (take (suc (suc n)) actions)
 later_kept s [] n = refl
-later_kept s (action ∷ later) n = alike s action (take n later) (take (suc n) later)
+later_kept s (action ∷ later) n = kept_by_kind s action (take n later) ∙ sym (kept_by_kind s action (take (suc n) later))
 
 first_kept : (s : Scene) (tokens : ℕ) (actions : List Action) (d : Action) → 0 < length actions → tokens ≡ s.tokens
     → cond (is_ack (slice_index_or actions 0 d)) (first_sent (dress_one s tokens (slice_index_or actions 0 d)).sends) None ≡ ack_kept (scene_value s) (take 1 actions)

@@ -138,7 +138,6 @@ impl Calls {
     /// Carries out what was planned for the call at this place, with what comes beside it, and answers the changes of
     /// the relay table, by rising port; a call that is gone then is taken off the list. Where no call stands at the
     /// place, nothing is done.
-    #[inline(never)]
     pub(crate) fn carry_out(
         &mut self,
         alloc: Global,
@@ -180,7 +179,6 @@ impl Calls {
 
     /// Begins a call, of the number that comes next, with its first plan carried out; answers the changes of the relay
     /// table.
-    #[inline(never)]
     pub(crate) fn begin(
         &mut self,
         alloc: Global,

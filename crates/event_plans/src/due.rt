@@ -34,7 +34,6 @@ pub(crate) fn timed_setting(now: u64, salt: u64) -> Setting
 }
 
 /// The media of this call have stopped: its lifetime ends now.
-#[inline(never)]
 pub(crate) fn silent_row(
     office: &Office<'_>,
     setting: Setting,
@@ -49,7 +48,6 @@ pub(crate) fn silent_row(
 }
 
 /// What the timer that is due first comes to; at equal moments that of a transaction goes first.
-#[inline(never)]
 pub(crate) fn due_row(office: &Office<'_>, setting: Setting) -> Result<Doing, AllocError>
     requires early { setting.now < 2 ^ 60 }
     requires few { office.now.tokens < 2 ^ 63 }
@@ -74,7 +72,6 @@ pub(crate) fn due_row(office: &Office<'_>, setting: Setting) -> Result<Doing, Al
 }
 
 #[tactic(auto, unfolding(event_rows::specs::Rows::timer_row))]
-#[inline(never)]
 fn timer_row(office: &Office<'_>, setting: Setting, timer: TimerId) -> Result<Doing, AllocError>
     requires early { setting.now < 2 ^ 60 }
     requires few { office.now.tokens < 2 ^ 63 }
@@ -93,7 +90,6 @@ fn timer_row(office: &Office<'_>, setting: Setting, timer: TimerId) -> Result<Do
     }
 }
 
-#[inline(never)]
 fn fires_by(
     office: &Office<'_>,
     setting: Setting,

@@ -40,7 +40,6 @@ fn parts_of<'m, 'a>(message: &'m Message<'a>) -> &'m Parts<'a>
 }
 
 /// What is done for a request that began transaction `id`, by its rule.
-#[inline(never)]
 fn rule_row(
     office: &Office<'_>,
     setting: Setting,
@@ -63,7 +62,6 @@ fn rule_row(
     }
 }
 
-#[inline(never)]
 fn ruled_row(
     office: &Office<'_>,
     setting: Setting,
@@ -82,7 +80,6 @@ fn ruled_row(
 
 /// What a request comes to, by what the transactions say of it.
 #[tactic(auto, unfolding(event_rows::specs::Rows::request_by))]
-#[inline(never)]
 fn request_by(
     office: &Office<'_>,
     setting: Setting,
@@ -107,7 +104,6 @@ fn request_by(
 
 /// What a response comes to, by what the transactions say of it.
 #[tactic(auto, unfolding(event_rows::specs::Rows::response_by))]
-#[inline(never)]
 fn response_by(
     office: &Office<'_>,
     setting: Setting,
@@ -130,7 +126,6 @@ fn response_by(
     }
 }
 
-#[inline(never)]
 fn received_by(
     office: &Office<'_>,
     setting: Setting,
@@ -150,7 +145,6 @@ fn received_by(
     }
 }
 
-#[inline(never)]
 fn foreseen_row(
     office: &Office<'_>,
     setting: Setting,
@@ -169,7 +163,6 @@ fn foreseen_row(
 }
 
 #[tactic(auto, unfolding(event_rows::specs::Rows::received), using(crate::proofs::RoomLaws::has_room, crate::proofs::RoomLaws::has_none))]
-#[inline(never)]
 fn message_row(
     office: &Office<'_>,
     setting: Setting,
@@ -205,7 +198,6 @@ fn fit_row(
 }
 
 #[tactic(auto, unfolding(event_rows::specs::Rows::read_row))]
-#[inline(never)]
 fn read_row(
     office: &Office<'_>,
     setting: Setting,
@@ -224,7 +216,6 @@ fn read_row(
 
 /// What a datagram comes to.
 #[tactic(auto, unfolding(event_rows::specs::Rows::datagram_row))]
-#[inline(never)]
 fn datagram_row(office: &Office<'_>, setting: Setting, bytes: &[u8]) -> Result<Doing, AllocError>
     requires early { setting.now < 2 ^ 60 }
     requires few { office.now.tokens < 2 ^ 63 }
@@ -243,7 +234,6 @@ fn datagram_row(office: &Office<'_>, setting: Setting, bytes: &[u8]) -> Result<D
 
 /// What an event of the moment `now`, in milliseconds, comes to.
 #[tactic(auto, unfolding(event_rows::specs::Rows::what_row))]
-#[inline(never)]
 pub fn plan_event(
     office: &Office<'_>,
     now: u64,

@@ -66,7 +66,6 @@ fn unread_with(
 
 /// What a datagram comes to that can't be read.
 #[tactic(auto, unfolding(event_rows::specs::Rows::unread_row, event_rows::specs::Rows::datagram_row))]
-#[inline(never)]
 pub(crate) fn unread_row(
     alloc: Global,
     setting: Setting,
@@ -98,7 +97,6 @@ fn unfit_request(alloc: Global, setting: Setting, request: &Request<'_>) -> Resu
 }
 
 /// What a message comes to whose branch does not begin as it has to.
-#[inline(never)]
 pub(crate) fn unfit_branch(
     alloc: Global,
     setting: Setting,

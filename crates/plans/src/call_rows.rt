@@ -64,7 +64,6 @@ fn asker<'m, 'a>(
 impl<'o> Office<'o> {
     /// What the call at this place does for an input that is no offer, whatever timers the calls have.
     #[tactic(auto, using(crate::proofs::CallLaws::can_enter))]
-    #[inline(never)]
     pub(crate) fn step_at(
         &self,
         setting: Setting,
@@ -88,7 +87,6 @@ impl<'o> Office<'o> {
     }
 
     /// The call at this place takes an input that no request waits for.
-    #[inline(never)]
     pub(crate) fn takes(
         &self,
         setting: Setting,
@@ -106,7 +104,6 @@ impl<'o> Office<'o> {
     }
 
     /// The same, of an input that comes with no dialog.
-    #[inline(never)]
     pub(crate) fn takes_alone(
         &self,
         setting: Setting,
@@ -124,7 +121,6 @@ impl<'o> Office<'o> {
     }
 
     /// The call at this place takes an input, whose request began transaction `id` and is answered with this tag.
-    #[inline(never)]
     fn takes_request(
         &self,
         setting: Setting,
@@ -147,7 +143,6 @@ impl<'o> Office<'o> {
 
     // ---- a first INVITE
 
-    #[inline(never)]
     fn refuses_first(
         &self,
         setting: Setting,
@@ -170,7 +165,6 @@ impl<'o> Office<'o> {
     }
 
     /// The call that was planned begins, unless as many stand as may.
-    #[inline(never)]
     fn begins_unless_full(
         &self,
         setting: Setting,
@@ -191,7 +185,6 @@ impl<'o> Office<'o> {
     }
 
     #[tactic(auto, using(crate::proofs::FirstLaws::unfit, crate::proofs::FirstLaws::lacking, crate::proofs::FirstLaws::may_pass))]
-    #[inline(never)]
     fn first_by(
         &self,
         setting: Setting,
@@ -230,7 +223,6 @@ impl<'o> Office<'o> {
         }
     }
 
-    #[inline(never)]
     fn begins(
         &self,
         setting: Setting,
@@ -255,7 +247,6 @@ impl<'o> Office<'o> {
     // ---- a request in a dialog
 
     /// The dialog of this request of this call, which stands at this place, counts its number, whatever it is answered.
-    #[inline(never)]
     pub(crate) fn counts_its_number(
         &self,
         request: &Request<'_>,
@@ -273,7 +264,6 @@ impl<'o> Office<'o> {
     }
 
     #[tactic(auto, unfolding(crate::specs::CallRows::call_row))]
-    #[inline(never)]
     fn cancels_offer(
         &self,
         setting: Setting,
@@ -300,7 +290,6 @@ impl<'o> Office<'o> {
     }
 
     #[tactic(auto, unfolding(crate::specs::CallRows::call_row))]
-    #[inline(never)]
     fn leaves(
         &self,
         setting: Setting,
@@ -329,7 +318,6 @@ impl<'o> Office<'o> {
 
     /// What a call does for a request that began transaction `id`.
     #[tactic(auto, unfolding(crate::specs::CallRows::call_row))]
-    #[inline(never)]
     pub fn call_row(
         &self,
         setting: Setting,

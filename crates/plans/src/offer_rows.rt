@@ -25,18 +25,9 @@ use call_steps::{CallStep, ReceivedRequest, refreshes};
 use calls::StandingCall;
 use responses::is_method;
 use sdp::Description;
-use sip_message::{Header, Request};
-use std::alloc::{AllocError, Global};
+use sip_message::Request;
+use std::alloc::AllocError;
 use transactions::Change;
-
-/// The list of one header field.
-fn one_header(alloc: Global, header: Header<'static>) -> Result<Vec<Header<'static>>, AllocError>
-    ensures { IfOk result (λ headers. headers.items ≡ header.entry ∷ []) }
-{
-    let mut headers = Vec::new(alloc);
-    headers.push(header)?;
-    Ok(headers)
-}
 
 fn reason_of_clash(clash: Clash) -> Reason
     ensures { result ≡ reason_of_clash clash }
@@ -97,7 +88,6 @@ fn reason_of_refusal(refusal: CallRefusal) -> Option<Reason>
 
 impl<'o> Office<'o> {
     /// The server itself refuses it, and the dialog counts the number of the request.
-    #[inline(never)]
     fn refuses_in(
         &self,
         setting: Setting,
@@ -122,7 +112,6 @@ impl<'o> Office<'o> {
 
     /// What this call, which stands at this place, does for an offer, whatever timers the calls have.
     #[tactic(auto, using(crate::proofs::CallLaws::can_enter_offer))]
-    #[inline(never)]
     fn offer_step(
         &self,
         setting: Setting,
@@ -157,7 +146,6 @@ impl<'o> Office<'o> {
     }
 
     /// The call at this place passes the offer on, or it is refused.
-    #[inline(never)]
     fn passes_if(
         &self,
         setting: Setting,
@@ -190,7 +178,6 @@ impl<'o> Office<'o> {
         }
     }
 
-    #[inline(never)]
     fn passes_in(
         &self,
         setting: Setting,
@@ -221,7 +208,6 @@ impl<'o> Office<'o> {
 
     /// What an offer of this end inside this call, which stands at this place, comes to.
     #[tactic(auto, unfolding(crate::specs::CallRows::offers), using(crate::proofs::OfferLaws::only_passes))]
-    #[inline(never)]
     pub(crate) fn offers(
         &self,
         setting: Setting,
@@ -247,7 +233,6 @@ impl<'o> Office<'o> {
 
     // ---- an UPDATE without an offer
 
-    #[inline(never)]
     fn okay_plan(
         &self,
         setting: Setting,
@@ -257,12 +242,10 @@ impl<'o> Office<'o> {
     ) -> Result<Plan, AllocError>
         ensures { IfOk result (λ p. p ≡ okay_plan self.now setting request.now begun.items id) }
     {
-        let header = contact_header(self.alloc, self.server)?;
-        let further = one_header(self.alloc, header)?;
-        self.responds_in(setting, request, begun, id, 200, further)
+        let further = [contact_header(self.alloc, self.server)?];
+        self.responds_in(setting, request, begun, id, 200, &further)
     }
 
-    #[inline(never)]
     fn okays(
         &self,
         setting: Setting,
@@ -284,7 +267,6 @@ impl<'o> Office<'o> {
 
     /// What an UPDATE of this end of this call, which stands at this place, without an offer comes to.
     #[tactic(auto, unfolding(crate::specs::CallRows::refreshes_at))]
-    #[inline(never)]
     pub(crate) fn refreshes_at(
         &self,
         setting: Setting,

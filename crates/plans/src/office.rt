@@ -69,7 +69,6 @@ impl<'o> Office<'o> {
     }
 
     /// A transaction does something by itself, and no call has to do with it.
-    #[inline(never)]
     pub fn moves_row(&self, begun: Vec<Change>, send: Option<Outgoing>) -> Result<Doing, AllocError>
         ensures row { (now : ℕ) → IfOk result (λ d. effect self.now.calls self.now.acks now d ≡ of_plan self.now (moves begun.items send)) }
         ensures fits { (now : ℕ) → IfOk result (Fits self.now.calls now) }
@@ -78,7 +77,6 @@ impl<'o> Office<'o> {
     }
 
     /// The office's users are to be these: who is one already keeps its bindings.
-    #[inline(never)]
     pub fn users_row(&self, users: &[Text<'_>]) -> Result<Doing, AllocError>
         ensures row { (now : ℕ) → IfOk result (λ d. effect self.now.calls self.now.acks now d ≡ of_plan self.now (lists (kept_entries self.now.registrar.entries users.now))) }
         ensures fits { (now : ℕ) → IfOk result (Fits self.now.calls now) }
@@ -88,7 +86,6 @@ impl<'o> Office<'o> {
     }
 
     /// Nothing is sent, and nothing changes. Takes no memory.
-    #[inline(never)]
     pub fn drops_row(&self, taken: Taken) -> Doing
         ensures row { (now : ℕ) → effect self.now.calls self.now.acks now result ≡ of_plan self.now (nothing taken) }
         ensures fits { (now : ℕ) → Fits self.now.calls now result }

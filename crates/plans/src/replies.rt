@@ -115,12 +115,19 @@ fn tags_made(request: &Request<'_>) -> u8
 }
 
 /// The list of one header field.
+fn one_header(alloc: Global, header: Header<'static>) -> Result<Vec<Header<'static>>, AllocError>
+    ensures { IfOk result (λ headers. headers.items ≡ header.entry ∷ []) }
+{
+    let mut headers = Vec::new(alloc);
+    headers.push(header)?;
+    Ok(headers)
+}
+
+/// The list of one header field of this name and value.
 fn one_named(alloc: Global, name: &[u8], value: &[u8]) -> Result<Vec<Header<'static>>, AllocError>
     ensures { IfOk result (λ headers. headers.items ≡ named name.now value.now ∷ []) }
 {
-    let mut headers = Vec::new(alloc);
-    headers.push(Header::of(alloc, name, value)?)?;
-    Ok(headers)
+    one_header(alloc, Header::of(alloc, name, value)?)
 }
 
 /// The plan of a response to a request that began transaction `id`: its status, the tag that To is given where it has
@@ -165,7 +172,6 @@ impl<'o> Office<'o> {
     }
 
     /// A response with a tag of its own.
-    #[inline(never)]
     pub(crate) fn responds_in(
         &self,
         setting: Setting,
@@ -173,12 +179,12 @@ impl<'o> Office<'o> {
         begun: Vec<Change>,
         id: usize,
         status: u16,
-        further: Vec<Header<'static>>,
+        further: &[Header<'_>],
     ) -> Result<Plan, AllocError>
-        ensures { IfOk result (λ p. p ≡ responds_in self.now setting request.now begun.items id status further.entry.items None) }
+        ensures { IfOk result (λ p. p ≡ responds_in self.now setting request.now begun.items id status further.now None) }
     {
         let tag = self.fresh_tag(setting)?;
-        let planned = answers(
+        answers(
             self.alloc,
             setting,
             request,
@@ -186,14 +192,11 @@ impl<'o> Office<'o> {
             id,
             status,
             tag.as_bytes(),
-            &further,
+            further,
             tags_made(request),
-        );
-        drop(further);
-        planned
+        )
     }
 
-    #[inline(never)]
     fn cancels(
         &self,
         setting: Setting,
@@ -209,7 +212,6 @@ impl<'o> Office<'o> {
         answers(self.alloc, setting, request, begun, id, 200, tag, &[], 0)
     }
 
-    #[inline(never)]
     fn registration_plan(
         &self,
         setting: Setting,
@@ -222,7 +224,7 @@ impl<'o> Office<'o> {
         ensures { IfOk result (λ p. p ≡ registers_by self.now setting request.now begun.items id (Some plan.user) (Ok plan.bindings)) }
     {
         let further = contact_headers(self.alloc, plan.bindings(), setting.now)?;
-        let planned = self.responds_in(setting, request, begun, id, 200, further)?;
+        let planned = self.responds_in(setting, request, begun, id, 200, &further)?;
         Ok(planned.with_registration(plan))
     }
 
@@ -237,7 +239,7 @@ impl<'o> Office<'o> {
     {
         match reason {
             Reason::SecondOffer => retry_alone(self.alloc),
-            Reason::MethodNotOffered => allow_header(self.alloc),
+            Reason::MethodNotOffered => one_header(self.alloc, allow_header()),
             Reason::ExtensionRequired => {
                 unsupported_header(self.alloc, request.headers.as_slice())
             }
@@ -249,7 +251,6 @@ impl<'o> Office<'o> {
     }
 
     /// A refusal of a request that began transaction `id`.
-    #[inline(never)]
     pub(crate) fn refuses_for(
         &self,
         setting: Setting,
@@ -261,12 +262,11 @@ impl<'o> Office<'o> {
         ensures { IfOk result (λ p. p ≡ refuses_for self.now setting request.now begun.items id reason) }
     {
         let further = self.headers_of(request, reason)?;
-        let planned = self.responds_in(setting, request, begun, id, reason.status(), further)?;
+        let planned = self.responds_in(setting, request, begun, id, reason.status(), &further)?;
         Ok(planned.as_refusal(reason))
     }
 
     /// A REGISTER for which this is the registrar's answer, or for which memory ran out.
-    #[inline(never)]
     fn refusal_plan(
         &self,
         setting: Setting,
@@ -293,7 +293,6 @@ impl<'o> Office<'o> {
     }
 
     #[tactic(auto, unfolding(crate::specs::Replies::registers))]
-    #[inline(never)]
     fn registers(
         &self,
         setting: Setting,
@@ -311,7 +310,6 @@ impl<'o> Office<'o> {
         }
     }
 
-    #[inline(never)]
     fn lists_methods(
         &self,
         setting: Setting,
@@ -321,13 +319,12 @@ impl<'o> Office<'o> {
     ) -> Result<Plan, AllocError>
         ensures { IfOk result (λ p. p ≡ responds_in self.now setting request.now begun.items id 200 (allow ∷ []) None) }
     {
-        let further = allow_header(self.alloc)?;
-        self.responds_in(setting, request, begun, id, 200, further)
+        let further = [allow_header()];
+        self.responds_in(setting, request, begun, id, 200, &further)
     }
 
     /// What a reply comes to, to a request that began transaction `id`.
     #[tactic(auto, unfolding(crate::specs::Replies::reply_row))]
-    #[inline(never)]
     pub fn reply_row(
         &self,
         setting: Setting,

@@ -62,7 +62,6 @@ fn again(alloc: Global, ack: Option<&KeptAck>) -> Result<Vec<Sent>, AllocError>
 impl<'o> Office<'o> {
     /// What an ACK comes to: the call that waits for it takes it.
     #[tactic(auto, unfolding(crate::specs::CallRows::ack_row))]
-    #[inline(never)]
     pub fn ack_row(
         &self,
         setting: Setting,
@@ -82,7 +81,6 @@ impl<'o> Office<'o> {
     // ---- responses
 
     /// The ACK of a 2xx that comes again goes again.
-    #[inline(never)]
     fn acks_again(&self, begun: Vec<Change>, id: usize) -> Result<Plan, AllocError>
         ensures { IfOk result (λ p. p ≡ acks_again self.now begun.items id) }
     {
@@ -98,7 +96,6 @@ impl<'o> Office<'o> {
     }
 
     /// The first 2xx to an offer.
-    #[inline(never)]
     fn answers_offer(
         &self,
         setting: Setting,
@@ -125,7 +122,6 @@ impl<'o> Office<'o> {
     }
 
     /// A 2xx that no call takes.
-    #[inline(never)]
     fn forks(
         &self,
         setting: Setting,
@@ -143,7 +139,6 @@ impl<'o> Office<'o> {
     }
 
     /// A 2xx to a later INVITE, whose call is gone.
-    #[inline(never)]
     fn acks_late(
         &self,
         setting: Setting,
@@ -160,7 +155,6 @@ impl<'o> Office<'o> {
         Doing::of_step(before, step)
     }
 
-    #[inline(never)]
     fn responds_by(
         &self,
         setting: Setting,
@@ -204,7 +198,6 @@ impl<'o> Office<'o> {
 
     /// What a response to the request of transaction `id` comes to.
     #[tactic(auto, unfolding(crate::specs::CallRows::response_row))]
-    #[inline(never)]
     pub fn response_row(
         &self,
         setting: Setting,
@@ -228,7 +221,6 @@ impl<'o> Office<'o> {
 
     // ---- timers
 
-    #[inline(never)]
     fn timed_out(
         &self,
         setting: Setting,
@@ -250,7 +242,6 @@ impl<'o> Office<'o> {
 
     /// No final response came in time to a request of the server's own.
     #[tactic(auto, unfolding(crate::specs::CallRows::timeout_row))]
-    #[inline(never)]
     pub fn timeout_row(
         &self,
         setting: Setting,
@@ -269,7 +260,6 @@ impl<'o> Office<'o> {
     }
 
     /// A timer of the call at this place fires, and is set no more.
-    #[inline(never)]
     fn takes_timer(
         &self,
         setting: Setting,
@@ -290,7 +280,6 @@ impl<'o> Office<'o> {
 
     /// What a timer of a call comes to.
     #[tactic(auto, unfolding(crate::specs::CallRows::call_timer_row))]
-    #[inline(never)]
     pub fn call_timer_row(&self, setting: Setting, timer: CallTimerId) -> Result<Doing, AllocError>
         requires few { self.now.tokens < 2 ^ 63 }
         ensures row { IfOk result (λ d. effect self.now.calls self.now.acks setting.now d ≡ call_timer_row self.now setting timer) }

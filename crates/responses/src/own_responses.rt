@@ -56,15 +56,14 @@ fn one_header(alloc: Global, header: Header<'static>) -> Result<Vec<Header<'stat
     Ok(headers)
 }
 
-/// The methods that are offered, in a header field.
-pub fn allow_header(alloc: Global) -> Result<Vec<Header<'static>>, AllocError>
-    ensures { IfOk result (λ hs. hs.items ≡ allow ∷ []) }
+/// The methods that are offered, in a header field. Takes no memory.
+pub fn allow_header() -> Header<'static>
+    ensures { result ≡ allow }
 {
-    let header = Header {
+    Header {
         name: Text::lent(b"Allow"),
         value: FieldValue::whole(Text::lent(ALLOW)),
-    };
-    one_header(alloc, header)
+    }
 }
 
 /// The extensions that are required, in a header field.

@@ -24,6 +24,7 @@ pub struct Parts<'a> {
 }
 
 impl Drop for Parts<'_> {
+    #[inline(always)]
     fn drop(self) {
         let Parts {
             vias: _,
@@ -72,6 +73,7 @@ pub struct Request<'a> {
 }
 
 impl Drop for Request<'_> {
+    #[inline(always)]
     fn drop(self) {
         let Request {
             method: _,
@@ -113,6 +115,7 @@ pub enum Message<'a> {
 }
 
 impl Drop for Message<'_> {
+    #[inline(always)]
     fn drop(self) {
         match self {
             Message::Request(_) => {}

@@ -60,6 +60,7 @@ pub(crate) fn is_tagged_for(start: &Start<'_>, params: &[Param<'_>]) -> bool
 
 /// The name and URI that the bytes are, if they are one and its tag, if any, has a value that is a token.
 #[tactic(auto, unfolding(crate::specs::Party::party_of))]
+#[inline(always)]
 fn party_in(alloc: Global, text: &[u8]) -> Result<Option<NameAddr<'_>>, AllocError>
     ensures { IfOk result (λ party. party ≡ party_of text.now) }
 {
@@ -77,6 +78,7 @@ fn party_in(alloc: Global, text: &[u8]) -> Result<Option<NameAddr<'_>>, AllocErr
 }
 
 /// The name and URI, if the text is one and its tag, if any, has a value that is a token: lent where the text is.
+#[inline(always)]
 pub(crate) fn read_party<'a>(
     alloc: Global,
     text: &Text<'a>,

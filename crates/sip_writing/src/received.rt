@@ -97,7 +97,7 @@ pub(crate) fn numbers_fit(ip: &[u8], port: u16)
 fn source_param(alloc: Global, source: Addr) -> Result<Param<'static>, AllocError>
     ensures { IfOk result (λ p. p ≡ received source) }
 {
-    let name = Text::from_slice(alloc, b"received")?;
+    let name = Text::lent(b"received");
     let mut out = Vec::with_capacity(alloc, 15)?;
     put_ip4(&mut out, &source.ip)?;
     Ok(Param {

@@ -22,7 +22,7 @@ use text::{Text, both};
 fn via_header(alloc: Global, via: &Via<'_>) -> Result<Header<'static>, AllocError>
     ensures { IfOk result (λ h. h ≡ named (codes "Via") (via_text via.now)) }
 {
-    let name = Text::from_slice(alloc, b"Via")?;
+    let name = Text::lent(b"Via");
     let mut out = Vec::from_slice(alloc, b"SIP/2.0/UDP ")?;
     out.extend_from_slice(via.sent_by.as_bytes())?;
     put_params(&mut out, via.params.as_slice(), b';', b';')?;
@@ -86,7 +86,7 @@ pub(crate) fn puts_tag(status: u16, to: &NameAddr) -> bool
 pub fn tag_param(alloc: Global, tag: &[u8]) -> Result<Param<'static>, AllocError>
     ensures { IfOk result (λ p. p ≡ tag_param tag.now) }
 {
-    let name = Text::from_slice(alloc, b"tag")?;
+    let name = Text::lent(b"tag");
     let value = Text::from_slice(alloc, tag)?;
     Ok(Param {
         name,

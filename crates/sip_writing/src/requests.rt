@@ -59,7 +59,7 @@ fn branch_text(alloc: Global, token: &[u8]) -> Result<Text<'static>, AllocError>
 fn branch_param(alloc: Global, token: &[u8]) -> Result<Param<'static>, AllocError>
     ensures { IfOk result (λ p. p ≡ record { name = codes "branch"; value = Some (branch_text token.now) }) }
 {
-    let name = Text::from_slice(alloc, b"branch")?;
+    let name = Text::lent(b"branch");
     let branch = branch_text(alloc, token)?;
     Ok(Param {
         name,

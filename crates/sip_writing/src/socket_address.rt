@@ -3,13 +3,14 @@
 ghost use Rattle.std.specs.Prelude.{◌≡◌, ◌≤◌, ◌+◌, ◌++◌, Some, decimal, length};
 ghost use Rattle.sip_uri.specs.Writing.{ip4_text};
 ghost use Rattle.text.specs.Cut.{led_by};
+ghost use Rattle.text.specs.Limits.{max_in_room};
 
 use sip_uri::Addr;
 use text::Room;
 
 /// Puts an octet in plain decimals behind what is there.
 fn put_octet(room: &mut Room, octet: u8)
-    requires { length room.old ≤ 44 }
+    requires { length room.old + 20 ≤ max_in_room }
     ensures octet { room.new ≡ room.old ++ decimal octet }
     ensures short { length room.new ≤ length room.old + 3 }
 {
@@ -18,16 +19,16 @@ fn put_octet(room: &mut Room, octet: u8)
 
 /// Puts a port in plain decimals behind what is there.
 fn put_port(room: &mut Room, port: u16)
-    requires { length room.old ≤ 44 }
+    requires { length room.old + 20 ≤ max_in_room }
     ensures port { room.new ≡ room.old ++ decimal port }
     ensures short { length room.new ≤ length room.old + 5 }
 {
     room.put_number(u64::from(port));
 }
 
-/// Puts an address and its port, `ADDRESS:PORT`, behind what is there, which is 20 bytes at most. Takes no memory.
+/// Puts an address and its port, `ADDRESS:PORT`, behind what is there, with room for 36 bytes more. Takes no memory.
 pub fn put_socket_address(room: &mut Room, address: Addr)
-    requires { length room.old ≤ 20 }
+    requires { length room.old + 36 ≤ max_in_room }
     ensures address { room.new ≡ room.old ++ ip4_text address.ip ++ led_by 58 (Some (decimal address.port)) }
     ensures short { length room.new ≤ length room.old + 21 }
 {

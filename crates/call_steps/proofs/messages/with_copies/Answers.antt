@@ -35,7 +35,7 @@ loop-at-preserved c =
         arith,
         c.loop-at.invariant.few,
         c.in_ok-saying.ensures.few,
-        ap (λ (d : Dressed). d.made) c.in_ok-put_behind.ensures,
+        ap (λ (d : Dressed). d.made) c.in_ok-put_behind.ensures.ok,
         ap (λ (m : StepMessages). m.dressed.made) c.in_ok-keep.ensures,
       );
       answered = rw c.answers_first-answers.ensures (answered_step actions at (Trying Caller) c.loop-at.answered c.loop-at-test.true c.loop-at.invariant.answered);
