@@ -1,1 +1,2 @@
+mod ContentLaws
 pub mod PlaceLaws

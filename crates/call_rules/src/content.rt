@@ -1,7 +1,8 @@
 //! What the body of a message is by its header fields, and what it describes.
 
-ghost use Rattle.std.specs.Prelude.{◌≡◌, None, Some, IfOk};
+ghost use Rattle.std.specs.Prelude.{◌≡◌, List, None, Some, IfOk};
 ghost use Rattle.sdp.specs.Reading.{description_of};
+ghost use Rattle.sip_message.specs.declared.headers.Header.{Header};
 ghost use Rattle.call_rules.specs.Content.{coding_rule, content_rule, described, described_by, if_read};
 
 use sdp::{Description, DescriptionError, read_description};
@@ -50,6 +51,13 @@ fn description_read(alloc: Global, body: &[u8]) -> Result<Option<Description<'_>
         Err(DescriptionError::OutOfMemory) => Err(AllocError),
         Err(_) => Ok(None),
     }
+}
+
+/// What a body describes whose type and coding are known to be taken; none where it can't be read.
+pub fn taken_description(alloc: Global, body: &[u8]) -> Result<Option<Description<'_>>, AllocError>
+    ensures { (headers : List Header) → content_rule headers ≡ None → IfOk result (λ d. d ≡ described headers body.now) }
+{
+    description_read(alloc, body)
 }
 
 fn described_by(

@@ -10,7 +10,7 @@ mod reach;
 mod requests;
 mod responses;
 
-pub use content::{ContentRule, body_description, content_rule};
+pub use content::{ContentRule, body_description, content_rule, taken_description};
 pub use offers::{OfferRule, offer_rule, plain_rule};
 pub use reach::{contact_address, is_reached, is_unreachable};
 pub use requests::{DialogRule, dialog_rule, with_remote_number};

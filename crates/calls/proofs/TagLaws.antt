@@ -1,7 +1,7 @@
 -- The prints of tags stand for the tags: who has a tag has its print, so that the first with a print is looked for in
 -- place of the first with a tag.
 use Rattle.std.proofs.Common.{◌≡◌, ◌∙◌, ◌<◌, ◌≤◌, ◌+◌, ℕ, zero, suc, Bool, true, false, not, cond, is_some, List, [], ◌∷◌, length, get_or, map, set, Option, Some, None, refl, sym, ap, subst, ltb, arith}
-use Rattle.std.specs.Prelude.{◌||◌, ◌&&◌, nat_eq, slice_get}
+use Rattle.std.specs.Prelude.{◌||◌, ◌&&◌, nat_eq, option_map, slice_get}
 use Rattle.std.specs.List.{position, position_or_len, remove}
 use Rattle.std.specs.Cmp.Lexicographic.{bytes_decides}
 use Rattle.index.specs.declared.print.PrintKey.{PrintKey}
@@ -10,10 +10,20 @@ use Rattle.sip_message.specs.declared.message.Parts.{Parts}
 use Rattle.sip_message.specs.Words.{tag_text}
 use Rattle.call_media.specs.declared.end.End.{End}
 use Rattle.call_media.specs.declared.end.End.TheVariants.{Caller, Callee}
+use Rattle.sip_uri.specs.declared.uri.Uri.{Uri}
+use Rattle.events.specs.declared.sent.Sent.{Sent}
 use Rattle.dialogs.specs.declared.state.Dialog.{Dialog}
+use Rattle.call_media.specs.declared.state.CallMedia.{CallMedia}
+use Rattle.call_core.specs.declared.plan.Numbers.{Numbers}
+use Rattle.call_core.specs.declared.stage.Standing.{Standing}
+use Rattle.call_core.specs.Calls.{after, to_target, with_number, with_number_if, with_target}
+use Rattle.calls.specs.declared.change.Beside.{Beside}
+use Rattle.calls.specs.declared.change.LegDialog.{LegDialog}
+use Rattle.calls.specs.declared.standing_call.TakenOffer.{TakenOffer}
 use Rattle.calls.specs.declared.standing_call.StandingCall.{StandingCall}
 use Rattle.calls.specs.declared.tags.TagPrints.{TagPrints}
-use Rattle.calls.specs.Carrying.{without_gone}
+use Rattle.calls.specs.Carrying.{offerer_of, reached_call, with_call, without_gone}
+use Rattle.calls.specs.Changes.{beside, with_last, with_leg, with_taken_if}
 use Rattle.calls.specs.Finding.{has_tag, is_of_dialog, is_of_end, is_text}
 use Rattle.calls.specs.Tags.{has_print, has_print_at, prints_of, tag_print}
 use Rattle.calls.proofs.KeptLaws.{read_at, same_read, set_read}
@@ -119,6 +129,76 @@ noted key cs after place new now tags within stood changed read =
     let same : now ≡ new = same_read now new (slice_get (set cs place new) place) is (set_read cs place new within) in
     ap (λ (ts : List TagPrints). set ts place (prints_of key now)) stood ∙ ap (λ c. set (map (prints_of key) cs) place (prints_of key c)) same
     ∙ sym (map-set (prints_of key) cs place new) ∙ ap (map (prints_of key)) (sym changed)
+
+-- ---- the prints of a call that changes without a dialog that is put
+
+abbrev with_callee : TagPrints → ℕ → TagPrints
+with_callee tags callee = record { leg = tags.leg; caller = tags.caller; callee = callee }
+
+counted_tag : (key : PrintKey) (number : Option ℕ) (d : Dialog) → print_of key (with_number number d).id.ours ≡ print_of key d.id.ours
+counted_tag key None d = refl
+counted_tag key (Some number) d = refl
+
+counted_tag_if : (key : PrintKey) (number : Option ℕ) (d : Option Dialog) → tag_print key (with_number_if number d) ≡ tag_print key d
+counted_tag_if key None d = refl
+counted_tag_if key (Some number) None = refl
+counted_tag_if key (Some number) (Some d) = refl
+
+-- a step counts numbers
+step_tags : (key : PrintKey) (c : StandingCall) (numbers : Numbers) (next : Option Standing) (media : CallMedia)
+    → prints_of key (with_call (after c.call numbers next media) c) ≡ prints_of key c
+step_tags key c numbers next media =
+    ap (λ n. record { leg = print_of key c.callee_tag; caller = n; callee = tag_print key (with_number_if numbers.to_callee c.call.callee) }) (counted_tag key numbers.to_caller c.call.caller)
+    ∙ ap (with_callee (prints_of key c)) (counted_tag_if key numbers.to_callee c.call.callee)
+
+target_tag : (key : PrintKey) (target : Uri) (d : Option Dialog) → tag_print key (option_map (to_target target) d) ≡ tag_print key d
+target_tag key target None = refl
+target_tag key target (Some d) = refl
+
+reached_tags : (key : PrintKey) (target : Uri) (end : End) (c : StandingCall) → prints_of key (with_call (with_target end target c.call) c) ≡ prints_of key c
+reached_tags key target Caller c = refl
+reached_tags key target Callee c = ap (with_callee (prints_of key c)) (target_tag key target c.call.callee)
+
+answered_tags : (key : PrintKey) (target : Option Uri) (c : StandingCall) → prints_of key (with_call (reached_call target c.call) c) ≡ prints_of key c
+answered_tags key None c = refl
+answered_tags key (Some target) c = reached_tags key target (offerer_of c.call.standing) c
+
+last_tags : (key : PrintKey) (answer : Option Sent) (c : StandingCall) → prints_of key (with_last answer c) ≡ prints_of key c
+last_tags key None c = refl
+last_tags key (Some answer) c = answered_tags key c.target c
+
+taken_tags : (key : PrintKey) (taken : Option TakenOffer) (c : StandingCall) → prints_of key (with_taken_if taken c) ≡ prints_of key c
+taken_tags key None c = refl
+taken_tags key (Some offer) c = refl
+
+leg_tags : (key : PrintKey) (leg : Option LegDialog) (c : StandingCall) → is_some leg ≡ false → prints_of key (with_leg leg c) ≡ prints_of key c
+leg_tags key None c none = refl
+leg_tags key (Some leg) c none = absurd cc
+
+-- all that is put beside a call but a dialog
+tags_beside : (key : PrintKey) (kept : Beside) (c : StandingCall) → is_some kept.leg ≡ false → prints_of key (beside kept c) ≡ prints_of key c
+tags_beside key kept c none = last_tags key kept.answer (with_taken_if kept.taken (with_leg kept.leg c)) ∙ taken_tags key kept.taken (with_leg kept.leg c) ∙ leg_tags key kept.leg c none
+
+prints_as_before : (key : PrintKey) (cs : List StandingCall) (place : ℕ) (c new : StandingCall) → slice_get cs place ≡ Some c → prints_of key new ≡ prints_of key c
+    → map (prints_of key) (set cs place new) ≡ map (prints_of key) cs
+prints_as_before key [] place c new is same = absurd cc
+prints_as_before key (x ∷ xs) zero c new is same = let here : x ≡ c = cc in ap (λ p. p ∷ map (prints_of key) xs) (same ∙ ap (prints_of key) (sym here))
+prints_as_before key (x ∷ xs) (suc k) c new is same = ap (λ ps. prints_of key x ∷ ps) (prints_as_before key xs k c new is same)
+
+-- the tags are noted anew where a dialog is put, and are as they were where none is
+pub noted_if : (key : PrintKey) (cs there : List StandingCall) (place : ℕ) (kept : Beside) (c : StandingCall) (numbers : Numbers) (next : Option Standing) (media : CallMedia)
+    (tags now : List TagPrints) (puts : Bool) → place < length cs → slice_get cs place ≡ Some c → tags ≡ map (prints_of key) cs → puts ≡ is_some kept.leg
+    → there ≡ set cs place (beside kept (with_call (after c.call numbers next media) c))
+    → (puts ≡ true → (d : StandingCall) → slice_get there place ≡ Some d → now ≡ set tags place (prints_of key d)) → (puts ≡ false → now ≡ tags)
+    → now ≡ map (prints_of key) there
+noted_if key cs there place kept c numbers next media tags now true within is stood puts changed anew left =
+    let new = beside kept (with_call (after c.call numbers next media) c) in
+    let read = ap (λ xs. slice_get xs place) changed ∙ set_read cs place new within in
+    anew refl new read ∙ ap (λ (ts : List TagPrints). set ts place (prints_of key new)) stood ∙ sym (map-set (prints_of key) cs place new) ∙ ap (map (prints_of key)) (sym changed)
+noted_if key cs there place kept c numbers next media tags now false within is stood puts changed anew left =
+    let step = with_call (after c.call numbers next media) c in
+    let same = tags_beside key kept step (sym puts) ∙ step_tags key c numbers next media in
+    left refl ∙ stood ∙ sym (prints_as_before key cs place c (beside kept step) is same) ∙ ap (map (prints_of key)) (sym changed)
 
 pub map_removed : (key : PrintKey) (cs : List StandingCall) (place : ℕ) → map (prints_of key) (remove cs place) ≡ remove (map (prints_of key) cs) place
 map_removed key [] zero = refl

@@ -1,6 +1,6 @@
 //! Plans that are carried out. Nothing here takes memory.
 
-ghost use Rattle.std.specs.Prelude.{◌≡◌, ◌+◌, ◌<◌, ◌≤◌, ◌^◌, ◌∷◌, ◌++◌, [], length, map, Some, slice_get, vec_len};
+ghost use Rattle.std.specs.Prelude.{◌≡◌, ◌+◌, ◌<◌, ◌≤◌, ◌^◌, ◌∷◌, ◌++◌, [], false, length, map, Some, slice_get, slice_set, true, vec_len};
 ghost use Rattle.std.specs.Vec.{vec_capacity};
 ghost use Rattle.port_pool.specs.Changes.{LeadFrom};
 ghost use Rattle.call_core.specs.Calls.{IsServed};
@@ -69,6 +69,24 @@ fn carry_out_there(
     let changes = carry_out_in(call, alloc, plan, pool, now);
     put_beside(call, kept.into_inner());
     changes
+}
+
+/// Notes the tags of the call at this place anew, where a dialog was put: without one they are as they were.
+fn note_tags(
+    calls: &[StandingCall],
+    tags: &mut Vec<TagPrints>,
+    key: PrintKey,
+    place: usize,
+    puts_dialog: bool,
+)
+    requires there { place < length calls.now }
+    requires noted { place < vec_len tags.old }
+    ensures anew { puts_dialog ≡ true → (c : StandingCall) → slice_get calls.now place ≡ Some c → tags.new.items ≡ slice_set tags.old.items place (prints_of key c) }
+    ensures as_before { puts_dialog ≡ false → tags.new.items ≡ tags.old.items }
+{
+    if puts_dialog {
+        tags[place] = prints_of(key, &calls[place]);
+    }
 }
 
 /// Takes the call at this place off the list, with its tags, where it stands nowhere any more.
@@ -163,6 +181,7 @@ impl Calls {
         }
         let number = self.calls[place].call.number();
         take_plan(&mut self.timers, now, number, plan.get());
+        let puts_dialog = kept.get().puts_dialog();
         let changes = carry_out_there(
             &mut self.calls,
             &mut self.pool,
@@ -172,7 +191,7 @@ impl Calls {
             plan,
             now,
         );
-        self.tags[place] = prints_of(self.key, &self.calls[place]);
+        note_tags(&self.calls, &mut self.tags, self.key, place, puts_dialog);
         take_off(&mut self.calls, &mut self.tags, self.key, place);
         changes
     }

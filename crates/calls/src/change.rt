@@ -25,6 +25,17 @@ pub struct Beside {
     pub answer: Option<Sent>,
 }
 
+impl Beside {
+    ghost use Rattle.std.specs.Prelude.{◌≡◌, is_some};
+
+    /// Whether a dialog is put. Takes no memory.
+    pub(crate) fn puts_dialog(&self) -> bool
+        ensures { result ≡ is_some self.now.leg }
+    {
+        self.leg.is_some()
+    }
+}
+
 /// What changes among the calls: planned with nothing changed, and entered later on the same values.
 #[derive(Drop)]
 pub enum CallChange {

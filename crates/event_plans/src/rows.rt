@@ -50,7 +50,7 @@ fn rule_row(
 ) -> Result<Doing, AllocError>
     requires early { setting.now < 2 ^ 60 }
     requires few { office.now.tokens < 2 ^ 63 }
-    requires there { HandsOn office.now.calls.calls (rule_value rule) }
+    requires found { HandsOn office.now.calls.calls request.now (rule_value rule) }
     ensures row { IfOk result (λ d. effect office.now.calls office.now.acks setting.now d ≡ rule_row office.now setting request.now begun.items id (rule_value rule.entry)) }
     ensures fits { IfOk result (Fits office.now.calls setting.now) }
 {

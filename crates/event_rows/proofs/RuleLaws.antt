@@ -28,10 +28,11 @@ use Rattle.event_rows.specs.Rules as checks
 use Rattle.event_rows.specs.Rules.{request_rule, target}
 
 module _ (s : Office) (r : Request) (now : ℕ) where
-  -- a call begins to the target at which the callee is bound; a call that is handed on is the one at its place
+  -- a call begins to the target at which the callee is bound, with a body that is taken; a call that is handed on is the
+  -- one at its place
   abbrev pub WasFound : Rule → Type 0
   WasFound (Alone reply) = Unit {0}
-  WasFound (Call (calls.Begins to)) = target s r now ≡ Some to
+  WasFound (Call (calls.Begins to)) = (target s r now ≡ Some to) × (content_rule r.headers ≡ None)
   WasFound (Call (calls.Cancels place)) = Unit {0}
   WasFound (Call (calls.Leaves place end)) = Unit {0}
   WasFound (Call (calls.Offers place end c)) = slice_get s.calls.calls place ≡ Some c
@@ -68,13 +69,13 @@ module _ (s : Office) (r : Request) (now : ℕ) where
   dialog_found (dialog.Offers place end) = called_found (calls.Offers place end) (slice_get s.calls.calls place) (λ x there. there)
   dialog_found (dialog.Plain place end) = called_found (calls.Refreshes place end) (slice_get s.calls.calls place) (λ x there. there)
 
-  taken_found : (to : Uri) (rule : Option ContentRule) → target s r now ≡ Some to → WasFound (checks.taken_rule to rule)
-  taken_found to (Some rule) bound = tt
-  taken_found to None bound = bound
+  taken_found : (to : Uri) (rule : Option ContentRule) → target s r now ≡ Some to → content_rule r.headers ≡ rule → WasFound (checks.taken_rule to rule)
+  taken_found to (Some rule) bound is = tt
+  taken_found to None bound is = (bound, is)
 
   bound_found : (to : Option Uri) → target s r now ≡ to → WasFound (checks.bound_rule r to)
   bound_found None bound = tt
-  bound_found (Some to) bound = taken_found to (content_rule r.headers) bound
+  bound_found (Some to) bound = taken_found to (content_rule r.headers) bound refl
 
   first_found : WasFound (checks.first_call_rule s r now)
   first_found =
@@ -114,13 +115,13 @@ module _ (s : Office) (r : Request) (now : ℕ) where
       (behind (checks.declined_line r) known (when_found (is_declined_method r) (checks.refused reasons.MethodNotOffered) tt)
       (behind (checks.unknown_line r) offered (when_found (not (is_offered_method r)) (checks.refused reasons.UnknownMethod) tt) offered_found)))
 
-  hands_on : (rule : Rule) → WasFound rule → HandsOn s.calls.calls rule
+  hands_on : (rule : Rule) → WasFound rule → HandsOn s.calls.calls r rule
   hands_on (Alone reply) h = tt
-  hands_on (Call (calls.Begins to)) h = tt
+  hands_on (Call (calls.Begins to)) h = h.1
   hands_on (Call (calls.Cancels place)) h = tt
   hands_on (Call (calls.Leaves place end)) h = tt
   hands_on (Call (calls.Offers place end c)) h = h
   hands_on (Call (calls.Refreshes place end c)) h = h
 
-  pub request_hands_on : HandsOn s.calls.calls (request_rule s r now)
+  pub request_hands_on : HandsOn s.calls.calls r (request_rule s r now)
   request_hands_on = hands_on (request_rule s r now) request_found

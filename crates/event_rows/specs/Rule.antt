@@ -1,7 +1,8 @@
 -- What is done for a request that begins a transaction.
 use Rattle.std.specs.Prelude.{List}
 use Rattle.calls.specs.declared.standing_call.StandingCall.{StandingCall}
-use Rattle.plans.specs.CallRule.{CallRule, StandsThere}
+use Rattle.sip_message.specs.declared.message.Request.{Request}
+use Rattle.plans.specs.CallRule.{CallRule, IsFor}
 use Rattle.plans.specs.declared.rule.Reply.{Reply}
 
 pub data Rule : Type 0 where
@@ -10,7 +11,7 @@ pub data Rule : Type 0 where
   -- a call takes it, or begins with it
   Call : CallRule → Rule
 
--- a call that it hands on stands at its place
-abbrev pub HandsOn : List StandingCall → Rule → Type 0
-HandsOn standing (Alone reply) = Unit {0}
-HandsOn standing (Call rule) = StandsThere standing rule
+-- what it hands on to a call is for this request
+abbrev pub HandsOn : List StandingCall → Request → Rule → Type 0
+HandsOn standing r (Alone reply) = Unit {0}
+HandsOn standing r (Call rule) = IsFor standing r rule

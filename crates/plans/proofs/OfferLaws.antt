@@ -1,7 +1,9 @@
 -- Which response an offer inside a call gets, by why it is refused or that it may pass.
-use Rattle.std.proofs.Common.{◌≡◌, ◌∙◌, ℕ, ◌<◌, ◌≤◌, Bool, true, false, cond, is_some, length, List, Option, Some, None, refl, ap, sym, subst}
+use Rattle.std.proofs.Common.{◌≡◌, ◌≢◌, ◌∙◌, ℕ, ◌<◌, ◌≤◌, ◌==◌, Bool, true, false, cond, is_some, length, List, Option, Some, None, refl, ap, sym, subst}
+use Rattle.std.specs.Prelude.{option_map}
 use Rattle.std.proofs.lemmas.Bool.{lt-leb, le-leb}
 use Rattle.port_pool.specs.Holdings.{free_pairs}
+use Rattle.sip_message.specs.Contact.{contacts_of}
 use Rattle.sip_message.specs.declared.message.Request.{Request}
 use Rattle.sdp.specs.declared.description.Description.{Description}
 use Rattle.offer_answer.specs.declared.fault.OfferFault.{OfferFault}
@@ -29,9 +31,12 @@ use Rattle.call_core.specs.Settled.{settled_row}
 use Rattle.call_core.specs.Table.{row_in, row_of}
 use Rattle.call_core.specs.Plans.{IfLine}
 use Rattle.port_pool.specs.Pool as pools
+use Rattle.call_rules.specs.declared.content.ContentRule.{ContentRule}
+use Rattle.call_rules.specs.Content.{content_rule}
+use Rattle.call_rules.specs.Reach.{leaves_unreached}
 use Rattle.call_rules.specs.declared.offers.OfferRule.{OfferRule}
 use Rattle.call_rules.specs.declared.offers.OfferRule.TheVariants as asked
-use Rattle.call_rules.specs.Offers.{clash_by, content_line, hops_line, is_settled, offer_rule, otherwise, reach_line}
+use Rattle.call_rules.specs.Offers.{clash_by, content_line, hops_line, is_settled, offer_rule, otherwise, reach_line, when}
 use Rattle.plans.specs.declared.reason.Reason.{Reason}
 use Rattle.plans.specs.declared.reason.Reason.TheVariants.{NoPorts, NumberAtItsEnd, UnfitOffer}
 use Rattle.plans.specs.declared.setting.Setting.{Setting}
@@ -61,6 +66,33 @@ pub clear : (r : Request) (end : End) (c : Call) → offer_rule r end c ≡ aske
 unfolding offer_rule
 clear r end c h =
     clear_by c (clash_in c.standing end) (otherwise (hops_line r) (otherwise (reach_line r) (otherwise (content_line r) asked.Passes))) h
+
+-- ---- the body of one that passes is taken
+
+when_passes : (b : Bool) (rule next : OfferRule) → otherwise (when b rule) next ≡ asked.Passes → rule ≢ asked.Passes → next ≡ asked.Passes
+when_passes true rule next h other = absurd (other h)
+when_passes false rule next h other = h
+
+content_passes : (rule : Option ContentRule) → otherwise (option_map asked.Content rule) asked.Passes ≡ asked.Passes → rule ≡ None
+content_passes None h = refl
+content_passes (Some rule) h = absurd cc
+
+behind_clash : (c : Call) (clash : Option Clash) (next : OfferRule) → otherwise (clash_by c clash) next ≡ asked.Passes → next ≡ asked.Passes
+behind_clash c (Some clash) next h = absurd cc
+behind_clash c None next h = step (holds_in is_settled c.standing) h where
+  step : (settled : Bool) → otherwise (cond settled None (Some asked.NoDialog)) next ≡ asked.Passes → next ≡ asked.Passes
+  step true is = is
+  step false is = absurd cc
+
+pub taken : (r : Request) (end : End) (c : Call) → offer_rule r end c ≡ asked.Passes → content_rule r.headers ≡ None
+unfolding offer_rule
+taken r end c h =
+    let content = otherwise (content_line r) asked.Passes in
+    let reach = otherwise (reach_line r) content in
+    let hops = behind_clash c (clash_in c.standing end) (otherwise (hops_line r) reach) h in
+    content_passes (content_rule r.headers)
+    (when_passes (leaves_unreached r.parts (contacts_of r.headers)) asked.Unreached content
+    (when_passes (r.max_forwards == 0) asked.NoHops reach hops (λ same. cc)) (λ same. cc))
 
 -- ---- why the call refuses it
 

@@ -4,7 +4,7 @@ ghost use Rattle.std.specs.Prelude.{◌≡◌, ◌<◌, ◌^◌, ◌∷◌, [], 
 ghost use Rattle.std.specs.Option.{option_copied};
 ghost use Rattle.timers.specs.declared.timers.Timer.{Timer};
 ghost use Rattle.calls.specs.declared.timer_id.CallTimerId.{CallTimerId};
-ghost use Rattle.call_rules.specs.Content.{described};
+ghost use Rattle.call_rules.specs.Content.{content_rule, described};
 ghost use Rattle.call_steps.specs.Effects as steps;
 ghost use Rattle.call_steps.specs.Effects.{with_timers};
 ghost use Rattle.call_steps.specs.Rows.{takes_row};
@@ -12,7 +12,7 @@ ghost use Rattle.call_steps.specs.Values.{asker_value};
 ghost use Rattle.plans.specs.CallRows.{are_full, asker, begins, call_row, counted, first_by, occasion, refuses_first, tag_at, takes, takes_request, unless_full};
 ghost use Rattle.plans.specs.Effect.{CanEnter, Fits, effect};
 ghost use Rattle.plans.specs.CallRule as rules;
-ghost use Rattle.plans.specs.CallRule.{StandsThere, call_rule};
+ghost use Rattle.plans.specs.CallRule.{IsFor, call_rule};
 
 use crate::effects_of_events::{Before, Doing};
 use crate::office::Office;
@@ -22,7 +22,7 @@ use crate::rule::CallRule;
 use crate::setting::Setting;
 use call_core::{CallRefusal, End, Input};
 use call_messages::Asker;
-use call_rules::body_description;
+use call_rules::taken_description;
 use call_steps::{CallStep, counts, counts_in_call, first_call, offerer_tag};
 use calls::{LegDialog, StandingCall};
 use responses::STATELESS;
@@ -232,11 +232,11 @@ impl<'o> Office<'o> {
         target: &Uri<'_>,
     ) -> Result<Doing, AllocError>
         requires few { self.now.tokens < 2 ^ 63 }
+        requires taken { content_rule request.now.headers ≡ None }
         ensures row { IfOk result (λ d. effect self.now.calls self.now.acks setting.now d ≡ begins self.now setting request.now begun.items id target.now (described request.now.headers request.now.body)) }
         ensures fits { IfOk result (Fits self.now.calls setting.now) }
     {
-        let headers = request.headers.as_slice();
-        let Some(offer) = body_description(self.alloc, headers, request.body.as_bytes())? else {
+        let Some(offer) = taken_description(self.alloc, request.body.as_bytes())? else {
             return self.refuses_first(setting, request, begun, id, Reason::Undescribed);
         };
         let doing = self.first_by(setting, request, begun, id, target, &offer);
@@ -328,8 +328,8 @@ impl<'o> Office<'o> {
     ) -> Result<Doing, AllocError>
         requires few { self.now.tokens < 2 ^ 63 }
         requires moment { setting.now < 2 ^ 60 }
-        // The call that the rule hands on is the one at its place.
-        requires there { StandsThere self.now.calls.calls (call_rule rule) }
+        // The call that the rule hands on is the one at its place, and the body that a call begins with is taken.
+        requires found { IsFor self.now.calls.calls request.now (call_rule rule) }
         ensures row { IfOk result (λ d. effect self.now.calls self.now.acks setting.now d ≡ call_row self.now setting request.now begun.items id (call_rule rule.entry)) }
         ensures fits { IfOk result (Fits self.now.calls setting.now) }
     {

@@ -20,7 +20,7 @@ use crate::reason::Reason;
 use crate::setting::Setting;
 use call_core::{CallRefusal, Clash, End, Input, OfferMethod};
 use call_messages::contact_header;
-use call_rules::{ContentRule, OfferRule, body_description, offer_rule, plain_rule};
+use call_rules::{ContentRule, OfferRule, offer_rule, plain_rule, taken_description};
 use call_steps::{CallStep, ReceivedRequest, refreshes};
 use calls::StandingCall;
 use responses::is_method;
@@ -178,6 +178,7 @@ impl<'o> Office<'o> {
         }
     }
 
+    #[tactic(auto, using(crate::proofs::OfferLaws::taken))]
     fn passes_in(
         &self,
         setting: Setting,
@@ -196,8 +197,7 @@ impl<'o> Office<'o> {
             ≡ passes_in self.now setting request.now begun.items id place end call.now.call (described request.now.headers request.now.body)) }
         ensures fits { IfOk result (Fits self.now.calls setting.now) }
     {
-        let headers = request.headers.as_slice();
-        match body_description(self.alloc, headers, request.body.as_bytes())? {
+        match taken_description(self.alloc, request.body.as_bytes())? {
             None => {
                 let reason = Reason::Undescribed;
                 self.refuses_in(setting, request, begun, id, place, end, call, reason)

@@ -20,7 +20,7 @@ use Rattle.step_laws.proofs.Counting.{registers_stand}
 
 -- the rule by which its call begins says where the callee is bound
 pub first_found : (s : Contents) (now : ℕ) (r : Request) (to : Uri) (offer : Description) → IsFirstCall s now r to offer → target (office s) r now ≡ Some to
-first_found s now r to offer h = subst (WasFound (office s) r now) h.rule (request_found (office s) r now)
+first_found s now r to offer h = (subst (WasFound (office s) r now) h.rule (request_found (office s) r now)).0
 
 module _ (s : Contents) (rules : Rules) (history : List RegistrarEvent) (stands : StandsAfter s.registrar rules history) where
   same_bindings : (user : List ℕ) (now : ℕ) → bindings_at s.registrar user now ≡ bound rules user history now

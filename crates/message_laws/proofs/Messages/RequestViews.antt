@@ -302,7 +302,7 @@ module _ (s : Office) (e : Setting) (r : Request) (begun : List Entry) (id : ℕ
   rule_view : (rule : Rule) → request_rule s r e.now ≡ rule → FitsRule s r rule → Row (rule_row s e r begun id rule)
   unfolding call_row
   rule_view (rules.Alone reply) is fits = replied reply is refl
-  rule_view (rules.Call (callrules.Begins to)) is fits = begins_view to (described r.headers r.body) fits (subst (WasFound s r e.now) is (request_found s r e.now)) refl
+  rule_view (rules.Call (callrules.Begins to)) is fits = begins_view to (described r.headers r.body) fits (subst (WasFound s r e.now) is (request_found s r e.now)).0 refl
   rule_view (rules.Call (callrules.Cancels place)) is fits = cancelled fits.0 place fits.1 fits.2 refl
   rule_view (rules.Call (callrules.Leaves place end)) is fits = left place end fits refl
   rule_view (rules.Call (callrules.Offers place end c)) is fits = offers_view place end c fits.0 fits.1

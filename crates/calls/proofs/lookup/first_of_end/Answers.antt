@@ -1,4 +1,4 @@
-use Rattle.std.proofs.Common.{◌≡◌, ◌∙◌, ◌<◌, length, ap, sym}
+use Rattle.std.proofs.Common.{◌∙◌, ◌<◌, length, ap, sym}
 use Rattle.std.specs.List.{position}
 use Rattle.std.proofs.lemmas.Bool.{ltb-true}
 use Rattle.index.specs.PrintKeys.{print_of}

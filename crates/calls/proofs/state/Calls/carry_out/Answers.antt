@@ -1,12 +1,14 @@
-use Rattle.std.proofs.Common.{◌∙◌, ◌<◌, List, ap, arith, length, set, subst, sym}
+use Rattle.std.proofs.Common.{◌∙◌, ◌<◌, List, ap, arith, is_some, length, subst, sym}
+use Rattle.std.specs.Prelude.{slice_get}
 use Rattle.call_core.specs.declared.plan.Plan.{Plan}
+use Rattle.calls.specs.declared.change.Beside.{Beside}
 use Rattle.calls.specs.declared.standing_call.StandingCall.{StandingCall}
 use Rattle.calls.specs.Changes.{with_calls}
 use Rattle.calls.specs.State.{AreKept, Standing}
 use Rattle.calls.specs.Timing.{timers_planned}
 use Rattle.calls.proofs.KeptLaws.{read_at, served_at}
 use Rattle.calls.proofs.CarryLaws.{changes_carried, kept_carried, standing_carried}
-use Rattle.calls.proofs.TagLaws.{noted}
+use Rattle.calls.proofs.TagLaws.{noted_if}
 use Rattle.calls.proofs.state.Calls.carry_out.Goals as goal
 
 pub carry_out_there-changes-requires-clause-served : goal.carry_out_there-changes-requires-clause-served
@@ -21,8 +23,9 @@ take_off-requires-clause-noted c =
     let within : c.args.place < length cs = omega (arith, c.if-place-len.false, c.len.ensures, c.self.inside.calls.ok.0) in
     let here = read_at cs c.args.place c.index.result.now within c.index.ensures in
     let did = c.carry_out_there-changes.ensures.done c.index.result.now here in
-    ap (λ t. set c.self.inside.tags.items c.args.place t) c.prints_of.ensures
-    ∙ noted c.self.inside.key cs c.carry_out_there-changes.new.calls.items c.args.place _ c.index-2.result.now c.self.inside.tags.items within c.self.invariant.1 did.calls c.index-2.ensures
+    noted_if c.self.inside.key cs c.carry_out_there-changes.new.calls.items c.args.place c.args.kept c.index.result.now _ _ _ c.self.inside.tags.items c.note_tags.new.tags.items _ within here c.self.invariant.1
+    (c.puts_dialog-puts_dialog.ensures ∙ ap (λ (k : Beside). is_some k.leg) c.get-2.ensures) did.calls
+    (λ puts d is. c.note_tags.ensures.anew puts d (ap (λ (xs : List StandingCall). slice_get xs c.args.place) c.deref.ensures.value ∙ is)) c.note_tags.ensures.as_before
 
 pub invariant_of-self : goal.invariant_of-self
 invariant_of-self c =
