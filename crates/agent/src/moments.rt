@@ -64,8 +64,8 @@ impl Agent {
     }
 
     /// What an event is answered that is only counted: one at no moment that counts, one for which no token is left, a
-    /// datagram that is too long, a timer where none is due, silence in no settled call, and users that a configuration may
-    /// not list. None for all others. Takes no memory.
+    /// datagram that is too long, a timer where none is due, silence in no settled call, and users that a configuration
+    /// may not list. None for all others. Takes no memory.
     #[tactic(auto, unfolding(event_rows::specs::Rows::only_counts))]
     pub(crate) fn only_counts(&self, event: &Event) -> Option<Taken>
         ensures { result ≡ only_counts self.now event.entry.now }

@@ -36,8 +36,8 @@ traffic_of traffic number = find (λ t. t.number == number) traffic
 abbrev pub user_text : Option (List ℕ) → List ℕ
 user_text user = unwrap_or user []
 
--- the caller, and whom it calls, as the dialog with the caller has them: the server is the callee there (RFC 3261 section
--- 12.1.1)
+-- the caller, and whom it calls, as the dialog with the caller has them: the server is the callee there (RFC 3261
+-- section 12.1.1)
 abbrev pub users_of : Option Dialog → List ℕ × List ℕ
 users_of None = ([], [])
 users_of (Some dialog) = (user_text dialog.theirs.uri.user, user_text dialog.ours.uri.user)

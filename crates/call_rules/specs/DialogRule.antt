@@ -1,5 +1,5 @@
--- What a request in a dialog is to the calls that stand. The place is that of the call, and the end is the one that sent
--- the request.
+-- What a request in a dialog is to the calls that stand. The place is that of the call, and the end is the one that
+-- sent the request.
 use Rattle.std.specs.Prelude.{◌≡◌, ℕ, List, slice_get, Some}
 use Rattle.call_media.specs.declared.end.End.{End}
 use Rattle.calls.specs.declared.standing_call.StandingCall.{StandingCall}

@@ -15,7 +15,8 @@ use Rattle.calls.specs.Finding.{place_by_end}
 use Rattle.call_rules.specs.DialogRule.{DialogRule, NoDialog, OldNumber, Leaves, Offers, Plain}
 use Rattle.call_rules.specs.Speaking.{is_bye, is_offer}
 
--- ---- an end whose dialog is over: it sent a BYE or was sent one, or its first INVITE was refused (sections 12.3 and 15)
+-- ---- an end whose dialog is over: it sent a BYE or was sent one, or its first INVITE was refused (sections 12.3 and
+-- 15)
 
 -- the end that answered left before the ACK; a first INVITE that was given up was refused
 abbrev pub left_in : Stage → End → End → Bool

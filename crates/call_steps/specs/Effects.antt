@@ -10,8 +10,8 @@ use Rattle.call_messages.specs.Dressed.{Dressed, no_message}
 use Rattle.call_steps.specs.declared.call_step.CallStep.{CallStep}
 use Rattle.call_steps.specs.declared.messages.StepMessages.{StepMessages}
 
--- the calls afterwards, with the changes of the relay table; the messages; the ACK that goes again; and what happened to
--- a call, if that is told
+-- the calls afterwards, with the changes of the relay table; the messages; the ACK that goes again; and what happened
+-- to a call, if that is told
 pub record Effect : Type 0 where
   pub outcome : Outcome
   pub dressed : Dressed

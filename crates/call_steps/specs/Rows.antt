@@ -90,8 +90,8 @@ offers_by calls table o place input end request id source leg None = no_effect c
 offers_by calls table o place input end request id source leg (Some c) =
     does calls table o place (offer_coming leg end request id source c) c (call_row c.call input calls.pool o.now)
 
--- ---- a call that begins: tokens are made for the server's tag in the dialog with the caller, and for the Call-ID and the From tag
--- of the new leg; then for branches
+-- ---- a call that begins: tokens are made for the server's tag in the dialog with the caller, and for the Call-ID and
+-- the From tag of the new leg; then for branches
 
 abbrev pub first_asker : Occasion → Request → ℕ → Addr → AskerValue
 first_asker o request id source = record { id = id; parts = request.parts; source = source; tag = fresh o 1 }
@@ -159,7 +159,8 @@ fork_by calls o asked response (Some target) = forked calls (fork_messages o (ca
 unfoldable pub fork_row : Standing → Occasion → Parts → Response → Effect
 fork_row calls o asked response = fork_by calls o asked response (reached_at (contacts_of response.headers))
 
--- ---- a 2xx to a later INVITE, with these parts, whose call is gone: ACK alone, with that INVITE's own To (section 13.2.2.4)
+-- ---- a 2xx to a later INVITE, with these parts, whose call is gone: ACK alone, with that INVITE's own To (section
+-- 13.2.2.4)
 
 abbrev pub with_their_tag : List ℕ → Dialog → Dialog
 with_their_tag tag d = record d { id = record { call_id = d.id.call_id; ours = d.id.ours; theirs = tag } }
@@ -177,8 +178,8 @@ late_by calls o asked response (Some target) = forked calls (late_messages o (la
 unfoldable pub late_row : Standing → Occasion → Parts → Response → Effect
 late_row calls o asked response = late_by calls o asked response (reached_at (contacts_of response.headers))
 
--- ---- the dialog of a 2xx that a call takes, to a request with these parts: that which it makes (section 12.1.2), or the one that stands,
--- whose other side is reached where the 2xx says (section 12.2.1.2)
+-- ---- the dialog of a 2xx that a call takes, to a request with these parts: that which it makes (section 12.1.2), or
+-- the one that stands, whose other side is reached where the 2xx says (section 12.2.1.2)
 
 abbrev pub dialog_after : Parts → Response → Uri → Option Dialog → Dialog
 dialog_after asked response target None = callers_dialog asked response target

@@ -22,7 +22,8 @@ impl Calls {
         self.timers.reserve(plan.actions.as_slice().len() + 1)
     }
 
-    /// Makes the room that this change takes, and for one timer more. A refusal (no memory) leaves the calls as they were.
+    /// Makes the room that this change takes, and for one timer more. A refusal (no memory) leaves the calls as they
+    /// were.
     pub fn reserve_for(&mut self, change: &CallChange) -> Result<(), AllocError>
         ensures standing { standing self.new ≡ standing self.old }
         ensures ok { OnOk result (HasRoom self.new change.now) }

@@ -29,8 +29,8 @@ pub enum ConfigError {
     Domain,
     /// The text is no TOML, has another key, lacks one, or has a value of another type; or the workers are not 1 to 8,
     /// or the seconds for a first response not 1 to 32, or the key of the random numbers is not 64 hexadecimal digits,
-    /// or the word of the log is unknown, or the text of the page's address is none or not of loopback where the page is
-    /// not open.
+    /// or the word of the log is unknown, or the text of the page's address is none or not of loopback where the page
+    /// is not open.
     #[error("C6: file")]
     File,
     /// The minutes without media are not 1 to 1440, or the hours of the longest call not 1 to 168.

@@ -8,8 +8,8 @@ pub fn laws_of_ranges()
     ensures holds { RangeHolds }
 {}
 
-/// A list that the key `users` may have is of 1 to 1000 users, each well formed, none twice. The users of a configuration
-/// that keeps the rules are such a list.
+/// A list that the key `users` may have is of 1 to 1000 users, each well formed, none twice. The users of a
+/// configuration that keeps the rules are such a list.
 pub fn laws_of_user_lists()
     ensures holds { UserListHolds }
     ensures kept { KeptUsersAreAList }

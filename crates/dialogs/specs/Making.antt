@@ -45,8 +45,8 @@ callees_dialog invite tag target = record {
   remote_number = Some invite.parts.cseq.number;
 }
 
--- with the sender of a 2xx to our INVITE (section 12.1.2): From is ours, To is theirs and has their tag in the response,
--- and our number counts
+-- with the sender of a 2xx to our INVITE (section 12.1.2): From is ours, To is theirs and has their tag in the
+-- response, and our number counts
 abbrev pub callers_dialog : Parts → Response → Uri → Dialog
 callers_dialog invite response target = record {
   id = record { call_id = invite.call_id; ours = tag_text invite.from.params; theirs = tag_text response.parts.to.params };

@@ -85,8 +85,8 @@ fn text_in(
 }
 
 impl Dialog {
-    /// The next request of this method with the server's Via, and its number, which `keep_number` keeps. G2 comes where no
-    /// number is left.
+    /// The next request of this method with the server's Via, and its number, which `keep_number` keeps. G2 comes where
+    /// no number is left.
     pub fn next_request(
         &self,
         alloc: Global,
@@ -131,7 +131,8 @@ impl Dialog {
         }
     }
 
-    /// The ACK of a 2xx to the INVITE with this number, with the server's Via, as it is sent (RFC 3261 section 13.2.2.4).
+    /// The ACK of a 2xx to the INVITE with this number, with the server's Via, as it is sent (RFC 3261 section
+    /// 13.2.2.4).
     #[tactic(auto, unfolding(sip_writing::specs::Unkept::unkept_request, crate::specs::Requests::request_in, crate::specs::Requests::parts_in))]
     pub fn ack(
         &self,

@@ -28,8 +28,8 @@ use Rattle.event_rows.specs.Rules as checks
 use Rattle.event_rows.specs.Rules.{request_rule, target}
 
 module _ (s : Office) (r : Request) (now : ℕ) where
-  -- a call begins to the target at which the callee is bound, with a body that is taken; a call that is handed on is the
-  -- one at its place
+  -- a call begins to the target at which the callee is bound, with a body that is taken; a call that is handed on is
+  -- the one at its place
   abbrev pub WasFound : Rule → Type 0
   WasFound (Alone reply) = Unit {0}
   WasFound (Call (calls.Begins to)) = (target s r now ≡ Some to) × (content_rule r.headers ≡ None)

@@ -179,8 +179,8 @@ due_row s e (Some timer) (Some other) = if nat_le timer.at other.at then timer_r
 
 -- ---- an event
 
--- whether a datagram has more bytes than are read, no timer is due, no call of the number is settled, or a configuration
--- may not list such users: nothing is looked at further
+-- whether a datagram has more bytes than are read, no timer is due, no call of the number is settled, or a
+-- configuration may not list such users: nothing is looked at further
 abbrev pub what_counts : Contents → ℕ → What → Option Taken
 what_counts s now (whats.Datagram source bytes) =
     if nat_lt max_datagram (length bytes) then Some (Dropped (Unread faults.TooLong)) else None

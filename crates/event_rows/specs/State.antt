@@ -33,8 +33,8 @@ use Rattle.event_rows.specs.Tally.{counted, none_counted}
 
 -- the registrar, the transactions, the calls with their pool, the ACKs that go again, and the changes that the last
 -- event made in the relay table; where the server is reached, its relay ports, the seconds that a binding has to last
--- at least, and the milliseconds that a call may stand; the greatest moment so far in milliseconds, how many tokens were made, how many events were
--- answered how, what the last was about, and whose bindings it set
+-- at least, and the milliseconds that a call may stand; the greatest moment so far in milliseconds, how many tokens
+-- were made, how many events were answered how, what the last was about, and whose bindings it set
 pub record Contents : Type 0 where
   pub registrar : registrar.Contents
   pub table : transactions.Contents

@@ -23,8 +23,8 @@ pub record Course : Type 0 where
   pub news : List News
   pub trouble : Option Trouble
 
--- one round, at the moment that the clock told for it and with the news that the operator handed in for it, if it did, by
--- the next salt of the stream
+-- one round, at the moment that the clock told for it and with the news that the operator handed in for it, if it did,
+-- by the next salt of the stream
 pub record Leads (a b : Course) (round : Round) : Type 0 where
   pub now : ℕ
   pub told : b.moments ≡ a.moments ++ now ∷ []
@@ -114,8 +114,8 @@ EndsAt turns rounds Stopped = GoOn rounds
 EndsAt turns rounds Socket = EndBy rounds Socket
 EndsAt turns rounds Memory = EndBy rounds Memory
 
--- These rounds were made, one for each moment that the clock told, and one of each news that the operator handed in, with
--- the salts of the stream in their order. The trouble that began in them was told as it began, and they ended so.
+-- These rounds were made, one for each moment that the clock told, and one of each news that the operator handed in,
+-- with the salts of the stream in their order. The trouble that began in them was told as it began, and they ended so.
 pub record Served (a b : Course) (turns : Option ℕ) (end : End) : Type 0 where
   pub rounds : List RoundAt
   pub made : Made a.salts a.state rounds b.state

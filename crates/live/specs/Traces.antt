@@ -21,8 +21,8 @@ use Rattle.live.specs.declared.streaks.End.TheVariants.{Turns, Stopped, Socket, 
 
 -- ---- what came, and what the agent made of it
 
--- A datagram that came, a timer that fired, or news, and its entry: the event, with its answer and what was sent. One that was
--- lost has no entry, and counts as not come.
+-- A datagram that came, a timer that fired, or news, and its entry: the event, with its answer and what was sent. One
+-- that was lost has no entry, and counts as not come.
 pub record Happening : Type 0 where
   pub arrival : Option Arrival
   pub entry : Option Entry

@@ -154,9 +154,9 @@ impl<W: Wire> Signalling<W> {
         }
     }
 
-    /// Tells the agent these news, where there are any. Else fires one timer that is due at this moment, in milliseconds, or
-    /// else takes one datagram, or else waits until the next moment that is due, at most 100 milliseconds. An event has
-    /// the next salt of the stream.
+    /// Tells the agent these news, where there are any. Else fires one timer that is due at this moment, in
+    /// milliseconds, or else takes one datagram, or else waits until the next moment that is due, at most 100
+    /// milliseconds. An event has the next salt of the stream.
     pub fn round<R: Wait>(&mut self, rt: &R, now: u64, news: Option<News>) -> Round
         requires { HasTable self.old.board self.old.agent }
         ensures round { Rounds now (salt_at self.old.salts) news

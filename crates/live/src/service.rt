@@ -78,8 +78,8 @@ fn go_on<W: Wire, C: Clock, O: Operator, R: Wait>(
 }
 
 /// Makes rounds until as many are made as are asked for, until the flag is set, or until too many in a row fail. The
-/// operator is told of each kind of trouble as it begins, and of each event once the agent took it; the agent is told the
-/// operator's news, each once.
+/// operator is told of each kind of trouble as it begins, and of each event once the agent took it; the agent is told
+/// the operator's news, each once.
 pub fn serve<W: Wire, C: Clock, O: Operator, R: Wait>(
     rt: &R,
     signalling: &mut Signalling<W>,

@@ -31,8 +31,8 @@ pub trait Operator {
     /// The news that it handed in, in order.
     ghost handed: { Self → List declared_news.News };
 
-    /// News by this moment, in milliseconds, if there are any: they are asked for at each round, which then has no other
-    /// event.
+    /// News by this moment, in milliseconds, if there are any: they are asked for at each round, which then has no
+    /// other event.
     fn news(&mut self, now: u64) -> Option<News>
         ensures told { told self.new ≡ told self.old }
         ensures handed { handed self.new ≡ with_news (handed self.old) result };
@@ -47,14 +47,14 @@ pub trait Operator {
         ensures told { told self.new ≡ told self.old }
         ensures handed { handed self.new ≡ handed self.old };
 
-    /// The agent took an event at this moment, in milliseconds: a datagram from this source, a timer, or the news of this
-    /// round. Its note says what that was about.
+    /// The agent took an event at this moment, in milliseconds: a datagram from this source, a timer, or the news of
+    /// this round. Its note says what that was about.
     fn noted(&mut self, agent: &Agent, source: Option<Addr>, now: u64)
         ensures told { told self.new ≡ told self.old }
         ensures handed { handed self.new ≡ handed self.old };
 
-    /// A round took no event, at this moment, in milliseconds: its news are lost, if it had any. One comes each tenth of a
-    /// second where none are taken.
+    /// A round took no event, at this moment, in milliseconds: its news are lost, if it had any. One comes each tenth
+    /// of a second where none are taken.
     fn look(&mut self, agent: &Agent, now: u64)
         ensures told { told self.new ≡ told self.old }
         ensures handed { handed self.new ≡ handed self.old };

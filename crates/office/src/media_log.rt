@@ -158,8 +158,8 @@ fn is_end(note: CallNote) -> bool {
 }
 
 impl CallFlows {
-    /// The ports of the call, and where its media should come from, as the call stands. Where memory is refused, not all
-    /// ports are counted, so that the call is not silent.
+    /// The ports of the call, and where its media should come from, as the call stands. Where memory is refused, not
+    /// all ports are counted, so that the call is not silent.
     fn follow(
         &mut self,
         alloc: Global,
@@ -340,8 +340,8 @@ impl MediaLog {
         true
     }
 
-    /// The number of the first answered call in which nothing came from either end for `limit` milliseconds, by the last
-    /// look. A call is told once a minute at most: one that could not be ended is told again.
+    /// The number of the first answered call in which nothing came from either end for `limit` milliseconds, by the
+    /// last look. A call is told once a minute at most: one that could not be ended is told again.
     pub(crate) fn silent_call(&mut self, now: u64, limit: u64) -> Option<u64> {
         if !self.may_find {
             return None;

@@ -120,8 +120,8 @@ impl UserFile {
         }
     }
 
-    /// Looks at the file, and gives what is to be reported of it where it is another than at the last look. Where memory is
-    /// refused, the next look does so.
+    /// Looks at the file, and gives what is to be reported of it where it is another than at the last look. Where
+    /// memory is refused, the next look does so.
     pub(crate) fn look<R: Files + AllocGlobal>(&mut self, rt: &R) -> Option<FileReport> {
         let report = match self.watch.look(rt) {
             Look::Same => return None,

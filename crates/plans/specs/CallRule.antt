@@ -1,5 +1,5 @@
--- What a call does for a request that began a transaction, with what was found for it. A place is that of the call on the
--- list.
+-- What a call does for a request that began a transaction, with what was found for it. A place is that of the call on
+-- the list.
 use Rattle.std.specs.Prelude.{◌≡◌, ℕ, List, slice_get, None, Some}
 use Rattle.sip_uri.specs.declared.uri.Uri.{Uri}
 use Rattle.sip_message.specs.declared.message.Request.{Request}

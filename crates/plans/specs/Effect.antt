@@ -23,7 +23,8 @@ pub record Effect : Type 0 where
 abbrev pub alone : Standing → List KeptAck → Plan → Effect
 alone calls acks plan = record { plan = plan; calls = unchanged calls; acks = acks }
 
--- ---- the ACKs of 2xx that go again: each is kept by the number of its INVITE's transaction, until that ends (section 13.2.2.4)
+-- ---- the ACKs of 2xx that go again: each is kept by the number of its INVITE's transaction, until that ends (section
+-- 13.2.2.4)
 
 abbrev pub without_ack : ℕ → List KeptAck → List KeptAck
 without_ack id acks = filter (λ ack. not (ack.id == id)) acks

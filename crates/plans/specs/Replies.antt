@@ -84,9 +84,9 @@ accept_encoding = named (codes "Accept-Encoding") (codes "identity")
 abbrev pub unsupported : Request → Header
 unsupported r = named (codes "Unsupported") (joined_tags (required_tags r.headers))
 
--- the header fields that say more of a reason: when the request may come again (RFC 3261 section 14.2), the methods that
--- are offered (8.2.1), what is required and not there (8.2.2.3), what is taken in a body (8.2.3), and how long a binding
--- lasts at least (10.3)
+-- the header fields that say more of a reason: when the request may come again (RFC 3261 section 14.2), the methods
+-- that are offered (8.2.1), what is required and not there (8.2.2.3), what is taken in a body (8.2.3), and how long a
+-- binding lasts at least (10.3)
 abbrev pub headers_of : Office → Request → Reason → List Header
 headers_of s r reasons.SecondOffer = retry_after ∷ []
 headers_of s r reasons.MethodNotOffered = allow ∷ []

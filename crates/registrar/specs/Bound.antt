@@ -1,4 +1,5 @@
--- Which contacts a user is bound to (RFC 3261 section 10.3), from the plain list of all REGISTERs and lists of users so far.
+-- Which contacts a user is bound to (RFC 3261 section 10.3), from the plain list of all REGISTERs and lists of users so
+-- far.
 use Rattle.std.specs.Prelude.{◌&&◌, ℕ, Bool, true, false, List, [], ◌∷◌, find, nat_eq, nat_le, Option, Some, None, option_map, Result, Ok, Err, if◌then◌else◌, ◌≡◌, ◌≢◌, ◌≤◌, length, ◌++◌}
 use Rattle.std.specs.List.{list_all}
 use Rattle.std.specs.Cmp.Lexicographic.{pointwise}

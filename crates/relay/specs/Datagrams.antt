@@ -25,8 +25,8 @@ pub record Forwarded : Type 0 where
 abbrev pub forwarded : Taken → Hop → Forwarded
 forwarded d hop = record { from = hop.from; to = hop.to; bytes = d.bytes }
 
--- What one turn did with what the socket took and sent, under a table of rows, and with the counts. Each but an idle one
--- takes one datagram; one that it sends is counted at the port at which it came, and no other.
+-- What one turn did with what the socket took and sent, under a table of rows, and with the counts. Each but an idle
+-- one takes one datagram; one that it sends is counted at the port at which it came, and no other.
 module _ (rows : Rows) (taken taken' : List Taken) (sent sent' : List Forwarded) (counted counted' : Counted) where
   abbrev pub Does : Turn → Type 0
   Does Idle = (taken' ≡ taken) × (sent' ≡ sent) × (counted' ≡ counted)

@@ -68,7 +68,8 @@ impl<S: MediaSocket> Worker<S> {
         }
     }
 
-    /// Takes one datagram, if one is there, sends it on by the row that is seen at its port, and counts it where it went.
+    /// Takes one datagram, if one is there, sends it on by the row that is seen at its port, and counts it where it
+    /// went.
     pub fn turn(&mut self) -> Result<Turn, TurnFault>
         ensures did { IfOk result (λ t. Does (table_after self.new.viewer) (S.taken self.old.socket) (S.taken self.new.socket) (S.sent self.old.socket) (S.sent self.new.socket) self.old.counter self.new.counter t) }
         ensures lost { IfErr result (λ f. Loses (table_after self.new.viewer) (S.taken self.old.socket) (S.taken self.new.socket) f) }

@@ -1,5 +1,5 @@
-//! Lines for whoever watches the server: a word, and behind it keys with their values. Whatever a value says, it ends no
-//! line and begins no other key.
+//! Lines for whoever watches the server: a word, and behind it keys with their values. Whatever a value says, it ends
+//! no line and begins no other key.
 
 ghost use Rattle.std.specs.Prelude.{◌≡◌, ◌++◌, ◌≤◌, length, decimal, OnOk};
 ghost use Rattle.std.specs.List.{flat_map};

@@ -208,8 +208,8 @@ fn put_registration(
 }
 
 /// Writes the line of what the last event was about behind what is there, if it is told. It was taken at this moment,
-/// in milliseconds, and came from there, where it was a datagram. Where it ended a call, and anyone counts its media, it
-/// had carried so many.
+/// in milliseconds, and came from there, where it was a datagram. Where it ended a call, and anyone counts its media,
+/// it had carried so many.
 #[tactic(auto, using(crate::proofs::LineLaws::says_nothing, crate::proofs::LineLaws::says_tells))]
 pub fn put_note(
     out: &mut Vec<u8>,

@@ -34,7 +34,8 @@ fn event_fault(error: ScriptError, at: usize) -> Fault
     }
 }
 
-/// The event that begins a text so many bytes from the head, and how many bytes it is; none where the text is too short.
+/// The event that begins a text so many bytes from the head, and how many bytes it is; none where the text is too
+/// short.
 #[tactic(auto, using(crate::proofs::StreamLaws::of_event))]
 fn event_of(alloc: Global, text: &[u8], at: usize) -> Result<Option<(Event, usize)>, Fault>
     ensures found { IfOk result (λ first. IfSome first (λ f. Begins text.now f.0 (drop f.1 text.now))) }
@@ -145,10 +146,10 @@ fn follow_day<R: Read, W: Write>(
     write_state(alloc, agent, writer)
 }
 
-/// Reads a configuration, if there is a file of one, and then a script bit by bit. The text of all that the office sends
-/// at an event is written as soon as the event is whole, and at the end of the script the calls that stand and the rows
-/// of the relay table: what `replay` writes. A line that begins no event ends it behind what was sent before. Of events
-/// that were taken nothing is kept but what the office knows.
+/// Reads a configuration, if there is a file of one, and then a script bit by bit. The text of all that the office
+/// sends at an event is written as soon as the event is whole, and at the end of the script the calls that stand and
+/// the rows of the relay table: what `replay` writes. A line that begins no event ends it behind what was sent before.
+/// Of events that were taken nothing is kept but what the office knows.
 pub fn follow<C: Read + Drop, R: Read, W: Write>(
     alloc: Global,
     config: Option<C>,

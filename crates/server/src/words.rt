@@ -26,8 +26,8 @@ pub enum Asked<'a> {
         script: &'a str,
         notes: bool,
     },
-    /// Follow a script on standard input, on the office of a configuration or on the example office. What each event was
-    /// about may be written, too.
+    /// Follow a script on standard input, on the office of a configuration or on the example office. What each event
+    /// was about may be written, too.
     Follow {
         config: Option<&'a str>,
         notes: bool,

@@ -22,8 +22,8 @@ impl Stillness {
         Stillness { count, since: now }
     }
 
-    /// A further look: so many datagrams have come by `now`, in milliseconds. Another number than at the last look, also
-    /// a smaller one, says that the flow moved. Takes no memory.
+    /// A further look: so many datagrams have come by `now`, in milliseconds. Another number than at the last look,
+    /// also a smaller one, says that the flow moved. Takes no memory.
     pub fn look(&mut self, now: u64, count: u64)
         ensures { (looks : List Look) → IsStillnessOf looks self.old →
             IsStillnessOf (after_look looks now count) self.new }

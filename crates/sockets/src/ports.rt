@@ -64,8 +64,8 @@ fn bind_at<R: Net>(rt: &R, ip: [u8; 4], port: u16) -> Result<UdpSocket, Unbound>
     }
 }
 
-/// Has the poll tell of the socket, by this number, for as long as a datagram is there. `mio` registers sockets of which
-/// it tells as one comes, and which have to be read until none is there.
+/// Has the poll tell of the socket, by this number, for as long as a datagram is there. `mio` registers sockets of
+/// which it tells as one comes, and which have to be read until none is there.
 fn watch(poll: &Poll, socket: &UdpSocket, number: u64) -> io::Result<()> {
     let (poll, socket) = (poll.as_raw_fd(), socket.as_raw_fd());
     if os::epoll_ctl(poll, EPOLL_CTL_ADD, socket, EPOLLIN, number) == 0 {

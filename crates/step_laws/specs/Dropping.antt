@@ -40,7 +40,8 @@ pub record IsBranched (event : Event) (m : Message) : Type 0 where
   pub is_read : IsRead event m
   pub branch : has_fit_branch (parts_of m).vias ≡ true
 
--- ---- it can't be read: it has more bytes than are read, or a fault, and nothing in it that could be answered (section 8.2.1)
+-- ---- it can't be read: it has more bytes than are read, or a fault, and nothing in it that could be answered (section
+-- 8.2.1)
 
 pub record IsUnread (event : Event) (fault : MessageError) : Type 0 where
   pub source : Addr

@@ -1,4 +1,5 @@
--- The prints of the places, which are kept beside them, so that the index is changed at an end without making them again.
+-- The prints of the places, which are kept beside them, so that the index is changed at an end without making them
+-- again.
 use Rattle.std.specs.Prelude.{◌≡◌, ℕ, ◌+◌, ◌≤◌, List, map, Option}
 use Rattle.index.specs.declared.print.PrintKey.{PrintKey}
 use Rattle.transactions.specs.declared.print.Prints.{Prints}

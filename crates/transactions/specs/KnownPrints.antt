@@ -1,4 +1,5 @@
--- A print of a branch that is known from the look-up, so that a transaction that begins is placed without making it again.
+-- A print of a branch that is known from the look-up, so that a transaction that begins is placed without making it
+-- again.
 use Rattle.std.specs.Prelude.{◌≡◌, List, Option, Some, None}
 use Rattle.sip_message.specs.declared.via.Via.{Via}
 use Rattle.transactions.specs.declared.change.Entry.{Entry}

@@ -44,7 +44,8 @@ MayEnter slots (Tells id input fresh) = Unit {0}
 MayEnter slots (Answers id class bytes) = Unit {0}
 MayEnter slots Leaves = Unit {0}
 
--- ---- calls that were done: where there is no room no message began a transaction, which is the clause `room` of `receive`
+-- ---- calls that were done: where there is no room no message began a transaction, which is the clause `room` of
+-- `receive`
 
 abbrev pub WasDone : Contents → Call → Type 0
 WasDone table (Receive message source now) = IsNew (reception_of table message).verdict → has_no_room table source ≡ false

@@ -47,9 +47,9 @@ pub fn replies()
 {}
 
 /// No two server transactions have one key (method, branch and sent-by), and there are no more than 4,096: of a table
-/// without transactions, and after any calls that were done, since none begins one where there is no room; and after any change
-/// that may be entered, as what is foreseen of a message may, where that is entered before other messages come. Nor has an
-/// address more than its share, of an empty table and after any calls that were done.
+/// without transactions, and after any calls that were done, since none begins one where there is no room; and after
+/// any change that may be entered, as what is foreseen of a message may, where that is entered before other messages
+/// come. Nor has an address more than its share, of an empty table and after any calls that were done.
 pub fn servers()
     ensures none { AreServers [] }
     ensures change { (now : ℕ) (table : Contents) (change : Entry) →
