@@ -1,5 +1,6 @@
-"""The toolchain's command rt as a module, for the scripts of this repository. None of what they take of it is a public interface: so each
-script runs only where the functions that it takes are as it knows them."""
+"""The toolchain's command rt as a module, for the commands of this repository. None of what they take of it is a public interface, so each
+names what it takes, and runs only where that is as it knows it."""
+import functools
 import importlib.machinery
 import importlib.util
 import inspect
@@ -8,6 +9,8 @@ import shutil
 import sys
 
 KITS = ("rattle-kit-13b", "rattle-kit-13f")
+# What `look_up_once` replaces.
+LOOKS = {"rtlib.Crate.below": ["self"], "rtlib.Crate.stamp": ["crate", "made"]}
 
 
 def command():
@@ -16,30 +19,55 @@ def command():
 
 
 def rattle():
-    """Where the compiler is, which lays files out, too."""
+    """Where the compiler is, which also lays files out."""
     return f"{os.path.dirname(command())}/rattle"
 
 
+def kit():
+    """The folder of the toolchain."""
+    return os.path.dirname(os.path.dirname(command()))
+
+
+def kit_line():
+    """The line that identifies the kit, as `rt version` prints it; empty where there is none."""
+    file = f"{kit()}/KIT-ID"
+    if not os.path.isfile(file):
+        return ""
+    with open(file, encoding="utf-8") as opened:
+        return opened.read().strip()
+
+
+def member(rt, name):
+    """What has this dotted name in the command; None where nothing has."""
+    return functools.reduce(lambda found, part: getattr(found, part, None), name.split("."), rt)
+
+
+def is_known(rt, name, parameters):
+    """Whether the command has a function of this name with these parameters, or, with none given, a value."""
+    found = member(rt, name)
+    if parameters is None:
+        return found is not None
+    return callable(found) and list(inspect.signature(found).parameters) == parameters
+
+
 def toolchain(script, used):
-    """The command rt, if its functions have the parameters that the script knows."""
-    path = command()
-    kit = f"{os.path.dirname(os.path.dirname(path))}/KIT-ID"
-    found = open(kit, encoding="utf-8").read().split()[:1] if os.path.isfile(kit) else []
+    """The command rt, if what the script takes of it is there with the parameters that it knows."""
+    found = kit_line().split()[:1]
     if not set(found) & set(KITS):
-        print(f"{script}: note: this script was written over {' and '.join(KITS)}, and found {' '.join(found) or 'none'}", flush=True)
-    loader = importlib.machinery.SourceFileLoader("rt", path)
+        print(f"{script}: note: this script knows {' and '.join(KITS)}, and found {' '.join(found) or 'none'}", flush=True)
+    loader = importlib.machinery.SourceFileLoader("rt", command())
     rt = importlib.util.module_from_spec(importlib.util.spec_from_loader("rt", loader))
     loader.exec_module(rt)
-    for name, parameters in used.items():
-        if list(inspect.signature(getattr(rt, name)).parameters) != parameters:
-            sys.exit(f"{script}: the toolchain's {name} is another one than this script knows")
+    for name, parameters in {**LOOKS, **used}.items():
+        if not is_known(rt, name, parameters):
+            sys.exit(f"{script}: the toolchain's {name} is not the one that this script knows")
     look_up_once(rt.rtlib.Crate)
     return rt
 
 
 def look_up_once(kind):
-    """Has what is below a crate looked up once, and the stamp of its text taken once where none is written. The command goes down every way of the
-    graph at each look, which takes it minutes of a run."""
+    """Has the crates below a crate looked up once, and the stamp of its text taken once where none is written. The command walks every path
+    of the graph at each look, which takes minutes of a run."""
     made, stamped, stamps = kind.below, kind.stamp, {}
 
     def below(crate):

@@ -1,0 +1,53 @@
+"""The libraries that ./prove and `rt ci` keep on this machine: a check takes them as the next `rt ci` would, so that nothing below a crate is
+proved twice."""
+import os
+import shutil
+
+# What this takes of the toolchain's command.
+USED = {
+    "rtlib.guarded": [],
+    "handles_of": ["root"],
+    "crates_of": ["root"],
+    "Crate.cuts_libraries": None,
+    "Crate.allowed": None,
+    "Kept.key": ["self", "crate"],
+    "Kept.give": ["self", "crate", "tests", "key"],
+    "Kept.is_built": ["self", "crate"],
+}
+# Processor minutes that 1,000 lines of code take to prove, as docs/PERFORMANCE.md has them.
+MINUTES = 5
+
+
+class Libraries:
+    """The crates of the repository, over the libraries that are kept."""
+
+    def __init__(self, rt):
+        root = os.getcwd()
+        # (its first call sets a signal's handler, which only the main thread may)
+        rt.rtlib.guarded()
+        rt.Crate.cuts_libraries = True
+        rt.Crate.allowed = rt.handles_of(root)
+        self.crates = {crate.name: crate for crate in rt.crates_of(root)}
+        self.kept = rt.Kept([*self.crates.values()])
+
+    def lacking(self, crate):
+        """Gives a crate the libraries below it, and names those that are not kept as they stand."""
+        lacks = []
+        for below in sorted(crate.below(), key=lambda found: len(found.below())):
+            if below.name not in self.kept.rlibs and (lacks or not self.give(below)):
+                lacks.append(below)
+        return lacks
+
+    def give(self, crate):
+        """Gives a library's folder what is kept of it, and tells whether it could."""
+        shutil.rmtree(f"{crate.folder}/out/rlib", ignore_errors=True)
+        os.makedirs(f"{crate.folder}/out", exist_ok=True)
+        if not self.kept.give(crate, False, self.kept.key(crate)):
+            return False
+        self.kept.is_built(crate)
+        return True
+
+
+def minutes_of(crates):
+    """How many minutes of a processor the proofs of these crates take, by their lines."""
+    return round(MINUTES * sum(crate.count(rb"\n") for crate in crates) / 1000) or 1

@@ -1,0 +1,55 @@
+"""Which wrong bodies are tried: those whose verdict stands on something that changed since the last commit whose gate passed, and a few of the
+others, which turn with the commits."""
+import hashlib
+
+from edits import edits_of
+from memo import REFUSED
+from repository import commit_count, git, is_ancestor, libraries, texts_at, texts_in_tree
+from standing import Standing
+
+PASSED = ".ci/passed"
+# Of the edits that nothing touched so many are tried, of so many crates.
+SAMPLE, CRATES = 40, 2
+
+
+def passed_commit():
+    """The last commit whose gate passed, if this one stands on it; none where nothing tells."""
+    try:
+        with open(PASSED, encoding="utf-8") as opened:
+            commit = opened.read().strip()
+    except OSError:
+        return None
+    return commit if commit and is_ancestor(commit) else None
+
+
+def sums_of(texts, kit, uses):
+    """The edits that the prover judges, by file, and the sum that the verdict on each stands on."""
+    standing = Standing(texts, kit, uses)
+    edits = {edit.file: edit for crate in uses for edit in edits_of(crate, texts) if not edit.is_for_calls}
+    return edits, {file: standing.key(edit) for file, edit in edits.items()}
+
+
+class Selection:
+    """The wrong bodies of the tree on disk: what each stands on, and what changed since the last commit whose gate passed."""
+
+    def __init__(self, kit):
+        self.texts, self.base = texts_in_tree(), passed_commit()
+        self.edits, self.sums = sums_of(self.texts, kit, libraries())
+        self.before, texts = {}, {}
+        if self.base:
+            texts = texts_at(self.base)
+            self.before = sums_of(texts, kit, libraries(git("show", f"{self.base}:crates.txt")))[1]
+        self.changed = [file for file in self.edits if texts.get(file) != self.texts[file]]
+        self.touched = [file for file in self.edits if self.before.get(file) != self.sums[file]]
+
+    def unknown(self, files, memo):
+        """Those of these edits that the memo doesn't know as refused."""
+        return [file for file in files if not memo.knows(REFUSED, self.sums[file])]
+
+    def sample(self):
+        """A few of the edits that nothing touched, of two crates, others at each commit."""
+        rest, count = sorted({*self.edits} - {*self.touched}), commit_count()
+        crates = sorted({self.edits[file].crate for file in rest})
+        chosen = [crates[(CRATES * count + at) % len(crates)] for at in range(min(CRATES, len(crates)))]
+        turn = lambda file: hashlib.sha256(f"{count} {file}".encode()).hexdigest()
+        return [file for crate in chosen for file in sorted((it for it in rest if self.edits[it].crate == crate), key=turn)[: SAMPLE // CRATES]]
