@@ -65,7 +65,7 @@ def apply(edits, sources, made=()):
 def sources_of(crate, texts):
     """The sources of a crate by their path in it."""
     start = f"crates/{crate}/"
-    return {path.removeprefix(start): text for path, text in texts.items() if path.startswith(f"{start}src/") and path.endswith(".rt")}
+    return {path.removeprefix(start): texts[path] for path in sorted(texts) if path.startswith(f"{start}src/") and path.endswith(".rt")}
 
 
 def edits_of(crate, texts):

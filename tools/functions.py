@@ -31,7 +31,9 @@ def name_of(path, text, found, homes):
         return homes.get(kind, module_of(path)), f"{owner}::{found[2]}"
     if trait:
         return module_of(path), f"{kind}{trait.split('::')[-1]}::{found[2]}"
-    return homes.get(kind, module_of(path)), f"{kind}::{found[2]}"
+    # (two modules may have a type of one name)
+    is_own = kind in TYPE.findall(text)
+    return module_of(path) if is_own else homes.get(kind, module_of(path)), f"{kind}::{found[2]}"
 
 
 def functions(path, text, homes):
