@@ -86,7 +86,7 @@ def compile_all(rt, selection, memo, crates, files):
     for file in files:
         chosen.setdefault(selection.edits[file].crate, []).append(selection.edits[file])
     with ThreadPoolExecutor(len(os.sched_getaffinity(0))) as pool:
-        runs = [pool.submit(lambda name=name: [*compiling.faults(crates[name], edits)]) for name, edits in chosen.items()]
+        runs = [pool.submit(lambda name, edits: [*compiling.faults(crates[name], edits)], name, edits) for name, edits in chosen.items()]
         return [fault for run in runs for fault in run.result()]
 
 
