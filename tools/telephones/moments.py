@@ -5,7 +5,8 @@ import os
 import re
 import subprocess
 
-from talking import T1, T2, WHOLE, header, key_of, status_of
+from telephones.messages import handshake_of, key_of, status_of
+from telephones.talking import T1, T2, WHOLE
 
 # Milliseconds behind an event at which a transaction may end, at which one that has rung for long is given up, and at which that is over, too.
 FORGETS, RINGS = (5_001, 32_001), (180_001, 212_002)
@@ -106,7 +107,7 @@ class Patience:
         if status >= 200 or status and key[1] == "INVITE":
             self.waits.pop(key, None)
         elif key[1] == "ACK":
-            self.waits.pop(self.asked(text), None)
+            self.waits.pop(handshake_of(text), None)
         looks = FORGETS[1:] if key[1] == "REGISTER" else FORGETS + RINGS if key[1] == "INVITE" and not status else FORGETS
         for it in looks:
             self.look(it)
@@ -115,14 +116,9 @@ class Patience:
         """To a telephone."""
         key, status = key_of(text), status_of(text)
         if status >= 200 and key[1] == "INVITE":
-            self.wait(self.asked(text), T2)
+            self.wait(handshake_of(text), T2)
         elif not status and key[1] != "ACK":
             self.wait(key, WHOLE if key[1] == "INVITE" else T2)
-
-    @staticmethod
-    def asked(text):
-        """What an INVITE's final response and its ACK have in common."""
-        return header(text, "Call-ID"), header(text, "CSeq").split()[0]
 
     def wait(self, key, longest):
         """It is sent again behind an interval that doubles, and given up at last."""

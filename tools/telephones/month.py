@@ -1,10 +1,11 @@
 """Many days of calls between the telephones of an office, in a program that has no clock, and what stands behind them."""
 from collections import Counter
 
-from conversations import Conversation
-from lossy import Line
-from moments import Moments, Program, fields_of
-from talking import Telephone, status_of
+from telephones.conversations import Conversation
+from telephones.lossy import Line
+from telephones.messages import status_of
+from telephones.moments import Moments, Program, fields_of
+from telephones.talking import Telephone
 
 IP, SERVER, DOMAIN, TELEPHONES = "192.0.2.10", "192.0.2.1", "office.example", 100
 # So many pairs as calls hold and leave to rest for 32 seconds.
