@@ -3,7 +3,8 @@
 
 usage: loopback_call.py [SERVER_IP [SIP_PORT [SECONDS]]]      as in examples/office.toml: 127.0.0.1 5060; and how long both talk, or 0
 
-Each step is printed as it succeeds; the exit status is 1 where one does not. The messages of a telephone are in tools/telephones/blocking.py."""
+Each step is printed as it succeeds; the exit status is 1 where one does not. tools/telephones/blocking.py has the messages
+of a telephone."""
 import pathlib
 import sys
 import time

@@ -8,9 +8,11 @@ from scenarios.office import DOMAIN, IP, LOGGED, SECONDS, answered_call, end, se
 from scenarios.pace import becomes, slowed
 from telephones.blocking import expect
 
-# The first words of the log's lines: two registrations, a call that is held, resumed and ended, a refused one, and a request to nobody.
-WORDS = ["registered", "registered", "call-begun", "call-ringing", "call-answered", "call-offered", "call-held", "call-offered", "call-resumed", "call-ended",
-         "call-begun", "call-refused", "refused"]
+# The first words of the log's lines: two registrations, a call that is held, resumed and ended, a refused one, and a
+# request to nobody.
+HELD = ["call-offered", "call-held", "call-offered", "call-resumed"]
+WORDS = ["registered", "registered", "call-begun", "call-ringing", "call-answered", *HELD, "call-ended", "call-begun",
+         "call-refused", "refused"]
 # The datagrams of media in that call, the caller's first.
 SPOKEN = (5, 3)
 
@@ -26,8 +28,10 @@ def keep_a_log(program):
         time.sleep(LOGGED)
         becomes(lambda: len(told()) >= len(WORDS), LOGGED)
         log, notes = told(), notes_of(replayed(program, office))
-        expect(without_seconds(without_media(log)) == without_seconds(notes), f"the log is {log}, and the notes are {notes}")
-        counts = [f"media-from-caller={SPOKEN[0]} media-from-callee={SPOKEN[1]}" in line for line in log if line.startswith("call-ended")]
+        is_same = without_seconds(without_media(log)) == without_seconds(notes)
+        expect(is_same, f"the log is {log}, and the notes are {notes}")
+        counted = f"media-from-caller={SPOKEN[0]} media-from-callee={SPOKEN[1]}"
+        counts = [counted in line for line in log if line.startswith("call-ended")]
         expect(counts == [True], f"the counts of {log}")
         words = [line.split()[0] for line in log]
         expect(words == WORDS, f"the words of the log are {words}")

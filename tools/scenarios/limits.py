@@ -5,7 +5,8 @@ from scenarios.office import SECONDS, answered_call, end, speak, started
 from scenarios.pace import slowed
 from telephones.blocking import expect
 
-# The exit status of the program where it has too little memory, or too few threads; and those with which no program is loaded.
+# The exit status of the program where it has too little memory or too few threads; and the statuses where the system
+# does not even load the program.
 NO_MEMORY, NOT_LOADED = 6, (1, 127, -9, -11)
 PROCESSES = [f"--nproc={most}" for most in (1, 2, 3, 4)]
 MEMORY = [f"--as={most << 20}" for most in (6, 8, 12, 16, 24, 32, 48)]

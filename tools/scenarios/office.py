@@ -14,11 +14,12 @@ from telephones.ports import reserved
 
 IP, DOMAIN = "127.0.0.1", "office.example"
 PAIRS = 64
-# Telephones in pairs: the calls between them at once have as many pairs of ports as there may be workers.
+# Telephones in pairs: calls between all of them at once have as many pairs of ports as there may be workers.
 USERS = [str(user) for user in range(100, 108)]
 KEY = "0123456789abcdef" * 4
 PAYLOADS = (0, 1, 172, 1_500, 65_507)
-# Seconds: of an idle computer, in which each message comes; in which the program ends or answers a command; and in which nothing is heard after a call.
+# Seconds of an idle computer: in which each message arrives; in which the program ends, or carries out a command; and
+# in which nothing may be heard after a call.
 TIMEOUT, SECONDS, OVER = 3, 20, 0.3
 # Seconds in which a line of the log is written, after what it says.
 LOGGED = 2
@@ -30,7 +31,7 @@ FORWARDED = re.compile(r"(?:INVITE|BYE) [\s\S]*?z9hG4bK([0-9a-f]{16})\.")
 
 @dataclass
 class Sent:
-    """What a telephone sent: when, from which port, and the salt of its event where what the server sent for it shows that."""
+    """What a telephone sent: when, from which port, and the salt of its event if what the server then sent shows it."""
 
     moment: float
     port: int
@@ -64,7 +65,7 @@ class Office:
     def __init__(self, kept, where, config, process, error, since):
         self.kept, self.where, self.config, self.process, self.error = kept, where, config, process, error
         self.page = (IP, where[1] + 1)
-        # The microseconds since 1970 at which the program was run, and at which it listens.
+        # The microseconds since 1970 at which the program was run, and at which it says that it listens.
         self.since, self.until = since, 0
         self.day, self.salts = [], set()
 
@@ -93,14 +94,16 @@ class Office:
 
 
 def configuration(first, workers, further):
-    """The SIP port is the first of the server's; the second may have a page; the relay has all from the third on."""
-    return (f'ip = "{IP}"\nsip_port = {first}\ndomain = "{DOMAIN}"\nusers = {json.dumps(USERS)}\nrelay_first = {first + 2}\n'
-            f'relay_pairs = {PAIRS}\nmin_expires = 60\nworkers = {workers}\nrandom_key = "{KEY}"\n{further}')
+    """The SIP port is the first of the server's; the second is for a page; the relay has all from the third on."""
+    return (f'ip = "{IP}"\nsip_port = {first}\ndomain = "{DOMAIN}"\nusers = {json.dumps(USERS)}\n'
+            f'relay_first = {first + 2}\nrelay_pairs = {PAIRS}\nmin_expires = 60\nworkers = {workers}\n'
+            f'random_key = "{KEY}"\n{further}')
 
 
 @contextlib.contextmanager
 def started(program, workers, further="", has_page=False, limits=()):
-    """An office whose server starts with these workers, further lines of its configuration, perhaps a page, and words before its command."""
+    """An office whose server starts with these workers and further lines of its configuration, by a command that begins
+    with the words of limits."""
     with contextlib.ExitStack() as kept:
         first = kept.enter_context(reserved(IP, 2 + 2 * PAIRS))
         error = kept.enter_context(tempfile.TemporaryFile("w+"))

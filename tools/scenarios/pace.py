@@ -1,10 +1,11 @@
-"""How slow this computer is now, by an exchange between two of its processes; what waits for telephones waits as much longer."""
+"""How much slower this computer is than an idle one, by exchanges between two processes, and how long to wait then."""
 import multiprocessing
 import time
 
 from telephones.messages import Dialog, Identity, headers
 
-# Requests that each process reads and writes in an exchange, and the exchanges; and the seconds that they take on an idle computer.
+# Requests that each process reads and writes in an exchange; the exchanges; and the seconds that all take on an idle
+# computer. Before each exchange there is a pause, so that both processes have to be woken.
 REQUESTS, EXCHANGES, IDLE = 20, 30, 0.06
 PAUSE = 0.005
 
@@ -37,7 +38,7 @@ def exchange(line):
 
 
 def measured():
-    """How many times longer the exchanges take than on an idle computer. It pauses before each, so that both processes have to be woken."""
+    """How many times longer the exchanges take than on an idle computer."""
     own, others = multiprocessing.Pipe()
     other = multiprocessing.Process(target=answer, args=(others,))
     other.start()
@@ -50,7 +51,7 @@ def measured():
 
 
 def measure(least=1.0):
-    """Has what this process waits for wait longer as the computer is slow now, by this factor at least."""
+    """Sets the factor by which this process waits longer, which is this one at least."""
     global factor
     factor = max(least, measured())
     return factor

@@ -14,10 +14,14 @@ from telephones.blocking import expect
 SPOKEN = (5, 3)
 # Seconds in which a snapshot for the page is made anew; and the connections that are made to it at once.
 SHOWN, CROWD = 1.5, 1_000
-# Seconds in which a head that doesn't end is let go, which is after five; and for which it is waited for.
+# Seconds: in which a head that doesn't end is let go, which is after five; and for which the client waits for that.
 LET_GO, WAITED = (4.5, 7), 10
-REFUSED = {b"GET /other HTTP/1.1\r\n\r\n": 404, b"POST / HTTP/1.1\r\nContent-Length: 0\r\n\r\n": 405, b"no request\r\n\r\n": 400,
-           b"GET / HTTP/1.1\r\nX: " + b"x" * 9_000 + b"\r\n\r\n": 431}
+REFUSED = {
+    b"GET /other HTTP/1.1\r\n\r\n": 404,
+    b"POST / HTTP/1.1\r\nContent-Length: 0\r\n\r\n": 405,
+    b"no request\r\n\r\n": 400,
+    b"GET / HTTP/1.1\r\nX: " + b"x" * 9_000 + b"\r\n\r\n": 431,
+}
 
 
 def fetch(at, request, seconds=TIMEOUT):
@@ -71,7 +75,8 @@ def show_a_call(at, call):
     shown = json.loads(get(at, "/status.json"))
     expect(len(shown["calls"]) == 1, f"the calls are {shown['calls']}")
     one = shown["calls"][0]
-    expect((one["caller"], one["callee"], one["phase"]) == (call.caller.user, call.callee.user, "talking"), f"the call is {one}")
+    ends = one["caller"], one["callee"], one["phase"]
+    expect(ends == (call.caller.user, call.callee.user, "talking"), f"the call is {one}")
     expect(totals_of(one) == [*SPOKEN], f"the datagrams of {one}")
     media = [(medium["kind"], medium["codec"], medium["direction"]) for medium in one["media"]]
     expect(media == [("audio", "PCMU/8000", "both")], f"the media of {one}")

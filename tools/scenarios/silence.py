@@ -6,8 +6,8 @@ from scenarios.office import IP, OVER, USERS, answered_call, end, serving
 from scenarios.pace import slowed
 from telephones.blocking import expect
 
-# Seconds: an end is waited for that is told of after ten; between the words of the other end; and in which a call is ended where nothing comes for
-# a minute: the server looks once a second.
+# Seconds: in which the log names an end that is silent for ten; between the words of the other end; and in which a call
+# is ended after a minute of silence: the server looks once a second.
 SILENT, BETWEEN, HUNG_UP = 13, 0.5, (59.9, 63)
 
 
@@ -29,13 +29,15 @@ def tell_of_silence(program):
             call.hears(call.caller, b"a word")
             time.sleep(BETWEEN)
         port = call.callee.media[0].getsockname()[1]
-        expect(silent_ways() == [f"call-silent-way call=1 from={call.callee.user} expected={IP}:{port}"], f"silent ways are {silent_ways()}")
+        line = f"call-silent-way call=1 from={call.callee.user} expected={IP}:{port}"
+        expect(silent_ways() == [line], f"silent ways are {silent_ways()}")
         end(call)
         end(held)
 
 
 def hang_up_silence(program):
-    """In one call nothing comes after a word, in another reports alone: the first is ended at both ends after the configured minute."""
+    """In one call nothing is sent after a word, in another reports alone: the first is ended at both ends after the
+    configured minute."""
     with serving(program, 2, "silent_minutes = 1\n") as office:
         silent, reported = two_calls(office)
         said = silent.hears(silent.caller, b"a word")

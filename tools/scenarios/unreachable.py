@@ -1,22 +1,25 @@
 """Telephones that the server can't reach, or that say nothing."""
 import time
 
-from scenarios.office import LOGGED, USERS, answered_call, end, register, serving, speak
+from scenarios.office import LOGGED, USERS, end, register, serving, speak
 from scenarios.pace import becomes, slowed
 from scenarios.workers import AGAIN
 from telephones.blocking import Call, expect
 
 # To the whole network, which a socket may not send to unless it asks for that.
 NOWHERE = "255.255.255.255:9"
-# Seconds after which a telephone that says nothing is configured to be given up; and in which it is: the server counts whole milliseconds.
+# Seconds after which the server is configured to give up a telephone that says nothing; and in which it does: it counts
+# whole milliseconds.
 GIVEN_UP, WITHIN = 2, (1.9, 2.9)
 
 
 def tell_of_refusal(program):
-    """A callee registers with an address to which the system refuses to send: that is told once, however often the INVITE is sent."""
+    """A callee registers with an address to which the system refuses to send. The server says so once, however often it
+    sends the INVITE."""
     with serving(program, workers=1) as office:
         def refusals():
-            return [line for line in office.lines() if line.startswith(f"office: trouble: sending to {NOWHERE} is refused: ")]
+            beginning = f"office: trouble: sending to {NOWHERE} is refused: "
+            return [line for line in office.lines() if line.startswith(beginning)]
 
         caller, callee = (office.telephone(user) for user in USERS[:2])
         callee.identity.contact = f"<sip:{callee.user}@{NOWHERE}>"
@@ -26,7 +29,7 @@ def tell_of_refusal(program):
         caller.take("SIP/2.0 100", "INVITE")
         time.sleep(slowed(AGAIN[1]))
         becomes(refusals, LOGGED)
-        expect(len(refusals()) == 1, f"a refusal is told once, not {len(refusals())} times")
+        expect(len(refusals()) == 1, f"a refusal is reported once, not {len(refusals())} times")
 
 
 def give_up_in_time(program):

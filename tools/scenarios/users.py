@@ -1,4 +1,4 @@
-"""Users that the file of the configuration gains and loses while a call goes on."""
+"""Users that the file of the configuration gains and loses during a call."""
 import json
 import os
 import re
@@ -9,7 +9,7 @@ from scenarios.pace import becomes, slowed
 from telephones.blocking import expect
 from telephones.messages import status_of
 
-# Who comes into the file while a call goes on, and who leaves it.
+# Who comes into the file during a call, and who leaves it.
 NEWCOMER, LEAVER = "200", "102"
 # Seconds in which the server has seen that, and for which a wrong file is left: it looks each two seconds.
 SEEN, LOOKED = 3, 5
@@ -27,8 +27,8 @@ def put_users(file, users):
 
 
 def talk(call, holds, most, least=0):
-    """Both ends of a call talk until something holds, in this many seconds at most and at least, and hear each word. Gives whether it held, and how
-    often each spoke."""
+    """Both ends of a call talk until something holds, for this many seconds at most and at least, and hear each word.
+    Gives whether it held, and how often each spoke."""
     begun, words = time.monotonic(), 0
     while (talked := time.monotonic() - begun) < most:
         for speaker in (call.caller, call.callee):
@@ -89,19 +89,20 @@ class Change:
         self.talk(lambda: self.told(OVER), slowed(SEEN))
 
     def expect_lines(self):
-        """What was told of the file, and of the media of the call."""
+        """The server reported each change of the file once, and all media of the call were passed on."""
         becomes(lambda: len(self.told("call-ended")) == 2, LOGGED)
         ends = self.told("call-ended")
         counts = rf"media-from-caller={self.words} media-from-callee={self.words}\b"
         expect(re.search(counts, ends[-1]), f"all media went on: {ends}")
         lines = self.told(("users-changed", "office: trouble"))
         changed = f"users-changed added=1 removed=1 count={len(self.users)}"
-        is_told = len(lines) == 3 and lines[0] == changed and lines[1].startswith(TROUBLE) and lines[2] == OVER
-        expect(is_told, f"what is told of the file is {lines}")
+        are_right = len(lines) == 3 and lines[0] == changed and lines[1].startswith(TROUBLE) and lines[2] == OVER
+        expect(are_right, f"the lines on the file are {lines}")
 
 
 def change_users(program):
-    """While two telephones talk, a user comes into the file of the configuration and one leaves it; then the file is wrong, and right again."""
+    """While two telephones talk, a user comes into the file of the configuration and one leaves it; then the file is
+    wrong, and right again."""
     with serving(program, workers=2) as office:
         change = Change(office)
         change.exchange_users()

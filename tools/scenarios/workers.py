@@ -5,12 +5,12 @@ from scenarios.pace import slowed
 from telephones.blocking import Call, expect
 
 LENGTHS = (0, 6_000, 16_384)
-# Seconds in which an INVITE is sent again (RFC 3261, timer A): a little later than half a second, as the system wakes the program.
+# Seconds in which an INVITE is sent again (RFC 3261, timer A): about half a second, as the system wakes the program.
 AGAIN = (0.4, 1.4)
 
 
 def carry_calls(program, workers):
-    """A call that is held and resumed, calls whose INVITEs are long, calls at once, and one whose callee answers late; all salts are of the key."""
+    """A call that is held and resumed, calls with long INVITEs, calls at once, and one whose callee answers late."""
     with serving(program, workers) as office:
         phones = office.telephones(USERS)
         caller, callee = phones[:2]
@@ -21,7 +21,8 @@ def carry_calls(program, workers):
             end(call)
         call_at_once(phones)
         answer_late(caller, callee)
-        expect(start.are_of_key(office.salts, office.since, office.until), "tokens drawn from the configured key, from the microsecond of the start on")
+        are_of_key = start.are_of_key(office.salts, office.since, office.until)
+        expect(are_of_key, "tokens drawn from the configured key, from the microsecond of the start on")
 
 
 def hold_and_resume(caller, callee):

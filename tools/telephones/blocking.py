@@ -26,10 +26,10 @@ class Telephone:
         self.sip, self.media = udp(ip, timeout=timeout), media_pair(ip, timeout)
         self.port = self.sip.getsockname()[1]
         self.identity = Identity(user, domain, ip, self.port, asks_for_port=True)
-        # How many requests and descriptions it has made; and what it has taken, which comes again where an answer is late.
         self.requests = self.versions = self.registrations = 0
+        # The messages that it took: the server sends them again where the telephone is late.
         self.taken = set()
-        # The moment at which the message came that was taken last.
+        # The moment at which the last message arrived.
         self.came = 0.0
 
     def close(self):
@@ -50,7 +50,8 @@ class Telephone:
         """Sends a request, of this length where one is given, and gives it."""
         self.requests += 1
         branch = f"z9hG4bK{self.port}.{self.requests}"
-        request = self.identity.request(method, uri, Dialog(call_id, f"t{self.user}", to), number, branch, body, further)
+        dialog = Dialog(call_id, f"t{self.user}", to)
+        request = self.identity.request(method, uri, dialog, number, branch, body, further)
         return self.send(padded(request, length) if length else request)
 
     def call(self, user, call_id, length=0):
@@ -72,10 +73,11 @@ class Telephone:
         return data.decode(errors="replace")
 
     def take(self, beginning, method=""):
-        """The next message that begins so and is of this method. Others are passed over, as is what was taken before."""
+        """The next message that begins so and is of this method. Others are passed over, also what was taken before."""
         for _ in range(MOST_PASSED_OVER):
             message = self.next()
-            if message.startswith(beginning) and key_of(message)[1].endswith(method) and message not in self.taken:
+            is_wanted = message.startswith(beginning) and key_of(message)[1].endswith(method)
+            if is_wanted and message not in self.taken:
                 self.taken.add(message)
                 return message
         raise Failed(f"{self.user} takes {beginning}")
@@ -86,13 +88,15 @@ class Telephone:
             message = self.next()
             if message == request:
                 return
-            expect(message in self.taken or method_of(message) != method_of(request), f"the same {method_of(request)} again")
+            is_other = message in self.taken or method_of(message) != method_of(request)
+            expect(is_other, f"the same {method_of(request)} again")
         raise Failed(f"{self.user} takes {method_of(request)} again")
 
     def register(self, seconds=3600):
         """Asks for a binding that lasts this long, 0 for none, and gives the response."""
         self.registrations += 1
-        self.request("REGISTER", f"sip:{self.domain}", f"r{self.port}", self.identity.address, self.registrations, further=[f"Expires: {seconds}"])
+        uri, lines = f"sip:{self.domain}", [f"Expires: {seconds}"]
+        self.request("REGISTER", uri, f"r{self.port}", self.identity.address, self.registrations, further=lines)
         return self.take("SIP/2.0 ", "REGISTER")
 
     def is_bound(self, seconds=3600):
@@ -158,15 +162,16 @@ class Call:
         speaker.media[above].sendto(payload, (self.caller.server[0], self.ports[speaker] + above))
 
     def hears(self, speaker, payload):
-        """The other end hears what a telephone says, from the server's ports for that end. Gives the moment at which it came."""
-        listener, moments = self.other(speaker), []
+        """The other end hears what a telephone says, at both ports, from the server's ports for that end. Gives the
+        moment at which it arrived."""
+        listener, came = self.other(speaker), 0.0
         for above in (0, 1):
             self.speak(speaker, payload, above)
             heard, source, came = receive(listener.media[above])
             expect(heard == payload, f"{len(payload)} bytes unchanged")
-            expect(source == (self.caller.server[0], self.ports[listener] + above), "media from the other end's own relay port")
-            moments.append(came)
-        return moments[-1]
+            expected = self.caller.server[0], self.ports[listener] + above
+            expect(source == expected, "media from the other end's own relay port")
+        return came
 
     def is_over(self, seconds):
         """Whether nothing that either end sends is heard in this many seconds."""

@@ -4,12 +4,12 @@ from telephones.messages import Dialog, contact_of, header, key_of, method_of, n
 from telephones.talking import T1, T2, WHOLE
 
 KINDS = ("talked", "held", "busy", "declined", "cancelled")
-# In one of so many calls both telephones lose power, for so many seconds: the server has hung up then, and heard nothing.
+# In one of this many calls both telephones lose power, for these seconds: the server has hung up then, and heard nothing.
 VANISHES, IS_OFF = 50, 100
 REFUSALS = {"busy": 486, "declined": 603}
-# So long an end rings, talks and holds at most, in seconds; and so often it speaks.
+# The seconds for which an end rings, talks and holds at most; and how often it speaks.
 RINGS, TALKS, HOLDS, SPEAKS = 1.0, 2.0, 1.0, 4
-# No call takes so long, whatever the line loses.
+# No call takes these seconds, whatever the line loses.
 STUCK = 300
 
 

@@ -4,8 +4,10 @@ from typing import NamedTuple
 
 BRANCH = re.compile(r"(?im)^Via[ \t]*:.*?;branch=([^;\s]+)")
 SEQUENCE = re.compile(r"(?im)^CSeq[ \t]*:[ \t]*(\d+)[ \t]+(\w+)")
-REASONS = {100: "Trying", 180: "Ringing", 200: "OK", 405: "Method Not Allowed", 481: "Call Does Not Exist", 486: "Busy Here", 487: "Request Terminated",
-           603: "Decline"}
+REASONS = {
+    180: "Ringing", 200: "OK", 405: "Method Not Allowed", 481: "Call/Transaction Does Not Exist", 486: "Busy Here",
+    487: "Request Terminated", 603: "Decline",
+}
 
 
 def headers(message, name):
@@ -92,17 +94,19 @@ class Identity:
 
     def request(self, method, uri, dialog, number, branch, body="", further=()):
         """A request, with these further header lines."""
-        lines = [f"Via: SIP/2.0/UDP {self.ip}:{self.port};branch={branch}{self.via_ends}", "Max-Forwards: 70", f"From: {self.address};tag={dialog.tag}",
-                 f"To: {dialog.to}", f"Call-ID: {dialog.call_id}", f"CSeq: {number} {method}", f"Contact: {self.contact}", *further]
-        return write(f"{method} {uri} SIP/2.0", lines, body)
+        via = f"Via: SIP/2.0/UDP {self.ip}:{self.port};branch={branch}{self.via_ends}"
+        dialog_lines = [f"From: {self.address};tag={dialog.tag}", f"To: {dialog.to}", f"Call-ID: {dialog.call_id}"]
+        own = [f"CSeq: {number} {method}", f"Contact: {self.contact}", *further]
+        return write(f"{method} {uri} SIP/2.0", [via, "Max-Forwards: 70", *dialog_lines, *own], body)
 
     def response(self, request, status, tag, body=""):
         """A response, which adds this tag to a To that has none."""
         to = header(request, "To")
-        to += "" if ";tag=" in to or status == 100 else f";tag={tag}"
+        to += "" if ";tag=" in to else f";tag={tag}"
         vias = [f"Via: {via}" for via in headers(request, "Via")]
         copied = [f"{name}: {header(request, name)}" for name in ("From", "Call-ID", "CSeq")]
-        return write(f"SIP/2.0 {status} {REASONS[status]}", [*vias, *copied, f"To: {to}", f"Contact: {self.contact}"], body)
+        lines = [*vias, *copied, f"To: {to}", f"Contact: {self.contact}"]
+        return write(f"SIP/2.0 {status} {REASONS[status]}", lines, body)
 
     def refusal_ack(self, invite, refusal):
         """The ACK of a final response other than 2xx, with the branch of its INVITE (section 17.1.1.3)."""

@@ -8,11 +8,12 @@ import subprocess
 from telephones.messages import handshake_of, key_of, status_of
 from telephones.talking import T1, T2, WHOLE
 
-# Milliseconds behind an event at which a transaction may end, at which one that has rung for long is given up, and at which that is over, too.
+# Milliseconds after an event at which a transaction may end, at which one that has rung for long is given up, and at which that is over, too.
 FORGETS, RINGS = (5_001, 32_001), (180_001, 212_002)
 # How often timers are looked for that were passed over, and how many.
 SWEEPS, SWEPT = 600_000, 8
-# A request that is answered at once, and forgotten, from a place of its own: behind what is said of it all that was sent before is carried out.
+# A request that is answered at once, and forgotten, from a place of its own: once the program notes it, all that was sent
+# before is carried out.
 MARK = ("192.0.2.254", 9)
 MARKED = f"source={MARK[0]}:{MARK[1]}".encode()
 QUESTION = (f"OPTIONS sip:{MARK[0]} SIP/2.0\r\nVia: SIP/2.0/UDP {MARK[0]}:{MARK[1]}\r\nFrom: <sip:{MARK[0]}>;tag=1\r\nTo: <sip:{MARK[0]}>\r\n"
@@ -47,7 +48,7 @@ class Program:
         return line
 
     def datagram(self, length):
-        """So many bytes, behind which a line feed stands."""
+        """This many bytes, after which a line feed stands."""
         while len(self.read) <= self.at + length:
             self.more()
         data, self.at = self.read[self.at:self.at + length], self.at + length + 1
@@ -121,7 +122,7 @@ class Patience:
             self.wait(key, WHOLE if key[1] == "INVITE" else T2)
 
     def wait(self, key, longest):
-        """It is sent again behind an interval that doubles, and given up at last."""
+        """It is sent again after an interval that doubles, and given up at last."""
         before = self.waits.get(key)
         interval = self.waits[key] = min(2 * before, longest) if before else T1
         self.moments.after(interval, lambda: self.waits.get(key) == interval and self.moments.happen(b"T"))
@@ -155,7 +156,7 @@ class Moments:
         return timer
 
     def after(self, seconds, call):
-        """Calls in so many seconds; what is given takes that back, if it is called before."""
+        """Calls in this many seconds; what is given takes that back, if it is called before."""
         timer = self.later(round(seconds * 1_000), call)
 
         def take_back():

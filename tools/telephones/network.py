@@ -115,7 +115,7 @@ class Watch:
             return self.packets[start:]
 
     def here(self):
-        """The place behind the last packet."""
+        """The place after the last packet."""
         with self.news:
             return len(self.packets)
 

@@ -4,16 +4,17 @@ import random
 import socket
 import struct
 
-# Servers have the lower of these ports, media the upper ones: both are below those that the system gives to sockets that ask for none.
+# Servers have the lower of these ports, media of telephones the upper ones: all are below those that the system gives
+# to sockets that ask for none.
 LOWEST, HIGHEST, BLOCK = 10_000, 22_000, 256
 MEDIA = 22_000, 32_000
-# Linux notes by this option when a datagram came.
+# The option by which Linux notes when a datagram arrives (SO_TIMESTAMPNS).
 STAMPED, STAMP = 35, struct.Struct("qq")
 LONGEST = 65_536
 
 
 def udp(ip, port=0, timeout=None):
-    """A UDP socket, of which each datagram has the moment at which it came."""
+    """A UDP socket that notes when each datagram arrives."""
     made = socket.socket(socket.AF_INET, socket.SOCK_DGRAM)
     try:
         made.setsockopt(socket.SOL_SOCKET, STAMPED, 1)
@@ -26,7 +27,7 @@ def udp(ip, port=0, timeout=None):
 
 
 def receive(from_socket):
-    """The next datagram, its source, and the moment at which it came, in seconds: however late the telephone looks at it."""
+    """The next datagram, its source, and the moment at which it arrived, in seconds, however late it is read."""
     data, notes, _, source = from_socket.recvmsg(LONGEST, socket.CMSG_SPACE(STAMP.size))
     seconds, nanoseconds = next(STAMP.unpack(note) for _, kind, note in notes if kind == STAMPED)
     return data, source, seconds + nanoseconds / 1e9
@@ -44,7 +45,8 @@ def media_pair(ip, timeout=None):
 
 
 def take(kept, ip, first, count):
-    """Takes these ports, if they are free. A TCP socket at the first of each block keeps others out while the server has yet to open its own."""
+    """Takes these ports, if they are free. A TCP socket at the first port of each block keeps others out until the
+    server has opened its own."""
     for guard in range(first, first + count, BLOCK):
         kept.enter_context(socket.create_server((ip, guard)))
     with contextlib.ExitStack() as tried:

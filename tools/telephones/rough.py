@@ -1,4 +1,5 @@
-"""A telephone behind a bad line: a fifth of its SIP datagrams is lost each way, a fifth comes twice, and all are late. It sends again as RFC 3261 says."""
+"""A telephone with a bad line: a fifth of its SIP datagrams is lost each way, a fifth is doubled, and all are late. It sends
+again as RFC 3261 says."""
 import random
 import threading
 

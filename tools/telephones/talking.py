@@ -31,7 +31,7 @@ class Asked:
                 self.took(response)
             return
         if status < 200:
-            # A request that is no INVITE goes on to be sent (section 17.1.2.2).
+            # A request that is no INVITE is still sent again (section 17.1.2.2).
             if self.key[1] == "INVITE":
                 self.stop_again()
                 self.stop_whole()
