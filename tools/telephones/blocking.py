@@ -27,8 +27,8 @@ class Telephone:
         self.port = self.sip.getsockname()[1]
         self.identity = Identity(user, domain, ip, self.port, asks_for_port=True)
         self.requests = self.versions = self.registrations = 0
-        # The messages that it took: the server sends them again where the telephone is late.
-        self.taken = set()
+        # The messages that it took, which the server sends again where the telephone is late; and what it waits for.
+        self.taken, self.wanted = set(), ""
         # The moment at which the last message arrived.
         self.came = 0.0
 
@@ -69,28 +69,33 @@ class Telephone:
 
     def next(self):
         """The next message, whatever it is."""
-        data, _, self.came = receive(self.sip)
+        try:
+            data, _, self.came = receive(self.sip)
+        except TimeoutError as error:
+            raise Failed(f"{self.user} waits in vain for {self.wanted}") from error
         return data.decode(errors="replace")
 
     def take(self, beginning, method=""):
         """The next message that begins so and is of this method. Others are passed over, also what was taken before."""
+        self.wanted = f"{beginning} {method}".strip()
         for _ in range(MOST_PASSED_OVER):
             message = self.next()
             is_wanted = message.startswith(beginning) and key_of(message)[1].endswith(method)
             if is_wanted and message not in self.taken:
                 self.taken.add(message)
                 return message
-        raise Failed(f"{self.user} takes {beginning}")
+        raise Failed(f"{self.user} takes {self.wanted}")
 
     def take_again(self, request):
         """A request that was taken before comes again, and no new one of its method before it."""
+        self.wanted = f"the same {method_of(request)} again"
         for _ in range(MOST_PASSED_OVER):
             message = self.next()
             if message == request:
                 return
             is_other = message in self.taken or method_of(message) != method_of(request)
-            expect(is_other, f"the same {method_of(request)} again")
-        raise Failed(f"{self.user} takes {method_of(request)} again")
+            expect(is_other, self.wanted)
+        raise Failed(f"{self.user} takes {self.wanted}")
 
     def register(self, seconds=3600):
         """Asks for a binding that lasts this long, 0 for none, and gives the response."""
@@ -167,7 +172,10 @@ class Call:
         listener, came = self.other(speaker), 0.0
         for above in (0, 1):
             self.speak(speaker, payload, above)
-            heard, source, came = receive(listener.media[above])
+            try:
+                heard, source, came = receive(listener.media[above])
+            except TimeoutError as error:
+                raise Failed(f"{listener.user} waits in vain for {len(payload)} bytes of media") from error
             expect(heard == payload, f"{len(payload)} bytes unchanged")
             expected = self.caller.server[0], self.ports[listener] + above
             expect(source == expected, "media from the other end's own relay port")
