@@ -93,7 +93,7 @@ class Change:
         becomes(lambda: len(self.told("call-ended")) == 2, LOGGED)
         ends = self.told("call-ended")
         counts = rf"media-from-caller={self.words} media-from-callee={self.words}\b"
-        expect(re.search(counts, ends[-1]), f"all media went on: {ends}")
+        expect(ends and re.search(counts, ends[-1]), f"all media went on: {ends}")
         lines = self.told(("users-changed", "office: trouble"))
         changed = f"users-changed added=1 removed=1 count={len(self.users)}"
         are_right = len(lines) == 3 and lines[0] == changed and lines[1].startswith(TROUBLE) and lines[2] == OVER
