@@ -71,7 +71,7 @@ def show_a_call(at, call):
     """The page shows both users and the call while they talk, and how much went each way."""
     for speaker in [call.caller] * SPOKEN[0] + [call.callee] * SPOKEN[1]:
         call.hears(speaker, b"a word")
-    becomes(lambda: [totals_of(shown) for shown in calls_at(at)] == [[*SPOKEN]], SHOWN)
+    becomes(lambda: [(shown["phase"], totals_of(shown)) for shown in calls_at(at)] == [("talking", [*SPOKEN])], SHOWN)
     shown = json.loads(get(at, "/status.json"))
     expect(len(shown["calls"]) == 1, f"the calls are {shown['calls']}")
     one = shown["calls"][0]
