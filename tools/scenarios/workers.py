@@ -46,8 +46,8 @@ def call_at_once(phones):
 
 
 def answer_late(caller, callee):
-    """The callee doesn't answer yet, and so the INVITE comes again. The server may be late with the first INVITE, but not
-    early with the second: its timer starts after the caller has sent its own."""
+    """The callee doesn't answer yet, and so the INVITE comes again. The server may be late with the first INVITE, but
+    not early with the second: its timer starts after the caller has sent its own."""
     call = Call(caller, callee)
     begun = time.time()
     call.dial()
@@ -55,7 +55,8 @@ def answer_late(caller, callee):
     callee.take_again(call.invite)
     since_dialled, waited = callee.came - begun, callee.came - came
     is_in_time = since_dialled >= AGAIN[0] and waited <= slowed(AGAIN[1])
-    expect(is_in_time, f"an INVITE again after half a second, not {waited:.3f} s, and {since_dialled:.3f} s after the call")
+    seconds = f"{waited:.3f} s, and {since_dialled:.3f} s after the caller's"
+    expect(is_in_time, f"an INVITE again after half a second, not {seconds}")
     call.ring()
     call.answer()
     end(call)

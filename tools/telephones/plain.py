@@ -111,7 +111,8 @@ class Plain:
 
     def request(self, method, uri, dialog, body="", branch="", further=()):
         """A request of this branch, or else of one of its own."""
-        return self.identity.request(method, uri, dialog, self.number, branch or f"z9hG4bK{random.randrange(1 << 60):x}", body, further)
+        branch = branch or f"z9hG4bK{random.randrange(1 << 60):x}"
+        return self.identity.request(method, uri, dialog, self.number, branch, body, further)
 
     def respond(self, request, status, body=""):
         self.send(self.identity.response(request, status, self.tag, body))
@@ -128,7 +129,10 @@ class Plain:
         for medium in re.findall(r"m=(.*)\r\n", offer):
             kind, port, transport, first = medium.split()[:4]
             is_taken = kind == "audio" and port != "0"
-            lines += [f"m={kind} {AUDIO_PORT} {transport} 8", "a=rtpmap:8 PCMA/8000"] if is_taken else [f"m={kind} 0 {transport} {first}"]
+            if is_taken:
+                lines += [f"m={kind} {AUDIO_PORT} {transport} 8", "a=rtpmap:8 PCMA/8000"]
+            else:
+                lines += [f"m={kind} 0 {transport} {first}"]
         return describe(self.address, 8, self.version, lines)
 
     def learn(self, description):
