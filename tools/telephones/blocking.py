@@ -77,7 +77,7 @@ class Telephone:
 
     def take(self, beginning, method=""):
         """The next message that begins so and is of this method. Others are passed over, also what was taken before."""
-        self.wanted = f"{beginning} {method}".strip()
+        self.wanted = " ".join([*beginning.split(), method]).strip()
         for _ in range(MOST_PASSED_OVER):
             message = self.next()
             is_wanted = message.startswith(beginning) and key_of(message)[1].endswith(method)
