@@ -39,7 +39,7 @@ def samples(bodies):
 
 
 def loudness(found, tone):
-    """How much of the samples' energy is in a tone of so many hertz, from 0 to 1 (Goertzel's sum)."""
+    """How much of the samples' energy is in a tone of this many hertz, from 0 to 1 (Goertzel's sum)."""
     if len(found) < 800:
         return 0.0
     turn = 2 * math.cos(2 * math.pi * tone / 8000)
@@ -51,6 +51,6 @@ def loudness(found, tone):
 
 
 def tone_in_alaw(tone):
-    """A second of a tone of so many hertz, as A-law."""
+    """A second of a tone of this many hertz, as A-law."""
     values = sorted((TABLES[8][it], it) for it in range(256))
     return bytes(values[min(bisect.bisect(values, (8000 * math.sin(2 * math.pi * tone * it / 8000), 0)), 255)][1] for it in range(8000))

@@ -1,29 +1,16 @@
 """Calls of many kinds between two telephones, as chance has it: how each goes, and why one fails."""
-import re
-
-from talking import T1, T2, WHOLE, header, key_of, status_of
+from telephones.descriptions import media_port
+from telephones.messages import Dialog, contact_of, header, key_of, method_of, number_of, status_of
+from telephones.talking import T1, T2, WHOLE
 
 KINDS = ("talked", "held", "busy", "declined", "cancelled")
-# In one of so many calls both telephones lose power, for so many seconds: the server has hung up then, and heard nothing.
+# In one of this many calls both telephones lose power, for these seconds: the server has hung up then, and heard nothing.
 VANISHES, IS_OFF = 50, 100
 REFUSALS = {"busy": 486, "declined": 603}
-# So long an end rings, talks and holds at most, in seconds; and so often it speaks.
+# The seconds for which an end rings, talks and holds at most; and how often it speaks.
 RINGS, TALKS, HOLDS, SPEAKS = 1.0, 2.0, 1.0, 4
-# No call takes so long, whatever the line loses.
+# No call takes these seconds, whatever the line loses.
 STUCK = 300
-
-
-def media_port(description):
-    found = re.search(r"m=audio (\d+)", description)
-    return int(found[1]) if found else 0
-
-
-def number_of(message):
-    return int(header(message, "CSeq").split()[0])
-
-
-def first_uri(contact):
-    return re.search(r"<(.*?)>", contact)[1]
 
 
 class Leg:
@@ -36,7 +23,11 @@ class Leg:
         self.hop, self.acknowledged, self.cancels = 0, set(), False
 
     def learn(self, to, message):
-        self.to, self.contact, self.hop = to, first_uri(header(message, "Contact")), media_port(message)
+        self.to, self.contact, self.hop = to, contact_of(message), media_port(message)
+
+    def dialog(self, to=""):
+        """What its requests repeat, to this To where one is given."""
+        return Dialog(self.call, self.tag, to or self.to)
 
 
 class Conversation:
@@ -57,8 +48,9 @@ class Conversation:
         callee.takes, caller.takes = self.called, self.told
         caller.hears = lambda data: self.hear(caller, data)
         callee.hears = lambda data: self.hear(callee, data)
-        uri = f"sip:{callee.user}@{caller.domain}"
-        self.invite = caller.ask("INVITE", uri, f"<{uri}>", self.ends[caller].call, 1, self.ends[caller].tag, self.answered, self.unheard, caller.description())
+        self.uri = f"sip:{callee.user}@{caller.domain}"
+        dialog = self.ends[caller].dialog(f"<{self.uri}>")
+        self.invite = caller.ask("INVITE", self.uri, dialog, 1, self.answered, self.unheard, caller.description())
 
     # ---- how it ends
 
@@ -103,7 +95,7 @@ class Conversation:
                 self.loop.after(self.fate.random() * RINGS, self.cancel)
             return
         if status >= 300:
-            self.acknowledge_refusal(self.caller, self.invite, response)
+            self.acknowledge_refusal(self.invite, response)
             self.refused(status)
             return
         is_first = not end.contact
@@ -124,24 +116,22 @@ class Conversation:
     def cancel(self):
         if self.invite.is_over or self.is_over:
             return
-        uri = f"sip:{self.callee.user}@{self.caller.domain}"
-        end = self.ends[self.caller]
-        self.caller.ask("CANCEL", uri, f"<{uri}>", end.call, 1, end.tag, lambda response: None, self.unheard, branch=self.invite.key[0])
+        dialog = self.ends[self.caller].dialog(f"<{self.uri}>")
+        self.caller.ask("CANCEL", self.uri, dialog, 1, lambda response: None, self.unheard, branch=self.invite.key[0])
 
-    def acknowledge_refusal(self, telephone, asked, response):
-        """The ACK of a refusal is of the INVITE's branch (section 17.1.1.3)."""
-        end, uri = self.ends[telephone], asked.text.split()[1]
-        telephone.put(telephone.request("ACK", uri, header(response, "To"), end.call, number_of(response), end.tag, branch=asked.key[0]))
+    @staticmethod
+    def acknowledge_refusal(asked, response):
+        asked.telephone.put(asked.telephone.identity.refusal_ack(asked.text, response))
 
     def acknowledge(self, telephone, number):
         end = self.ends[telephone]
-        telephone.put(telephone.request("ACK", end.contact, end.to, end.call, number, end.tag))
+        telephone.put(telephone.request("ACK", end.contact, end.dialog(), number))
 
     # ---- the callee
 
     def called(self, request):
         """A request that came to the callee."""
-        method, call = request.split()[0], self.ends[self.callee].call
+        method, call = method_of(request), self.ends[self.callee].call
         if method == "INVITE" and not call and ";tag=" not in header(request, "To"):
             self.ring(request)
         elif header(request, "Call-ID") != call:
@@ -179,7 +169,7 @@ class Conversation:
         self.repeat(telephone, invite)
 
     def repeat(self, telephone, invite, interval=T1, left=WHOLE):
-        """A final response to an INVITE goes again until its ACK comes (sections 13.3.1.4 and 17.2.1)."""
+        """A final response to an INVITE is sent again until its ACK comes (sections 13.3.1.4 and 17.2.1)."""
 
         def again():
             if number_of(invite) in self.ends[telephone].acknowledged or left <= 0:
@@ -203,11 +193,11 @@ class Conversation:
     @staticmethod
     def disown(telephone, request):
         """A request of another call."""
-        if request.split()[0] != "ACK":
+        if method_of(request) != "ACK":
             telephone.respond(request, 481, "none")
 
     def take_inside(self, telephone, request):
-        method, end = request.split()[0], self.ends[telephone]
+        method, end = method_of(request), self.ends[telephone]
         if method == "ACK":
             end.acknowledged.add(number_of(request))
         elif method == "BYE":
@@ -271,7 +261,7 @@ class Conversation:
             if status < 200:
                 return
             if status >= 300:
-                self.acknowledge_refusal(telephone, asked, response)
+                self.acknowledge_refusal(asked, response)
                 self.wait_or_fail(status, seen, way, then)
                 return
             self.acknowledge(telephone, number)
@@ -279,7 +269,7 @@ class Conversation:
                 seen.append(response)
                 then()
 
-        asked = telephone.ask("INVITE", end.contact, end.to, end.call, number, end.tag, took, self.unheard, telephone.description(way))
+        asked = telephone.ask("INVITE", end.contact, end.dialog(), number, took, self.unheard, telephone.description(way))
 
     def wait_or_fail(self, status, seen, way, then):
         """An offer that clashed comes again (section 14.1): the ACK of the last one was lost, say."""
@@ -303,4 +293,4 @@ class Conversation:
             elif status == 200:
                 self.leave(telephone)
 
-        telephone.ask("BYE", end.contact, end.to, end.call, end.number, end.tag, took, self.unheard)
+        telephone.ask("BYE", end.contact, end.dialog(), end.number, took, self.unheard)

@@ -30,7 +30,7 @@ class Loop:
         return time.monotonic()
 
     def after(self, seconds, call):
-        """Calls in so many seconds; what is given takes that back, if it is called before."""
+        """Calls in this many seconds; what is given takes that back, if it is called before."""
         timer = [self.now() + seconds, next(self.order), call]
         heapq.heappush(self.due, timer)
 

@@ -5,13 +5,15 @@ import os
 import re
 import subprocess
 
-from talking import T1, T2, WHOLE, header, key_of, status_of
+from telephones.messages import handshake_of, key_of, status_of
+from telephones.talking import T1, T2, WHOLE
 
-# Milliseconds behind an event at which a transaction may end, at which one that has rung for long is given up, and at which that is over, too.
+# Milliseconds after an event at which a transaction may end, at which one that has rung for long is given up, and at which that is over, too.
 FORGETS, RINGS = (5_001, 32_001), (180_001, 212_002)
 # How often timers are looked for that were passed over, and how many.
 SWEEPS, SWEPT = 600_000, 8
-# A request that is answered at once, and forgotten, from a place of its own: behind what is said of it all that was sent before is carried out.
+# A request that is answered at once, and forgotten, from a place of its own: once the program notes it, all that was sent
+# before is carried out.
 MARK = ("192.0.2.254", 9)
 MARKED = f"source={MARK[0]}:{MARK[1]}".encode()
 QUESTION = (f"OPTIONS sip:{MARK[0]} SIP/2.0\r\nVia: SIP/2.0/UDP {MARK[0]}:{MARK[1]}\r\nFrom: <sip:{MARK[0]}>;tag=1\r\nTo: <sip:{MARK[0]}>\r\n"
@@ -46,7 +48,7 @@ class Program:
         return line
 
     def datagram(self, length):
-        """So many bytes, behind which a line feed stands."""
+        """This many bytes, after which a line feed stands."""
         while len(self.read) <= self.at + length:
             self.more()
         data, self.at = self.read[self.at:self.at + length], self.at + length + 1
@@ -106,7 +108,7 @@ class Patience:
         if status >= 200 or status and key[1] == "INVITE":
             self.waits.pop(key, None)
         elif key[1] == "ACK":
-            self.waits.pop(self.asked(text), None)
+            self.waits.pop(handshake_of(text), None)
         looks = FORGETS[1:] if key[1] == "REGISTER" else FORGETS + RINGS if key[1] == "INVITE" and not status else FORGETS
         for it in looks:
             self.look(it)
@@ -115,17 +117,12 @@ class Patience:
         """To a telephone."""
         key, status = key_of(text), status_of(text)
         if status >= 200 and key[1] == "INVITE":
-            self.wait(self.asked(text), T2)
+            self.wait(handshake_of(text), T2)
         elif not status and key[1] != "ACK":
             self.wait(key, WHOLE if key[1] == "INVITE" else T2)
 
-    @staticmethod
-    def asked(text):
-        """What an INVITE's final response and its ACK have in common."""
-        return header(text, "Call-ID"), header(text, "CSeq").split()[0]
-
     def wait(self, key, longest):
-        """It is sent again behind an interval that doubles, and given up at last."""
+        """It is sent again after an interval that doubles, and given up at last."""
         before = self.waits.get(key)
         interval = self.waits[key] = min(2 * before, longest) if before else T1
         self.moments.after(interval, lambda: self.waits.get(key) == interval and self.moments.happen(b"T"))
@@ -159,7 +156,7 @@ class Moments:
         return timer
 
     def after(self, seconds, call):
-        """Calls in so many seconds; what is given takes that back, if it is called before."""
+        """Calls in this many seconds; what is given takes that back, if it is called before."""
         timer = self.later(round(seconds * 1_000), call)
 
         def take_back():

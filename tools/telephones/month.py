@@ -1,21 +1,23 @@
-"""Many days of calls between the telephones of an office, in a program that has no clock, and what stands behind them."""
+"""Many days of calls between the telephones of an office, in a program that has no clock, and what stands after them."""
 from collections import Counter
 
-from conversations import Conversation
-from lossy import Line
-from moments import Moments, Program, fields_of
-from talking import Telephone, status_of
+from telephones.conversations import Conversation
+from telephones.lossy import Line
+from telephones.messages import status_of
+from telephones.moments import Moments, Program, fields_of
+from telephones.talking import Telephone
 
 IP, SERVER, DOMAIN, TELEPHONES = "192.0.2.10", "192.0.2.1", "office.example", 100
-# So many pairs as calls hold and leave to rest for 32 seconds.
+# As many pairs as calls hold and leave to rest for 32 seconds.
 PAIRS = 512
 DAY, HOUR, HURRIES = 86_400, 3_600, 60
-# Calls of a day, and the hours in which they begin; so many of them in one minute, and on the first day more: so no memory is taken first on a later day.
+# Calls of a day, and the hours in which they begin; those of them in one minute, and on the first day, when they are more,
+# so that no memory is taken first on a later day.
 CALLS, OPEN, RUSH, FIRST = 970, 10, 30, 60
-# Seconds: until telephones have registered; how often they do, and how soon behind a failure; how long they speak at most behind an answer, and are then
-# silent before the server ends the call; until all ends behind the last day.
+# Seconds: until telephones have registered; how often they do, and how soon after a failure; how long they speak at most
+# after an answer, and are then silent before the server ends the call; until all ends after the last day.
 BEGINS, REGISTERS, AGAIN, SPEAK, SILENT, ENDS = 100, 1_800, 60, 5, 60, 600
-# So many events come before memory stands, three in a hundred of a month's; seconds between two looks at it.
+# The events after which memory stands, three in a hundred of a month's; the seconds between two looks at it.
 STANDS, LOOKS, GROWTH = 30_000, 1_800, 1.05
 
 
@@ -41,7 +43,7 @@ class Month:
     # ---- what happens
 
     def register(self, telephone):
-        """A telephone registers, and again and again; behind a failure soon."""
+        """A telephone registers, and again and again; soon after a failure."""
 
         def took(response):
             if status_of(response) == 200:
@@ -120,7 +122,7 @@ class Month:
         early, late = ([kilobytes for event, kilobytes in self.looks if (event > STANDS) == is_late] for is_late in (False, True))
         print(f"{self.days} days, {events} events; {len(self.ended)} calls: {dict(Counter(it.kind for it in self.ended))}; failed: {dict(failed)}")
         print(f"lost {sum(it.losses for it in self.lines)} datagrams; notes: {dict(self.words)}")
-        print(f"resident in the first {STANDS} events: {min(early)} to {max(early)} kB, and behind them {min(late, default=0)} to {max(late, default=0)} kB")
+        print(f"resident in the first {STANDS} events: {min(early)} to {max(early)} kB, and after them {min(late, default=0)} to {max(late, default=0)} kB")
         return {
             "each call that failed has a line's fault": all(it.endswith("the line's") for it in failed),
             "each call ends, at its telephones and in the server": len(self.ended) == self.begun and not self.standing,

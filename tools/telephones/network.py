@@ -1,12 +1,12 @@
 """A network of its own: a bridge, and a namespace for the server and for each telephone; and what passes the server's interface."""
-import os
 import re
-import selectors
 import struct
 import subprocess
 import sys
 import threading
 import time
+
+from telephones.messages import header
 
 NET = "10.97.0"
 SERVER = f"{NET}.1"
@@ -85,8 +85,7 @@ class Packet:
         return self.body.split(b"\r\n")[0].decode("utf-8", "replace")
 
     def header(self, name):
-        found = re.search(rf"(?im)^{name}\s*:\s*(.*?)\r$", self.body.decode("utf-8", "replace"))
-        return found[1] if found else ""
+        return header(self.body.decode("utf-8", "replace"), name)
 
     def is_rtp(self):
         return not self.is_sip() and len(self.body) >= 12 and self.body[0] >> 6 == 2 and not 192 <= self.body[1] <= 223
@@ -116,7 +115,7 @@ class Watch:
             return self.packets[start:]
 
     def here(self):
-        """The place behind the last packet."""
+        """The place after the last packet."""
         with self.news:
             return len(self.packets)
 

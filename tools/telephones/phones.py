@@ -10,7 +10,7 @@ import subprocess
 import time
 import wave
 
-from network import NET, SERVER, inside
+from telephones.network import NET, SERVER, inside
 
 
 class Phone:

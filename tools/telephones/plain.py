@@ -8,14 +8,17 @@ import struct
 import threading
 import time
 
-from audio import tone_in_alaw
-from network import BRIDGE, SERVER
+from telephones.audio import tone_in_alaw
+from telephones.descriptions import describe
+from telephones.messages import Dialog, Identity, body_of, contact_of, header
+from telephones.network import BRIDGE, SERVER
 
 CLONE_NEWNET = 0x40000000
+AUDIO_PORT, VIDEO_PORT = 20_000, 20_002
 OFFERS = {
-    "audio": "m=audio {port} RTP/AVP 8 0\r\na=rtpmap:8 PCMA/8000\r\na=rtpmap:0 PCMU/8000\r\n",
-    "video": "m=video {video} RTP/AVP 96\r\na=rtpmap:96 H264/90000\r\n",
-    "mux": "m=audio {port} RTP/AVP 8\r\na=rtpmap:8 PCMA/8000\r\na=rtcp-mux\r\n",
+    "audio": [f"m=audio {AUDIO_PORT} RTP/AVP 8 0", "a=rtpmap:8 PCMA/8000", "a=rtpmap:0 PCMU/8000"],
+    "video": [f"m=video {VIDEO_PORT} RTP/AVP 96", "a=rtpmap:96 H264/90000"],
+    "mux": [f"m=audio {AUDIO_PORT} RTP/AVP 8", "a=rtpmap:8 PCMA/8000", "a=rtcp-mux"],
 }
 
 
@@ -45,8 +48,10 @@ class Plain:
 
     def __init__(self, user, address, tone, folder, **wishes):
         self.user, self.address, self.tone, self.wishes = user, address, tone, wishes
+        self.identity = Identity(user, SERVER, address, 5060)
         self.number, self.version, self.hop = 0, 1, None
-        self.dialog = None
+        # The dialog that stands, and the URI that its requests go to; and the last INVITE that it sent, with its dialog.
+        self.dialog = self.target = self.invite = self.early = None
         self.messages, self.news = [], threading.Condition()
         self.runs = True
 
@@ -56,7 +61,7 @@ class Plain:
     # ---- life
 
     def start(self):
-        self.sip, self.rtp, self.video = sockets_within(self.user, (5060, 20000, 20002))
+        self.sip, self.rtp, self.video = sockets_within(self.user, (5060, AUDIO_PORT, VIDEO_PORT))
         # A socket that is closed while somebody waits at it stays open.
         self.sip.settimeout(0.2)
         threading.Thread(target=self.listen, daemon=True).start()
@@ -104,39 +109,31 @@ class Plain:
     def send(self, text):
         self.sip.sendto(text.encode(), (SERVER, 5060))
 
-    def header(self, text, name):
-        found = re.search(rf"(?im)^{name}\s*:\s*(.*?)\r$", text)
-        return found[1] if found else ""
-
-    def request(self, method, uri, to, call_id, tag, number, body="", branch=None, further=""):
+    def request(self, method, uri, dialog, body="", branch="", further=()):
+        """A request of this branch, or else of one of its own."""
         branch = branch or f"z9hG4bK{random.randrange(1 << 60):x}"
-        kind = "Content-Type: application/sdp\r\n" if body else ""
-        return (f"{method} {uri} SIP/2.0\r\nVia: SIP/2.0/UDP {self.address}:5060;branch={branch}\r\nMax-Forwards: 70\r\nFrom: <sip:{self.user}@{SERVER}>;tag={tag}\r\n"
-                f"To: {to}\r\nCall-ID: {call_id}\r\nCSeq: {number} {method}\r\nContact: <sip:{self.user}@{self.address}:5060>\r\n{further}{kind}Content-Length: {len(body)}\r\n\r\n{body}")
+        return self.identity.request(method, uri, dialog, self.number, branch, body, further)
 
     def respond(self, request, status, body=""):
-        to = self.header(request, "To")
-        if ";tag=" not in to and status > 100:
-            to += f";tag={self.tag}"
-        vias = "".join(f"Via: {it}\r\n" for it in re.findall(r"(?im)^Via\s*:\s*(.*?)\r$", request))
-        kind = "Content-Type: application/sdp\r\n" if body else ""
-        self.send(f"SIP/2.0 {status} So\r\n{vias}From: {self.header(request, 'From')}\r\nTo: {to}\r\nCall-ID: {self.header(request, 'Call-ID')}\r\n"
-                  f"CSeq: {self.header(request, 'CSeq')}\r\nContact: <sip:{self.user}@{self.address}:5060>\r\n{kind}Content-Length: {len(body)}\r\n\r\n{body}")
+        self.send(self.identity.response(request, status, self.tag, body))
 
-    def description(self, media=("audio",), address=None, way="sendrecv"):
+    def description(self, media=("audio",), address="", direction="sendrecv"):
         self.version += 1
-        lines = "".join(OFFERS[it] for it in media).format(port=20000, video=20002)
-        return f"v=0\r\no=- 7 {self.version} IN IP4 {self.address}\r\ns=-\r\nc=IN IP4 {address or self.address}\r\nt=0 0\r\na={way}\r\n{lines}"
+        lines = [line for medium in media for line in OFFERS[medium]]
+        return describe(self.address, 7, self.version, [f"a={direction}", *lines], address)
 
-    def answer_to(self, offer, way="sendrecv"):
-        """Takes the audio and refuses the rest."""
+    def answer_to(self, offer):
+        """An answer that takes the audio and refuses the rest."""
         self.version += 1
-        lines = ""
-        for line in re.findall(r"m=(.*)\r\n", offer):
-            kind, port, proto, first = line.split()[:4]
-            taken = kind == "audio" and port != "0"
-            lines += f"m={kind} {20000 if taken else 0} {proto} {'8' if taken else first}\r\n" + ("a=rtpmap:8 PCMA/8000\r\n" if taken else "")
-        return f"v=0\r\no=- 8 {self.version} IN IP4 {self.address}\r\ns=-\r\nc=IN IP4 {self.address}\r\nt=0 0\r\na={way}\r\n{lines}"
+        lines = ["a=sendrecv"]
+        for medium in re.findall(r"m=(.*)\r\n", offer):
+            kind, port, transport, first = medium.split()[:4]
+            is_taken = kind == "audio" and port != "0"
+            if is_taken:
+                lines += [f"m={kind} {AUDIO_PORT} {transport} 8", "a=rtpmap:8 PCMA/8000"]
+            else:
+                lines += [f"m={kind} 0 {transport} {first}"]
+        return describe(self.address, 8, self.version, lines)
 
     def learn(self, description):
         """Where the other end's audio is heard."""
@@ -155,11 +152,11 @@ class Plain:
 
     def respond_to(self, text):
         """What has to be said at once."""
-        line, body = text.split("\r\n")[0], text.partition("\r\n\r\n")[2]
-        if line.startswith("INVITE ") and ";tag=" not in self.header(text, "To"):
+        line, body = text.split("\r\n")[0], body_of(text)
+        if line.startswith("INVITE ") and ";tag=" not in header(text, "To"):
             self.tag = f"t{random.randrange(1 << 40):x}"
             self.asked = text
-            self.dialog = (re.search(r"<(.*?)>", self.header(text, "Contact"))[1], self.header(text, "From"), self.header(text, "Call-ID"), self.tag)
+            self.target, self.dialog = contact_of(text), Dialog(header(text, "Call-ID"), self.tag, header(text, "From"))
             self.respond(text, 180)
         elif line.startswith(("INVITE ", "UPDATE ")):
             self.respond(text, 200, self.answer_to(body) if body else "")
@@ -187,8 +184,8 @@ class Plain:
 
     def register(self, seconds):
         self.number += 1
-        to = f"<sip:{self.user}@{SERVER}>"
-        self.send(self.request("REGISTER", f"sip:{SERVER}", to, f"r{id(self)}", "r", self.number, further=f"Expires: {seconds}\r\n"))
+        dialog = Dialog(f"r{id(self)}", "r", self.identity.address)
+        self.send(self.request("REGISTER", f"sip:{SERVER}", dialog, further=[f"Expires: {seconds}"]))
 
     def leave(self):
         self.register(0)
@@ -200,22 +197,22 @@ class Plain:
         start = len(self.messages)
         self.number += 1
         self.tag, self.branch = f"f{random.randrange(1 << 40):x}", f"z9hG4bK{random.randrange(1 << 60):x}"
-        self.call_id, self.uri, to = f"c{random.randrange(1 << 40):x}", f"sip:{user}@{SERVER}", f"<sip:{user}@{SERVER}>"
-        self.invite = self.request("INVITE", self.uri, to, self.call_id, self.tag, self.number, self.description(media), self.branch)
+        self.uri = f"sip:{user}@{SERVER}"
+        self.early = Dialog(f"c{random.randrange(1 << 40):x}", self.tag, f"<{self.uri}>")
+        self.invite = self.request("INVITE", self.uri, self.early, self.description(media), self.branch)
         self.send(self.invite)
         final = self.wait(start, r"SIP/2\.0 [2-6]\d\d (?s:.*)CSeq: \d+ INVITE", 240)
         if not final or not self.runs:
             return
-        to = self.header(final, "To")
         if final.startswith("SIP/2.0 2"):
-            self.dialog = (re.search(r"<(.*?)>", self.header(final, "Contact"))[1], to, self.call_id, self.tag)
-            self.send(self.request("ACK", self.dialog[0], to, self.call_id, self.tag, self.number))
-            self.learn(final.partition("\r\n\r\n")[2])
+            self.target, self.dialog = contact_of(final), self.early._replace(to=header(final, "To"))
+            self.send(self.request("ACK", self.target, self.dialog))
+            self.learn(body_of(final))
         else:
-            self.send(self.request("ACK", self.uri, to, self.call_id, self.tag, self.number, branch=self.branch))
+            self.send(self.identity.refusal_ack(self.invite, final))
 
     def answer(self):
-        body = self.asked.partition("\r\n\r\n")[2]
+        body = body_of(self.asked)
         self.respond(self.asked, 200, self.answer_to(body))
         self.learn(body)
 
@@ -224,15 +221,16 @@ class Plain:
 
     def inside(self, method, body=""):
         """A request in the dialog, and its final response, with the ACK of an INVITE."""
-        target, to, call_id, tag = self.dialog
+        dialog, target = self.dialog, self.target
         start = len(self.messages)
         self.number += 1
-        self.send(self.request(method, target, to, call_id, tag, self.number, body))
-        final = self.wait(start, rf"SIP/2\.0 [2-6]\d\d (?s:.*)CSeq: {self.number} {method}")
+        number = self.number
+        self.send(self.request(method, target, dialog, body))
+        final = self.wait(start, rf"SIP/2\.0 [2-6]\d\d (?s:.*)CSeq: {number} {method}")
         if final and method == "INVITE":
-            self.send(self.request("ACK", target, to, call_id, tag, self.number))
+            self.send(self.request("ACK", target, dialog))
         if final and body and final.startswith("SIP/2.0 2"):
-            self.learn(final.partition("\r\n\r\n")[2])
+            self.learn(body_of(final))
         return final
 
     def hang_up(self):
@@ -240,10 +238,10 @@ class Plain:
             self.inside("BYE")
             self.dialog = self.hop = None
         else:
-            self.send(self.request("CANCEL", self.uri, f"<{self.uri}>", self.call_id, self.tag, self.number, branch=self.branch))
+            self.send(self.request("CANCEL", self.uri, self.early, branch=self.branch))
 
     def hold(self):
-        self.inside("INVITE", self.description(way="sendonly"))
+        self.inside("INVITE", self.description(direction="sendonly"))
         self.hop = None
 
     def resume(self):

@@ -1,24 +1,13 @@
-"""A telephone behind a bad line: a fifth of its SIP datagrams is lost each way, a fifth comes twice, and all are late. It sends again as RFC 3261 says."""
+"""A telephone with a bad line: a fifth of its SIP datagrams is lost each way, a fifth is doubled, and all are late. It sends
+again as RFC 3261 says."""
 import random
-import re
 import threading
 
-from plain import Plain
+from telephones.messages import handshake_of, key_of, status_of
+from telephones.plain import Plain
 
 LOST, DOUBLED, LATEST = 0.2, 0.2, 0.3
 T1, MOST = 0.5, 4.0
-
-
-def key_of(text):
-    """The top branch and the method of CSeq: what a request and its responses have in common (section 17.1.3)."""
-    branch = re.search(r"(?im)^Via\s*:.*?;branch=([^;\s]+)", text)
-    method = re.search(r"(?im)^CSeq\s*:\s*\d+\s+(\w+)", text)
-    return (branch[1] if branch else "", method[1] if method else "")
-
-
-def number_of(text):
-    """The Call-ID and the number of CSeq: what an INVITE's final response and its ACK have in common."""
-    return tuple(re.search(rf"(?im)^{name}\s*:\s*(\S+)", text)[1] for name in ("Call-ID", "CSeq"))
 
 
 class Rough(Plain):
@@ -48,7 +37,7 @@ class Rough(Plain):
         """What reaches the line; what comes out of it is taken, and noted for whoever waits."""
         self.suffer(lambda: self.take_late(text))
 
-    # ---- what goes again
+    # ---- what is sent again
 
     def repeat(self, key, text, interval=T1, left=64 * T1):
         self.put(text)
@@ -63,30 +52,30 @@ class Rough(Plain):
             timer.cancel()
 
     def send(self, text):
-        """A request goes again until it is answered, an INVITE's final response until its ACK comes."""
-        status = re.match(r"SIP/2\.0 (\d+)", text)
+        """A request is sent again until it is answered, an INVITE's final response until its ACK comes."""
+        status = status_of(text)
         if text.startswith("ACK "):
-            self.acks[number_of(text)] = text
+            self.acks[handshake_of(text)] = text
             self.put(text)
         elif not status:
             self.repeat(key_of(text), text)
         else:
             self.said[key_of(text)] = text
-            if int(status[1]) >= 200 and key_of(text)[1] == "INVITE":
-                self.repeat(number_of(text), text)
+            if status >= 200 and key_of(text)[1] == "INVITE":
+                self.repeat(handshake_of(text), text)
             else:
                 self.put(text)
 
     def take_late(self, text):
         key = key_of(text)
         if text.startswith("ACK "):
-            self.stop(number_of(text))
+            self.stop(handshake_of(text))
         elif text.startswith("SIP/2.0"):
             if text[8] != "1" or key[1] == "INVITE":
                 self.stop(key)
             if text in self.seen:
-                if number_of(text) in self.acks and key[1] == "INVITE" and text[8] != "1":
-                    self.put(self.acks[number_of(text)])
+                if handshake_of(text) in self.acks and key[1] == "INVITE" and text[8] != "1":
+                    self.put(self.acks[handshake_of(text)])
                 return
             self.seen.add(text)
         elif key in self.said:

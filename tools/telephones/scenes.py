@@ -1,8 +1,8 @@
 """What two telephones do with each other, and what has to be seen of it at the server's interface."""
 import time
 
-from audio import loudness, samples
-from network import SERVER
+from telephones.audio import loudness, samples
+from telephones.network import SERVER
 
 PATIENCE = 6
 # On a bad line.
