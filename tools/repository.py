@@ -58,6 +58,14 @@ def texts_in_tree():
     return {file: text_of(file) for file in files if file.endswith(KINDS) and "/out/" not in file}
 
 
+def by_crate(texts):
+    """These texts, crate by crate."""
+    found = {}
+    for path, text in texts.items():
+        found.setdefault(path.split("/")[1], {})[path] = text
+    return dict(sorted(found.items()))
+
+
 def texts_at(commit):
     """The text of each source of the crates in a commit."""
     lines = git("ls-tree", "-r", "--format=%(path)\t%(objectname)", commit, "--", "crates").splitlines()

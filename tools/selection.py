@@ -4,7 +4,7 @@ import hashlib
 
 from edits import edits_of
 from memo import REFUSED
-from repository import commit_count, git, is_ancestor, libraries, texts_at, texts_in_tree
+from repository import by_crate, commit_count, git, is_ancestor, libraries, texts_at, texts_in_tree
 from standing import Standing
 
 PASSED = ".ci/passed"
@@ -25,7 +25,7 @@ def passed_commit():
 def sums_of(texts, kit, uses):
     """The edits that the prover judges, by file, and the sum that the verdict on each stands on."""
     standing = Standing(texts, kit, uses)
-    edits = {edit.file: edit for crate in uses for edit in edits_of(crate, texts) if not edit.is_for_calls}
+    edits = {edit.file: edit for crate, own in by_crate(texts).items() for edit in edits_of(crate, own) if not edit.is_for_calls}
     return edits, {file: standing.key(edit) for file, edit in edits.items()}
 
 

@@ -8,8 +8,8 @@ import functools
 import hashlib
 import re
 
-from edits import edits_of, proofs_of
-from repository import below, libraries
+from edits import proofs_of
+from repository import below, by_crate, libraries
 
 COMMENT = re.compile(r"(?m)^ *(?://|--).*\n")
 # A line at which an item begins, in a source that rt fmt laid out; and the parts of a head.
@@ -123,23 +123,19 @@ class Standing:
     """The sources of one tree, and the sums that verdicts on its wrong bodies stand on."""
 
     def __init__(self, texts, kit, uses=None):
-        self.texts, self.kit = texts, kit
-        self.below = below(uses or libraries())
+        self.kit = kit
+        self.below, self.of_crate = below(uses or libraries()), by_crate(texts)
         self.code = {path: COMMENT.sub("", text) for path, text in texts.items() if not path.endswith(".edit")}
         self.items = {}
         for path, text in self.code.items():
             if path.endswith(".rt"):
                 self.items.setdefault(path.split("/")[1], []).extend(items_of(path, text))
 
-    def keys(self, crate):
-        """The sum of each edit of a crate, by its file."""
-        return {edit.file: self.key(edit) for edit in edits_of(crate, self.texts)}
-
     def key(self, edit):
         """The sum that the verdict on this edit stands on."""
         paths = [f"crates/{edit.crate}/{path}" for path in edit.paths()]
         parts = [self.kit, edit.text, *(self.code.get(path, "") for path in paths), *(self.around(path) for path in paths)]
-        proofs = proofs_of(edit, self.texts)
+        proofs = proofs_of(edit, self.of_crate[edit.crate])
         return hashlib.sha256(repr([*parts, sorted(proofs.items())]).encode()).hexdigest()
 
     @functools.cache
