@@ -14,6 +14,8 @@ USED = {
     "Kept.give": ["self", "crate", "tests", "key"],
     "Kept.is_built": ["self", "crate"],
 }
+# Where a check over kept libraries leaves what it proved, in the crate's out/.
+FOLDER = "gate-incremental"
 # Processor minutes that 1,000 lines of code take to prove, as docs/PERFORMANCE.md has them.
 MINUTES = 5
 

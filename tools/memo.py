@@ -5,6 +5,8 @@ import os
 
 NAME = "wrong-bodies"
 REFUSED, COMPILES = "refused", "compiles"
+# So many lines are read at most, the last ones.
+MOST = 100_000
 
 
 class Memo:
@@ -14,7 +16,7 @@ class Memo:
         self.file, self.lines = f"{folder}/{NAME}", set()
         with contextlib.suppress(OSError):
             with open(self.file, encoding="utf-8") as opened:
-                self.lines = {line.strip() for line in opened}
+                self.lines = {line.strip() for line in opened.readlines()[-MOST:]}
 
     def knows(self, word, key):
         return f"{word} {key}" in self.lines
