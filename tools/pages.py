@@ -23,7 +23,7 @@ def keys():
 
 
 def quoted():
-    """The words in quotes of the crate that writes the log, and its text."""
+    """The words in quotes in the crate that writes the log."""
     text = "".join(text_of(file) for file in glob.glob("crates/server/src/**/*.rt", recursive=True))
     return set(re.findall(r'"([\w-]+)"', text))
 
@@ -61,5 +61,5 @@ def readme_faults():
         yield from (f"{PAGE}: {it}: no word of a line of the log" for it in {word, *re.findall(r"([a-z-]+)=", fields)} - quoted())
     yield from (f"{PAGE}: {it}: no such file" for it in set(PAGES.findall(text)) if not os.path.exists(it))
     for page, heading in LINK.findall(text):
-        if not page.startswith("http") and heading and heading not in headings(page or PAGE):
+        if heading and os.path.exists(page or PAGE) and heading not in headings(page or PAGE):
             yield f"{PAGE}: {page}#{heading}: no such heading"
