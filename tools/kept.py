@@ -38,6 +38,10 @@ class Libraries:
                 lacks.append(below)
         return lacks
 
+    def has(self, crate):
+        """Gives a library and those below it to their folders, and tells whether all are kept as they stand."""
+        return not self.lacking(crate) and (crate.name in self.kept.rlibs or self.give(crate))
+
     def give(self, crate):
         """Gives a library's folder what is kept of it, and tells whether it could."""
         shutil.rmtree(f"{crate.folder}/out/rlib", ignore_errors=True)

@@ -5,6 +5,7 @@
 mod acks;
 mod agent;
 mod commit;
+mod latest_moment;
 mod moments;
 mod new_agent;
 mod run;

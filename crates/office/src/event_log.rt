@@ -123,6 +123,6 @@ impl EventLog {
         if !tells(self.level, note) || is_of_strangers(note) && !self.limit.admits(now) {
             return Ok(());
         }
-        put_note(out, self.alloc, &mut self.ledger, agent, source, media, now)
+        put_note(out, self.alloc, &mut self.ledger, agent, source, media)
     }
 }

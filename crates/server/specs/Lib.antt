@@ -5,6 +5,7 @@ pub mod Once
 pub mod State
 pub mod Lines
 pub mod Notes
+pub mod Holds
 pub mod Replay
 pub mod Stream
 pub mod Serve

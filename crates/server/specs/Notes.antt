@@ -1,5 +1,5 @@
 -- The word that begins the line of a note, as docs/OPERATORS.md has them.
-use Rattle.std.specs.Prelude.{◌≡◌, ◌⊎◌, ◌++◌, ℕ, List, [], codes}
+use Rattle.std.specs.Prelude.{◌≡◌, ◌⊎◌, ◌++◌, ℕ, Bool, true, false, List, [], codes}
 use Rattle.call_core.specs.declared.note.CallNote.{CallNote}
 use Rattle.call_core.specs.declared.note.CallNote.TheVariants as calls
 use Rattle.plans.specs.declared.note.Note.{Note}
@@ -22,6 +22,12 @@ IsWordOfCall (calls.Left end) word = word ≡ codes "call-ended"
 IsWordOfCall (calls.Failed status) word = word ≡ codes "call-ended"
 IsWordOfCall calls.Unacknowledged word = word ≡ codes "call-ended"
 IsWordOfCall calls.Expired word = word ≡ codes "call-ended"
+
+-- an offer inside a call was answered: whether the call is held from now on, and whether it was
+abbrev pub word_of_change : Bool → Bool → List ℕ
+word_of_change true was_held = codes "call-held"
+word_of_change false true = codes "call-resumed"
+word_of_change false false = codes "call-changed"
 
 -- of an event
 abbrev pub IsWordOf : Note → List ℕ → Type 0

@@ -2,16 +2,17 @@
 
 ghost use Rattle.std.specs.Prelude.{◌≡◌, ◌≤◌, codes, length, OnOk};
 ghost use Rattle.call_core.specs.declared.note.CallNote.TheVariants as notes;
+ghost use Rattle.server.specs.Holds.{is_held};
 ghost use Rattle.server.specs.Lines.{max_fields};
-ghost use Rattle.server.specs.Notes.{IsWordOfCall, Says};
+ghost use Rattle.server.specs.Notes.{IsWordOfCall, Says, word_of_change};
 
+use crate::holds::is_held;
 use crate::ledger::{Entry, Ledger, call_of};
 use crate::lines::{Field, Value, put_line, put_line_without};
 use crate::media_counts::MediaCounts;
 use call_core::{CallNote, End, NoteOfCall, OfferMethod};
 use call_media::Session;
 use calls::StandingCall;
-use sdp::{Description, Way, way_of};
 use std::alloc::{AllocError, Global};
 
 fn call(entry: &Entry) -> Field<'static> {
@@ -115,34 +116,31 @@ fn method(method: OfferMethod) -> Field<'static> {
     }
 }
 
-/// Whether a medium of a description goes both ways.
-fn goes_both_ways(description: &Description<'_>) -> bool {
-    for medium in description.media.as_slice() {
-        if matches!(way_of(description, medium), Way::SendReceive) {
-            return true;
-        }
-    }
-    false
+/// Whether a call with this session is held.
+fn holds(session: &Session) -> bool
+    ensures { result ≡ is_held session.now.offer_taken session.now.answer_taken }
+{
+    is_held(session.offer_taken.get(), session.answer_taken.get())
 }
 
-/// Whether no medium of the session goes both ways.
-fn is_held(session: &Session) -> bool {
-    !goes_both_ways(session.offer_taken.get()) || !goes_both_ways(session.answer_taken.get())
+/// The word of an answer inside a call, by whether the call is held from now on, and whether it was.
+fn word_of_change(is_held: bool, was_held: bool) -> &'static [u8]
+    ensures { result.now ≡ word_of_change is_held was_held }
+{
+    match (is_held, was_held) {
+        (true, _) => b"call-held",
+        (false, true) => b"call-resumed",
+        (false, false) => b"call-changed",
+    }
 }
 
 /// An offer inside the call was answered: who offered, and whether the call is held from now on.
-#[tactic(auto, using(crate::proofs::LineLaws::says_as))]
 fn put_change(out: &mut Vec<u8>, entry: &Entry, session: &Session) -> Result<(), AllocError>
-    ensures { OnOk result (Says (IsWordOfCall notes.Reanswered) out.old.items out.new.items) }
+    ensures { OnOk result (Says (λ w. w ≡ word_of_change
+        (is_held session.now.offer_taken session.now.answer_taken) entry.now.is_held) out.old.items out.new.items) }
 {
     let fields = [call(entry), by(entry, session.offerer)];
-    if is_held(session) {
-        put_line(out, b"call-held", &fields)
-    } else if entry.is_held {
-        put_line(out, b"call-resumed", &fields)
-    } else {
-        put_line(out, b"call-changed", &fields)
-    }
+    put_line(out, word_of_change(holds(session), entry.is_held), &fields)
 }
 
 #[tactic(auto, using(crate::proofs::LineLaws::says_nothing))]
@@ -274,18 +272,24 @@ fn put_entry_note(
     }
 }
 
+/// The ledger knows whether a call is held, as its last offer and answer say.
+fn keep_hold(ledger: &mut Ledger, calls: &[StandingCall], number: u64) {
+    if let Some(standing) = call_of(calls, number)
+        && let Some(session) = standing.call.session()
+    {
+        ledger.hold(number, holds(session));
+    }
+}
+
 /// What the ledger knows of a call from now on.
 fn keep_note(ledger: &mut Ledger, calls: &[StandingCall], note: NoteOfCall, now: u64) {
     let NoteOfCall { number, note } = note;
     match note {
-        CallNote::Answered => ledger.answer(number, now),
-        CallNote::Reanswered => {
-            if let Some(standing) = call_of(calls, number)
-                && let Some(session) = standing.call.session()
-            {
-                ledger.hold(number, is_held(session));
-            }
+        CallNote::Answered => {
+            ledger.answer(number, now);
+            keep_hold(ledger, calls, number);
         }
+        CallNote::Reanswered => keep_hold(ledger, calls, number),
         CallNote::Refused(_)
         | CallNote::GivenUp
         | CallNote::Left(_)

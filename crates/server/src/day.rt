@@ -130,7 +130,7 @@ fn put_told(
     if !notes {
         return Ok(());
     }
-    put_note(out, alloc, ledger, agent, source_of(event), None, event.now)
+    put_note(out, alloc, ledger, agent, source_of(event), None)
 }
 
 /// Takes an event, and writes the text of what is sent, and what it was about, where that is asked for.

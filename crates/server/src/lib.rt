@@ -9,6 +9,7 @@ mod command_line;
 mod day;
 mod ending;
 mod fault;
+mod holds;
 mod host;
 mod input;
 mod ledger;

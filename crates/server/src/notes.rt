@@ -207,9 +207,9 @@ fn put_registration(
     put_binding(out, alloc, user, uri, seconds_left(&bindings, now))
 }
 
-/// Writes the line of what the last event was about behind what is there, if it is told. It was taken at this moment,
-/// in milliseconds, and came from there, where it was a datagram. Where it ended a call, and anyone counts its media,
-/// it had carried so many.
+/// Appends the line of what the last event was about, if it has one. The event came from this source, where it was a
+/// datagram. Where it ended a call, and anyone counts its media, these are the counts. Times are those of the agent's
+/// moment, at which it took the event.
 #[tactic(auto, using(crate::proofs::LineLaws::says_nothing, crate::proofs::LineLaws::says_tells))]
 pub fn put_note(
     out: &mut Vec<u8>,
@@ -218,11 +218,11 @@ pub fn put_note(
     agent: &Agent,
     source: Option<Addr>,
     media: Option<MediaCounts>,
-    now: u64,
 ) -> Result<(), AllocError>
     ensures tells { OnOk result (Tells out.old.items out.new.items) }
     ensures says { OnOk result (Says (IsWordOf agent.now.note) out.old.items out.new.items) }
 {
+    let now = agent.moment();
     match agent.note() {
         Note::Quiet => Ok(()),
         Note::Call(note) => put_call_note(out, alloc, ledger, agent.calls(), note, media, now),

@@ -1,4 +1,5 @@
 //! What `--version` says.
 
-/// The version, and where the program is packaged the commit that it is of, and what proved it.
-pub const VERSION: &str = "1.0.0, not packaged";
+/// The version. What stands after it is as long as what `./package` writes there in the linked program: the commit that
+/// the program is of, and what proved it.
+pub const VERSION: &str = "1.0.0, not packaged: built from the sources of a clone";
