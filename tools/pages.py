@@ -1,0 +1,65 @@
+"""What README.md names: each command, path, key and line of the log has to exist."""
+import glob
+import os
+import re
+
+from repository import libraries, text_of
+
+PAGE, OPERATORS, EXAMPLE = "README.md", "docs/OPERATORS.md", "examples/office.toml"
+# A command or a path; a key with its value; a plain word; a line of the log; a page that a link leads to, and its heading.
+PATH = re.compile(r"(?:\./)?[\w.-]+/[\w./-]*")
+KEY = re.compile(r"(\w+) = ")
+WORD = re.compile(r"[a-z_]+")
+LINE = re.compile(r"    ([a-z][a-z-]+)((?: [a-z-]+=\S+)+)$", re.M)
+LINK = re.compile(r"\]\(([^)#]*)(?:#([\w-]+))?\)")
+PAGES = re.compile(r"(?:docs|examples|tools|crates|rows)/[\w./-]*\w")
+
+
+def keys():
+    """The keys of the configuration, by the table for operators and by the example."""
+    table = text_of(OPERATORS).partition("\n| Key |")[2].partition("\n\n")[0]
+    rows = re.findall(r"^\| (`\w+`(?:, `\w+`)*) \|", table, re.M)
+    return {*re.findall(r"`(\w+)`", " ".join(rows)), *re.findall(r"^(?:# )?(\w+) = ", text_of(EXAMPLE), re.M)}
+
+
+def quoted():
+    """The words in quotes in the crate that writes the log."""
+    text = "".join(text_of(file) for file in glob.glob("crates/server/src/**/*.rt", recursive=True))
+    return set(re.findall(r'"([\w-]+)"', text))
+
+
+def known_words():
+    """The plain words that the page may name: keys, crates and the libraries that they use, and the toolchain's command."""
+    crates = libraries()
+    return keys() | set(crates) | {name for names in crates.values() for name in names} | {"rt"}
+
+
+def is_there(path):
+    """Whether the path is that of a file or folder, of the repository or of each crate."""
+    return bool(os.path.exists(path) or glob.glob(f"crates/*/{path}"))
+
+
+def headings(page):
+    """The headings of a page, as links name them."""
+    titles = re.findall(r"^#+ (.*)$", text_of(page), re.M)
+    return {re.sub(r"[^\w -]", "", title).strip().lower().replace(" ", "-") for title in titles}
+
+
+def readme_faults():
+    """Each name in README.md of something that is not there."""
+    text, words = text_of(PAGE), known_words()
+    spans = re.findall(r"`([^`]+)`", text) + re.findall(r"^    \$ (.*)$", text, re.M)
+    for span in spans:
+        first = span.split()[0]
+        if PATH.fullmatch(first) and not is_there(first):
+            yield f"{PAGE}: {first}: no such file"
+        elif KEY.match(span) and KEY.match(span)[1] not in keys():
+            yield f"{PAGE}: {span}: no such key"
+        elif WORD.fullmatch(span) and span not in words:
+            yield f"{PAGE}: {span}: neither a key nor a crate"
+    for word, fields in LINE.findall(text):
+        yield from (f"{PAGE}: {it}: no word of a line of the log" for it in {word, *re.findall(r"([a-z-]+)=", fields)} - quoted())
+    yield from (f"{PAGE}: {it}: no such file" for it in set(PAGES.findall(text)) if not os.path.exists(it))
+    for page, heading in LINK.findall(text):
+        if heading and os.path.exists(page or PAGE) and heading not in headings(page or PAGE):
+            yield f"{PAGE}: {page}#{heading}: no such heading"
