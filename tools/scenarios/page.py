@@ -95,14 +95,14 @@ def show_users(at, shown, phones):
 
 
 def refuse_requests(at):
-    """Each request that is refused has its status, and a slow one is let go after five seconds."""
+    """Each request that is refused has its status, and a slow one is dropped after five seconds."""
     for request, status in REFUSED.items():
         found = status_of(fetch(at, request))[0]
         expect(found == status, f"{status} for {request[:20]}, not {found}")
     begun = time.monotonic()
     fetch(at, b"GET / HTTP/1.1\r\n", WAITED)
     waited = time.monotonic() - begun
-    expect(LET_GO[0] <= waited <= slowed(LET_GO[1]), f"a slow head is let go after {waited:.1f} s")
+    expect(LET_GO[0] <= waited <= slowed(LET_GO[1]), f"a slow head is dropped after {waited:.1f} s")
 
 
 def crowd(at):
