@@ -5,7 +5,7 @@ import hashlib
 from edits import edits_of
 from memo import REFUSED
 from repository import by_crate, commit_count, git, is_ancestor, libraries, texts_at, texts_in_tree
-from standing import Standing
+from standing import COMMENT, Standing
 
 PASSED = ".ci/passed"
 # Of the edits that nothing touched so many are tried, of so many crates.
@@ -41,6 +41,14 @@ class Selection:
             self.before = sums_of(texts, kit, libraries(git("show", f"{self.base}:crates.txt")))[1]
         self.changed = [file for file in self.edits if texts.get(file) != self.texts[file]]
         self.touched = [file for file in self.edits if self.before.get(file) != self.sums[file]]
+        # Those that may no longer compile: the edit is new or changed, or a source that it changes is.
+        self.rewritten = [file for file in self.touched if file in {*self.changed} or self.has_new_source(file, texts)]
+
+    def has_new_source(self, file, before):
+        """Whether a source that an edit changes is another than before, but for its comments."""
+        edit = self.edits[file]
+        paths = [f"crates/{edit.crate}/{path}" for path in edit.paths()]
+        return any(COMMENT.sub("", before.get(path, "")) != COMMENT.sub("", self.texts.get(path, "")) for path in paths)
 
     def unknown(self, files, memo):
         """Those of these edits that the memo doesn't know as refused."""
