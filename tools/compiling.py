@@ -57,12 +57,12 @@ class Compiling:
             left = [edit for edit in left if edit not in group]
 
     def group(self, crate, left):
-        """As many edits as can be made together, each in functions of its own."""
-        sources, texts, chosen, taken = sources_of(crate.name, self.selection.texts), {}, [], set()
+        """As many edits as can be made together. Where two of them don't go together, halves of the group tell."""
+        sources, texts, chosen = sources_of(crate.name, self.selection.texts), {}, []
         for edit in left:
-            made = None if edit.functions & taken else apply([edit], sources, texts)
+            made = apply([edit], sources, texts)
             if made:
-                texts, chosen, taken = made, [*chosen, edit], taken | edit.functions
+                texts, chosen = made, [*chosen, edit]
         return chosen, texts
 
     def of_group(self, crate, group, texts):
