@@ -1,4 +1,7 @@
 mod KeyLaws
+mod SkipLaws
+mod EntryLaws
+mod TopLaws
 mod LineLaws
 mod RuleLaws
 mod UserListLaws

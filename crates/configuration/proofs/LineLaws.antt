@@ -1,86 +1,53 @@
--- Lines, and what the texts of the first of them say of a key.
-use Rattle.std.proofs.Common.{◌≡◌, ◌≤◌, ◌<◌, ◌+◌, ℕ, Bool, true, false, List, [], length, take, take_all, Some, None, inl, inr, leb, slice_index, refl, sym, ap, subst, ◌∙◌, arith}
-use Rattle.std.proofs.lemmas.Bool.{leb-true, leb-false, true≢false}
-use Rattle.toml.specs.Data.{no_members}
-use Rattle.toml.specs.Parse.{parse_document}
-use Rattle.toml.proofs.OnLiterals.{toml_on_literals}
-use Rattle.configuration.specs.Lines.{has_key, IsBehindFeed, IsLineEnd, NoLineEnds, SaysOf}
+-- The line of a key.
+use Rattle.std.proofs.Common.{◌≡◌, ◌≤◌, ◌<◌, ℕ, List, length, Option, Some, None, option_map, Result, Ok, Err, IfOk, IsUtf8, inl, inr, refl, sym, ap, ◌∙◌}
+use Rattle.std.specs.declared.alloc.AllocError.{AllocError}
+use Rattle.configuration.specs.Entries.{Entry, AreEntries, first_top}
+use Rattle.configuration.specs.Lines.{max_looked, line_at, line_among, IsTold}
+use Rattle.configuration.specs.FaultOf.{HasTable, HasKey, IsKeyLine}
+use Rattle.configuration.proofs.EntryLaws.{entries_of}
+use Rattle.configuration.proofs.TopLaws.{no_entry_no_key}
+use Rattle.toml.specs.Parse.{skip_bom}
+use Rattle.std.specs.Prelude.{IfNone, ◌⊎◌}
+use Rattle.std.proofs.lemmas.Bool.{cases_lt, true≢false}
 
--- no text that ends behind the first place, up to the second, has a table
-abbrev pub NoneBetween : List ℕ → List ℕ → ℕ → ℕ → Type 0
-NoneBetween text key at end = (n : ℕ) → at < n → n ≤ end → IsLineEnd text n → SaysOf (take n text) key None
+-- the line of the entry that was found
+pub told_at : (text from : List ℕ) (line : ℕ) (found : Option Entry) → Some from ≡ option_map (λ entry. entry.from) found → line ≡ line_at text from
+    → Some line ≡ option_map (λ entry. line_at text entry.from) found
+told_at text from line None is at = absurd cc
+told_at text from line (Some e) is at =
+    let same : from ≡ e.from = cc in
+    ap (λ (n : ℕ). Some n) at ∙ ap (λ (t : List ℕ). Some (line_at text t)) same
 
-nothing_is : parse_document [] ≡ Some no_members
-unfolding toml_on_literals
-nothing_is = refl
+pub told_none : (text : List ℕ) (found : Option Entry) → None ≡ option_map (λ entry. entry.from) found → None ≡ option_map (λ entry. line_at text entry.from) found
+told_none text None is = refl
+told_none text (Some e) is = absurd cc
 
--- a text of nothing has a table without keys
-pub nothing_says : (key : List ℕ) → SaysOf [] key (Some false)
-nothing_says key = (no_members, (([], (refl, refl)), nothing_is), refl)
+-- where no entry is of a key, the table has none of it
+not_there : (bytes key : List ℕ) (es : List Entry) → AreEntries (skip_bom bytes) es → None ≡ line_among bytes key es → ¬ (HasKey bytes key)
+not_there bytes key es are none (ms, text, there) = go (first_top key es) refl where
+  go : (o : Option Entry) → first_top key es ≡ o → ⊥
+  go None is = true≢false (sym there ∙ no_entry_no_key bytes key ms es text.1 are is)
+  go (Some e) is = clash (none ∙ ap (option_map (λ entry. line_at bytes entry.from)) is) where
+    clash : None ≡ Some (line_at bytes e.from) → ⊥
+    clash h = cc
 
-pub none_yet : (text key : List ℕ) (at : ℕ) → NoneBetween text key at at
-none_yet text key at n more less = absurd (omega (arith, more, less))
+none_told : (bytes key : List ℕ) (es : List Entry) (line : Option ℕ) → AreEntries (skip_bom bytes) es → (length bytes ≤ max_looked → line ≡ line_among bytes key es)
+    → IfNone line ((max_looked < length bytes) ⊎ ¬ (HasKey bytes key))
+none_told bytes key es (Some n) are told = tt
+none_told bytes key es None are told = elim (cases_lt max_looked (length bytes)) [
+  | inl long ↦ inl long
+  | inr short ↦ inr (not_there bytes key es are (told short))
+]
 
--- ---- line feeds
-
--- no line feed stands before the places between
-abbrev pub NoFeeds : List ℕ → ℕ → ℕ → Type 0
-NoFeeds text from to = (n : ℕ) → from < n → n < to → ¬ (IsBehindFeed text n)
-
-pub no_feeds_yet : (text : List ℕ) (from : ℕ) → NoFeeds text from (from + 1)
-no_feeds_yet text from n more less feed = absurd (omega (arith, more, less))
-
--- one byte more, which is none
-pub no_feed_more : (text : List ℕ) (from at : ℕ) → NoFeeds text from (at + 1) → (slice_index text at ≡ 10 → ⊥) → NoFeeds text from (at + 1 + 1)
-no_feed_more text from at apart other n more less (i, place, feed) = step (leb n at) (leb-true n at) (leb-false n at) where
-  step : (t : Bool) → (t ≡ true → n ≤ at) → (t ≡ false → at < n) → ⊥
-  step true within beyond = apart n more (omega (arith, within refl)) (i, place, feed)
-  step false within beyond =
-      let same : i ≡ at = omega (arith, less, place, beyond refl) in
-      other (ap (slice_index text) (sym same) ∙ feed)
-
-pub no_line_ends : (text : List ℕ) (from to : ℕ) → NoFeeds text from to → to ≤ length text → NoLineEnds text from to
-no_line_ends text from to apart bound n more less (inl feed) = apart n more less feed
-no_line_ends text from to apart bound n more less (inr whole) = omega (arith, bound, less, whole)
-
--- ---- lines that make no table
-
--- with fewer lines than up to the next end
-pub parts_to : (text key : List ℕ) (at end next : ℕ) → NoneBetween text key at end → NoLineEnds text end next
-    → (n : ℕ) → at < n → n < next → IsLineEnd text n → SaysOf (take n text) key None
-parts_to text key at end next parts apart n more less ends = step (leb n end) (leb-true n end) (leb-false n end) where
-  step : (b : Bool) → (b ≡ true → n ≤ end) → (b ≡ false → end < n) → SaysOf (take n text) key None
-  step true within beyond = parts n more (within refl) ends
-  step false within beyond = absurd (apart n (beyond refl) less ends)
-
--- one line more, which makes none
-pub one_more : (text key : List ℕ) (at end next : ℕ) → NoneBetween text key at end → NoLineEnds text end next → SaysOf (take next text) key None
-    → NoneBetween text key at next
-one_more text key at end next parts apart none n more less ends = step (leb next n) (leb-true next n) (leb-false next n) where
-  step : (b : Bool) → (b ≡ true → next ≤ n) → (b ≡ false → n < next) → SaysOf (take n text) key None
-  step true here there = subst (λ (m : ℕ). SaysOf (take m text) key None) (omega (arith, less, here refl)) none
-  step false here there = parts_to text key at end next parts apart n more (there refl) ends
-
--- ---- a text without the key
-
-some_is : {X : Type 0} (x y : X) → Some x ≡ Some y → x ≡ y
-some_is x y h = cc
-
-one_answer : (text key : List ℕ) → SaysOf text key (Some false) → SaysOf text key (Some true) → ⊥
-one_answer text key (ms, said, lacks) (ns, other, has) =
-    true≢false (sym has ∙ ap (has_key key) (some_is _ _ (sym other.1 ∙ said.1)) ∙ lacks)
-
--- all lines were looked at
-pub not_there : (text key : List ℕ) (at end : ℕ) → SaysOf (take at text) key (Some false) → NoneBetween text key at end → at ≤ end → end ≡ length text
-    → SaysOf text key (Some true) → ⊥
-not_there text key at end before parts order bound there = step (leb end at) (leb-true end at) (leb-false end at) where
-  whole : take (length text) text ≡ text
-  whole = take_all (length text) text (omega arith)
-
-  step : (b : Bool) → (b ≡ true → end ≤ at) → (b ≡ false → at < end) → ⊥
-  step true here beyond =
-      let same : at ≡ length text = omega (arith, order, bound, here refl) in
-      one_answer text key (subst (λ (t : List ℕ). SaysOf t key (Some false)) (ap (λ (n : ℕ). take n text) same ∙ whole) before) there
-  step false here beyond =
-      let none = parts end (beyond refl) (omega arith) (inr bound) in
-      subst (λ (t : List ℕ). SaysOf t key None) (ap (λ (n : ℕ). take n text) bound ∙ whole) none there.0 there.1
+-- of a text with a table
+pub told_line : (bytes key : List ℕ) (r : Result (Option ℕ) AllocError) → HasTable bytes
+    → (length bytes ≤ max_looked → IsUtf8 bytes → IfOk r (IsTold bytes key)) → (max_looked < length bytes → IfOk r (λ line. line ≡ None))
+    → IfOk r (IsKeyLine bytes (Some key))
+told_line bytes key (Err e) table told long = tt
+told_line bytes key (Ok line) table told long =
+    let (es, are) = entries_of bytes table.0 table.1.1 in
+    record {
+      first = λ short. (es, are, told short table.1.0 es are);
+      long = long;
+      none = none_told bytes key es line are (λ short. told short table.1.0 es are);
+    }

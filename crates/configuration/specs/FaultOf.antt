@@ -1,9 +1,9 @@
 -- Why a text is no configuration that keeps the rules, and where.
-use Rattle.std.specs.Prelude.{◌≡◌, ◌<◌, ◌≤◌, ◌⊎◌, ℕ, Bool, true, false, List, length, take, Option, Some, None, IfSome, IfNone}
+use Rattle.std.specs.Prelude.{◌≡◌, ◌<◌, ◌≤◌, ◌⊎◌, ℕ, Bool, true, false, List, length, take, Option, Some, None, IfNone}
 use Rattle.toml.specs.Data.{Members}
 use Rattle.configuration.specs.Reading.{IsTextOf}
 use Rattle.configuration.specs.Flaws.{key_name, flaw_in}
-use Rattle.configuration.specs.Lines.{max_looked, line_behind, SaysOf, IsLineOf}
+use Rattle.configuration.specs.Lines.{max_looked, line_behind, has_key, IsLineOf}
 use Rattle.configuration.specs.declared.fault.ConfigFault.{ConfigFault}
 use Rattle.configuration.specs.declared.key.Key.TheVariants as keys
 use Rattle.configuration.specs.declared.flaw.Flaw.{Flaw}
@@ -38,11 +38,24 @@ is_no_toml (RandomKey count) = false
 is_no_toml (UserCount count) = false
 is_no_toml (UserTwice user) = false
 
--- the line of a key, where there is one, and else none; where the text is too long to be looked through, none either
+-- the bytes are the text of a table
+abbrev pub HasTable : List ℕ → Type 0
+HasTable bytes = (ms : Members) × IsTextOf bytes ms
+
+-- the bytes are the text of a table with this key
+abbrev pub HasKey : List ℕ → List ℕ → Type 0
+HasKey bytes key = (ms : Members) × IsTextOf bytes ms × (has_key key ms ≡ true)
+
+-- the line of the first entry of a key; none in a text that is too long to be looked through, and where the key is not
+pub record IsLineOfKey (bytes key : List ℕ) (line : Option ℕ) : Type 0 where
+  pub first : length bytes ≤ max_looked → IsLineOf bytes key line
+  pub long : max_looked < length bytes → line ≡ None
+  pub none : IfNone line ((max_looked < length bytes) ⊎ ¬ (HasKey bytes key))
+
+-- the line of a key that is told
 abbrev pub IsKeyLine : List ℕ → Option (List ℕ) → Option ℕ → Type 0
 IsKeyLine bytes None line = line ≡ None
-IsKeyLine bytes (Some key) line =
-    IfSome line (IsLineOf bytes key) × IfNone line ((max_looked < length bytes) ⊎ (SaysOf bytes key (Some true) → ⊥))
+IsKeyLine bytes (Some key) line = IsLineOfKey bytes key line
 
 -- the text has no table: the line is one of the text's
 pub record HasNoTable (bytes : List ℕ) (fault : ConfigFault) : Type 0 where

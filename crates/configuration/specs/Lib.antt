@@ -10,6 +10,7 @@ pub mod UserLists
 pub mod Files
 pub mod Flaws
 pub mod Reading
+pub mod Entries
 pub mod Lines
 pub mod FaultOf
 pub mod Example

@@ -1,8 +1,9 @@
 -- The line of a text on which the definition of a key begins.
-use Rattle.std.specs.Prelude.{◌≡◌, ◌==◌, ◌<◌, ◌+◌, ◌⊎◌, ℕ, Bool, true, false, ◌||◌, List, [], ◌∷◌, length, take, slice_index, Option, Some, None, if◌then◌else◌}
+use Rattle.std.specs.Prelude.{◌≡◌, ◌==◌, ◌+◌, ◌-◌, ◌||◌, ℕ, Bool, false, List, [], ◌∷◌, length, take, Option, option_map, if◌then◌else◌}
 use Rattle.toml.specs.Data.{Members, no_members, member}
+use Rattle.toml.specs.Parse.{skip_bom}
 use Rattle.configuration.specs.Files.{is_same}
-use Rattle.configuration.specs.Reading.{IsTextOf}
+use Rattle.configuration.specs.Entries.{Entry, AreEntries, first_top}
 
 -- a line is looked for in texts of so many bytes at most
 abbrev pub max_looked : ℕ
@@ -16,35 +17,23 @@ newlines (b ∷ bs) = if b == 10 then newlines bs + 1 else newlines bs
 abbrev pub line_behind : List ℕ → ℕ
 line_behind before = newlines before + 1
 
--- a line feed stands before this place
-abbrev pub IsBehindFeed : List ℕ → ℕ → Type 0
-IsBehindFeed text n = (i : ℕ) × (n ≡ i + 1) × (slice_index text i ≡ 10)
+-- the line on which an entry of the text begins
+abbrev pub line_at : List ℕ → List ℕ → ℕ
+line_at text from = line_behind (take (length text - length from) text)
 
--- a line ends here: behind a line feed, or at the end of the text
-abbrev pub IsLineEnd : List ℕ → ℕ → Type 0
-IsLineEnd text n = IsBehindFeed text n ⊎ (n ≡ length text)
-
--- no line ends between these places
-abbrev pub NoLineEnds : List ℕ → ℕ → ℕ → Type 0
-NoLineEnds text from to = (n : ℕ) → from < n → n < to → ¬ (IsLineEnd text n)
-
+-- whether a table has a key
 abbrev pub has_key : List ℕ → Members → Bool
 has_key key no_members = false
 has_key key (member other value rest) = is_same other key || has_key key rest
 
--- what a text says of a key: that it is there or not, or nothing, where the text has no table
-abbrev pub SaysOf : List ℕ → List ℕ → Option Bool → Type 0
-SaysOf text key None = (ms : Members) → ¬ (IsTextOf text ms)
-SaysOf text key (Some b) = (ms : Members) × IsTextOf text ms × (has_key key ms ≡ b)
+-- the line of the first entry of the key, where these are the text's entries, and none where none of them is
+abbrev pub line_among : List ℕ → List ℕ → List Entry → Option ℕ
+line_among text key entries = option_map (λ entry. line_at text entry.from) (first_top key entries)
 
--- the lines before this place have a table without the key, with those up to the end they have one with it, and with
--- fewer they have none
-pub record BeginsAt (text key : List ℕ) (at : ℕ) : Type 0 where
-  pub end : ℕ
-  pub before : SaysOf (take at text) key (Some false)
-  pub whole : SaysOf (take end text) key (Some true)
-  pub parts : (n : ℕ) → at < n → n < end → IsLineEnd text n → SaysOf (take n text) key None
+-- the same of whatever entries the text has
+abbrev pub IsTold : List ℕ → List ℕ → Option ℕ → Type 0
+IsTold text key line = (entries : List Entry) → AreEntries (skip_bom text) entries → line ≡ line_among text key entries
 
--- the definition of the key begins on this line
-abbrev pub IsLineOf : List ℕ → List ℕ → ℕ → Type 0
-IsLineOf text key line = (at : ℕ) × BeginsAt text key at × (line ≡ line_behind (take at text))
+-- the text has entries, and this is the line of the first of the key, or none where none of them is of the key
+abbrev pub IsLineOf : List ℕ → List ℕ → Option ℕ → Type 0
+IsLineOf text key line = (entries : List Entry) × AreEntries (skip_bom text) entries × (line ≡ line_among text key entries)

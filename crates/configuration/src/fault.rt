@@ -7,8 +7,8 @@ ghost use Rattle.toml.specs.Errors.{IsMemory, IsWithin};
 ghost use Rattle.configuration.specs.declared.config.Config.{Config};
 ghost use Rattle.configuration.specs.Flaws.{rule_of, flaw_in};
 ghost use Rattle.configuration.specs.Lines.{line_behind};
-ghost use Rattle.configuration.specs.Reading.{ReadsConfig, Refuses};
-ghost use Rattle.configuration.specs.FaultOf.{key_of_flaw, is_no_toml, IsKeyLine, IsFaultOf};
+ghost use Rattle.configuration.specs.Reading.{IsTextOf, ReadsConfig, Refuses};
+ghost use Rattle.configuration.specs.FaultOf.{key_of_flaw, is_no_toml, HasTable, IsKeyLine, IsFaultOf};
 
 use crate::flaw::Flaw;
 use crate::flaws::flaw_in;
@@ -47,6 +47,7 @@ fn key_of_flaw<'f>(flaw: &'f Flaw<'static>) -> Option<&'f [u8]>
 
 /// The line of a key, if there is one.
 fn key_line(alloc: Global, bytes: &[u8], key: Option<&[u8]>) -> Result<Option<usize>, AllocError>
+    requires { HasTable bytes.now }
     ensures { IfOk result (λ line. IsKeyLine bytes.now (option_copied key.entry) line) }
 {
     match key {
@@ -80,6 +81,7 @@ fn no_table(alloc: Global, bytes: &[u8], error: &Error) -> Result<ConfigFault, A
 
 /// What is wrong with a text of whose table this is the first flaw.
 fn at_line(alloc: Global, bytes: &[u8], flaw: Flaw<'static>) -> Result<ConfigFault, AllocError>
+    requires { HasTable bytes.now }
     ensures flaw { IfOk result (λ fault. fault.flaw ≡ flaw.entry) }
     ensures line { IfOk result (λ fault. IsKeyLine bytes.now (key_of_flaw fault.flaw) fault.line) }
 {
@@ -93,6 +95,7 @@ fn table_fault(
     bytes: &[u8],
     table: &Table,
 ) -> Result<Option<ConfigFault>, AllocError>
+    requires { IsTextOf bytes.now (table_view table.now) }
     ensures found { IfOk result (λ fault. option_map (λ f. f.flaw) fault ≡ flaw_in (table_view table.now)) }
     ensures line { IfOk result (λ fault. IfSome fault (λ f. IsKeyLine bytes.now (key_of_flaw f.flaw) f.line)) }
 {

@@ -4,6 +4,7 @@
 #![tactic(auto)]
 
 mod config;
+mod entries;
 mod error;
 mod example;
 mod fault;
@@ -19,6 +20,7 @@ mod numbers;
 mod ranges;
 mod read;
 mod rules;
+mod skip;
 mod status;
 mod tables;
 mod user_list;

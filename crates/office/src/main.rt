@@ -6,7 +6,6 @@ mod announcement;
 mod counts;
 mod disk;
 mod event_log;
-mod flow;
 mod limit;
 mod log_lines;
 mod log_writer;

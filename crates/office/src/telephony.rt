@@ -411,11 +411,15 @@ impl<R: Net + Files + Clock + Threads + Wait + Sync + Shared + Print + Eprint + 
         };
         let media = MediaLog::new(alloc, counts);
         let log = EventLog::new(alloc, config.log, media);
-        let silence = config
-            .silent_minutes
-            .map(|minutes| 60_000 * u64::from(minutes));
         let mut troubles = Troubles::new(
-            self.rt, alloc, config.log, silence, events, log, desk, users,
+            self.rt,
+            alloc,
+            config.log,
+            config.silent_minutes,
+            events,
+            log,
+            desk,
+            users,
         );
         let (tally, served) = serve_on(
             self.rt,

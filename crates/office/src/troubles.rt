@@ -20,8 +20,8 @@ pub(crate) struct Troubles<'a, R> {
     told: Option<Trouble>,
     /// The news that it handed in. Only clauses read it.
     handed: NewsLog,
-    /// A call whose media stand still for so many milliseconds is silent.
-    silence: Option<u64>,
+    /// A call whose media stand still for so many minutes is silent.
+    silent_minutes: Option<u32>,
     level: LogLevel,
     alloc: Global,
     lines: LogLines,
@@ -37,7 +37,7 @@ impl<'a, R: Files + AllocGlobal> Troubles<'a, R> {
         rt: &'a R,
         alloc: Global,
         level: LogLevel,
-        silence: Option<u64>,
+        silent_minutes: Option<u32>,
         lines: LogLines,
         log: EventLog,
         desk: Option<StatusDesk>,
@@ -47,7 +47,7 @@ impl<'a, R: Files + AllocGlobal> Troubles<'a, R> {
             rt,
             told: None,
             handed: NewsLog::new(alloc),
-            silence,
+            silent_minutes,
             level,
             alloc,
             lines,
@@ -94,8 +94,8 @@ impl<'a, R: Files + AllocGlobal> Troubles<'a, R> {
         ensures told { self.new.told ≡ self.old.told }
         ensures handed { self.new.handed ≡ self.old.handed }
     {
-        if let Some(limit) = self.silence
-            && let Some(number) = self.log.media.silent_call(now, limit)
+        if let Some(minutes) = self.silent_minutes
+            && let Some(number) = self.log.media.silent_call(now, minutes)
         {
             return Some(News::Silent(number));
         }

@@ -1,14 +1,15 @@
 -- How long an INVITE of the server's own that begins a dialog waits for its first response.
-use Rattle.std.specs.Prelude.{ℕ, ◌&&◌, Bool, not, codes, is_some, min, if◌then◌else◌}
+use Rattle.std.specs.Prelude.{ℕ, ◌&&◌, ◌==◌, Bool, not, codes, is_some, min, if◌then◌else◌}
 use Rattle.sip_message.specs.declared.message.Parts.{Parts}
 use Rattle.sip_message.specs.Words.{is_method, tag_value}
 use Rattle.transaction_machines.specs.declared.step.Start.{Start}
 use Rattle.transaction_machines.specs.declared.step.Starts.{Starts}
 use Rattle.transaction_machines.specs.declared.step.Starts.TheVariants.{NoTimer, One, Two}
 
--- outside a dialog To has no tag (RFC 3261 section 8.1.1.2)
+-- To has no tag outside a dialog (RFC 3261 section 8.1.1.2), nor inside one whose first 2xx had none. The server's
+-- numbers begin at 1, so that the first INVITE alone has this one (section 12.2.1.1).
 abbrev pub begins_dialog : Parts → Bool
-begins_dialog parts = is_method (codes "INVITE") parts && not (is_some (tag_value parts.to.params))
+begins_dialog parts = is_method (codes "INVITE") parts && not (is_some (tag_value parts.to.params)) && parts.cseq.number == 1
 
 -- after so many milliseconds at most
 abbrev pub sooner : ℕ → Start → Start

@@ -9,11 +9,11 @@ use crate::matches::has_to_tag;
 use sip_message::{Parts, is_method};
 use transaction_machines::{Start, Starts};
 
-// Whether it is an INVITE outside a dialog (RFC 3261 section 8.1.1.2).
+// Whether it is the INVITE that begins a dialog, by To and by its number (RFC 3261 section 8.1.1.2).
 fn begins_dialog(parts: &Parts) -> bool
     ensures { result ≡ begins_dialog parts.now }
 {
-    is_method(parts, b"INVITE") && !has_to_tag(parts)
+    is_method(parts, b"INVITE") && !has_to_tag(parts) && parts.cseq.number == 1
 }
 
 // The same timer, after so many milliseconds at most.

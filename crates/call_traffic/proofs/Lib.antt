@@ -1,0 +1,4 @@
+pub mod CallLaws
+pub mod Further
+pub mod PortLaws
+pub mod Standing

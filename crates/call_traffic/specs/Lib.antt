@@ -1,0 +1,10 @@
+pub mod Calls
+pub mod EndTraffic
+pub mod Facing
+pub mod Limits
+pub mod Looks
+pub mod RelayPorts
+pub mod Sources
+pub mod Stillness
+pub mod Totals
+pub mod Ways

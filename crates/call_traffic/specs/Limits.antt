@@ -1,0 +1,16 @@
+-- The limits of what is counted and told, in milliseconds but for the number of calls.
+use Rattle.std.specs.Prelude.{ℕ, ◌*◌}
+
+abbrev pub second : ℕ
+second = 1000
+
+abbrev pub minute : ℕ
+minute = 60 * second
+
+-- an end is silent from which no RTP came for so long
+abbrev pub silent_time : ℕ
+silent_time = 10 * second
+
+-- so many calls are remembered
+abbrev pub max_calls : ℕ
+max_calls = 256

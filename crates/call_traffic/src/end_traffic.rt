@@ -1,0 +1,180 @@
+//! What came from an end of a call.
+
+ghost use Rattle.std.specs.Prelude.{◌≡◌, ◌||◌, List, [], ◌∷◌, ◌++◌, filter, drop, All, OnOk, OnErr, IfSome, Some, None, is_some, length, option_map, slice_get, true};
+ghost use Rattle.call_traffic.specs.EndTraffic.{is_among, recent, total, total_with_rtcp, with_port, with_reading};
+ghost use Rattle.call_traffic.specs.Looks.{Look, after_look, MomentsRise};
+ghost use Rattle.call_traffic.specs.Stillness.{IsStillnessOf};
+ghost use Rattle.call_traffic.specs.Ways.{IsSilent, looks_since};
+
+use crate::recent::RecentCounts;
+use crate::relay_port::{RelayPort, rtcp_at, rtp_at};
+use crate::way::Way;
+use sip_uri::Addr;
+use status::Flow;
+use std::alloc::{AllocError, Global};
+
+/// What came from an end of a call, by the last reading of its ports' counts.
+#[derive(Drop)]
+pub struct EndTraffic {
+    /// The ports that face the end.
+    pub(crate) ports: Vec<RelayPort>,
+    /// How many RTP datagrams came at ports that the call has no more.
+    pub(crate) past: u64,
+    pub(crate) recent: RecentCounts,
+    pub(crate) way: Way,
+}
+
+fn is_among(ports: &[RelayPort], port: &RelayPort) -> bool
+    ensures { result ≡ is_among ports.now port.now }
+{
+    ports.iter().any(|other| other.number == port.number)
+}
+
+impl EndTraffic {
+    /// The end has no port. Takes no memory.
+    pub(crate) fn new(alloc: Global) -> EndTraffic
+        ensures ports { result.ports.items ≡ [] }
+        ensures total { total result ≡ 0 }
+        ensures source { result.way.source ≡ None }
+    {
+        EndTraffic {
+            ports: Vec::new(alloc),
+            past: 0,
+            recent: RecentCounts::new(),
+            way: Way::new(),
+        }
+    }
+
+    /// How many ports face the end. Takes no memory.
+    pub fn port_count(&self) -> usize
+        ensures { result ≡ length self.now.ports.items }
+    {
+        self.ports.len()
+    }
+
+    /// The even port at a place among those that face the end. Takes no memory.
+    pub fn port_at(&self, at: usize) -> Option<u16>
+        ensures { result ≡ option_map (λ port. port.number) (slice_get self.now.ports.items at) }
+    {
+        if at < self.ports.len() {
+            Some(self.ports[at].number)
+        } else {
+            None
+        }
+    }
+
+    /// A reading of the port at a place, if there is one: so many RTP datagrams had come there since the server's
+    /// start, and so many of RTCP above. Takes no memory.
+    pub fn read(&mut self, at: usize, rtp: u64, rtcp: u64)
+        ensures ports { self.new.ports.items ≡ with_reading at rtp rtcp self.old.ports.items }
+        ensures others { self.new ≡ record self.old { ports = self.new.ports } }
+    {
+        if at < self.ports.len() {
+            let RelayPort { number, before, .. } = self.ports[at];
+            self.ports[at] = RelayPort {
+                number,
+                before,
+                rtp,
+                rtcp,
+            };
+        }
+    }
+
+    /// How many RTP datagrams came since the call has ports. Takes no memory.
+    pub fn total(&self) -> u64
+        ensures { result ≡ total self.now }
+    {
+        self.past.wrapping_add(rtp_at(&self.ports))
+    }
+
+    /// The same, with all RTCP at the ports: another number says that more came.
+    pub(crate) fn total_with_rtcp(&self) -> u64
+        ensures { result ≡ total_with_rtcp self.now }
+    {
+        self.total().wrapping_add(rtcp_at(&self.ports))
+    }
+
+    /// A second has gone by.
+    pub(crate) fn look(&mut self)
+        ensures counts { self.new.recent.counts ≡ drop 1 self.old.recent.counts ++ total self.old ∷ [] }
+        ensures others { self.new ≡ record self.old { recent = self.new.recent } }
+    {
+        let total = self.total();
+        self.recent.look(total);
+    }
+
+    /// How many RTP datagrams came since the call has ports, and in the last ten seconds. Takes no memory.
+    pub(crate) fn count(&self) -> Flow
+        ensures total { result.total ≡ total self.now }
+        ensures recent { result.recent ≡ recent self.now }
+    {
+        let total = self.total();
+        Flow {
+            recent: total.wrapping_sub(self.recent.earliest()),
+            total,
+        }
+    }
+
+    /// Leaves each port that is none of these. What came there stays in the total.
+    fn leave_others(&mut self, ports: &[RelayPort])
+        ensures ports { self.new.ports.items ≡ filter (is_among ports.now) self.old.ports.items }
+        ensures total { total self.new ≡ total self.old }
+        ensures recent { self.new.recent ≡ self.old.recent }
+        ensures way { self.new.way ≡ self.old.way }
+    {
+        let total = self.total();
+        self.ports.retain(|port| is_among(ports, port));
+        self.past = total.wrapping_sub(rtp_at(&self.ports));
+    }
+
+    /// A port that faces the end from now on, if it did not before. What had come there by this reading doesn't count.
+    fn add_port(&mut self, port: &RelayPort) -> Result<(), AllocError>
+        ensures ok { OnOk result (self.new.ports.items ≡ with_port self.old.ports.items port.now) }
+        ensures err { OnErr result (self.new.ports.items ≡ self.old.ports.items) }
+        ensures total { total self.new ≡ total self.old }
+        ensures recent { self.new.recent ≡ self.old.recent }
+        ensures way { self.new.way ≡ self.old.way }
+    {
+        if is_among(&self.ports, port) {
+            return Ok(());
+        }
+        self.ports.push(RelayPort {
+            before: port.rtp,
+            ..*port
+        })?;
+        Ok(())
+    }
+
+    /// These ports face the end from now on, and no others: what came before doesn't count. An error leaves some of
+    /// them out. The total stays, too, whatever it is.
+    pub(crate) fn take_ports(&mut self, ports: &[RelayPort]) -> Result<(), AllocError>
+        ensures faces { OnOk result (All (λ p. is_among self.new.ports.items p ≡ true) ports.now) }
+        ensures only { All (λ p. is_among ports.now p ≡ true) self.new.ports.items }
+        ensures total { total self.new ≡ total self.old }
+        ensures recent { self.new.recent ≡ self.old.recent }
+        ensures way { self.new.way ≡ self.old.way }
+    {
+        self.leave_others(ports);
+        for port in ports {
+            self.add_port(port)?;
+        }
+        Ok(())
+    }
+
+    /// A second has gone by: where RTP should come from, if the end is silent and that was not told.
+    pub(crate) fn silent_source(&mut self, now: u64) -> Option<Addr>
+        ensures looks { (looks : List Look) → IsStillnessOf looks self.old.way.stillness →
+            IsStillnessOf (looks_since self.old.way.source looks now (total self.old)) self.new.way.stillness }
+        ensures silent { (looks : List Look) → IsStillnessOf looks self.old.way.stillness →
+            IfSome result (λ source. IsSilent self.old.way (after_look looks now (total self.old)) now source) }
+        ensures each { (looks : List Look) (source : Addr) → IsStillnessOf looks self.old.way.stillness →
+            MomentsRise (after_look looks now (total self.old)) →
+            IsSilent self.old.way (after_look looks now (total self.old)) now source → result ≡ Some source }
+        ensures source { self.new.way.source ≡ self.old.way.source }
+        ensures once { self.new.way.is_told ≡ self.old.way.is_told || is_some result }
+        ensures others { self.new ≡ record self.old { way = self.new.way } }
+    {
+        let total = self.total();
+        self.way.look(now, total)
+    }
+}
