@@ -1,7 +1,7 @@
-"""Threads and memory that the system refuses to the server."""
+"""Threads, memory and file descriptors that the system refuses to the server."""
 import os
 
-from scenarios.office import SECONDS, answered_call, end, speak, started
+from scenarios.office import PAIRS, SECONDS, answered_call, end, speak, started
 from scenarios.pace import slowed
 from telephones.blocking import expect
 
@@ -10,6 +10,10 @@ from telephones.blocking import expect
 NO_MEMORY, NOT_LOADED = 6, (1, 127, -9, -11)
 PROCESSES = [f"--nproc={most}" for most in (1, 2, 3, 4)]
 MEMORY = [f"--as={most << 20}" for most in (6, 8, 12, 16, 24, 32, 48)]
+# The exit status where no telephones can be served. Two workers need these descriptors: two sockets for each pair, one
+# for SIP, one with which each worker, the signalling and the log wait, the three standard streams, and one to spare.
+NO_SOCKET, WORKERS = 5, 2
+NEEDED = 2 * PAIRS + 1 + WORKERS + 2 + 3 + 1
 
 
 def serve_within(program, limit):
@@ -25,3 +29,17 @@ def serve_within(program, limit):
         status = office.process.wait(slowed(SECONDS))
         # (below some limit the system doesn't even load the program)
         expect(status == NO_MEMORY or (status in NOT_LOADED and "--as" in limit), f"status {status}")
+
+
+def serve_with_descriptors(program, most):
+    """Where the process may have too few descriptors, the program says how many it needs; else it carries a call."""
+    with started(program, workers=WORKERS, limits=["prlimit", f"--nofile={most}"]) as office:
+        if most < NEEDED:
+            status = office.process.wait(slowed(SECONDS))
+            told = ["office: socket", f"fd limit {most}, {NEEDED} are needed"]
+            expect((status, office.lines()) == (NO_SOCKET, told), f"status {status}, {office.lines()}")
+            return
+        expect(office.listens(), "it doesn't listen")
+        call = answered_call(*office.telephones())
+        speak(call)
+        end(call)

@@ -25,16 +25,3 @@ pub(crate) fn counts_line(alloc: Global, tally: Tally) -> Result<String, AllocEr
     line.push_str(&last)?;
     Ok(line)
 }
-
-/// Whether both tell the same.
-pub(crate) fn are_same(tally: Tally, other: Tally) -> bool {
-    tally.done == other.done
-        && tally.unread == other.unread
-        && tally.stray == other.stray
-        && tally.ack == other.ack
-        && tally.no_branch == other.no_branch
-        && tally.clock == other.clock
-        && tally.spent == other.spent
-        && tally.shed == other.shed
-        && tally.idle == other.idle
-}

@@ -1,50 +1,25 @@
 //! What events were about, as lines of the log.
 
-use crate::counts::{are_same, counts_line};
-use crate::limit::Limit;
+use crate::counts::counts_line;
 use crate::media_log::MediaLog;
 use agent::{Agent, Tally};
 use call_core::NoteOfCall;
 use configuration::LogLevel;
+use log_rules::{CountSchedule, NoteLimit, is_of_strangers, logs_calls, logs_note, logs_trouble};
 use plans::Note;
 use server::{Ledger, MediaCounts, put_count, put_note};
 use sip_uri::Addr;
 use std::alloc::{AllocError, Global};
 
-/// The counts go out so often, in milliseconds, where they changed.
-const BETWEEN_COUNTS: u64 = 600_000;
-
-/// Who is told of events, and how much.
+/// Which events are logged, and how.
 #[derive(Drop)]
 pub(crate) struct EventLog {
     alloc: Global,
     level: LogLevel,
     ledger: Ledger,
     pub(crate) media: MediaLog,
-    limit: Limit,
-    /// The counts that went out last, and when the next may.
-    counted: Tally,
-    next_counts: u64,
-}
-
-/// Whether a level tells of this.
-fn tells(level: LogLevel, note: Note) -> bool {
-    match (level, note) {
-        (LogLevel::Nothing, _) | (_, Note::Quiet) => false,
-        (LogLevel::All, _) | (LogLevel::Trouble | LogLevel::Calls, Note::Shed) => true,
-        (LogLevel::Calls, Note::Dropped(_)) | (LogLevel::Trouble, _) => false,
-        (LogLevel::Calls, Note::Call(_) | Note::Registered | Note::Refused(_)) => true,
-    }
-}
-
-/// Whether a level tells of calls, and of users.
-pub(crate) fn tells_of_calls(level: LogLevel) -> bool {
-    matches!(level, LogLevel::Calls | LogLevel::All)
-}
-
-/// Whether anyone can cause as many of these as he likes.
-fn is_of_strangers(note: Note) -> bool {
-    matches!(note, Note::Refused(_) | Note::Dropped(_) | Note::Shed)
+    limit: NoteLimit,
+    counts: CountSchedule,
 }
 
 impl EventLog {
@@ -54,29 +29,27 @@ impl EventLog {
             level,
             ledger: Ledger::new(alloc),
             media,
-            limit: Limit::new(),
-            counted: Tally::none_counted(),
-            next_counts: BETWEEN_COUNTS,
+            limit: NoteLimit::new(),
+            counts: CountSchedule::new(),
         }
     }
 
     /// The counts, where it is time for them and they changed.
     fn put_counts(&mut self, out: &mut Vec<u8>, tally: Tally, now: u64) -> Result<(), AllocError> {
-        if now < self.next_counts || are_same(tally, self.counted) {
+        if !self.counts.is_due(tally, now) {
             return Ok(());
         }
         let line = counts_line(self.alloc, tally)?;
         out.extend_from_slice(line.as_bytes())?;
-        self.next_counts = now.saturating_add(BETWEEN_COUNTS);
-        self.counted = tally;
+        self.counts.note(tally, now);
         Ok(())
     }
 
-    /// A line of how many were not told, if any were.
-    fn put_untold(&mut self, out: &mut Vec<u8>, now: u64) -> Result<(), AllocError> {
-        match self.limit.take_untold(now) {
+    /// A line of how many events were left out, if any were.
+    fn put_left_out(&mut self, out: &mut Vec<u8>, now: u64) -> Result<(), AllocError> {
+        match self.limit.take_left_out(now) {
             0 => Ok(()),
-            untold => put_count(out, b"lines-left-out", untold),
+            left_out => put_count(out, b"lines-left-out", left_out),
         }
     }
 
@@ -86,7 +59,7 @@ impl EventLog {
         self.media.end(note)
     }
 
-    /// Writes the lines that are due behind what is there, at this moment, in milliseconds.
+    /// Writes the lines that are due at this moment, in milliseconds, after what is there.
     pub(crate) fn put_due(
         &mut self,
         out: &mut Vec<u8>,
@@ -94,19 +67,18 @@ impl EventLog {
         now: u64,
     ) -> Result<(), AllocError> {
         let looked = self.media.look(now);
-        if matches!(self.level, LogLevel::Nothing) {
+        if !logs_trouble(self.level) {
             return Ok(());
         }
-        self.put_untold(out, now)?;
+        self.put_left_out(out, now)?;
         self.put_counts(out, agent.tally(), now)?;
-        if looked && tells_of_calls(self.level) {
+        if looked && logs_calls(self.level) {
             self.media.put_silent_ways(out, &self.ledger, now)?;
         }
         Ok(())
     }
 
-    /// The same, and behind them the line of an event that the agent took then, which came from there, where it was a
-    /// datagram.
+    /// The same, and after them the line of an event that the agent took then; a datagram came from `source`.
     pub(crate) fn put_lines(
         &mut self,
         out: &mut Vec<u8>,
@@ -120,7 +92,7 @@ impl EventLog {
             Note::Call(note) => self.follow(agent, note, now),
             _ => None,
         };
-        if !tells(self.level, note) || is_of_strangers(note) && !self.limit.admits(now) {
+        if !logs_note(self.level, note) || is_of_strangers(note) && !self.limit.admits(now) {
             return Ok(());
         }
         put_note(out, self.alloc, &mut self.ledger, agent, source, media)

@@ -6,7 +6,6 @@ mod announcement;
 mod counts;
 mod disk;
 mod event_log;
-mod limit;
 mod log_lines;
 mod log_writer;
 mod media_log;
@@ -19,7 +18,6 @@ mod status_desk;
 mod telephony;
 mod troubles;
 mod user_desk;
-mod user_file;
 mod watch;
 mod wire;
 

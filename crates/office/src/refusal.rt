@@ -70,7 +70,7 @@ pub(crate) fn lacks_descriptors<R: Files + AllocGlobal>(
 ) -> Option<Refusal> {
     let limit = descriptor_limit(rt)?;
     let needed = descriptors_needed(config);
-    if limit.saturating_add(1) < needed {
+    if limit < needed {
         Some(Refusal::Descriptors { limit, needed })
     } else {
         None

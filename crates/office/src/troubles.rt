@@ -2,13 +2,14 @@
 
 ghost use Rattle.std.specs.Prelude.{◌≡◌};
 
-use crate::event_log::{EventLog, tells_of_calls};
+use crate::event_log::EventLog;
 use crate::log_lines::LogLines;
 use crate::status_desk::StatusDesk;
 use crate::user_desk::UserDesk;
 use agent::Agent;
 use configuration::LogLevel;
 use live::{News, NewsLog, Operator, Trouble};
+use log_rules::{logs_calls, logs_trouble};
 use sip_uri::Addr;
 use std::alloc::Global;
 use std::fs::Files;
@@ -61,7 +62,7 @@ impl<'a, R: Files + AllocGlobal> Troubles<'a, R> {
         ensures told { self.new.told ≡ self.old.told }
         ensures handed { self.new.handed ≡ self.old.handed }
     {
-        if !matches!(self.level, LogLevel::Nothing) {
+        if logs_trouble(self.level) {
             self.hand_over(line);
         }
     }
@@ -110,7 +111,7 @@ impl<'a, R: Files + AllocGlobal> Troubles<'a, R> {
     {
         if let Some(users) = &mut self.users
             && let Some(line) = users.settle()
-            && tells_of_calls(self.level)
+            && logs_calls(self.level)
         {
             self.hand_over(line.as_bytes());
         }

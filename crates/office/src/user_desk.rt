@@ -1,32 +1,33 @@
-//! The users of the configuration's file, on their way to the agent.
+//! The users of the configuration's file, on their way to the agent, and what is logged of them.
 
-use crate::user_file::{FileReport, UserFile, kept_users};
+use config_watch::{FileWatch, Look};
+use server::Fault;
 use std::alloc::{AllocError, Global};
+use std::fs;
 use std::fs::Files;
 use text::{Text, Texts};
+use user_file::{FileReport, UserFile, WaitingUsers};
 
 /// Between two looks at the file, in milliseconds.
 const BETWEEN_LOOKS: u64 = 2_000;
-
-/// Users that were lost for want of memory are handed in again behind so many milliseconds.
-const BETWEEN_TRIES: u64 = 1_000;
 
 /// What the signalling has of the file.
 #[derive(Drop)]
 pub(crate) struct UserDesk {
     alloc: Global,
+    watch: FileWatch,
     file: UserFile,
     /// When it is looked at next, in milliseconds.
     next_look: u64,
-    /// The users that the agent shall have, where it has others; and how many came and went by that.
-    wanted: Option<Vec<Text<'static>>>,
-    added: u64,
-    removed: u64,
-    /// Whether they were handed in for this round, and when they may be again, in milliseconds.
-    are_handed: bool,
-    next_try: u64,
-    /// Whether the file was refused last.
-    is_refused: bool,
+    waiting: WaitingUsers,
+}
+
+/// The line that says why the file is refused, in the words of a start.
+fn refused_line(alloc: Global, fault: &Fault) -> Result<String, AllocError> {
+    match fault.reason() {
+        Some(reason) => format!(in alloc; "office: trouble: config: {reason}\n"),
+        None => format!(in alloc; "office: trouble: config\n"),
+    }
 }
 
 impl UserDesk {
@@ -38,90 +39,98 @@ impl UserDesk {
     ) -> Result<UserDesk, AllocError> {
         Ok(UserDesk {
             alloc,
-            file: UserFile::new(alloc, path, kept_users(alloc, users)?),
+            watch: FileWatch::new(path),
+            file: UserFile::new(alloc, users)?,
             next_look: 0,
-            wanted: None,
-            added: 0,
-            removed: 0,
-            are_handed: false,
-            next_try: 0,
-            is_refused: false,
+            waiting: WaitingUsers::new(alloc),
         })
     }
 
-    /// The line that tells that the file is right again, where it was refused.
-    fn end_trouble(&mut self) -> Option<String> {
-        if !self.is_refused {
+    /// The line that says that the file is right again, where it was refused.
+    fn end_trouble(&self, was_refused: bool) -> Option<String> {
+        if !was_refused {
             return None;
         }
-        self.is_refused = false;
         format!(in self.alloc; "office: trouble is over: config\n").ok()
     }
 
-    /// The agent shall have these users.
-    fn want(&mut self, users: Vec<Text<'static>>, added: u64, removed: u64) {
-        self.wanted = Some(users);
-        self.added = self.added.saturating_add(added);
-        self.removed = self.removed.saturating_add(removed);
-        self.next_try = 0;
-    }
-
-    /// Takes a report of the file, and gives the line that is to be told of it.
-    fn take(&mut self, report: FileReport) -> Option<String> {
+    /// Takes a report of the file, and gives the line that is to be logged of it.
+    fn take(
+        &mut self,
+        report: FileReport,
+        was_refused: bool,
+    ) -> Result<Option<String>, AllocError> {
         match report {
             FileReport::Users {
                 users,
                 added,
                 removed,
             } => {
-                self.want(users, added, removed);
-                self.end_trouble()
+                self.waiting.want(users, added, removed);
+                Ok(self.end_trouble(was_refused))
             }
-            FileReport::Right => self.end_trouble(),
-            FileReport::Refused(line) => {
-                self.is_refused = true;
-                Some(line)
+            FileReport::RightAgain => Ok(self.end_trouble(was_refused)),
+            FileReport::Refused(fault) => {
+                Ok(Some(refused_line(self.alloc, &Fault::Config(fault))?))
             }
         }
     }
 
-    /// Looks at the file, where it is time, and gives the line that is to be told of it.
+    /// What is to be reported of what the file says now.
+    fn read<R: Files + AllocGlobal>(&mut self, rt: &R) -> Result<Option<FileReport>, AllocError> {
+        match fs::read(rt, self.watch.path()) {
+            Ok(bytes) => self.file.read(&bytes),
+            Err(_) => Ok(Some(self.file.miss())),
+        }
+    }
+
+    /// The line that is to be logged of the file, where it is another than at the last look.
+    fn look_at_file<R: Files + AllocGlobal>(
+        &mut self,
+        rt: &R,
+    ) -> Result<Option<String>, AllocError> {
+        let was_refused = self.file.is_refused();
+        let report = match self.watch.look(rt) {
+            Look::Same => None,
+            Look::Changed => self.read(rt)?,
+            Look::Gone => Some(self.file.miss()),
+        };
+        match report {
+            Some(report) => self.take(report, was_refused),
+            None => Ok(None),
+        }
+    }
+
+    /// Looks at the file, where it is time, and gives the line that is to be logged of it. If memory is refused, the
+    /// next look does so.
     pub(crate) fn look<R: Files + AllocGlobal>(&mut self, rt: &R, now: u64) -> Option<String> {
         if now < self.next_look {
             return None;
         }
         self.next_look = now.saturating_add(BETWEEN_LOOKS);
-        let report = self.file.look(rt)?;
-        self.take(report)
+        match self.look_at_file(rt) {
+            Ok(line) => line,
+            Err(_) => {
+                self.watch.forget();
+                None
+            }
+        }
     }
 
     /// The users to be handed in at this moment, in milliseconds, if there are any.
     pub(crate) fn hand_in(&mut self, now: u64) -> Option<Texts<'static>> {
-        let wanted = self.wanted.as_ref()?;
-        if now < self.next_try {
-            return None;
-        }
-        self.next_try = now.saturating_add(BETWEEN_TRIES);
-        let users = kept_users(self.alloc, wanted).ok()?;
-        self.are_handed = true;
-        Some(Texts::from_vec(users))
+        self.waiting.hand_in(now).ok()?
     }
 
     /// A round is over whose event was lost, or which had none: users that were handed in for it are handed in again.
     pub(crate) fn lose(&mut self) {
-        self.are_handed = false;
+        self.waiting.lose();
     }
 
     /// The agent took the event of a round: the line that tells of the users that were handed in for it, if any were.
     pub(crate) fn settle(&mut self) -> Option<String> {
-        if !self.are_handed {
-            return None;
-        }
-        self.are_handed = false;
-        let users = self.wanted.take()?;
-        let (added, removed, count) = (self.added, self.removed, users.len());
-        self.added = 0;
-        self.removed = 0;
+        let change = self.waiting.settle()?;
+        let (added, removed, count) = (change.added, change.removed, change.count);
         format!(in self.alloc; "users-changed added={added} removed={removed} count={count}\n").ok()
     }
 }

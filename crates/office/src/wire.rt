@@ -5,6 +5,7 @@ ghost use Rattle.std.specs.Prelude.{◌≡◌};
 use crate::log_lines::LogLines;
 use configuration::LogLevel;
 use live::{NumberLog, Wire, WireFault};
+use log_rules::logs_trouble;
 use sip_uri::Addr;
 use sockets::{Refusal, Refusals, SipSocket};
 use std::alloc::{AllocError, Global};
@@ -64,7 +65,7 @@ impl SipWire {
         ensures waited { self.new.waited.entries ≡ self.old.waited.entries }
     {
         if let Ok(line) = line
-            && !matches!(self.level, LogLevel::Nothing)
+            && logs_trouble(self.level)
         {
             self.lines.put(line.as_bytes());
         }
