@@ -38,7 +38,7 @@ use Rattle.call_steps.specs.Messages.{messages, with_made}
 use Rattle.call_steps.specs.Scenes.{first_scene, fork_scene, fresh, passed_id, scene, tag_with}
 use Rattle.call_steps.specs.Values.{AskerValue, ComingValue, without_offer}
 
--- ---- a call that stands
+-- ---- a live call
 
 -- the messages of what it does
 abbrev pub messages_of : transactions.Contents → Occasion → ComingValue → StandingCall → Step → StepMessages
@@ -220,7 +220,7 @@ leg_at (Some target) (Some leg) = Some (record { end = leg.end; dialog = to_targ
 unfoldable pub refreshes : List StandingCall → ℕ → End → Request → Option LegDialog
 refreshes calls place end request = leg_at (reached_at (contacts_of request.headers)) (counts calls place end request.parts.cseq.number)
 
--- ---- what an offer inside a call comes to
+-- ---- what an offer inside a call results in
 
 unfoldable pub offers_row : Standing → transactions.Contents → Occasion → ℕ → Input → End → Request → ℕ → Addr → Effect
 offers_row calls table o place input end request id source =
