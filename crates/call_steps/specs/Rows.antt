@@ -179,7 +179,7 @@ unfoldable pub late_row : Standing → Occasion → Parts → Response → Effec
 late_row calls o asked response = late_by calls o asked response (reached_at (contacts_of response.headers))
 
 -- ---- the dialog of a 2xx that a call takes, to a request with these parts: that which it makes (section 12.1.2), or
--- the one that stands, whose other side is reached where the 2xx says (section 12.2.1.2)
+-- the existing one, whose other side is reached where the 2xx says (section 12.2.1.2)
 
 abbrev pub dialog_after : Parts → Response → Uri → Option Dialog → Dialog
 dialog_after asked response target None = callers_dialog asked response target
