@@ -161,7 +161,7 @@ fn merges_any(entries: &[Entry], slots: &[Slot], parts: &Parts) -> bool
         .any(|entry| is_merged(slots, entry.number, parts))
 }
 
-/// Whether a server transaction has the request of another way.
+/// Whether a server transaction has the request from another path.
 pub(crate) fn any_merged(places: &Places, parts: &Parts) -> bool
     ensures { result ≡ list_any (is_merged parts.now) places.now.slots }
 {
