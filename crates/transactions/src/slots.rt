@@ -74,7 +74,7 @@ fn first_answered(entries: &[Entry], slots: &[Slot], parts: &Parts) -> Option<us
         .map(|entry| entry.number)
 }
 
-/// The client transaction whose request a response is one to.
+/// The client transaction whose request a response answers.
 pub(crate) fn client_place(places: &Places, parts: &Parts) -> Option<usize>
     ensures { result ≡ position (is_answered parts.now) places.now.slots }
 {
