@@ -1,4 +1,4 @@
--- What is put behind a trace are entries of datagrams that came from addresses.
+-- What is put after a trace are entries of datagrams that came from addresses.
 use Rattle.std.proofs.Common.{◌≡◌, ◌∙◌, List, [], ◌∷◌, ◌++◌, ap, sym, subst, append_assoc}
 use Rattle.std.specs.List.{All}
 use Rattle.std.proofs.lemmas.List.{append-nil, append_cancel_left}

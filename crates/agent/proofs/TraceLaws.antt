@@ -17,7 +17,7 @@ pub events_more : (xs ys : List Entry) → events_of (xs ++ ys) ≡ events_of xs
 events_more [] ys = refl
 events_more (x ∷ xs) ys = ap (λ (es : List Event). x.event ∷ es) (events_more xs ys)
 
--- one run behind another
+-- one run after another
 pub ran_more : (s s1 s2 : Contents) (t t1 t2 : List Entry) (es fs : List Event) → Ran s t es s1 t1 → Ran s1 t1 fs s2 t2 → Ran s t (es ++ fs) s2 t2
 ran_more s s1 s2 t t1 t2 es fs h k = record {
   more = h.more ++ k.more;
@@ -39,7 +39,7 @@ ran_one s s1 t t1 e x event is agent trace = record { more = x ∷ []; told = ap
 pub ran_same : (s s1 s2 : Contents) (t t1 t2 : List Entry) (es : List Event) → s2 ≡ s1 → t2 ≡ t1 → Ran s t es s1 t1 → Ran s t es s2 t2
 ran_same s s1 s2 t t1 t2 es s_is t_is h = record { more = h.more; told = h.told; grown = t_is ∙ h.grown; entries = h.entries; agent = s_is ∙ h.agent }
 
--- the trace could take no more
+-- the trace could take nothing further
 pub stopped : {T E : Type 0} (r : Result T E) (s s1 : Contents) (t t1 : List Entry) (i : ℕ) (es : List Event) → Ran s t (take i es) s1 t1 → OnErr r (RanFirst s t es s1 t1)
 stopped (Ok x) s s1 t t1 i es h = tt
 stopped (Err e) s s1 t t1 i es h = (take i es, drop i es, sym (take-append-drop i es), h)

@@ -1,4 +1,4 @@
-//! The ACKs of 2xx that go again.
+//! The ACKs of 2xx that are sent again.
 
 ghost use Rattle.std.specs.Prelude.{◌≡◌, ◌<◌, ◌≤◌, ◌-◌, vec_len};
 ghost use Rattle.std.specs.Vec.{vec_capacity};
@@ -6,7 +6,7 @@ ghost use Rattle.plans.specs.Effect.{acks_after, without_ack};
 
 use plans::{AckChange, KeptAck};
 
-/// Takes the ACK away that is kept for this transaction. Takes no memory.
+/// Removes the ACK that is kept for this transaction. Takes no memory.
 fn without_ack(acks: &mut Vec<KeptAck>, id: usize)
     ensures acks { acks.new.items ≡ without_ack id acks.old.items }
     ensures room { vec_capacity acks.old - vec_len acks.old ≤ vec_capacity acks.new - vec_len acks.new }

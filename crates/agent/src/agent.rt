@@ -33,13 +33,13 @@ use std::marker::Model;
 use text::Text;
 use transactions::Table;
 
-/// The server as one value: a step takes an event, and gives what is sent.
+/// The server as one value: a step takes an event, and returns what is sent.
 pub struct Agent {
     pub(crate) alloc: Global,
     pub(crate) registrar: Registrar,
     pub(crate) table: Table,
     pub(crate) calls: Calls,
-    /// The ACKs of 2xx that go again.
+    /// The ACKs of 2xx that are sent again.
     pub(crate) acks: Vec<KeptAck>,
     /// What the last event changed in the relay table.
     pub(crate) changes: Vec<Change>,
@@ -47,9 +47,9 @@ pub struct Agent {
     pub(crate) server: Addr,
     /// The server's address and relay ports.
     pub(crate) range: OwnRange,
-    /// The seconds that a binding has to last at least.
+    /// The least number of seconds that a binding has to last.
     pub(crate) least: u32,
-    /// The milliseconds that a call may stand from its first answer on, where that is limited.
+    /// The milliseconds that a call may last from its first answer on, where that is limited.
     pub(crate) lifetime: Option<u64>,
     /// The greatest moment so far, in milliseconds.
     pub(crate) moment: u64,
@@ -100,16 +100,16 @@ impl Model for Agent {
 }
 
 impl Agent {
-    /// How many events were answered how. Takes no memory.
+    /// The number of events by answer. Takes no memory.
     pub fn tally(&self) -> Tally
         ensures { result ≡ self.now.tally }
     {
         self.tally
     }
 
-    /// The calls that stand, in the order in which they began. Where the agent stands after a trace, those that were
-    /// answered, and that no end has left, are exactly the live ones of the trace, each once; of a call with a leg that
-    /// has ended, both have, or it is listed as one that an end has left. Takes no memory.
+    /// The current calls, in the order in which they began. Where the agent comes after a trace, those that were
+    /// answered, and that no end has left, are exactly the live ones of the trace, each once; where a leg of a call
+    /// has ended, both have, or the call is listed as one that an end has left. Takes no memory.
     pub fn calls(&self) -> &[StandingCall]
         ensures calls { result.now ≡ self.now.calls.calls }
         ensures live { (t : List Datagram) (k : ℕ) → AgentStands self.now t k → ListsLive result.now t }
@@ -118,8 +118,8 @@ impl Agent {
         self.calls.as_slice()
     }
 
-    /// The relay table. Where the agent stands after a trace, it has the rows of the live calls and no other, and
-    /// joined by it their legs mean what RFC 3264 gives offer and answer passed directly. Takes no memory.
+    /// The relay table. Where the agent comes after a trace, it has the rows of the live calls and no other, and
+    /// joined by it their legs mean what RFC 3264 gives an offer and an answer passed directly. Takes no memory.
     pub fn relay(&self) -> &RelayTable
         ensures rows { result.now ≡ self.now.calls.pool.rows }
         ensures live { (t : List Datagram) (k : ℕ) → AgentStands self.now t k → RelaysLive self.now.range.ip result.now t }
@@ -128,15 +128,15 @@ impl Agent {
         self.calls.pool().table()
     }
 
-    /// The changes that the last event made in the relay table, by rising port; an event that was lost is none. Takes
-    /// no memory.
+    /// The changes that the last event made in the relay table, by rising port; an event that was lost doesn't count.
+    /// Takes no memory.
     pub fn changes(&self) -> &[Change]
         ensures { result.now ≡ self.now.changes }
     {
         &self.changes
     }
 
-    /// What the last event was about; an event that was lost is none. Takes no memory.
+    /// What the last event was about; an event that was lost doesn't count. Takes no memory.
     pub fn note(&self) -> Note
         ensures { result ≡ self.now.note }
     {
@@ -172,9 +172,9 @@ impl Agent {
         &self.registrar
     }
 
-    /// The number of the call that holds the pair of this port, used or reserved. Where the agent stands after a trace,
-    /// that call stands, and is the live one that names the pair; and while no offer is open in it, in the trace, its
-    /// session has the pair. Takes no memory.
+    /// The number of the call that holds the pair of this port, used or reserved. Where the agent comes after a
+    /// trace, that call exists, and is the live one that names the pair; and while no offer is open in it, in the
+    /// trace, its session has the pair. Takes no memory.
     pub fn holder(&self, port: u16) -> Option<u64>
         ensures holder { result ≡ holder_at self.now.calls.pool.holdings port }
         ensures live { (t : List Datagram) (k : ℕ) → AgentStands self.now t k → HoldsFor self.now.calls.calls t port result }
@@ -190,7 +190,7 @@ impl Agent {
         earlier(self.table.next(), self.calls.next_due())
     }
 
-    /// What a plan looks at, lent.
+    /// What a plan reads, borrowed.
     fn office(&self) -> Office<'_>
         ensures { result ≡ office self.now }
     {
@@ -207,10 +207,10 @@ impl Agent {
         }
     }
 
-    /// Takes an event: what it answers, sends and changes is its row. Where memory is refused, the agent and the list
-    /// are as before, and the event counts as not come. An event that is only counted takes no memory. An agent that
-    /// stands after a trace stands after it with what the event took and sent, so that the media promise goes on to
-    /// hold.
+    /// Takes an event: what it returns, sends and changes is its row. Where memory is refused, the agent and the list
+    /// are as before, and the event counts as if it had not come. An event that is only counted takes no memory. An
+    /// agent that comes after a trace comes after it with what the event took and sent, so that the media promise
+    /// still holds.
     pub fn step(&mut self, event: &Event, sent: &mut Vec<Sent>) -> Result<Taken, AllocError>
         ensures answer { IfOk result (λ taken. taken ≡ (row self.old event.entry.now).plan.taken) }
         ensures sends { OnOk result (sent.new.items ≡ sent.old.items ++ (row self.old event.entry.now).plan.sends) }

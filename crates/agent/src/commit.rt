@@ -17,7 +17,7 @@ use std::alloc::AllocError;
 use text::Text;
 use transactions::{Change, Table};
 
-/// Puts these behind what stands in the list; where nothing stands there, they are the list.
+/// Puts these after what is in the list; where the list is empty, they are the list.
 fn put_behind(sent: &mut Vec<Sent>, mut sends: Vec<Sent>) -> Result<(), AllocError>
     ensures ok { OnOk result (sent.new.items ≡ sent.old.items ++ sends.items) }
     ensures err { OnErr result (sent.new.items ≡ sent.old.items) }
@@ -29,8 +29,8 @@ fn put_behind(sent: &mut Vec<Sent>, mut sends: Vec<Sent>) -> Result<(), AllocErr
     sent.append(&mut sends)
 }
 
-/// What is sent goes behind what stands in the list, and the changes of the transactions are entered. Where memory is
-/// refused, neither.
+/// What is sent goes after what is in the list, and the changes of the transactions are entered. Where memory is
+/// refused, neither happens.
 pub(crate) fn commit(
     table: &mut Table,
     sent: &mut Vec<Sent>,
@@ -53,7 +53,7 @@ pub(crate) fn commit(
     Ok(())
 }
 
-/// Makes the change of the registrar, if there is one, and gives the user whose bindings it sets. Takes no memory.
+/// Makes the change of the registrar, if there is one, and returns the user whose bindings it sets. Takes no memory.
 pub(crate) fn enter(
     registrar: &mut Registrar,
     registration: Option<RegistrarChange>,
@@ -67,7 +67,7 @@ pub(crate) fn enter(
     }
 }
 
-/// The timer that fired is set no more. Takes no memory.
+/// The timer that fired is no longer set. Takes no memory.
 pub(crate) fn stop(calls: &mut Calls, fired: Option<CallTimerId>)
     ensures standing { standing calls.new ≡ fired_off fired (standing calls.old) }
     ensures pool { calls.new.pool ≡ calls.old.pool }
@@ -79,7 +79,7 @@ pub(crate) fn stop(calls: &mut Calls, fired: Option<CallTimerId>)
     }
 }
 
-/// The number of the call that this tells the first answer of.
+/// The number of the call whose first answer this reports.
 fn lifetime_begun(note: Note) -> Option<u64>
     ensures { result ≡ lifetime_begun note }
 {
@@ -94,7 +94,7 @@ fn lifetime_begun(note: Note) -> Option<u64>
     }
 }
 
-/// The call that was answered for the first time may stand so many milliseconds. Takes no memory.
+/// The call that was answered for the first time may last this many milliseconds. Takes no memory.
 pub(crate) fn limit(calls: &mut Calls, lifetime: Option<u64>, now: u64, note: Note)
     requires { 0 < calls.old.timer_room }
     ensures standing { standing calls.new ≡ with_lifetime lifetime now note (standing calls.old) }

@@ -1,5 +1,5 @@
 //! The agent: what the server does with each datagram and each due timer, as one value. A step plans everything first
-//! and changes everything last, and keeps the media promise. Nothing here knows of sockets, clocks or threads.
+//! and changes everything last, and keeps the media promise. Nothing here knows about sockets, clocks or threads.
 #![tactic(auto)]
 
 mod acks;

@@ -14,13 +14,13 @@ use sip_message::MessageError;
 /// Moments end here, in milliseconds.
 const MOMENTS_END: u64 = 1 << 60;
 
-/// So many tokens may have been made before an event.
+/// This many tokens may have been made before an event.
 const MAX_TOKENS: u64 = 1 << 63;
 
-/// Bytes of a datagram at most.
+/// The most bytes of a datagram.
 const MAX_DATAGRAM: usize = 16_384;
 
-/// The lesser of two moments, of those that are there. Takes no memory.
+/// The lesser of two moments, of those that exist. Takes no memory.
 pub(crate) fn earlier(one: Option<u64>, other: Option<u64>) -> Option<u64>
     ensures { result ≡ earlier one other }
 {
@@ -63,9 +63,9 @@ impl Agent {
         }
     }
 
-    /// What an event is answered that is only counted: one at no moment that counts, one for which no token is left, a
-    /// datagram that is too long, a timer where none is due, silence in no settled call, and users that a configuration
-    /// may not list. None for all others. Takes no memory.
+    /// The answer to an event that is only counted: one at a moment that can't be counted, one for which no token is
+    /// left, a datagram that is too long, a timer where none is due, silence in no settled call, and users that a
+    /// configuration may not list. None for all others. Takes no memory.
     #[tactic(auto, unfolding(event_rows::specs::Rows::only_counts))]
     pub(crate) fn only_counts(&self, event: &Event) -> Option<Taken>
         ensures { result ≡ only_counts self.now event.entry.now }

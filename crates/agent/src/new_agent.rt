@@ -92,7 +92,7 @@ fn range_of(config: &Config) -> OwnRange
     }
 }
 
-/// How many milliseconds a call may stand, where the configuration limits that.
+/// How many milliseconds a call may last, where the configuration limits that.
 fn lifetime_of(config: &Config) -> Option<u64>
     ensures { result ≡ lifetime_of config.now }
 {
@@ -102,9 +102,9 @@ fn lifetime_of(config: &Config) -> Option<u64>
 }
 
 impl Agent {
-    /// An agent that nothing has happened to, which stands after the empty trace. The configuration keeps the rules, or
-    /// the first that it breaks is told. Transactions, calls and users are looked up by prints under this key, which no
-    /// clause here or elsewhere asks for: so what is sent doesn't depend on it.
+    /// An agent to which nothing has happened, which comes after the empty trace. The configuration keeps the rules,
+    /// or the first that it breaks is returned. Transactions, calls and users are looked up by prints under this key,
+    /// which no clause here or elsewhere mentions: so what is sent doesn't depend on it.
     pub fn new(alloc: Global, key: PrintKey, config: &Config) -> Result<Agent, ConfigError>
         ensures new { IfOk result (IsNew config.now) }
         ensures stands { IfOk result (λ agent. AgentStands agent [] 0) }

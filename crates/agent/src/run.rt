@@ -1,4 +1,4 @@
-//! Events one after the other.
+//! Events one after another.
 
 ghost use Rattle.std.specs.Prelude.{◌≡◌, ◌<◌, ◌∷◌, ◌++◌, [], IfOk, IsOk, OnErr, OnOk, vec_len};
 ghost use Rattle.std.specs.Vec.{vec_capacity};
@@ -14,11 +14,11 @@ use plans::Taken;
 use std::alloc::{AllocError, Global};
 use std::marker::Model;
 
-/// An event, with what it was answered and what was sent.
+/// An event, with its answer and what was sent.
 #[derive(Drop)]
 pub struct Entry {
     pub event: Event,
-    /// None where memory was refused: the event counts as not come.
+    /// None where memory was refused: the event counts as if it had not come.
     pub answer: Option<Taken>,
     pub sends: Vec<Sent>,
 }
@@ -56,7 +56,7 @@ impl Trace {
         }
     }
 
-    /// The entries, lent. Takes no memory.
+    /// The entries, borrowed. Takes no memory.
     pub fn as_slice(&self) -> &[Entry]
         ensures { result.now ≡ self.now }
     {
@@ -89,7 +89,7 @@ fn copy_of(alloc: Global, event: &Event) -> Result<Event, AllocError>
     })
 }
 
-/// Puts an entry behind the others, for which there is room. Takes no memory.
+/// Puts an entry after the others, for which there is room. Takes no memory.
 fn put(entries: &mut Vec<Entry>, entry: Entry)
     requires { vec_len entries.old < vec_capacity entries.old }
     ensures { entries.new.items ≡ entries.old.items ++ entry ∷ [] }
@@ -100,7 +100,7 @@ fn put(entries: &mut Vec<Entry>, entry: Entry)
 }
 
 impl Agent {
-    /// Takes an event, and answers its entry.
+    /// Takes an event, and returns its entry.
     fn entry_of(&mut self, event: Event) -> Entry
         ensures event { result.event ≡ event }
         ensures entry { IsEntry self.old result }
@@ -140,9 +140,10 @@ impl Agent {
         Ok(())
     }
 
-    /// Takes events in order, and enters each with its answer and its sends; one that is lost counts as not come, and
-    /// is entered too. Where the trace can't grow, agent and trace stand after the events that were entered. These
-    /// entries have a trace; and an agent that stands after a trace of before stands after it with any trace of theirs.
+    /// Takes events in order, and enters each with its answer and its sends; one that is lost counts as if it had not
+    /// come, and is entered too. Where the trace can't grow, agent and trace are as after the events that were
+    /// entered. These entries have a trace; and an agent that stood after an earlier trace comes after it with any
+    /// trace of theirs.
     pub fn run(&mut self, events: &[Event], trace: &mut Trace) -> Result<(), AllocError>
         ensures ran { OnOk result (Ran self.old trace.old events.now self.new trace.new) }
         ensures front { OnErr result (RanFirst self.old trace.old events.now self.new trace.new) }

@@ -32,7 +32,7 @@ pub begins_as_noted : note_of None first_row.actions first_row.next ≡ Some not
 unfolding note_of
 begins_as_noted = refl
 
--- the row is noted so, behind a call that stood there
+-- the row has this note, after a call at this stage
 abbrev Noted : Stage → End → Option CallNote → Row → Type 0
 Noted stage x note row = note_of (Some (record { offerer = x; stage = stage })) row.actions row.next ≡ note
 

@@ -1,4 +1,4 @@
--- What a planned answer comes to, and an input that no description comes with.
+-- What a planned answer results in, and an input that no description comes with.
 use Rattle.std.proofs.Common.{◌≡◌, ℕ, true, Option, Some, None, refl}
 use Rattle.std.specs.Prelude.{is_some}
 use Rattle.port_pool.specs.Pool.{Contents}

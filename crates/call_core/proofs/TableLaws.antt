@@ -1,5 +1,5 @@
--- Where the lines of the table lead: an offer is open exactly while the call waits for its answer, and a session stands
--- exactly from the first fit 2xx until an end leaves.
+-- Where the lines of the table lead: an offer is open exactly while the call waits for its answer, and a session is
+-- live exactly from the first fit 2xx until an end leaves.
 use Rattle.std.proofs.Common.{◌≡◌, ◌==◌, ◌&&◌, ◌++◌, ℕ, Bool, true, false, cond, [], ◌∷◌, Option, Some, None, refl}
 use Rattle.std.proofs.lemmas.Bool.{and_parts}
 use Rattle.call_media.specs.declared.end.End.{End}

@@ -12,7 +12,7 @@ use Rattle.call_media.specs.Ends.{other, is_same}
 use Rattle.call_core.specs.Passing.{status_passed_on}
 use Rattle.call_core.specs.Rows.{row, gone, first_interval, wait_time, ringing_time, short_time}
 
--- 101 to 199 are passed on, 100 isn't; the first of all sets the limit to so many milliseconds
+-- 101 to 199 are passed on, 100 isn't; the first of all sets the limit to `limit` milliseconds
 abbrev pub rings : Bool → ℕ → End → ℕ → List Action
 rings true limit x status = if status == 100 then [] else Provisional x status ∷ []
 rings false limit x status =

@@ -44,8 +44,8 @@ offer_step c pool now x offer row = record {
   changes = [];
 }
 
--- rows, 200 X: the session is that of the open offer and its answer, its rows stand, and the pairs that it doesn't use
--- rest
+-- rows, 200 X: the session is that of the open offer and its answer, its rows are put, and the pairs that it doesn't
+-- use rest
 abbrev pub session_step : Call → Contents → ℕ → Session → Row → Step
 session_step c pool now s row = record {
   actions = row.actions;

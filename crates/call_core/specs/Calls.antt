@@ -1,4 +1,4 @@
--- A call: its two dialogs, where it stands, and its media.
+-- A call: its two dialogs, its standing, and its media.
 use Rattle.std.specs.Prelude.{◌≡◌, ℕ, Bool, true, false, nat_lt, is_some, Option, Some, None, option_map}
 use Rattle.port_pool.specs.Pool.{Contents}
 use Rattle.sip_uri.specs.declared.uri.Uri.{Uri}
@@ -21,7 +21,7 @@ use Rattle.call_core.specs.declared.stage.Standing.{Standing}
 use Rattle.call_core.specs.Clashes as clashes
 use Rattle.call_core.specs.Stages.{phase_of}
 
--- ---- where it stands; nowhere before the first offer, and once it is gone
+-- ---- its standing; none before the first offer, and once it is gone
 
 abbrev pub phase_in : Option Standing → Option Phase
 phase_in standing = option_map (λ s. phase_of s.stage) standing
@@ -128,8 +128,8 @@ new_call number range caller = record { number = number; standing = None; media 
 
 -- ---- what holds of a call with the pool that serves it
 
--- The pool serves its media; an offer is open exactly while the call waits for its answer, and a session stands exactly
--- from the first fit 2xx until an end leaves.
+-- The pool serves its media; an offer is open exactly while the call waits for its answer, and a session is live
+-- exactly from the first fit 2xx until an end leaves.
 pub record IsServed (c : Call) (pool : Contents) : Type 0 where
   pub number : c.media.number ≡ c.number
   pub media : Serves c.media pool

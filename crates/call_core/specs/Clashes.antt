@@ -16,7 +16,7 @@ abbrev pub of_offerer : End → End → Clash → Option Clash
 of_offerer x end clash = if is_same end x then Some clash else None
 
 -- What an offer of this end meets, be it in an INVITE or in an UPDATE: none where it can be passed on, or where this
--- end has no dialog in which it could stand.
+-- end has no dialog in which it could be.
 unfoldable pub clash_of : Stage → End → End → Option Clash
 clash_of (Asked rung) x end = of_offerer x end SecondOffer
 clash_of (Cancelling sent) x end = None

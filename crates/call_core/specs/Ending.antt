@@ -1,4 +1,4 @@
--- Y left while the ACK of the 200 to X had not come: X is sent BYE behind its ACK (RFC 3261 section 15).
+-- Y left while the ACK of the 200 to X had not come: X is sent BYE after its ACK (RFC 3261 section 15).
 use Rattle.std.specs.Prelude.{ℕ, [], ◌∷◌, Option, Some, None, if◌then◌else◌}
 use Rattle.call_core.specs.declared.action.Action.TheVariants.{AnswerAgain, Bye, Okay, Set}
 use Rattle.call_media.specs.declared.end.End.{End}

@@ -63,8 +63,8 @@ abbrev pub is_bye : Action → Bool
 is_bye (Bye end) = true
 is_bye action = false
 
--- the action that tells what a line is about: the 200 to an end that leaves or gives up, else what is said of an offer,
--- else a BYE
+-- the action that says what a line is about: the 200 to an end that leaves or gives up, otherwise what is said of an
+-- offer, otherwise a BYE
 abbrev pub telling : List Action → Option Action
 telling actions = option_or (find is_okay actions) (option_or (find is_said actions) (find is_bye actions))
 
@@ -83,7 +83,8 @@ okay_note before next end =
     else if holds_in may_give_up before then Some notes.OfferGivenUp
     else None
 
--- a refusal ends a call that was never answered; inside a call it ends the call with both ends told, or the offer alone
+-- a refusal ends a call that was never answered; inside a call it ends the call with both ends notified, or only the
+-- offer
 abbrev pub refusal_note : Option Standing → Option Standing → ℕ → CallNote
 refusal_note before next status =
     if holds_in is_asked before then notes.Refused status
@@ -97,7 +98,7 @@ provisional_note before status = if holds_in is_asked before then Some (notes.Ri
 abbrev pub answer_note : Option Standing → CallNote
 answer_note before = if holds_in is_asked before then notes.Answered else notes.Reanswered
 
--- both ends get BYE where the ACK of a 200 doesn't come, and where the call has stood long enough
+-- both ends get BYE where the ACK of a 200 doesn't come, and where the call has lasted long enough
 abbrev pub bye_note : Option Standing → Option CallNote
 bye_note before =
     if holds_in waits_for_ack before then Some notes.Unacknowledged
@@ -113,7 +114,7 @@ note_by before next (Refusal end status) = Some (refusal_note before next status
 note_by before next (Bye end) = bye_note before
 note_by before next action = None
 
--- what it is about that a call, which stood there before, does this and stands there next
+-- what it is about when a call with this standing before does this and has that standing next
 unfoldable pub note_of : Option Standing → List Action → Option Standing → Option CallNote
 note_of before actions next = option_and_then (note_by before next) (telling actions)
 
@@ -160,7 +161,7 @@ inside_note gives_up signals.Cancel = if gives_up then Some notes.OfferGivenUp e
 inside_note gives_up (signals.Bye end) = Some (notes.Left end)
 inside_note gives_up signal = None
 
--- of the line of this signal, where the call stands there
+-- of the line of this signal, where the call is at this stage
 abbrev pub line_note : Stage → Signal → Option CallNote
 line_note (stages.Asked rung) signal = asked_note signal
 line_note (stages.Cancelling sent) signal = None

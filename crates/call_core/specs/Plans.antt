@@ -1,4 +1,4 @@
--- What carrying a plan out comes to, and what is known of a plan on the values that it was planned with.
+-- What carrying a plan out results in, and what is known of a plan on the values that it was planned with.
 use Rattle.std.specs.Prelude.{◌≡◌, ℕ, ◌||◌, Bool, true, false, is_none, is_some, List, [], Option, Some, None, IsTrue, if◌then◌else◌}
 use Rattle.std.specs.List.{list_any}
 use Rattle.port_pool.specs.declared.changes.Change.{Change}
@@ -88,7 +88,7 @@ FitsMedia m pool now (Puts p) = IsAnswer m pool p
 FitsMedia m pool now Withdraws = Unit {0}
 FitsMedia m pool now (Ends removals) = removals.items ≡ changes_of pool m.number []
 
--- whether an offer is open afterwards, and whether a session stands
+-- whether an offer is open afterwards, and whether a session is live
 abbrev pub leaves_open : MediaPlan → Bool → Bool
 leaves_open Keeps waits = waits
 leaves_open (Holds p) waits = true
@@ -103,7 +103,7 @@ leaves_session (Puts p) stands = true
 leaves_session Withdraws stands = stands
 leaves_session (Ends removals) stands = false
 
--- it can be carried out, and leads to where an offer is open, and a session stands, as the next phase wants it
+-- it can be carried out, and leads to where an offer is open, and a session is live, as the next phase requires
 pub record IsPlanned (c : Call) (pool : Contents) (now : ℕ) (p : Plan) : Type 0 where
   pub media : FitsMedia c.media pool now p.media
   pub offer : holds_in awaits_answer p.next ≡ leaves_open p.media (holds_in awaits_answer c.standing)

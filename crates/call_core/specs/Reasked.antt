@@ -18,7 +18,7 @@ use Rattle.call_core.specs.Rows.{row, gone, outlasts, first_interval, wait_time,
 abbrev pub has_lost_the_call : ℕ → Bool
 has_lost_the_call status = status == 408 || status == 481
 
--- provisional: as for a first INVITE, with the shorter limit; and behind it the CANCEL that waits for it
+-- provisional: as for a first INVITE, with the shorter limit; and after it the CANCEL that waits for it
 abbrev pub rings_inside : Bool → Cancelled → End → ℕ → Row
 rings_inside rung Never x status = row (rings rung short_time x status) x (Reasked true Never)
 rings_inside rung Waits x status = row (rings true short_time x status ++ Cancel (other x) ∷ Set timers.Limit short_time ∷ []) x (Reasked true PassedOn)

@@ -76,7 +76,7 @@ IsNoMemory (Unfit fault) = ⊥
 IsNoMemory NoPorts = ⊥
 IsNoMemory NumberAtItsEnd = ⊥
 
--- only offers are refused, but for want of memory
+-- only offers are refused, unless memory ran out
 abbrev pub RefusesInput : Call → Contents → Input → ℕ → CallRefusal → Type 0
 RefusesInput c pool (inputs.Offer x method offer) now refusal = RefusesLater c pool x offer now refusal
 RefusesInput c pool (inputs.Provisional status) now refusal = IsNoMemory refusal

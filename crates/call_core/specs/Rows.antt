@@ -8,7 +8,7 @@ use Rattle.transaction_machines.specs.Steps.{t1, t2, timeout}
 use Rattle.call_core.specs.declared.row.Row.{Row}
 use Rattle.call_core.specs.declared.stage.Stage.{Stage}
 
--- the call stands after these actions
+-- the call goes on after these actions
 abbrev pub row : List Action → End → Stage → Row
 row actions offerer stage = record { actions = actions; next = Some (record { offerer = offerer; stage = stage }) }
 
@@ -18,7 +18,7 @@ gone actions = record { actions = actions; next = None }
 
 -- ---- moments, in milliseconds
 
--- a 2xx goes again after T1 and then at intervals that double up to T2, for 64*T1 (RFC 3261 section 13.3.1.4)
+-- a 2xx is sent again after T1 and then at intervals that double up to T2, for 64*T1 (RFC 3261 section 13.3.1.4)
 abbrev pub first_interval : ℕ
 first_interval = t1
 
@@ -37,6 +37,6 @@ ringing_time = 180000
 abbrev pub short_time : ℕ
 short_time = timeout
 
--- the call has stood long enough, while an offer or its ACK is open: it is looked at again that much later
+-- the call has lasted long enough, while an offer or its ACK is open: it is checked again that much later
 abbrev pub outlasts : End → Stage → Row
 outlasts x stage = row (Set Lifetime short_time ∷ []) x stage

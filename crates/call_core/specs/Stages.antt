@@ -1,4 +1,4 @@
--- Where a call stands.
+-- A call's standing.
 use Rattle.call_core.specs.declared.stage.Phase.{Phase}
 use Rattle.call_core.specs.declared.stage.Phase.TheVariants as phases
 use Rattle.call_core.specs.declared.stage.Stage.{Stage}

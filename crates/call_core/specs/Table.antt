@@ -1,5 +1,5 @@
--- The table of calls: what is done for a signal where a call stands, and what comes next; none where the signal has no
--- line.
+-- The table of calls: what is done for a signal at a call's standing, and what comes next; none where the signal has
+-- no line.
 use Rattle.std.specs.Prelude.{[], ◌∷◌, true, false, Option}
 use Rattle.call_core.specs.declared.action.Action.TheVariants.{Offer, Trying}
 use Rattle.call_media.specs.declared.end.End.TheVariants.{Caller, Callee}

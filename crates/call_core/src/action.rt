@@ -8,13 +8,13 @@ use std::marker::Model;
 /// A timer of a call.
 #[derive(Clone, Copy, Debug, PartialEq, Eq, PartialOrd, Ord)]
 pub enum CallTimer {
-    /// How long the end across may ring, or may take after a CANCEL.
+    /// How long the other end may ring, or may take after a CANCEL.
     Limit,
-    /// When the 2xx goes again.
+    /// When the 2xx is sent again.
     Repeat,
     /// How long the ACK may take.
     Wait,
-    /// How long the call may stand from its first answer on.
+    /// How long the call may last from its first answer on.
     Lifetime,
 }
 
@@ -40,13 +40,13 @@ pub enum Action {
     /// CANCEL of the INVITE that was passed on.
     Cancel(End),
     Bye(End),
-    /// The rows of the exchange stand in place of the call's former ones, and the pairs that it doesn't use rest.
+    /// The rows of the exchange replace the call's former ones, and the pairs that it doesn't use rest.
     PutRows,
     /// The pairs that were reserved for the open offer rest.
     Release,
     /// All pairs of the call rest, and its rows go.
     RemoveRows,
-    /// A timer is set, or set anew, to so many milliseconds after the event.
+    /// A timer is set, or set anew, to this many milliseconds after the event.
     Set(CallTimer, u64),
     /// A timer stops, if it was set.
     Stop(CallTimer),
@@ -94,7 +94,7 @@ impl Actions {
         Ok(Actions { actions })
     }
 
-    /// The actions, lent. Takes no memory.
+    /// The actions, borrowed. Takes no memory.
     pub fn as_slice(&self) -> &[Action]
         ensures { result.now ≡ self.now }
     {

@@ -51,7 +51,7 @@ fn leaves(
 ) -> Result<Option<Row>, AllocError>
     ensures { IfOk result (λ r. r ≡ answered_row inside interval offerer (Signal.Bye end)) }
 {
-    // Both are left alike.
+    // Both stages are left the same way.
     let _ = inside;
     let across = offerer.other();
     if end == offerer {

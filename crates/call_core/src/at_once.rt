@@ -17,8 +17,8 @@ use sdp::Description;
 use std::alloc::Global;
 
 impl Call {
-    /// Takes the first offer, which the caller makes, at the moment `now` in milliseconds, where the call stands
-    /// nowhere yet: what `plan_ask` answers, carried out. A refusal leaves the call and the pool as they were.
+    /// Takes the first offer, which the caller makes, at the moment `now` in milliseconds, where the call has no
+    /// standing yet: what `plan_ask` returns, carried out. A refusal leaves the call and the pool as they were.
     pub fn ask(
         &mut self,
         alloc: Global,
@@ -44,8 +44,8 @@ impl Call {
         Ok(self.carry_out(alloc, plan, pool, now))
     }
 
-    /// Takes an input at the moment `now` in milliseconds: what `plan_take` answers, carried out. A refusal leaves the
-    /// call and the pool as they were.
+    /// Takes an input at the moment `now` in milliseconds: what `plan_take` returns, carried out. A refusal leaves
+    /// the call and the pool as they were.
     pub fn take(
         &mut self,
         alloc: Global,

@@ -13,7 +13,7 @@ use dialogs::Dialog;
 use offer_answer::OwnRange;
 use sip_uri::Uri;
 
-/// A call: where it stands, its media, and the dialogs with its two ends.
+/// A call: its standing, its media, and the dialogs with its two ends.
 pub struct Call {
     pub(crate) number: u64,
     /// None before the first offer, and once the call is gone.
@@ -69,7 +69,7 @@ impl Call {
         self.number
     }
 
-    /// Where the call stands; none before the first offer, and once it is gone. Takes no memory.
+    /// The call's standing; none before the first offer, and once it is gone. Takes no memory.
     pub fn standing(&self) -> Option<Standing>
         ensures { result ≡ self.now.standing }
     {
@@ -83,7 +83,7 @@ impl Call {
         self.standing.map(|standing| standing.stage.phase())
     }
 
-    /// The dialog with this end: with the callee there is none before it is handed in. Takes no memory.
+    /// The dialog with this end: with the callee there is none until it is put. Takes no memory.
     pub fn dialog(&self, end: End) -> Option<&Dialog>
         ensures { option_copied result ≡ dialog_of end self.now }
     {
@@ -133,7 +133,7 @@ impl Call {
         self.media.open_offer()
     }
 
-    /// What an offer of this end meets: K1, K2, or none. It is asked first of all. Takes no memory.
+    /// What an offer of this end meets: K1, K2, or none. It is checked first of all. Takes no memory.
     pub fn clash(&self, end: End) -> Option<Clash>
         ensures { result ≡ clash_in self.now.standing end }
     {

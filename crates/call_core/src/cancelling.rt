@@ -10,7 +10,7 @@ use crate::stage::Stage;
 use call_media::End;
 use std::alloc::{AllocError, Global};
 
-/// The CANCEL that waits for a provisional response goes out behind the first one.
+/// The CANCEL that waits for a provisional response is sent after the first one.
 #[tactic(auto, unfolding(crate::specs::Cancelling::cancelling_row))]
 fn rings(alloc: Global, sent: bool, offerer: End, status: u16) -> Result<Option<Row>, AllocError>
     ensures { IfOk result (λ r. r ≡ cancelling_row sent offerer (Signal.Provisional status)) }

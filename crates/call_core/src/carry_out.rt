@@ -43,7 +43,7 @@ impl Call {
     }
 }
 
-/// Changes the media as planned, and answers the changes of the relay table.
+/// Changes the media as planned, and returns the changes of the relay table.
 fn change_media(
     media: &mut CallMedia,
     alloc: Global,

@@ -11,7 +11,7 @@ use thiserror::Error;
 /// Why an offer is not passed on, since another is open (RFC 3261 section 14.2, RFC 3311 section 5.2).
 #[derive(Clone, Copy, Debug, Error)]
 pub enum Clash {
-    /// It crosses one of the end across, or comes before the ACK of the last 200: 491.
+    /// It crosses one of the other end, or comes before the ACK of the last 200: 491.
     #[error("K1: offer while another is open")]
     Glare,
     /// The same end has one open: 500 with Retry-After.
@@ -35,7 +35,7 @@ fn of_offerer(offerer: End, end: End, clash: Clash) -> Option<Clash>
     if end == offerer { Some(clash) } else { None }
 }
 
-/// What an offer of this end meets where the call stands so: K1, K2, or none. Takes no memory.
+/// What an offer of this end meets where the call has this standing: K1, K2, or none. Takes no memory.
 #[tactic(auto, unfolding(crate::specs::Clashes::clash_of))]
 pub fn clash_at(standing: Standing, end: End) -> Option<Clash>
     ensures { result ≡ clashes.clash_of standing.stage standing.offerer end }

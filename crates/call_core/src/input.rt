@@ -7,8 +7,8 @@ use crate::signal::{OfferMethod, Signal};
 use call_media::End;
 use sdp::Description;
 
-/// What reaches a call. The responses are those to the open offer, which the end across from the offerer gives. A body
-/// that is missing, of another type or encoding, or unreadable is no description.
+/// What reaches a call. The responses are those to the open offer, which come from the end across from the offerer. A
+/// body that is missing, of another type or encoding, or unreadable is no description.
 pub enum Input<'d> {
     /// An offer of this end, inside the call.
     Offer(End, OfferMethod, Option<Description<'d>>),
@@ -26,13 +26,13 @@ pub enum Input<'d> {
     Cancel,
     /// A BYE of this end.
     Bye(End),
-    /// The end across has rung long enough, or was given long enough after a CANCEL.
+    /// The other end has rung long enough, or was given long enough after a CANCEL.
     Limit,
     /// The 2xx is due again, since no ACK came (RFC 3261 section 13.3.1.4).
     Repeat,
     /// No ACK came in time (section 13.3.1.4).
     Wait,
-    /// The call has stood long enough, or its media have stopped.
+    /// The call has lasted long enough, or its media have stopped.
     Lifetime,
 }
 

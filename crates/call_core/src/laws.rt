@@ -1,4 +1,4 @@
-//! What holds of the session of a call.
+//! What holds for the session of a call.
 
 ghost use Rattle.std.specs.Prelude.{◌≡◌, ℕ, None, Some, IsTrue, false, is_some, true};
 ghost use Rattle.port_pool.specs.Pool.{Contents};
@@ -25,9 +25,9 @@ ghost use Rattle.call_core.specs.Notes.{HasNote, note_of};
 ghost use Rattle.call_core.specs.Table.{first_row, row_of};
 ghost use Rattle.call_core.specs.Calls.{IsServed, awaits_answer, has_session, holds_in};
 
-/// Where a session stands, the call's two legs, joined by the relay table, mean what the offerer's own offer and the
+/// Where a session is live, the call's two legs, joined by the relay table, mean what the offerer's own offer and the
 /// answerer's own answer mean directly; each was asked what the other offered; and each pair of the session is the
-/// call's. A session stands exactly from the first fit 2xx until an end leaves.
+/// call's. A session is live exactly from the first fit 2xx until an end leaves.
 pub fn session_is_direct()
     ensures joined { (call : Call) (pool : Contents) (s : Session) → IsServed call pool → call.media.session ≡ Some s →
         joined call.media.range.ip (leads_by pool.rows) s.offer_taken s.answer_sent s.offer_sent s.answer_taken

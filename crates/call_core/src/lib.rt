@@ -1,6 +1,6 @@
 //! The call: two legs and one session (RFC 3261 sections 9, 13, 14 and 15, RFC 3264, RFC 3311). Each end's requests and
 //! responses, and the timers of the call, are signals; for a phase and a signal the table says what is done, in order,
-//! and what comes next. Nothing here knows of bytes, transactions or sockets.
+//! and what comes next. Nothing here knows about bytes, transactions or sockets.
 #![tactic(auto)]
 
 mod action;

@@ -1,4 +1,4 @@
-//! What a line of the table is about, for whoever watches the calls.
+//! What a line of the table is about, for observers of the calls.
 
 ghost use Rattle.std.specs.Prelude.{◌≡◌, find};
 ghost use Rattle.std.specs.Option.{option_copied};
@@ -21,7 +21,7 @@ pub enum CallNote {
     Ringing(u16),
     /// The callee's answer was passed on.
     Answered,
-    /// The first INVITE got this final response, and the call is over, or waits for its CANCEL alone.
+    /// The first INVITE got this final response, and the call is over, or waits only for its CANCEL.
     Refused(u16),
     /// The caller gave its first INVITE up, by CANCEL or BYE.
     GivenUp,
@@ -29,7 +29,7 @@ pub enum CallNote {
     Offered(End, OfferMethod),
     /// The answer to it was passed on.
     Reanswered,
-    /// It got this final response, and the call stands.
+    /// It got this final response, and the call goes on.
     OfferRefused(u16),
     /// Its sender gave it up, by CANCEL.
     OfferGivenUp,
@@ -39,7 +39,7 @@ pub enum CallNote {
     Failed(u16),
     /// No ACK came in time, and the call is over (RFC 3261 section 13.3.1.4).
     Unacknowledged,
-    /// The call stood long enough, or its media had stopped, and it is over.
+    /// The call lasted long enough, or its media had stopped, and it is over.
     Expired,
 }
 
@@ -136,7 +136,7 @@ fn bye_among(actions: &[Action]) -> Option<&Action>
     actions.iter().find(|action| is_bye(**action))
 }
 
-/// The action that tells what a line is about, if any does.
+/// The action that says what a line is about, if any does.
 fn telling(actions: &[Action]) -> Option<&Action>
     ensures { option_copied result ≡ telling actions.now }
 {
@@ -231,7 +231,7 @@ fn note_by(before: Option<Standing>, next: Option<Standing>, action: Action) -> 
     }
 }
 
-/// What it is about that a call, which stood there before, does this and stands there next.
+/// What it is about when a call with this standing before does this and has that standing next.
 #[tactic(auto, unfolding(crate::specs::Notes::note_of))]
 fn note_of(before: Option<Standing>, actions: &Actions, next: Option<Standing>) -> Option<CallNote>
     ensures { result ≡ note_of before actions.now next }
@@ -243,7 +243,7 @@ fn note_of(before: Option<Standing>, actions: &Actions, next: Option<Standing>) 
 }
 
 impl Call {
-    /// What happens to the call by what was planned for it, if that is told. Takes no memory.
+    /// What happens to the call by what was planned for it, if that is reported. Takes no memory.
     pub fn note(&self, plan: &Plan) -> Option<NoteOfCall>
         ensures { result ≡ call_note self.now plan.now.actions plan.now.next }
     {

@@ -9,12 +9,12 @@ use call_media::{End, PlannedAnswer, PlannedOffer};
 use port_pool::Change;
 use sdp::Description;
 
-/// What happens to the media of a call, and to the pool beside them.
+/// What happens to the media of a call, and to the pool with them.
 #[derive(Drop)]
 pub enum MediaPlan {
     /// Nothing.
     Keeps,
-    /// This offer is passed on. `offer.offer_sent` is what goes to the end across.
+    /// This offer is passed on. `offer.offer_sent` is what goes to the other end.
     Holds(PlannedOffer),
     /// This answer is passed on. `sent` is what goes to the offerer.
     Puts(PlannedAnswer),
@@ -78,7 +78,7 @@ impl Numbers {
 pub struct Plan {
     /// What is done, in order.
     pub actions: Actions,
-    /// Where the call stands then; none where it is gone.
+    /// The call's standing then; none where it is gone.
     pub next: Option<Standing>,
     /// The number of the INVITE or UPDATE that is sent, if one is sent in a dialog.
     pub numbers: Numbers,

@@ -32,7 +32,7 @@ use sdp::Description;
 use std::alloc::{AllocError, Global};
 
 impl Call {
-    /// What a call that stands nowhere yet does for its first offer, which the caller makes, at the moment `now` in
+    /// What a call without a standing yet does for its first offer, which the caller makes, at the moment `now` in
     /// milliseconds. K3 and K4 are the refusals. Nothing changes.
     pub fn plan_ask(
         &self,
@@ -54,8 +54,8 @@ impl Call {
     }
 
     /// What the call does for an input at the moment `now` in milliseconds. An offer is refused by K1 or K2, which come
-    /// first, then K3, K4 and K5 (RFC 3261 section 14.2, RFC 3264); no other input is, but for want of memory. Nothing
-    /// changes.
+    /// first, then K3, K4 and K5 (RFC 3261 section 14.2, RFC 3264); any other input is refused only when memory ran
+    /// out. Nothing changes.
     pub fn plan_take(
         &self,
         alloc: Global,

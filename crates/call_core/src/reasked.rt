@@ -13,14 +13,14 @@ use call_media::End;
 use std::alloc::{AllocError, Global};
 use transaction_machines::T1;
 
-/// Whether the end across knows of no such call any more, or doesn't answer (RFC 3261 section 12.2.1.2).
+/// Whether the other end no longer knows such a call, or doesn't answer (RFC 3261 section 12.2.1.2).
 pub(crate) fn has_lost_the_call(status: u16) -> bool
     ensures { result ≡ has_lost_the_call status }
 {
     status == 408 || status == 481
 }
 
-/// The CANCEL that waits goes out behind the first provisional response, which goes to the offerer first.
+/// The CANCEL that waits is sent after the first provisional response, which goes to the offerer first.
 fn cancels_behind(alloc: Global, offerer: End, status: u16) -> Result<Option<Row>, AllocError>
     ensures { IfOk result (λ r. r ≡ Some (rings_inside false Cancelled.Waits offerer status)) }
 {

@@ -17,13 +17,13 @@ pub enum CallRefusal {
     /// The offer has no description that can be read: 488.
     #[error("K3: no description")]
     Undescribed,
-    /// The offer is none that the end may make, or that the relay carries: 488.
+    /// The end may not make the offer, or the relay doesn't carry it: 488.
     #[error("K3: {0}")]
     Unfit(OfferFault),
     /// Too few pairs are free: 503.
     #[error("K4: no ports")]
     NoPorts,
-    /// No number is left for a request to the end across: 500.
+    /// No number is left for a request to the other end: 500.
     #[error("K5: number at its end")]
     NumberAtItsEnd,
 }

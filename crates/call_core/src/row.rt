@@ -15,11 +15,11 @@ pub(crate) const WAIT: u64 = LIMIT;
 /// How long a callee may ring after its first provisional response, in milliseconds.
 pub(crate) const RINGING: u64 = 180_000;
 
-/// How long the end across may take after its first provisional response to an offer inside a call, or after a CANCEL,
-/// and when a call that has stood long enough is looked at again, in milliseconds.
+/// How long the other end may take after its first provisional response to an offer inside a call, or after a CANCEL,
+/// and when a call that has lasted long enough is checked again, in milliseconds.
 pub(crate) const SHORT: u64 = LIMIT;
 
-/// What is done for a signal, in order, and where the call stands then: none where it is gone. A call that is gone
+/// What is done for a signal, in order, and the call's standing then: none where it is gone. A call that is gone
 /// frees its pairs, which rest, has no row, and its timers stop.
 #[derive(Drop)]
 pub struct Row {
@@ -52,7 +52,7 @@ pub(crate) fn ends(alloc: Global, actions: &[Action]) -> Result<Option<Row>, All
     }))
 }
 
-/// The call has stood long enough, while an offer or its ACK is open: it is looked at again later.
+/// The call has lasted long enough, while an offer or its ACK is open: it is checked again later.
 pub(crate) fn outlasts(alloc: Global, offerer: End, stage: Stage) -> Result<Option<Row>, AllocError>
     ensures { IfOk result (λ r. r ≡ Some (outlasts offerer stage)) }
 {

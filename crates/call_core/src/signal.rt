@@ -9,7 +9,7 @@ pub enum OfferMethod {
     Update,
 }
 
-/// What reaches a call. The responses are those to the open offer, which the end across from the offerer gives.
+/// What reaches a call. The responses are those to the open offer, which come from the end across from the offerer.
 #[derive(Clone, Copy)]
 pub enum Signal {
     /// An offer of this end that can be passed on.
@@ -30,12 +30,12 @@ pub enum Signal {
     Cancel,
     /// A BYE of this end.
     Bye(End),
-    /// The end across has rung long enough, or was given long enough after a CANCEL.
+    /// The other end has rung long enough, or was given long enough after a CANCEL.
     Limit,
     /// The 2xx is due again, since no ACK came (RFC 3261 section 13.3.1.4).
     Repeat,
     /// No ACK came in time (section 13.3.1.4).
     Wait,
-    /// The call has stood long enough, or its media have stopped.
+    /// The call has lasted long enough, or its media have stopped.
     Lifetime,
 }

@@ -1,4 +1,4 @@
-//! Where a call stands.
+//! A call's standing.
 
 use call_media::End;
 
@@ -26,27 +26,28 @@ pub enum Cancelled {
     PassedOn,
 }
 
-/// The phase of a call, with what the table asks of it besides.
+/// The phase of a call, with what else the table needs to know about it.
 #[derive(Clone, Copy, Debug)]
 pub enum Stage {
     /// The first INVITE was passed on. Whether a provisional response came.
     Asked(bool),
-    /// The first INVITE was given up. Whether its CANCEL was sent; else it waits for the first provisional response.
+    /// The first INVITE was given up. Whether its CANCEL was sent; otherwise it waits for the first provisional
+    /// response.
     Cancelling(bool),
-    /// The 200 to the first INVITE waits for its ACK, and goes again after so many milliseconds.
+    /// The 200 to the first INVITE waits for its ACK, and is sent again after this many milliseconds.
     Answered(u64),
     Settled,
     /// An INVITE inside the call was passed on. Whether a provisional response came, and its CANCEL.
     Reasked(bool, Cancelled),
-    /// The 200 to such an INVITE waits for its ACK, and goes again after so many milliseconds.
+    /// The 200 to such an INVITE waits for its ACK, and is sent again after this many milliseconds.
     Reanswered(u64),
     /// An UPDATE was passed on.
     Updating,
-    /// The end that answered left before the ACK came; the 200 goes again after so many milliseconds.
+    /// The end that answered left before the ACK came; the 200 is sent again after this many milliseconds.
     Ending(u64),
 }
 
-/// Where a call stands.
+/// A call's standing.
 #[derive(Clone, Copy)]
 pub struct Standing {
     /// Whose offer is open, or was answered last.

@@ -26,7 +26,7 @@ pub fn first_row(alloc: Global) -> Result<Option<Row>, AllocError>
     leads(alloc, &actions, End::Caller, Stage::Asked(false))
 }
 
-/// What a signal does where the call stands so; none where it has no line there, and then it changes nothing.
+/// What a signal does where the call has this standing; none where it has no line there, and then it changes nothing.
 #[tactic(auto, unfolding(crate::specs::Table::row_of))]
 pub fn row_at(alloc: Global, standing: Standing, signal: Signal) -> Result<Option<Row>, AllocError>
     ensures { IfOk result (λ r. r ≡ table.row_of standing signal) }

@@ -30,7 +30,7 @@ use Rattle.call_media.proofs.SeatLaws.{both, imply, joined, kept_is, none_left, 
 use Rattle.call_media.proofs.KeptLaws.{named}
 use Rattle.call_media.proofs.HeldLaws.{even_itself, holder_of_own, stand}
 
--- ---- what stands in front, and behind
+-- ---- what comes before, and after
 
 abbrev front : List ℕ → ℕ
 front [] = 0
@@ -161,7 +161,7 @@ used_differ (ox ∷ oxs) (sy ∷ sys) (Some s ∷ ss) h =
       step true k join = k
       step false k join = join k
 
--- what each description tells of the seats
+-- what each description says of the seats
 pub record Tell (o : OpenOffer) (sent answer : Description) : Type 0 where
   pub offers : map (λ m. m.port) o.offer_sent.media ≡ told_ports (map port_to_answerer o.seats) o.offer_taken.media
   pub answers : map (λ m. m.port) sent.media ≡ told_ports (map port_to_offerer o.seats) answer.media
@@ -227,7 +227,7 @@ no_line P port (l ∷ ls) all not_it = step (l.port == port) refl (no_line P por
   step true e k = absurd (not_it (subst P (eqb-true l.port port e) (All-head (λ x. P x.port) l ls all)))
   step false e k = k
 
--- by the law that a session's lines are of ports of whoever holds its pairs
+-- by the law that a session's lines are of ports of the call that holds its pairs
 pub no_hop : ((pool : Contents) (call : ℕ) (OX SX OY SY : Description) → list_all is_even (pairs_named OX SX OY SY) ≡ true → HoldsPairs pool call OX SX OY SY → AreOwn pool call (session_lines OX SX OY SY))
     → (OX SX OY SY : Description) (port : ℕ) → list_all is_even (pairs_named OX SX OY SY) ≡ true → stands_in (pairs_named OX SX OY SY) (even_of port) ≡ false
     → hop_of (session_lines OX SX OY SY) port ≡ None

@@ -1,4 +1,4 @@
--- Which ports are a call's, and which pairs stand in a list.
+-- Which ports are a call's, and which pairs are in a list.
 use Rattle.std.proofs.Common.{◌≡◌, ◌≢◌, ◌==◌, ◌||◌, ◌∙◌, ◌%◌, ◌≤◌, ℕ, Bool, true, false, not, List, [], ◌∷◌, Option, Some, None, refl, sym, ap, arith}
 use Rattle.std.specs.Prelude.{is_some}
 use Rattle.std.specs.List.{list_all}
@@ -55,7 +55,7 @@ held_own pool number fresh n h =
     let parts = and_parts (is_even n) (is_port_of pool number n) h in
     rw (parts.0, parts.1) refl
 
--- ---- which stand in a list
+-- ---- which are in a list
 
 pub among : (ps : List Pair) (n : ℕ) → is_among ps n ≡ stands_in (evens ps) n
 among [] n = refl
@@ -65,7 +65,7 @@ or_later : (a b : Bool) → b ≡ true → (a || b) ≡ true
 or_later true b h = refl
 or_later false b h = h
 
--- each of them stands among them
+-- each of them is among them
 pub stand : (ns : List ℕ) → list_all (stands_in ns) ns ≡ true
 stand [] = refl
 stand (n ∷ ns) =

@@ -9,7 +9,7 @@ use Rattle.offer_answer.specs.Rows.{are_distinct}
 use Rattle.call_media.specs.declared.seat.Seat.{Seat}
 use Rattle.call_media.specs.Seats.{first, rest, needs_pairs, pairs_needed, fresh_seat, seat_of, behind_two, pairs_left, seated, pairs_of_seat, pairs_of, evens, stands_in, are_apart, are_seated}
 
--- ---- of the first medium, and of those behind it
+-- ---- of the first medium, and of those after it
 
 -- both passes, of which the front and the back do
 pub record Both (p : ℕ → Bool) (s : Option Seat) (ss : List (Option Seat)) : Type 0 where
@@ -160,7 +160,7 @@ rest_distinct (Some s ∷ ss) h =
     let a = and_parts (not (stands_in (s.answerer ∷ ps) s.offerer)) (not (stands_in ps s.answerer) && are_distinct ps) h in
     (and_parts (not (stands_in ps s.answerer)) (are_distinct ps) a.1).1
 
--- a seat whose ports differ, and neither of which stands among those behind it
+-- a seat whose ports differ, and neither of which is among those after it
 pub seat_joins : (s : Seat) (ss : List (Option Seat)) → (s.answerer == s.offerer) ≡ false → list_all (λ q. not (q == s.offerer)) (pairs_of ss) ≡ true
     → list_all (λ q. not (q == s.answerer)) (pairs_of ss) ≡ true → are_distinct (pairs_of ss) ≡ true → are_distinct (pairs_of (Some s ∷ ss)) ≡ true
 seat_joins s ss differ offerer answerer h = rw (differ, none_in (pairs_of ss) s.offerer offerer, none_in (pairs_of ss) s.answerer answerer) h
@@ -221,7 +221,7 @@ none_left caller ms kept = all_true (pairs_of kept) where
   all_true [] = refl
   all_true (n ∷ ns) = all_true ns
 
--- the pairs of the media behind the first one
+-- the pairs of the media after the first one
 abbrev Behind : Bool → List Media → Type 0
 Behind caller ms = (kept : List (Option Seat)) (fresh : List Pair) → are_distinct (pairs_of kept) ≡ true → are_distinct (evens fresh) ≡ true
     → are_apart (pairs_of kept) (evens fresh) ≡ true → are_distinct (pairs_of (seated caller ms kept fresh)) ≡ true

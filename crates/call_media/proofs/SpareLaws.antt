@@ -114,7 +114,7 @@ left_spares number kept pool after left same call differ = record {
       none_of port (not (is_among kept (even_of port))) (rw holder (other_holder number call differ))
   step port false e = refl
 
--- ---- what stands over the same rows
+-- ---- what holds over the same rows
 
 pub stands_over : (ip : List ℕ) (number : ℕ) (pool after : Contents) (s : Session) → after.rows ≡ pool.rows → are_held number after (pairs_of_session s) ≡ true → Stands ip number pool s
     → Stands ip number after s

@@ -51,7 +51,7 @@ seats_offered m pool e offer now = seated (is_same e Caller) offer.media (seats_
 abbrev pub is_port : ℕ → Bool
 is_port n = not (n == 0)
 
--- These pairs do for the media: there are as many as they need, none is of port 0, and none serves two.
+-- These pairs suffice for the media: there are as many as they need, none is of port 0, and none serves two.
 pub record DoFor (caller_offers : Bool) (media : List Media) (kept : List (Option Seat)) (fresh : List Pair) : Type 0 where
   pub enough : pairs_needed media kept ≤ length fresh
   pub ports : IsTrue (list_all is_port (pairs_of (seated caller_offers media kept fresh)))
@@ -90,7 +90,7 @@ with_offer m o = record { number = m.number; range = m.range; versions = one_mor
 abbrev pub without_offer : CallMedia → CallMedia
 without_offer m = record { number = m.number; range = m.range; versions = m.versions; offer = None; session = m.session }
 
--- the media after the call ended: nothing is open, and no session stands
+-- the media after the call ended: nothing is open, and no session is live
 abbrev pub ended : CallMedia → CallMedia
 ended m = record { number = m.number; range = m.range; versions = m.versions; offer = None; session = None }
 

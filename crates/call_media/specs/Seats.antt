@@ -25,7 +25,7 @@ seats_in_use OX SX OY SY = media_in_use OX.media SX.media OY.media SY.media
 
 -- ---- the pairs of an offer
 
--- of the first medium, and of those behind it
+-- of the first medium, and of those after it
 abbrev pub first : List (Option Seat) → Option Seat
 first [] = None
 first (s ∷ ss) = s
@@ -69,7 +69,7 @@ seated caller_offers [] kept fresh = []
 seated caller_offers (m ∷ ms) kept fresh =
     seat_of caller_offers m (first kept) fresh ∷ seated caller_offers ms (rest kept) (pairs_left m (first kept) fresh)
 
--- ---- what is told of them
+-- ---- what is sent of them
 
 -- 0 for a medium without pairs (RFC 3264 section 6)
 abbrev pub port_to_offerer : Option Seat → ℕ
@@ -100,7 +100,7 @@ pairs_at ports = map (λ e. record { even = e }) ports
 abbrev pub stands_in : List ℕ → ℕ → Bool
 stands_in ports port = list_any (λ q. q == port) ports
 
--- no port stands in both
+-- no port is in both
 abbrev pub are_apart : List ℕ → List ℕ → Bool
 are_apart ports others = list_all (λ p. not (stands_in others p)) ports
 

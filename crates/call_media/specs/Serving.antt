@@ -49,7 +49,7 @@ abbrev pub OpenIfAny : List ℕ → ℕ → Contents → Option OpenOffer → Ty
 OpenIfAny ip number pool None = Unit {0}
 OpenIfAny ip number pool (Some o) = IsOpen ip number pool o
 
--- the session stands, an open offer has its pairs, and no other port of the call has a row
+-- the session, if any, holds; an open offer has its pairs, and no other port of the call has a row
 pub record Serves (m : CallMedia) (pool : Contents) : Type 0 where
   pub server : m.range.ip ≢ hold_address
   pub session : StandsIfAny m.range.ip m.number pool m.session

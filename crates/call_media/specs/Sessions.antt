@@ -1,4 +1,4 @@
--- A session: what the ends of a call said last, and what the server told them.
+-- A session: what the ends of a call said last, and what the server sent them.
 use Rattle.std.specs.Prelude.{ℕ, List, [], Option, Some, None, map, option_map, if◌then◌else◌}
 use Rattle.port_pool.specs.declared.pair.Pair.{Pair}
 use Rattle.sdp.specs.declared.description.Description.{Description}

@@ -1,4 +1,4 @@
-//! What passing an answer on takes.
+//! What passing an answer on requires.
 
 ghost use Rattle.std.specs.Prelude.{◌≡◌, ◌≢◌, IfErr, IfOk, IsTrue, None, OnOk, Some, ◌+◌, ◌++◌, is_some, length, map};
 ghost use Rattle.std.specs.FinMap.{get};
@@ -88,7 +88,7 @@ fn session_rows(
     Ok(SessionRows { pairs, changes })
 }
 
-/// The answer is kept beside what is sent in place of it.
+/// The answer is kept with what is sent in its place.
 fn with_taken(
     alloc: Global,
     answer: &Description<'_>,
@@ -103,7 +103,7 @@ fn with_taken(
 }
 
 impl CallMedia {
-    /// What passing the answer to the open offer on takes. The answer must be one that the offer lets the answerer
+    /// What passing the answer to the open offer on requires. The answer must be one that the offer lets the answerer
     /// give, and that the relay carries (RFC 3264 section 6). Nothing changes.
     pub fn plan_answer(
         &self,

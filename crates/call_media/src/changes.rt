@@ -1,4 +1,4 @@
-//! What changes in the media of a call, and in the pool beside it. Nothing here can fail.
+//! What changes in the media of a call, and in the pool with it. Nothing here can fail.
 
 ghost use Rattle.std.specs.Prelude.{◌≡◌, ◌&&◌, ℕ, IfOk, IsTrue, None, Some, [], false, if◌then◌else◌, is_some, not, true};
 ghost use Rattle.port_pool.specs.Changes.{LeadFrom};
@@ -67,8 +67,8 @@ impl CallMedia {
     }
 
     /// Passes the planned answer to the open offer on: the session is that of the offer and its answer, the relay table
-    /// has its rows, and the call's pairs that it doesn't use rest from the moment `now`, in milliseconds. Gives the
-    /// changes of the table. Takes no memory.
+    /// has its rows, and the call's pairs that it doesn't use rest from the moment `now`, in milliseconds. Returns
+    /// the changes of the table. Takes no memory.
     pub fn put_answer(&mut self, pool: &mut Pool, planned: PlannedAnswer, now: u64) -> Vec<Change>
         requires serves { Serves self.old pool.old }
         requires asked { IsTrue (is_some self.old.offer) }
@@ -120,15 +120,15 @@ impl CallMedia {
         changes
     }
 
-    /// What ending the media of the call takes: the removals of all its rows.
+    /// What ending the media of the call requires: the removals of all its rows.
     pub fn plan_end(&self, pool: &Pool) -> Result<Vec<Change>, AllocError>
         ensures { IfOk result (λ removals. removals.items ≡ changes_of pool.now self.now.number []) }
     {
         pool.plan_drop(self.number)
     }
 
-    /// Ends the media of the call: no session stands and no offer is open, its rows are gone, and its pairs rest from
-    /// the moment `now`, in milliseconds. Takes no memory.
+    /// Ends the media of the call: no session is live and no offer is open, its rows are gone, and its pairs rest
+    /// from the moment `now`, in milliseconds. Takes no memory.
     pub fn end(&mut self, pool: &mut Pool, removals: &[Change], now: u64)
         requires serves { Serves self.old pool.old }
         requires removals { removals.now ≡ changes_of pool.old self.old.number [] }

@@ -21,7 +21,7 @@ impl End {
         }
     }
 
-    /// The end across. Takes no memory.
+    /// The other end. Takes no memory.
     pub fn other(self) -> End
         ensures { result ≡ other self }
     {

@@ -1,4 +1,4 @@
-//! What holds of the pairs of an offer.
+//! What holds for the pairs of an offer.
 
 ghost use Rattle.std.specs.Prelude.{◌≡◌, ◌≤◌, ℕ, Bool, List, Option, Some, IsTrue, length};
 ghost use Rattle.std.specs.List.{list_all};
@@ -32,8 +32,8 @@ pub fn seats_are_apart()
         IsTrue (are_seated media (seated caller_offers media kept fresh)) }
 {}
 
-/// Where the session of a call stands, its two legs, joined by the relay table, mean what the offerer's own offer and
-/// the answerer's own answer mean directly; each was asked what the other offered.
+/// Where the session of a call is live, its two legs, joined by the relay table, mean what the offerer's own offer
+/// and the answerer's own answer mean directly; each was asked what the other offered.
 pub fn session_is_direct()
     ensures joined { (media : CallMedia) (pool : Contents) (s : Session) → Serves media pool → media.session ≡ Some s →
         joined media.range.ip (leads_by pool.rows) s.offer_taken s.answer_sent s.offer_sent s.answer_taken

@@ -1,4 +1,4 @@
-//! The media of a call (RFC 3264): which pair of ports faces which end, medium by medium. Nothing here knows of
+//! The media of a call (RFC 3264): which pair of ports faces which end, medium by medium. Nothing here knows about
 //! messages, phases or sockets.
 #![tactic(auto)]
 

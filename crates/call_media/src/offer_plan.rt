@@ -1,4 +1,4 @@
-//! What passing an offer on takes.
+//! What passing an offer on requires.
 
 ghost use Rattle.std.specs.Prelude.{◌≡◌, ◌≢◌, ◌≤◌, ℕ, All, IfOk, IfErr, OnOk, None, true, length};
 ghost use Rattle.port_pool.specs.Holdings.{AreRising, LeadsPair, even_of, free_pairs, holder_at, is_among};
@@ -52,9 +52,9 @@ fn free_pairs(pool: &Pool, needed: usize, now: u64) -> Result<Vec<Pair>, OfferRe
 }
 
 impl CallMedia {
-    /// What passing an offer of this end on takes, at the moment `now` in milliseconds. The offer must be one that the
-    /// end may make after what it said before, and that the relay carries (K3, RFC 3264 section 8), and enough pairs
-    /// must be free (K4). Nothing changes.
+    /// What passing an offer of this end on requires, at the moment `now` in milliseconds. The offer must be one that
+    /// the end may make after what it said before, and that the relay carries (K3, RFC 3264 section 8), and enough
+    /// pairs must be free (K4). Nothing changes.
     pub fn plan_offer(
         &self,
         alloc: Global,

@@ -1,4 +1,4 @@
-//! What an offer of an end goes by: what the end gave before, and the pairs of the media in use.
+//! What an offer of an end is based on: what the end gave before, and the pairs of the media in use.
 
 ghost use Rattle.std.specs.Prelude.{◌≡◌, IfOk, map, option_map};
 ghost use Rattle.std.specs.Option.{option_copied};
@@ -76,7 +76,7 @@ pub(crate) fn seats_kept(
     }
 }
 
-/// The pairs that the session uses, lent.
+/// The pairs that the session uses, borrowed.
 pub(crate) fn pairs_listed(session: Option<&Session>) -> &[Pair]
     ensures { result.now ≡ pairs_listed (option_copied session.entry) }
 {

@@ -9,7 +9,7 @@ use thiserror::Error;
 pub enum OfferRefusal {
     #[error("out of memory")]
     OutOfMemory,
-    /// The offer is none that the relay carries: 488.
+    /// The relay doesn't carry the offer: 488.
     #[error("K3: {0}")]
     Unfit(OfferFault),
     /// Too few pairs are free: 503.
@@ -33,7 +33,7 @@ impl From<AllocError> for OfferRefusal {
 pub enum AnswerRefusal {
     #[error("out of memory")]
     OutOfMemory,
-    /// The answer is none to the offer, or none that the relay carries.
+    /// The answer doesn't fit the offer, or the relay doesn't carry it.
     #[error("{0}")]
     Unfit(AnswerFault),
 }

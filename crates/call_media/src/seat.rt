@@ -2,12 +2,12 @@
 
 ghost use Rattle.std.specs.Prelude.{◌≡◌};
 
-/// The pairs that serve a medium, each by its even port: that port is told to the end that it faces.
+/// The pairs that serve a medium, each by its even port: that port is sent to the end that it faces.
 #[derive(Clone, Copy, Debug)]
 pub struct Seat {
-    /// Told to the offerer.
+    /// Sent to the offerer.
     pub offerer: u16,
-    /// Told to the answerer.
+    /// Sent to the answerer.
     pub answerer: u16,
 }
 

@@ -85,7 +85,7 @@ fn first(kept: &[Option<Seat>]) -> Option<Seat>
     }
 }
 
-/// The pairs of those behind it.
+/// The pairs of those after it.
 fn rest(kept: &[Option<Seat>]) -> &[Option<Seat>]
     ensures { result.now ≡ rest kept.now }
 {
@@ -218,7 +218,7 @@ fn port_to_answerer(seat: Option<Seat>) -> u16
     seat.map_or(0, |seat| seat.answerer)
 }
 
-/// The ports that the offerer is told in its answer: 0 for a medium without pairs.
+/// The ports that the offerer gets in its answer: 0 for a medium without pairs.
 pub fn ports_to_offerer(alloc: Global, seats: &[Option<Seat>]) -> Result<Vec<u16>, AllocError>
     ensures { IfOk result (λ ports. ports.items ≡ map port_to_offerer seats.now) }
 {
@@ -228,7 +228,7 @@ pub fn ports_to_offerer(alloc: Global, seats: &[Option<Seat>]) -> Result<Vec<u16
         .collect(alloc)
 }
 
-/// The ports that the answerer is told in the offer: 0 for a medium without pairs.
+/// The ports that the answerer gets in the offer: 0 for a medium without pairs.
 pub fn ports_to_answerer(alloc: Global, seats: &[Option<Seat>]) -> Result<Vec<u16>, AllocError>
     ensures { IfOk result (λ ports. ports.items ≡ map port_to_answerer seats.now) }
 {

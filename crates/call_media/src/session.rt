@@ -1,4 +1,4 @@
-//! A session and an open offer, as the server has them of both legs.
+//! A session and an open offer, as the server has them for both legs.
 
 use crate::end::End;
 use crate::seat::Seat;
@@ -36,7 +36,7 @@ impl Seats {
         Seats { seats }
     }
 
-    /// The pairs, lent. Takes no memory.
+    /// The pairs, borrowed. Takes no memory.
     pub fn as_slice(&self) -> &[Option<Seat>]
         ensures { result.now ≡ self.now }
     {
@@ -73,7 +73,7 @@ impl Pairs {
         Pairs { pairs }
     }
 
-    /// The pairs, lent. Takes no memory.
+    /// The pairs, borrowed. Takes no memory.
     pub fn as_slice(&self) -> &[Pair]
         ensures { result.now ≡ self.now }
     {
@@ -90,11 +90,11 @@ pub struct OpenOffer {
     pub seats: Seats,
     /// As the offerer gave it.
     pub offer_taken: Boxed<Description<'static>>,
-    /// As the end across got it.
+    /// As the other end got it.
     pub offer_sent: Boxed<Description<'static>>,
 }
 
-/// The descriptions of the last exchange, which both ends go by.
+/// The descriptions of the last exchange, which both ends follow.
 pub struct Session {
     /// The end that offered.
     pub offerer: End,
@@ -121,7 +121,7 @@ impl Drop for Session {
     }
 }
 
-/// What leads to the rows of a session in place of its call's former ones, and the pairs that they are of.
+/// What puts the rows of a session in place of its call's former ones, and the pairs that they are of.
 #[derive(Drop)]
 pub struct SessionRows {
     pub pairs: Pairs,

@@ -49,7 +49,7 @@ impl CallMedia {
         }
     }
 
-    /// The session, if one stands. Takes no memory.
+    /// The session, if one is live. Takes no memory.
     pub fn session(&self) -> Option<&Session>
         ensures { option_copied result ≡ self.now.session }
     {

@@ -1,4 +1,4 @@
--- What actions come to, one behind the other.
+-- What actions result in, one after another.
 use Rattle.std.proofs.Common.{◌≡◌, ◌∙◌, ◌+◌, ℕ, List, ◌∷◌, ◌++◌, ap, arith}
 use Rattle.std.proofs.lemmas.List.{append_assoc, append-nil}
 use Rattle.call_core.specs.declared.action.Action.{Action}

@@ -1,4 +1,4 @@
--- What actions come to.
+-- What actions result in.
 use Rattle.std.specs.Prelude.{ℕ, ◌+◌, List, [], ◌∷◌, ◌++◌, Option, Some, None}
 use Rattle.events.specs.declared.sent.Sent.{Sent}
 use Rattle.sip_uri.specs.declared.uri.Addr.{Addr}
@@ -48,6 +48,6 @@ asks request made = asks_at (address_of request.uri) request made
 abbrev pub again : Sent → Dressed
 again sent = record { changes = []; sends = sent ∷ []; made = 0 }
 
--- one behind the other
+-- one after another
 abbrev pub behind : Dressed → Dressed → Dressed
 behind first later = record { changes = first.changes ++ later.changes; sends = first.sends ++ later.sends; made = first.made + later.made }

@@ -32,7 +32,7 @@ abbrev pub method_of : OfferMethod → Method
 method_of Invite = methods.Invite
 method_of Update = methods.Update
 
--- the token of a branch, where so many were made before it
+-- the token of a branch, where this many were made before it
 abbrev pub branch : Scene → ℕ → List ℕ
 branch s tokens = token s.salt (tokens + 1)
 
@@ -87,7 +87,7 @@ abbrev pub says_cancel : Option Transaction → Dressed
 says_cancel None = no_message
 says_cancel (Some invite) = asks_if (cancel_of invite) 0
 
--- ---- an action, where so many tokens were made before it
+-- ---- an action, where this many tokens were made before it
 
 unfoldable pub dress_one : Scene → ℕ → Action → Dressed
 dress_one s tokens (Trying end) = says_trying s.offer

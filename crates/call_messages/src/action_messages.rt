@@ -223,8 +223,9 @@ impl Scene<'_, '_> {
         asks_if(alloc, request, 1)
     }
 
-    /// What an action comes to, where so many tokens were made before it. An offer, an ACK and a BYE make a token each,
-    /// that of their branch. An action that sends nothing, or for which something is missing, comes to nothing.
+    /// What an action results in, where this many tokens were made before it. An offer, an ACK and a BYE make a token
+    /// each, that of their branch. An action that sends nothing, or for which something is missing, results in
+    /// nothing.
     #[tactic(auto, unfolding(crate::specs::Dressing::dress_one))]
     pub fn dress_one(
         &self,

@@ -1,4 +1,4 @@
-//! What actions come to.
+//! What actions result in.
 
 ghost use Rattle.std.specs.Prelude.{◌≡◌};
 ghost use Rattle.call_messages.specs.Dressed.{no_message};
@@ -8,8 +8,8 @@ use std::alloc::Global;
 use std::marker::Model;
 use transactions::Change;
 
-/// What actions come to: the changes of the transactions and the datagrams that are sent, each in order, and how many
-/// tokens are made. All that takes memory has been done.
+/// What actions result in: the changes of the transactions and the datagrams that are sent, each in order, and the
+/// number of tokens made. All that takes memory has been done.
 #[derive(Drop)]
 pub struct Dressed {
     pub changes: Vec<Change>,

@@ -103,8 +103,8 @@ pub fn retry_later(alloc: Global, asker: &Asker<'_, '_>) -> Result<Text<'static>
     response_to(alloc, asker, 500, &further)
 }
 
-/// 200 without a body: to a BYE, a CANCEL, or an UPDATE without an offer, whose 2xx has the server's Contact (RFC 3311
-/// section 5.2).
+/// A 200 without a body: to a BYE, a CANCEL, or an UPDATE without an offer, whose 2xx has the server's Contact (RFC
+/// 3311 section 5.2).
 pub fn okay(alloc: Global, server: Addr, asker: &Asker<'_, '_>) -> Result<Text<'static>, AllocError>
     ensures okay { IfOk result (λ t. t ≡ message_text (Kinds.Response (okay server asker.now))) }
 {

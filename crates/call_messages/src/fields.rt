@@ -1,4 +1,4 @@
-//! Header fields that what the server says to an end has behind those that every message has.
+//! The header fields of the server's messages to an end, after those that every message has.
 
 ghost use Rattle.std.specs.Prelude.{◌≡◌, [], ◌∷◌, IfOk};
 ghost use Rattle.call_messages.specs.Messages.{contact, content_type, description_headers, retry_after};
@@ -23,7 +23,7 @@ pub fn contact_header(alloc: Global, server: Addr) -> Result<Header<'static>, Al
     })
 }
 
-/// When a request that clashed with another may come again: `Retry-After: 5` alone (RFC 3261 sections 14.2 and 20.33).
+/// When a request that clashed with another may come again: only `Retry-After: 5` (RFC 3261 sections 14.2 and 20.33).
 pub fn retry_alone(alloc: Global) -> Result<Vec<Header<'static>>, AllocError>
     ensures { IfOk result (λ hs. hs.items ≡ retry_after ∷ []) }
 {

@@ -1,6 +1,6 @@
 //! What a call says to its two ends (RFC 3261 sections 8, 9, 12 to 15, RFC 3311): the messages of both legs, and each
-//! action of a call as the messages that it comes to. Nothing here knows in which order a request is checked, which
-//! calls stand or which ports are free.
+//! action of a call as the messages that it results in. Nothing here knows in which order a request is checked, which
+//! calls are live or which ports are free.
 #![tactic(auto)]
 
 mod action_messages;

@@ -1,4 +1,4 @@
-//! What one action comes to.
+//! What one action results in.
 
 ghost use Rattle.std.specs.Prelude.{◌≡◌, ◌<◌, ◌+◌, ◌^◌, ◌∷◌, [], codes, true, IfOk, OnErr, OnOk};
 ghost use Rattle.sip_message.specs.declared.message.Message.TheVariants as Kinds;
@@ -21,8 +21,8 @@ use std::marker::Model;
 use text::Text;
 use transactions::{Change, OwnRequest};
 
-/// What an action comes to: a change of a transaction at most, a datagram at most, and how many tokens are made.
-/// Contracts see it as what a list of this action comes to.
+/// What an action results in: at most one change of a transaction, at most one datagram, and the number of tokens
+/// made. Contracts see it as what a list of this action results in.
 #[derive(Drop)]
 pub struct Saying {
     pub change: Option<Change>,
@@ -74,7 +74,7 @@ impl Saying {
         })
     }
 
-    /// A request to the address of its Request-URI, for which so many tokens are made.
+    /// A request to the address of its Request-URI, for which this many tokens are made.
     pub(crate) fn asks(alloc: Global, request: OwnRequest, made: u64) -> Result<Saying, AllocError>
         ensures { (r : Request) → request ≡ own_of r → IfOk result (λ d. d ≡ asks r made) }
     {
@@ -105,7 +105,7 @@ impl Saying {
         }
     }
 
-    /// A datagram goes again.
+    /// A datagram is sent again.
     pub(crate) fn again(alloc: Global, sent: &Sent) -> Result<Saying, AllocError>
         ensures { IfOk result (λ d. d ≡ again sent.now) }
     {
@@ -117,7 +117,7 @@ impl Saying {
         })
     }
 
-    /// Puts what an action comes to behind what earlier ones did. Where memory is refused, puts nothing.
+    /// Puts what an action results in after the results of earlier ones. Where memory is refused, puts nothing.
     pub fn put_behind(self, dressed: &mut Dressed) -> Result<(), AllocError>
         requires { dressed.old.made + self.made < 2 ^ 64 }
         ensures ok { OnOk result (dressed.new ≡ behind dressed.old self) }

@@ -19,7 +19,7 @@ pub struct Asker<'m, 'a> {
     pub tag: &'m [u8],
 }
 
-/// All that actions may need. What is missing leaves those actions out that need it.
+/// All that actions may need. Actions that need something missing are left out.
 #[derive(Clone, Copy)]
 pub struct Scene<'m, 'a> {
     /// Where the server is reached.
@@ -40,7 +40,7 @@ pub struct Scene<'m, 'a> {
     pub passed: Option<&'m Transaction>,
     /// The offer or the answer, as the server sends it on.
     pub description: Option<&'m Description<'a>>,
-    /// The 200 that goes again.
+    /// The 200 that is sent again.
     pub again: Option<&'m Sent>,
     /// Max-Forwards of the offer, as it came.
     pub hops: u8,

@@ -1,4 +1,4 @@
--- A call stands at the place that a rule names.
+-- A call is at the place that a rule names.
 use Rattle.std.proofs.Common.{◌≡◌, ℕ, Bool, true, false, cond, is_some, List, Option, Some, None, refl, ap}
 use Rattle.std.specs.Prelude.{slice_get}
 use Rattle.sip_message.specs.declared.message.Parts.{Parts}

@@ -35,7 +35,7 @@ is_settled (Reanswered interval) = false
 is_settled Updating = false
 is_settled (Ending interval) = false
 
--- K2 and K1 come before all others; where none is met and the call is not settled, no offer can stand there
+-- K2 and K1 come before all others; where neither applies and the call is not settled, no offer can be there
 abbrev pub clash_by : Call → Option Clash → Option OfferRule
 clash_by c (Some clash) = Some (Crosses clash)
 clash_by c None = if holds_in is_settled c.standing then None else Some NoDialog

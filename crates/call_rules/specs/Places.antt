@@ -1,4 +1,4 @@
--- A call stands at a place that a rule names.
+-- A call is at a place that a rule names.
 use Rattle.std.specs.Prelude.{◌≡◌, ℕ, List, true, is_some, slice_get, Option, Some, None}
 use Rattle.calls.specs.declared.standing_call.StandingCall.{StandingCall}
 

@@ -22,7 +22,7 @@ contact_address (value ∷ more) = address_in value
 abbrev pub is_reached : List ContactValue → Bool
 is_reached values = is_some (contact_address values)
 
--- a Contact stands, and reaches nobody
+-- there is a Contact, and it reaches nobody
 abbrev pub is_lost : List ContactValue → Bool
 is_lost [] = false
 is_lost (value ∷ more) = not (is_reached (value ∷ more))

@@ -119,7 +119,7 @@ unfoldable pub response_rule : List StandingCall → Parts → Response → Resp
 response_rule standing asked r =
     if may_offer asked then at_place standing asked r (asked_place standing asked) else Silent
 
--- a call stands at the place that the rule names
+-- a call is at the place that the rule names
 abbrev pub NamesCall : List StandingCall → ResponseRule → Type 0
 NamesCall standing Silent = Unit {0}
 NamesCall standing (Provisional place status) = StandsAt standing place

@@ -27,7 +27,7 @@ fn coding_rule(alloc: Global, headers: &[Header<'_>]) -> Result<Option<ContentRu
     Ok(Some(ContentRule::Encoding))
 }
 
-/// Why the body of a message with these header fields is not taken, if it is not: its type is looked at first. A body
+/// Why the body of a message with these header fields is not taken, if it is not: its type is checked first. A body
 /// whose type is not named counts as a description.
 #[tactic(auto, unfolding(crate::specs::Content::content_rule))]
 pub fn content_rule(
@@ -42,7 +42,7 @@ pub fn content_rule(
     coding_rule(alloc, headers)
 }
 
-/// The description that the body is; none where it is none.
+/// The body as a description; none where it is not one.
 fn description_read(alloc: Global, body: &[u8]) -> Result<Option<Description<'_>>, AllocError>
     ensures { IfOk result (λ d. d ≡ if_read (description_of body.now)) }
 {
@@ -53,7 +53,7 @@ fn description_read(alloc: Global, body: &[u8]) -> Result<Option<Description<'_>
     }
 }
 
-/// What a body describes whose type and coding are known to be taken; none where it can't be read.
+/// What a body describes, whose type and coding are known to be taken; none where it can't be read.
 pub fn taken_description(alloc: Global, body: &[u8]) -> Result<Option<Description<'_>>, AllocError>
     ensures { (headers : List Header) → content_rule headers ≡ None → IfOk result (λ d. d ≡ described headers body.now) }
 {

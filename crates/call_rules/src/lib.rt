@@ -1,6 +1,6 @@
 //! What a request inside a call, a response to a request of the server's, the end of such a request's time, and a body
-//! ask of the calls that stand, before one of them takes it. Everything here only looks: no call changes, and nothing
-//! is sent.
+//! mean for the live calls, before one of them takes it. Everything here only looks: no call changes, and nothing is
+//! sent.
 #![tactic(auto)]
 
 mod content;

@@ -18,8 +18,8 @@ fn address_in(value: &ContactValue<'_>) -> Option<Addr>
     }
 }
 
-/// The address that the first Contact of these says; none where there is no Contact, where the first is no URI, and
-/// where its host is a name. Takes no memory.
+/// The address that the first Contact of these says; none where there is no Contact, where the first is not a URI,
+/// and where its host is a name. Takes no memory.
 #[tactic(auto, unfolding(crate::specs::Reach::contact_address))]
 pub fn contact_address(values: &[ContactValue<'_>]) -> Option<Addr>
     ensures { result ≡ contact_address values.now }

@@ -15,11 +15,11 @@ use dialogs::{Dialog, is_above};
 use sip_message::Request;
 use std::alloc::{AllocError, Global};
 
-/// What a request with a tag in To, or one that is no INVITE, is to the calls that stand. The place is that of the
-/// call, which is lent where more is asked of it, and the end is the one that sent the request.
+/// What a request with a tag in To, or one that is no INVITE, is to the live calls. The place is that of the call,
+/// which is borrowed where more of it is needed, and the end is the one that sent the request.
 #[derive(Clone, Copy)]
 pub enum DialogRule<'c> {
-    /// It stands in no dialog, or its end has left the call (RFC 3261 section 12.2.2).
+    /// It is in no dialog, or its end has left the call (RFC 3261 section 12.2.2).
     NoDialog,
     /// Its number is not above that of the last request (section 12.2.2).
     OldNumber {
@@ -129,11 +129,11 @@ fn of_callee<'c>(calls: &'c Calls, request: &Request<'_>) -> DialogRule<'c>
     }
 }
 
-/// Which rule a request falls under that stands in a dialog, or ought to. Takes no memory.
+/// Which rule a request in a dialog falls under, or one that ought to be in a dialog. Takes no memory.
 #[tactic(auto, unfolding(crate::specs::Requests::dialog_rule))]
 pub fn dialog_rule<'c>(calls: &'c Calls, request: &Request<'_>) -> DialogRule<'c>
     ensures rule { dialog_rule_of result ≡ dialog_rule calls.now.calls request.now }
-    // A call stands at the place that it names, and is the one that it lends.
+    // A call is at the place that it names, and is the one that it borrows.
     ensures there { NamesCall calls.now.calls result }
 {
     match calls.place_by_end(End::Caller, request) {

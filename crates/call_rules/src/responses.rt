@@ -16,7 +16,7 @@ use dialogs::Dialog;
 use sip_message::{Class, Parts, Response, class_of, tag_text};
 use transactions::Transaction;
 
-/// What a response to a request of the server's is to the calls that stand. The place is that of the call that sent it.
+/// What a response to a request of the server's is to the live calls. The place is that of the call that sent it.
 #[derive(Clone, Copy)]
 pub enum ResponseRule {
     /// It changes no call.
@@ -25,9 +25,9 @@ pub enum ResponseRule {
     Provisional { place: usize, status: u16 },
     /// The first 2xx.
     Answer { place: usize },
-    /// A 2xx to an INVITE that comes again: its ACK goes again (RFC 3261 section 13.2.2.4).
+    /// A 2xx to an INVITE that comes again: its ACK is sent again (RFC 3261 section 13.2.2.4).
     Again { place: usize },
-    /// A 2xx to the first INVITE of a call, of another dialog than the call has, or whose call is gone: its dialog is
+    /// A 2xx to the first INVITE of a call, of a dialog other than the call's, or whose call is gone: its dialog is
     /// ended (section 13.2.2.4).
     Fork,
     /// A 2xx to a later INVITE, whose call is gone: the dialog has ended, and its ACK goes (section 13.2.2.4).
@@ -258,11 +258,11 @@ fn rule_of(calls: &Calls, asked: &Parts<'_>, response: &Response<'_>) -> Respons
     at_place(calls, asked, response, asked_place(calls, asked))
 }
 
-/// Which rule a response falls under to the request with which a transaction of the server's own began. Takes no
+/// Which rule a response falls under, to the request with which a transaction of the server's own began. Takes no
 /// memory.
 pub fn response_rule(calls: &Calls, asked: &Transaction, response: &Response<'_>) -> ResponseRule
     ensures rule { result ≡ response_rule calls.now.calls asked.now.parts response.now }
-    // A call stands at the place that it names.
+    // A call is at the place that it names.
     ensures there { NamesCall calls.now.calls result }
 {
     rule_of(calls, &asked.parts, response)
@@ -302,7 +302,7 @@ fn open_place(calls: &Calls, asked: &Parts<'_>) -> Option<usize>
 /// began, and which did not come in time: none where the request was a BYE or a CANCEL. Takes no memory.
 pub fn timeout_rule(calls: &Calls, asked: &Transaction) -> Option<usize>
     ensures rule { result ≡ timeout_rule calls.now.calls asked.now.parts }
-    // A call stands there.
+    // A call is there.
     ensures there { StandsIfAny calls.now.calls result }
 {
     open_place(calls, &asked.parts)

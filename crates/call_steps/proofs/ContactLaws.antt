@@ -9,7 +9,7 @@ use Rattle.calls.specs.Carrying.{offerer_of}
 use Rattle.calls.specs.declared.standing_call.StandingCall.{StandingCall}
 use Rattle.call_steps.specs.Rows.{leg_after, leg_by}
 
--- where no call stands, and where one does
+-- where there is no call, and where there is one
 pub leg_of_none : (asked : Parts) (response : Response) (target : Option Uri) → leg_by asked response target None ≡ None
 leg_of_none asked response None = refl
 leg_of_none asked response (Some target) = refl

@@ -1,4 +1,4 @@
--- Whether the offer that was passed on stands tells nothing of actions that don't end it.
+-- Whether the offer that was passed on is still open says nothing about actions that don't end it.
 use Rattle.std.proofs.Common.{◌≡◌, ℕ, ◌+◌, Bool, true, false, cond, List, [], ◌∷◌, find, Option, Some, None, option_copied, refl, ap, sym, ◌∙◌}
 use Rattle.std.specs.Prelude.{if◌then◌else◌}
 use Rattle.std.specs.List.{list_any}

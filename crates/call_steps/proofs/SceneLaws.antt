@@ -1,4 +1,4 @@
--- Actions come to the same whatever references they are dressed with, where these show the same values.
+-- Actions result in the same whatever references they are dressed with, where these show the same values.
 use Rattle.std.proofs.Common.{◌≡◌, ℕ, ◌+◌, List, [], ◌∷◌, Option, Some, None, refl, ap, sym, ◌∙◌}
 use Rattle.std.specs.Option.{option_copied}
 use Rattle.std.specs.Prelude.{option_map}

@@ -1,4 +1,4 @@
--- What was planned for a call comes to its row.
+-- What was planned for a call results in its row.
 use Rattle.std.proofs.Common.{◌≡◌, ℕ, ◌+◌, List, Option, Some, None, unwrap_or, refl, ap, sym, ◌∙◌, subst, rules}
 use Rattle.std.specs.Prelude.{slice_get}
 use Rattle.sip_uri.specs.declared.uri.Addr.{Addr}
@@ -31,7 +31,7 @@ use Rattle.call_steps.specs.Rows.{begins_as, begins_with, begun, counts, counts_
 use Rattle.call_steps.specs.Scenes.{fresh}
 use Rattle.call_steps.specs.Values.{AskerValue, ComingValue, without_offer}
 
--- ---- a call that stands
+-- ---- a live call
 
 pub does_as_planned : (calls : Standing) (table : transactions.Contents) (o : Occasion) (place : ℕ) (input : Input) (w : ComingValue)
     (c : StandingCall) (plan : Plan) (said : StepMessages) (told : Option NoteOfCall) → slice_get calls.calls place ≡ Some c
@@ -78,7 +78,7 @@ pub refreshes_there : (calls : List StandingCall) (place : ℕ) (end : End) (r :
 unfolding refreshes
 refreshes_there calls place end r leg is = ap (leg_at (reached_at (contacts_of r.headers))) is
 
--- a plan for the call that stands at a place is one for any call that stands there
+-- a plan for the call at a place is one for any call there
 pub planned_there : (calls : Standing) (place now : ℕ) (c : StandingCall) (plan : Plan) → slice_get calls.calls place ≡ Some c → IsPlanned c.call calls.pool now plan
     → (d : StandingCall) → slice_get calls.calls place ≡ Some d → IsPlanned d.call calls.pool now plan
 planned_there calls place now c plan at planned d at_d =
@@ -108,7 +108,7 @@ pub begins_nothing : (calls : Standing) (o : Occasion) (request : Request) (id :
 unfolding first_row
 begins_nothing calls o request id source target offer none = rw none refl
 
--- ---- any input may be refused for want of memory
+-- ---- any input may be refused because memory ran out
 
 pub lacks_memory : (c : Call) (pool : Contents) (input : Input) (now : ℕ) → RefusesInput c pool input now OutOfMemory
 lacks_memory c pool (inputs.Offer x method offer) now = search rules

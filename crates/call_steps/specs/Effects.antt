@@ -1,4 +1,4 @@
--- What a step of a call comes to.
+-- What a step of a call results in.
 use Rattle.std.specs.Prelude.{ℕ, List, Option, None}
 use Rattle.events.specs.declared.sent.Sent.{Sent}
 use Rattle.timers.specs.declared.timers.Timer.{Timer}
@@ -10,8 +10,8 @@ use Rattle.call_messages.specs.Dressed.{Dressed, no_message}
 use Rattle.call_steps.specs.declared.call_step.CallStep.{CallStep}
 use Rattle.call_steps.specs.declared.messages.StepMessages.{StepMessages}
 
--- the calls afterwards, with the changes of the relay table; the messages; the ACK that goes again; and what happened
--- to a call, if that is told
+-- the calls afterwards, with the changes of the relay table; the messages; the ACK that is sent again; and what
+-- happened to a call, if that is reported
 pub record Effect : Type 0 where
   pub outcome : Outcome
   pub dressed : Dressed
@@ -25,7 +25,7 @@ effect calls now step = record { outcome = entered calls now step.change; dresse
 abbrev pub no_effect : Standing → Effect
 no_effect calls = record { outcome = unchanged calls; dressed = no_message; ack = None; note = None }
 
--- the calls come to this, with these messages and this note
+-- the calls become this, with these messages and this note
 abbrev pub with_messages : Outcome → StepMessages → Option NoteOfCall → Effect
 with_messages outcome said note = record { outcome = outcome; dressed = said.dressed; ack = said.ack; note = note }
 

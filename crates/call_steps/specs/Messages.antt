@@ -38,12 +38,12 @@ first_sent (sent ∷ more) = Some sent
 abbrev pub sent_alone : SceneValue → Action → Option Sent
 sent_alone s action = first_sent (dressed_in s (action ∷ [])).sends
 
--- the 200 with the answer goes again until its ACK comes (RFC 3261 section 13.3.1.4)
+-- the 200 with the answer is sent again until its ACK comes (RFC 3261 section 13.3.1.4)
 abbrev pub answer_kept : SceneValue → Option Action → Option Sent
 answer_kept s None = None
 answer_kept s (Some answer) = sent_alone s answer
 
--- the ACK of a 2xx, which is the first that a step sends, goes again where the 2xx comes again (section 13.2.2.4)
+-- the ACK of a 2xx, which is the first that a step sends, is sent again where the 2xx comes again (section 13.2.2.4)
 abbrev pub ack_kept : SceneValue → List Action → Option Sent
 ack_kept s (Ack end ∷ later) = sent_alone s (Ack end)
 ack_kept s actions = None

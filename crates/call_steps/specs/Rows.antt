@@ -38,7 +38,7 @@ use Rattle.call_steps.specs.Messages.{messages, with_made}
 use Rattle.call_steps.specs.Scenes.{first_scene, fork_scene, fresh, passed_id, scene, tag_with}
 use Rattle.call_steps.specs.Values.{AskerValue, ComingValue, without_offer}
 
--- ---- a call that stands
+-- ---- a live call
 
 -- the messages of what it does
 abbrev pub messages_of : transactions.Contents → Occasion → ComingValue → StandingCall → Step → StepMessages
@@ -179,7 +179,7 @@ unfoldable pub late_row : Standing → Occasion → Parts → Response → Effec
 late_row calls o asked response = late_by calls o asked response (reached_at (contacts_of response.headers))
 
 -- ---- the dialog of a 2xx that a call takes, to a request with these parts: that which it makes (section 12.1.2), or
--- the one that stands, whose other side is reached where the 2xx says (section 12.2.1.2)
+-- the existing one, whose other side is reached where the 2xx says (section 12.2.1.2)
 
 abbrev pub dialog_after : Parts → Response → Uri → Option Dialog → Dialog
 dialog_after asked response target None = callers_dialog asked response target
@@ -220,7 +220,7 @@ leg_at (Some target) (Some leg) = Some (record { end = leg.end; dialog = to_targ
 unfoldable pub refreshes : List StandingCall → ℕ → End → Request → Option LegDialog
 refreshes calls place end request = leg_at (reached_at (contacts_of request.headers)) (counts calls place end request.parts.cseq.number)
 
--- ---- what an offer inside a call comes to
+-- ---- what an offer inside a call results in
 
 unfoldable pub offers_row : Standing → transactions.Contents → Occasion → ℕ → Input → End → Request → ℕ → Addr → Effect
 offers_row calls table o place input end request id source =

@@ -17,7 +17,7 @@ use Rattle.calls.specs.declared.standing_call.StandingCall.{StandingCall}
 use Rattle.call_steps.specs.declared.occasion.Occasion.{Occasion}
 use Rattle.call_steps.specs.Values.{AskerValue, ComingValue, SceneValue}
 
--- the token that is so many-th of those that the step makes
+-- the nth token of those that the step makes
 abbrev pub fresh : Occasion → ℕ → List ℕ
 fresh o nth = token o.salt (o.tokens + nth)
 
@@ -56,7 +56,7 @@ abbrev pub at_id : List (Option Transaction) → Option ℕ → Option Transacti
 at_id slots None = None
 at_id slots (Some id) = at slots id
 
--- the offer that was taken last, while its transaction stands
+-- the offer that was taken last, while its transaction is live
 abbrev pub asker_by : StandingCall → Option Transaction → Option AskerValue
 asker_by c None = None
 asker_by c (Some t) = Some (record { id = c.asked.id; parts = t.parts; source = c.asked.source; tag = offerer_tag c.call })
@@ -66,7 +66,7 @@ abbrev pub asker_in : Option AskerValue → StandingCall → Option Transaction 
 asker_in None c t = asker_by c t
 asker_in (Some asker) c t = Some asker
 
--- ---- the scene of a call that stands, with what comes with the event, and the description that is passed on
+-- ---- the scene of a live call, with what comes with the event, and the description that is passed on
 
 abbrev pub scene : transactions.Contents → Occasion → ComingValue → StandingCall → Option Description → SceneValue
 scene table o w c description = record {
@@ -83,7 +83,7 @@ scene table o w c description = record {
   hops = w.hops;
 }
 
--- ---- the scene of a call that begins, behind the three tokens of its tags and of the new leg's Call-ID
+-- ---- the scene of a call that begins, after the three tokens of its tags and of the new leg's Call-ID
 
 abbrev pub first_scene : Occasion → AskerValue → ℕ → Dialog → Option Description → SceneValue
 first_scene o asker hops leg description = record {

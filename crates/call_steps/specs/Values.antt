@@ -1,4 +1,4 @@
--- What actions are dressed with, as values. The dressing itself is told of references: a value stands for each
+-- What actions are dressed with, as values. The dressing itself is defined for references: a value represents each
 -- reference to it.
 use Rattle.std.specs.Prelude.{ℕ, List, Option, None, option_map}
 use Rattle.std.specs.Option.{option_copied}
@@ -82,7 +82,7 @@ scene_value s = record {
   hops = s.hops;
 }
 
--- a reference to this value: where it points tells nothing
+-- a reference to this value: where it points says nothing
 abbrev pub lent : {X : Type 0} → X → Bor X
 lent x = record { ref_ptr = (0, 0); now = x }
 

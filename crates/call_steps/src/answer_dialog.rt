@@ -54,7 +54,7 @@ fn to_target(dialog: Dialog, target: Uri<'static>) -> Dialog
     }
 }
 
-/// The dialog that stands, whose other side is reached where a 2xx says.
+/// The existing dialog, whose other side is reached where a 2xx says.
 fn reached_dialog(
     alloc: Global,
     response: &Response<'_>,
@@ -69,7 +69,7 @@ fn reached_dialog(
     Ok(Some(to_target(dialog, target)))
 }
 
-/// The dialog after a 2xx: the one that it makes, or the one that stands.
+/// The dialog after a 2xx: the one that it makes, or the existing one.
 fn dialog_after(
     alloc: Global,
     asked: &Transaction,
@@ -100,9 +100,9 @@ fn leg_after(
     Ok(Some(LegDialog { end, dialog }))
 }
 
-/// The dialog of the call at this place with the end across from the offerer, after a 2xx to the offer: the one that
-/// the 2xx makes, or that which stands, whose other side is reached where the 2xx says (RFC 3261 sections 12.1.2 and
-/// 12.2.1.2); none where its Contact doesn't say where that is, and where no call stands.
+/// The dialog of the call at this place with the end opposite the offerer, after a 2xx to the offer: the one that the
+/// 2xx makes, or the existing one, whose other side is reached where the 2xx says (RFC 3261 sections 12.1.2 and
+/// 12.2.1.2); none where its Contact doesn't say where that is, and where there is no call.
 #[tactic(auto, unfolding(crate::specs::Rows::answers_leg), using(crate::proofs::ContactLaws::leg_of_none, crate::proofs::ContactLaws::leg_of_some))]
 pub fn answers_leg(
     alloc: Global,

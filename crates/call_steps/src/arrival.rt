@@ -1,4 +1,4 @@
-//! What comes with an event to a call that stands.
+//! What comes with an event to a live call.
 
 ghost use Rattle.std.specs.Prelude.{◌≡◌};
 ghost use Rattle.call_steps.specs.Values.{asker_value, coming_value, without_offer};

@@ -16,11 +16,12 @@ use std::alloc::Global;
 pub struct CallStep {
     /// What changes among the calls.
     pub change: CallChange,
-    /// The messages, with the changes of the transactions and how many tokens are made.
+    /// The messages, with the changes of the transactions and the number of tokens made.
     pub dressed: Dressed,
-    /// The ACK of a 2xx that is among them, which goes again where that 2xx comes again (RFC 3261 section 13.2.2.4).
+    /// The ACK of a 2xx that is among them, which is sent again where that 2xx comes again (RFC 3261 section
+    /// 13.2.2.4).
     pub ack: Option<Sent>,
-    /// What happens to a call, if that is told.
+    /// What happens to a call, if that is reported.
     pub note: Option<NoteOfCall>,
 }
 

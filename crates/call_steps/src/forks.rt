@@ -82,9 +82,9 @@ fn of_fork(said: StepMessages) -> CallStep
     }
 }
 
-/// What a 2xx comes to that no call takes, to an INVITE of the server's own: ACK, and BYE behind it, in the dialog that
-/// it makes (RFC 3261 section 13.2.2.4); nothing, where its Contact doesn't say where the callee is reached. No call
-/// changes.
+/// What a 2xx that no call takes, to an INVITE of the server's own, results in: ACK, and BYE after it, in the dialog
+/// that it makes (RFC 3261 section 13.2.2.4); nothing, where its Contact doesn't say where the callee is reached. No
+/// call changes.
 #[tactic(auto, unfolding(crate::specs::Rows::fork_row))]
 pub fn fork(
     alloc: Global,
@@ -165,8 +165,9 @@ fn late_messages(
     messages(alloc, &scene, None, &[Action::Ack(End::Callee)])
 }
 
-/// What a 2xx comes to, to a later INVITE of the server's own, whose call is gone: ACK alone, with that INVITE's own To
-/// (RFC 3261 section 13.2.2.4); nothing, where its Contact doesn't say where its sender is reached. No call changes.
+/// What a 2xx to a later INVITE of the server's own, whose call is gone, results in: only an ACK, with that INVITE's
+/// own To (RFC 3261 section 13.2.2.4); nothing, where its Contact doesn't say where its sender is reached. No call
+/// changes.
 #[tactic(auto, unfolding(crate::specs::Rows::late_row))]
 pub fn late_ack(
     alloc: Global,

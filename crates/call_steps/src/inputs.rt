@@ -1,4 +1,4 @@
-//! A call that stands takes an input.
+//! A live call takes an input.
 
 ghost use Rattle.std.specs.Prelude.{◌≡◌, ◌<◌, ◌≤◌, ◌^◌, ℕ, IfErr, IfOk, OnOk, List, Some, length, option_map, slice_get};
 ghost use Rattle.port_pool.specs.Pool.{Contents};
@@ -39,7 +39,7 @@ struct PlannedStep {
     note: Option<NoteOfCall>,
 }
 
-/// The call at this place does this, with the messages that it comes to, and with what comes with the event beside it.
+/// The call at this place does this, with the resulting messages, and with what else comes with the event.
 fn step_of(
     alloc: Global,
     place: usize,
@@ -181,8 +181,8 @@ pub(crate) fn takes_at(
 }
 
 /// What the call at this place does for an input that is no offer, with the dialog that comes with it (that of a 2xx,
-/// or the one that counted a request) and the request that waits for a response. It is refused for want of memory
-/// alone. Where no call stands, nothing is done. Nothing changes.
+/// or the one that counted a request) and the request that waits for a response. It is refused only when memory ran
+/// out. Where there is no call, nothing is done. Nothing changes.
 #[tactic(auto, using(crate::proofs::StepLaws::takes_there, crate::proofs::StepLaws::takes_nothing))]
 pub fn takes(
     alloc: Global,

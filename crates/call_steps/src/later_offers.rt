@@ -25,7 +25,7 @@ use dialogs::contact_uri;
 use std::alloc::{AllocError, Global};
 use transactions::Table;
 
-/// The offer of this request, with where its sender says that it is reached.
+/// The offer of this request, with the place where its sender says that it is reached.
 fn taken_offer(alloc: Global, received: ReceivedRequest<'_, '_>) -> Result<TakenOffer, AllocError>
     ensures { IfOk result (λ offer. offer ≡ taken_offer received.entry.request.now received.entry.id received.entry.source) }
 {
@@ -43,7 +43,7 @@ fn taken_offer(alloc: Global, received: ReceivedRequest<'_, '_>) -> Result<Taken
     Ok(TakenOffer { asked, target })
 }
 
-/// What comes to this call with an offer of this end: its dialog counts the number of the request.
+/// What reaches this call with an offer of this end: its dialog counts the number of the request.
 fn offer_coming<'m, 'a>(
     alloc: Global,
     end: End,
@@ -75,7 +75,7 @@ fn offer_coming<'m, 'a>(
     })
 }
 
-/// The pool serves a call that stands: what `Calls` says of the call at a place. Nothing runs.
+/// The pool serves a live call: what `Calls` says about the call at a place. Nothing runs.
 fn is_served(calls: &Calls, place: usize, call: &StandingCall)
     requires { slice_get calls.now.calls place ≡ Some call.now }
     ensures { IsServed call.now.call calls.now.pool }
@@ -83,9 +83,9 @@ fn is_served(calls: &Calls, place: usize, call: &StandingCall)
     prove!(calls.get(place).is_some());
 }
 
-/// What this call, which stands at this place, does for an offer of this end, which came in this request: it is passed
-/// on with one hop less, and the dialog with its sender counts its number (RFC 3261 section 14.2, RFC 3311 section
-/// 5.2). K2 and K1 are the first refusals, then K3, K4 and K5. Nothing changes.
+/// What this call, which is at this place, does for an offer of this end, which came in this request: it is passed on
+/// with one hop less, and the dialog with its sender counts its number (RFC 3261 section 14.2, RFC 3311 section 5.2).
+/// K2 and K1 are the first refusals, then K3, K4 and K5. Nothing changes.
 #[tactic(auto, using(crate::proofs::StepLaws::offers_there))]
 pub fn offers(
     alloc: Global,

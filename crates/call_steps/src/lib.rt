@@ -1,5 +1,6 @@
-//! What a call does for an event, as one value: the change among the calls, the messages, and the ACK that goes again.
-//! A step is planned with nothing changed. Nothing here knows of the order of checks, of bytes that came or of sockets.
+//! What a call does for an event, as one value: the change among the calls, the messages, and the ACK that is sent
+//! again. A step is planned with nothing changed. Nothing here knows about the order of checks, bytes that came, or
+//! sockets.
 #![tactic(auto)]
 
 mod answer_dialog;

@@ -12,7 +12,7 @@ use events::Sent;
 use std::alloc::{AllocError, Global};
 use transactions::Change;
 
-/// The messages of a step, with copies of those that go again.
+/// The messages of a step, with copies of those that are sent again.
 #[derive(Drop)]
 pub struct StepMessages {
     pub dressed: Dressed,
@@ -34,7 +34,7 @@ impl StepMessages {
         }
     }
 
-    /// Keeps what an action sends, where it is the 200 with the answer or the ACK that goes again.
+    /// Keeps what an action sends, where it is the 200 with the answer or the ACK that is sent again.
     fn keep(
         &mut self,
         alloc: Global,
@@ -116,8 +116,8 @@ fn acknowledges_first(at: usize, action: Action) -> bool
     at == 0 && is_ack(action)
 }
 
-/// The messages of these actions, with copies of those that go again: the 200 with the answer, and an ACK that is the
-/// first.
+/// The messages of these actions, with copies of those that are sent again: the 200 with the answer, and an ACK that
+/// is the first.
 #[tactic(auto, using(crate::proofs::SceneLaws::dressed_lent))]
 fn with_copies(
     alloc: Global,

@@ -118,7 +118,7 @@ fn first_messages<'m, 'a>(
     messages(alloc, &scene, None, plan.actions.as_slice())
 }
 
-/// So many tokens were made before these messages.
+/// This many tokens were made before these messages.
 fn with_made(before: u64, dressed: Dressed) -> Dressed
     requires { before + dressed.made < 2 ^ 64 }
     ensures { result ≡ with_made before dressed }
@@ -135,7 +135,7 @@ fn with_made(before: u64, dressed: Dressed) -> Dressed
     }
 }
 
-/// This call begins, with these messages behind three tokens.
+/// This call begins, with these messages after three tokens.
 fn step_of(call: Boxed<StandingCall>, plan: Boxed<Plan>, said: StepMessages) -> CallStep
     requires few { 3 + said.dressed.made < 2 ^ 63 }
     ensures row { (calls : Standing) (occasion : Occasion) → effect calls occasion.now result ≡ begun calls occasion call (carried call.call calls.pool occasion.now plan) said }
@@ -257,10 +257,10 @@ fn begins_none(
     Ok(CallStep::nothing(alloc))
 }
 
-/// What a first INVITE comes to, whose transaction has this number, which came from this source, and whose callee is
-/// bound at this target: a call with the next number begins. It has two new legs; the offer is passed on to the callee,
-/// and 100 goes to the caller (RFC 3261 section 16). The tags of the two legs, the Call-ID and the branch are tokens.
-/// K3 is the first refusal, K4 comes behind it, and else memory is missing. Nothing changes.
+/// What a first INVITE results in, whose transaction has this number, which came from this source, and whose callee
+/// is bound at this target: a call with the next number begins. It has two new legs; the offer is passed on to the
+/// callee, and 100 goes to the caller (RFC 3261 section 16). The tags of the two legs, the Call-ID and the branch are
+/// tokens. K3 is the first refusal, K4 comes after it, and otherwise memory is missing. Nothing changes.
 #[tactic(auto, using(crate::proofs::StepLaws::begins_nothing))]
 pub fn first_call(
     alloc: Global,

@@ -30,7 +30,7 @@ fn counts_in(
     Ok(Some(LegDialog { end, dialog }))
 }
 
-/// The dialog of this call with this end, once a request with this number was taken in it, whatever that is answered;
+/// The dialog of this call with this end, once a request with this number was taken in it, whatever the answer to it;
 /// none where the call has no such dialog. Nothing changes.
 pub fn counts_in_call(
     alloc: Global,
@@ -38,13 +38,13 @@ pub fn counts_in_call(
     end: End,
     number: u32,
 ) -> Result<Option<LegDialog>, AllocError>
-    // Wherever the call stands.
+    // Whatever the call's standing.
     ensures { (calls : List StandingCall) (place : ℕ) → slice_get calls place ≡ Some call.now → IfOk result (λ leg. leg ≡ counts calls place end number) }
 {
     counts_in(alloc, end, number, call.call.dialog(end))
 }
 
-/// The same, of the call at this place; none where no call stands.
+/// The same, of the call at this place; none where there is no call.
 pub fn counts(
     alloc: Global,
     calls: &Calls,
@@ -81,7 +81,7 @@ pub fn refreshes(
     end: End,
     request: &Request<'_>,
 ) -> Result<Option<LegDialog>, AllocError>
-    // Wherever the call stands.
+    // Whatever the call's standing.
     ensures { (calls : List StandingCall) (place : ℕ) → slice_get calls place ≡ Some call.now → IfOk result (λ leg. leg ≡ refreshes calls place end request.now) }
 {
     let target = contact_uri(alloc, request.headers.as_slice())?;

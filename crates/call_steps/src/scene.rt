@@ -102,7 +102,7 @@ fn transaction_at(table: &Table, id: Option<usize>) -> Option<&Transaction>
     table.transaction(id?)
 }
 
-/// The offer that was taken last, while its transaction stands.
+/// The offer that was taken last, while its transaction is live.
 fn asker_by<'c, 'a>(
     call: &'c StandingCall,
     transaction: Option<&'c Transaction>,

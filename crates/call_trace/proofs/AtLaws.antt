@@ -1,4 +1,4 @@
--- What proofs know of a trace: where a datagram stands in it, and in a longer one.
+-- What proofs know of a trace: where a datagram is in it, and in a longer one.
 use Rattle.std.proofs.Common.{◌≡◌, ℕ, zero, suc, ◌+◌, ◌<◌, List, [], ◌∷◌, ◌++◌, length, Some, ◌⊎◌, inl, inr, sym, arith, zero-add}
 use Rattle.std.specs.Prelude.{slice_get}
 use Rattle.call_trace.specs.declared.datagram.Datagram.{Datagram}
@@ -18,25 +18,25 @@ place_at t i p e = e
 pub at_within : (t : List Datagram) (i : ℕ) (p : Datagram) → At t i p → i < length t
 at_within t i p e = place_within t i p (place_at t i p e)
 
--- one datagram stands at a place
+-- one datagram is at a place
 pub at_same : (t : List Datagram) (i : ℕ) (p q : Datagram) → At t i p → At t i q → p ≡ q
 at_same t i p q e f = let e' : slice_get t i ≡ Some p = place_at t i p e in let f' : slice_get t i ≡ Some q = place_at t i q f in cc
 
--- what stands at a place stays there when the trace grows
+-- what is at a place stays there when the trace grows
 pub at_left : (t s : List Datagram) (i : ℕ) (p : Datagram) → At t i p → At (t ++ s) i p
 unfolding At
 at_left [] s i p e = absurd (cc)
 at_left (x ∷ t) s zero p e = e
 at_left (x ∷ t) s (suc i) p e = at_left t s i p e
 
--- and stood there before, at an old place
+-- and was there before, at an old place
 pub at_back : (t s : List Datagram) (i : ℕ) (p : Datagram) → i < length t → At (t ++ s) i p → At t i p
 unfolding At
 at_back [] s i p h e = absurd (omega arith)
 at_back (x ∷ t) s zero p h e = e
 at_back (x ∷ t) s (suc i) p h e = let h' : i < length t = omega arith in at_back t s i p h' e
 
--- what is new stands behind what is old
+-- what is new comes after what is old
 pub at_right : (t s : List Datagram) (i : ℕ) (p : Datagram) → At s i p → At (t ++ s) (length t + i) p
 unfolding At
 at_right [] s i p e = rw zero-add e

@@ -23,7 +23,7 @@ use Rattle.call_trace.proofs.MessageTests.{decides_itself, decides_taken, decide
 abbrev pub four : ℕ → ℕ → Datagram → Datagram → Exchange
 four i j p q = record { asked_at = i; answered_at = j; asked = p; answered = q }
 
--- what stands at the same places is the same
+-- what is at the same places is the same
 pub same_exchange : (t : List Datagram) (at : Places) (e f : Exchange) → IsAtPlaces t at e → IsAtPlaces t at f → e ≡ f
 same_exchange t at e f a b =
     let i : e.asked_at ≡ f.asked_at = a.asked_at ∙ sym b.asked_at in
@@ -138,7 +138,7 @@ decides_exchange methods t d at =
     (λ h. (h.0, h.1, fits_exchange methods t d h.0 h.2))
     (decides_both t at (λ p q. is_exchange methods t d at p q) (λ e. Fits methods t d e) (λ p q. decides_fits methods t d at p q))
 
--- an exchange stands at its places
+-- an exchange is at its places
 pub own_places : (methods : List (List ℕ)) (t : List Datagram) (d : Dialog) (e : Exchange) → IsExchange methods t d e → IsAtPlaces t (places e.asked_at e.answered_at) e
 own_places methods t d e x = record { asked_at = refl; answered_at = refl; at_asked = x.at_asked; at_answered = x.at_answered }
 

@@ -1,4 +1,4 @@
--- What the relation tells of dialogs: which have ended, which have not, and that the first 2xx of a call is new.
+-- What the relation says about dialogs: which have ended, which have not, and that the first 2xx of a call is new.
 use Rattle.std.proofs.Common.{◌≡◌, ◌≢◌, ℕ, suc, ◌<◌, List, Bool, true, false, Some, ◌⊎◌, inl, inr, refl, sym, ◌∙◌, ap, subst, arith}
 use Rattle.std.specs.Prelude.{slice_get, IsTrue}
 use Rattle.call_trace.specs.declared.datagram.Direction.TheVariants.{Sent}

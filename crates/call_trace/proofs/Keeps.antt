@@ -1,4 +1,4 @@
--- What stands of a call, and which pairs of dialogs are calls, after an event that leaves them alone.
+-- What holds for a call, and which pairs of dialogs are calls, after an event that leaves them alone.
 use Rattle.std.proofs.Common.{◌≡◌, ℕ, suc, ◌+◌, ◌<◌, ◌≤◌, List, ◌++◌, length, Bool, not, Option, Some, ◌⊎◌, inl, inr, sym, ◌∙◌, ap, subst, arith}
 use Rattle.std.specs.Prelude.{IsTrue}
 use Rattle.call_trace.specs.declared.datagram.Direction.TheVariants.{Sent}

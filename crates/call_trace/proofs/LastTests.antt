@@ -28,7 +28,7 @@ both_hold a b p q h = elim (cases_Bool (a && b)) [
   | inr f ↦ absurd (h (not_from_Decides (a && b) (Decides-and a b p q) f))
 ]
 
--- last exchanges at e and f that were passed together, one of which stands elsewhere than x and y
+-- last exchanges at e and f that were passed together, one of which is elsewhere than at x and y
 abbrev Rival : List (List ℕ) → List Datagram → Dialog → Places → Places → Places → Places → Type 0
 Rival methods t dy x y e f = HoldsAt t f (λ v. IsLast methods t dy v) × (HoldTogether t e f PassedTogether × ¬ (SamePlaces e x × SamePlaces f y))
 

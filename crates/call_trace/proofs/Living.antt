@@ -25,7 +25,7 @@ use Rattle.call_trace.proofs.Parting.{all_from_at, ends_now}
 
 -- ---- dialogs that have begun
 
--- what was sent stands for what is sent in the same bytes
+-- what was sent counts for what is sent in the same bytes
 dialog_again : (q : Datagram) (m : Message) → q.direction ≡ Sent → q.message ≡ m → dialog_of q ≡ dialog_sent m
 dialog_again q m e f =
     let P : Direction → Message → Dialog = λ d l. dialog_of (record { event = 0; direction = d; message = l }) in

@@ -27,7 +27,7 @@ all_remove P [] (suc i) a = tt
 all_remove P (x ∷ t) zero a = a.1
 all_remove P (x ∷ t) (suc i) a = (a.0, all_remove P t i a.1)
 
--- some member that is another than that at i, or that at i
+-- some member other than that at i, or that at i
 pub any_remove : {X : Type 0} (P : X → Type 0) (t : List X) (i : ℕ) (v : X) → slice_get t i ≡ Some v → AnyOf P t → AnyOf P (remove t i) ⊎ P v
 any_remove P [] zero v e a = absurd a
 any_remove P [] (suc i) v e a = absurd a

@@ -22,7 +22,7 @@ use Rattle.call_trace.proofs.OneEvent.{came, went, taken_stands, sent_stands, ta
 use Rattle.call_trace.proofs.NewExchanges.{from_response, exchange_new, NoNew, idle_no_answer}
 use Rattle.call_trace.proofs.Keeps.{Foreign, no_new_serves_none, stand_left, known_more, assembled}
 
--- of a list with one message behind it: one of the list, or the last
+-- of a list with one message after it: one of the list, or the last
 pub last_or : (bs : List Message) (w m : Message) (i : ℕ) → slice_get (bs ++ w ∷ []) i ≡ Some m → (slice_get bs i ≡ Some m) ⊎ ((i ≡ length bs) × (w ≡ m))
 last_or [] w m zero e = inr (refl, cc)
 last_or [] w m (suc i) e = absurd (cc)
@@ -41,7 +41,7 @@ request_no_answer methods t d e m x is h =
 pub offer_request : (methods : List (List ℕ)) (m : Message) → IsTrue (is_offer methods m) → IsTrue (is_request m.kind)
 offer_request methods m h = request_asks methods m (offer_asks methods m h)
 
--- an event that takes an offer, and sends one behind what is plain, makes no exchange
+-- an event that takes an offer, and sends one after what is plain, makes no exchange
 pub asking_makes_none : (methods : List (List ℕ)) (n : ℕ) (t : List Datagram) (x y d : Dialog) (m : Message) (g : List Message) (w : Message) → PassesOffer methods t x y m g w → NoNew methods t (passed n (Some m) (g ++ w ∷ [])) d
 asking_makes_none methods n t x y d m g w h e ex =
     let s : List Datagram = passed n (Some m) (g ++ w ∷ []) in

@@ -44,7 +44,7 @@ part_of n None sent k p e = let r = at_map n sent k p e in went k r.0 r.1 (omega
 part_of n (Some m) sent zero p e = came m refl refl (cc)
 part_of n (Some m) sent (suc k) p e = let r = at_map n sent k p e in went k r.0 r.1 (omega arith) r.2
 
--- the one that was taken stands first, and those that were sent behind it
+-- the one that was taken is first, and those that were sent come after it
 pub taken_stands : (n : ℕ) (taken : Option Message) (sent : List Message) (m : Message) → taken ≡ Some m → At (passed n taken sent) 0 (taken_at n m)
 unfolding At
 taken_stands n None sent m e = absurd (cc)
@@ -91,7 +91,7 @@ events_more n t taken sent h i p e =
       | inr x ↦ (let q : p.event ≡ n = event_of n taken sent x.0 p x.2 in omega arith)
     ]
 
--- of two datagrams of one event, one that stands in the old trace has the other with it
+-- of two datagrams of one event, one that is in the old trace has the other with it
 pub same_old : (n : ℕ) (t : List Datagram) (taken : Option Message) (sent : List Message) (i k : ℕ) (p q : Datagram) → Events n t → At t i p → At (t ++ passed n taken sent) k q → q.event ≡ p.event → At t k q
 same_old n t taken sent i k p q h e f same =
     elim (at_split t (passed n taken sent) k q f) [

@@ -6,7 +6,7 @@ use Rattle.std.specs.List.{list_any, range_with_len}
 use Rattle.std.proofs.lemmas.Bool.{cases_eq}
 use Rattle.std.proofs.lemmas.Bool.Decides.{Decides-or, Decides-like}
 
--- an element stands at its place
+-- an element is at its place
 pub place_within : {X : Type 0} (t : List X) (i : ℕ) (x : X) → slice_get t i ≡ Some x → i < length t
 place_within [] i x e = absurd (cc)
 place_within (y ∷ t) zero x e = omega arith

@@ -102,7 +102,7 @@ new_pair methods t n x y p s m a u dx dy e f ev h behind on ex ey =
           (one, two))
     ]
 
--- what one event asked: a request of ours with a branch tells the request in whose event it was sent
+-- what one event asked: a request of ours with a branch determines the request in whose event it was sent
 pub asked_same : (methods : List (List ℕ)) (t : List Datagram) (i k i' k' : ℕ) (p q p' q' : Datagram) → OneBirth methods t → OneTaken t → AskedAt methods t i p → AsksAt methods t k q → AskedAt methods t i' p' → AsksAt methods t k' q'
     → p.event ≡ q.event → p'.event ≡ q'.event → q.message.branch ≡ q'.message.branch → (i ≡ i') × (k ≡ k')
 asked_same methods t i k i' k' p q p' q' birth one hp hq hp' hq' e e' same =

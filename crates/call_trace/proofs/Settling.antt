@@ -121,7 +121,7 @@ made_exchange methods t n x y y' p s i k ca we m a u o h named =
       });
     }
 
--- nothing stands behind the 2xx that was sent
+-- nothing comes after the 2xx that was sent
 served_newest : (methods : List (List ℕ)) (t : List Datagram) (n : ℕ) (x : Dialog) (m : Message) (a : List Message) (u : Message) (f : Exchange) → IsExchange methods (t ++ settling n m a u) x f → f.answered_at ≤ length t + (1 + length a)
 served_newest methods t n x m a u f h =
     let w : f.answered_at < length (t ++ settling n m a u) = at_within (t ++ settling n m a u) f.answered_at f.answered h.at_answered in
@@ -129,7 +129,7 @@ served_newest methods t n x m a u f h =
     let three : length (settling n m a u) ≡ suc (suc (length a)) = settling_length n m a u in
     omega arith
 
--- what is behind the 2xx that was taken is of no exchange of its dialog
+-- what is after the 2xx that was taken is of no exchange of its dialog
 made_newest : (methods : List (List ℕ)) (t : List Datagram) (n : ℕ) (x y : Dialog) (p : Offer) (s : Session) (m : Message) (a : List Message) (u : Message) → PassesAnswer t x y p s m a u → y.ours ≢ [] → x.ours ≢ y.ours
     → (f : Exchange) → IsExchange methods (t ++ settling n m a u) y f → f.answered_at ≤ length t + 0
 made_newest methods t n x y p s m a u h some differ f e =

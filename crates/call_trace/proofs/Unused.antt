@@ -1,4 +1,4 @@
--- What a look through a trace tells of a branch.
+-- What a search through a trace says about a branch.
 use Rattle.std.proofs.Common.{◌≡◌, ◌≢◌, ℕ, Bool, not, nat_eq, List, Some}
 use Rattle.std.specs.Prelude.{slice_get, IsTrue}
 use Rattle.std.specs.List.{list_any}

@@ -143,7 +143,7 @@ module _ (s r : Session) where
       quiet (unmoved (swallowed second_answer 2 3 (sent_at 0 (asked_on s)) (taken_at 1 (accepted s)) refl first_asked refl (at_place after_answer 3 (taken_at 1 (accepted s)) refl) first_answered))
       (acknowledged refl (left 1 second_bye refl refl refl), (bye_sent refl (spares, tt), tt)) refl
 
-  -- ---- the 2xx goes again, and the callee ends the call
+  -- ---- the 2xx is sent again, and the callee ends the call
 
   abbrev after_repeat : List Datagram
   after_repeat = after_second ++ passed 7 None (agreed_on r ∷ [])

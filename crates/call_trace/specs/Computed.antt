@@ -53,7 +53,7 @@ is_served t p j q = is_taken p.direction && (not (is_taken q.direction) && not (
 unfoldable pub is_made : List Datagram → Datagram → ℕ → Datagram → Bool
 is_made t p j q = not (is_taken p.direction) && (is_taken q.direction && not (final_before t j p.message))
 
--- what stands at the places is an exchange of the dialog
+-- what is at the places is an exchange of the dialog
 unfoldable pub is_exchange : List (List ℕ) → List Datagram → Dialog → Places → Datagram → Datagram → Bool
 is_exchange methods t d at p q =
     nat_lt at.asked at.answered && (is_offer methods p.message && (is_answer q.message && (replies q.message p.message && ((names p d || names q d)
@@ -61,7 +61,7 @@ is_exchange methods t d at p q =
 
 -- ---- places
 
--- the test of what stands at a place
+-- the test of what is at a place
 abbrev pub on : (Datagram → Bool) → Option Datagram → Bool
 on test None = false
 on test (Some p) = test p
@@ -86,7 +86,7 @@ exchange_at methods t d at = on_both (λ p q. is_exchange methods t d at p q) t 
 unfoldable pub answered_at : List (List ℕ) → List Datagram → Dialog → ℕ → Bool
 answered_at methods t d j = some_below (λ i. exchange_at methods t d (places i j)) j
 
--- an exchange was answered at the place, which is behind the other
+-- an exchange was answered at the place, which is after the other
 unfoldable pub answered_behind : List (List ℕ) → List Datagram → Dialog → ℕ → ℕ → Bool
 answered_behind methods t d j l = nat_lt j l && answered_at methods t d l
 

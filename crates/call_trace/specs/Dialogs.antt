@@ -7,8 +7,8 @@ use Rattle.call_trace.specs.declared.datagram.Kind.TheVariants.{Request, Respons
 use Rattle.call_trace.specs.declared.datagram.Datagram.{Datagram}
 use Rattle.call_trace.specs.declared.datagram.Dialog.{Dialog}
 
--- Our tag stands in From where the request is ours, so in a request sent and in a response taken; in a request taken
--- and in a response sent it stands in To (RFC 3261 sections 8.1.1.3, 8.2.6.2 and 12.1).
+-- Our tag is in From where the request is ours, so in a request sent and in a response taken; in a request taken and
+-- in a response sent it is in To (RFC 3261 sections 8.1.1.3, 8.2.6.2 and 12.1).
 abbrev pub is_ours_in_from : Direction → Kind → Bool
 is_ours_in_from Sent Request = true
 is_ours_in_from Sent (Response status) = false

@@ -7,7 +7,7 @@ use Rattle.call_trace.specs.declared.datagram.Dialog.{Dialog}
 use Rattle.call_trace.specs.Messages.{is_final, is_offer, is_answer, Replies}
 use Rattle.call_trace.specs.Dialogs.{dialog_of}
 
--- The datagram stands at this place of the trace. All that is said of a trace is said by `At`.
+-- The datagram is at this place of the trace. All that is said about a trace is said by `At`.
 unfoldable pub At : List Datagram → ℕ → Datagram → Type 0
 At t i p = slice_get t i ≡ Some p
 
@@ -25,7 +25,7 @@ NoneTakenBefore t j request = (k : ℕ) (p : Datagram) → k < j → At t k p �
 abbrev pub NoneSentBefore : List Datagram → ℕ → List ℕ → Type 0
 NoneSentBefore t j bytes = (k : ℕ) (p : Datagram) → k < j → At t k p → p.direction ≡ Sent → p.message.bytes ≢ bytes
 
--- a place of a request, a place of a response, and what stands there
+-- a place of a request, a place of a response, and what is there
 pub record Exchange : Type 0 where
   pub asked_at : ℕ
   pub answered_at : ℕ
@@ -45,7 +45,7 @@ pub record IsMade (t : List Datagram) (e : Exchange) : Type 0 where
   pub first : NoneTakenBefore t e.answered_at e.asked.message
 
 -- In the dialog an offer was answered: a request with an offer, and a later 2xx with an answer that replies to it,
--- stand in the trace; one of the two names the dialog; one was taken and the other sent (RFC 3261 sections 13 and 14,
+-- are in the trace; one of the two names the dialog; one was taken and the other sent (RFC 3261 sections 13 and 14,
 -- RFC 3264 section 4).
 pub record IsExchange (methods : List (List ℕ)) (t : List Datagram) (d : Dialog) (e : Exchange) : Type 0 where
   pub at_asked : At t e.asked_at e.asked

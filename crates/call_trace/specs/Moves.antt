@@ -15,7 +15,7 @@ use Rattle.call_trace.specs.Listed.{AllOf}
 
 -- ---- an offer is passed on
 
--- The request came in the dialog x, and another was sent in the dialog y with a branch of its own, behind what is
+-- The request came in the dialog x, and another was sent in the dialog y with a branch of its own, after what is
 -- plain: a 100 to an INVITE, nothing to an UPDATE.
 pub record PassesOffer (methods : List (List ℕ)) (t : List Datagram) (x y : Dialog) (came : Message) (before : List Message) (went : Message) : Type 0 where
   pub plain : AllOf (λ m. IsTrue (is_plain methods m)) before
@@ -121,7 +121,7 @@ pub data Move (methods : List (List ℕ)) (t : List Datagram) (old : List Call) 
   release : (k : ℕ) (c : Call) (z : Settled) (p : Offer) (came : Message) → slice_get old k ≡ Some c → c.stage ≡ Answered z → c.offer ≡ Some p
       → IsTrue (is_final came.kind) → IsTrue (not (is_success came.kind)) → Replies came p.went
       → taken ≡ Some came → AllOf (IsIdle methods t taken) sent → new ≡ slice_set old k (without_offer c) → Move methods t old taken sent new
-  -- one end leaves an answered call, and the other is told later
+  -- one end leaves an answered call, and the other is notified later
   part : (k : ℕ) (c : Call) (z : Settled) (by_caller : Bool) → slice_get old k ≡ Some c → c.stage ≡ Answered z → EndsNow t taken sent (leg c by_caller)
       → IsIdleTaken methods t taken → AllOf (IsParting methods t taken sent (slice_set old k (ending c by_caller))) sent → new ≡ slice_set old k (ending c by_caller) → Move methods t old taken sent new
   -- A call goes: it was not answered, and its first offer is declined, cancelled or given up; or its two legs have

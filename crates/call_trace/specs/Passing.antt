@@ -16,7 +16,7 @@ pub record IsPassedOn (x y : Exchange) : Type 0 where
   pub offer : IsHandedOn x.asked y.asked
   pub answer : IsHandedOn y.answered x.answered
 
--- both offers stand in one event and both answers in one event: one exchange was asked of the server, and the server
+-- both offers are in one event and both answers in one event: one exchange was asked of the server, and the server
 -- asked the other
 abbrev pub PassedTogether : Exchange → Exchange → Type 0
 PassedTogether x y = IsPassedOn x y ⊎ IsPassedOn y x

@@ -28,7 +28,7 @@ pub record AreSaid (x y : Exchange) (s : Session) : Type 0 where
   pub answer_taken : y.answered.message.description ≡ Some s.answer_taken
 
 -- Joined by the table, the two legs mean what the offer of the one end and the answer of the other mean directly; and
--- each end was asked what the other offered, and told what the other answered; the answer has as many media as the
+-- each end was asked what the other offered, and sent what the other answered; the answer has as many media as the
 -- offer (RFC 3264 sections 5 to 8).
 pub record IsDirect (server : List ℕ) (table : ℕ → Option Addr) (s : Session) : Type 0 where
   pub joined : joined server table s.offer_taken s.answer_sent s.offer_sent s.answer_taken ≡ direct s.offer_taken s.answer_taken
@@ -53,8 +53,8 @@ EachMeets methods server table t =
 
 -- ---- what gives it
 
--- each end was told what is alike to what the other said, with places at the server, and the answer has as many media
--- as the offer that its end got (RFC 3264 section 6)
+-- what each end was sent matches what the other said, with places at the server, and the answer has as many media as
+-- the offer that its end got (RFC 3264 section 6)
 pub record IsReaddressed (server : List ℕ) (s : Session) : Type 0 where
   pub offers : Alike s.offer_taken s.offer_sent
   pub answers : Alike s.answer_taken s.answer_sent

@@ -26,17 +26,17 @@ pub record Promised (methods : List (List ℕ)) (server : List ℕ) (table : ℕ
 
 -- ---- what gives it
 
--- the sessions of the answered calls are relayed: each end was told what is alike to what the other said, and the table
+-- the sessions of the answered calls are relayed: what each end was sent matches what the other said, and the table
 -- has their rows
 abbrev pub AreRelayed : List ℕ → (ℕ → Option Addr) → List Call → Type 0
 AreRelayed server table calls = AllOf (λ c. (z : Settled) → c.stage ≡ Answered z → IsRelayed server table z.session) calls
 
--- in each answered call each end was told what is alike to what the other said, with places at the server
+-- in each answered call what each end was sent matches what the other said, with places at the server
 abbrev pub AreReaddressed : List ℕ → List Call → Type 0
 AreReaddressed server calls = AllOf (λ c. (z : Settled) → c.stage ≡ Answered z → IsReaddressed server z.session) calls
 
--- what a server owes for it beside the moves: what it told each end, the table as the sessions ask, and who holds their
--- pairs
+-- what a server owes for it besides the moves: what it sent each end, the table as the sessions ask, and who holds
+-- their pairs
 pub record AreServed (server : List ℕ) (table : ℕ → Option Hop) (holder : ℕ → Option Dialog) (calls : List Call) : Type 0 where
   pub told : AreReaddressed server calls
   pub rows : IsTableOf table calls

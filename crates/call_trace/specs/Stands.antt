@@ -1,4 +1,4 @@
--- How calls stand after a trace: which exchanges are their last, which offers are open.
+-- How calls come after a trace: which exchanges are their last, which offers are open.
 use Rattle.std.specs.Prelude.{◌≡◌, ◌≢◌, ℕ, ◌<◌, List, [], ◌∷◌, Bool, true, false, not, Some, ◌⊎◌, IsTrue}
 use Rattle.call_trace.specs.declared.datagram.Direction.TheVariants.{Taken, Sent}
 use Rattle.call_trace.specs.declared.datagram.Datagram.{Datagram}
@@ -22,8 +22,7 @@ leg c false = c.callee
 
 -- ---- an open offer
 
--- The offer of x was passed on to y in one event, by requests that stand at these places, and no final response to it
--- was taken.
+-- The offer of x was passed on to y in one event, by requests at these places, and no final response to it was taken.
 pub record IsOffered (methods : List (List ℕ)) (t : List Datagram) (x y : Dialog) (p : Offer) (i k : ℕ) (came went : Datagram) : Type 0 where
   pub at_came : At t i came
   pub at_went : At t k went
@@ -107,7 +106,7 @@ pub record AreOffering (methods : List (List ℕ)) : Type 0 where
   pub byes : IsTrue (not (is_listed methods bye))
   pub cancels : IsTrue (not (is_listed methods cancel))
 
--- a request of ours that may carry an offer stands at the place
+-- a request of ours that may carry an offer is at the place
 pub record AsksAt (methods : List (List ℕ)) (t : List Datagram) (i : ℕ) (p : Datagram) : Type 0 where
   pub at : At t i p
   pub sent : p.direction ≡ Sent

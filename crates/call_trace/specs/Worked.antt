@@ -80,7 +80,7 @@ plain_call s =
     beginning s ++ record { taken = Some acknowledged; sent = [] }
     ∷ record { taken = Some ended; sent = ended_well ∷ ended_on ∷ [] } ∷ []
 
--- ---- or the callee leaves it, and the caller is told when its ACK has come
+-- ---- or the callee leaves it, and the caller is notified when its ACK has come
 
 abbrev pub leaves : Kind → List ℕ → Message
 leaves kind bytes = record {

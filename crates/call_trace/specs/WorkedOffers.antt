@@ -1,5 +1,5 @@
 -- A call written out as events, with any descriptions: its callee offers again and is refused, offers once more and is
--- answered, a second telephone answers the first INVITE late, a 2xx goes again, and the callee ends the call.
+-- answered, a second telephone answers the first INVITE late, a 2xx is sent again, and the callee ends the call.
 use Rattle.std.specs.Prelude.{ℕ, List, [], ◌∷◌, ◌++◌, codes, Option, Some, None}
 use Rattle.sdp.specs.declared.description.Description.{Description}
 use Rattle.call_trace.specs.declared.datagram.Kind.{Kind}

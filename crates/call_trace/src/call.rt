@@ -31,9 +31,9 @@ pub struct Settled {
 
 /// How far a call has come.
 pub enum Stage {
-    /// The callee was asked and has not answered. A call that is cancelled is listed no more.
+    /// The callee was asked and has not answered. A call that is cancelled is no longer listed.
     Asked,
-    /// It was answered, and this was settled last. Whether the ACK came is no matter.
+    /// It was answered, and this was settled last. Whether the ACK came doesn't matter.
     Answered(Settled),
     /// One end has left it, the caller where this is true; the other waits for its BYE.
     Ending(bool),

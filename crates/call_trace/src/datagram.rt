@@ -33,7 +33,7 @@ pub struct Message {
     pub method: Text<'static>,
     /// The body, where it is a description.
     pub description: Option<Description<'static>>,
-    /// The whole message, as it stood on the wire.
+    /// The whole message, as it was on the wire.
     pub bytes: Text<'static>,
 }
 

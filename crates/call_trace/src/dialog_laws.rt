@@ -1,4 +1,4 @@
-//! What the relation of calls and trace tells who makes the moves.
+//! What the relation of calls and trace says to whoever makes the moves.
 
 ghost use Rattle.std.specs.Prelude.{◌≡◌, ℕ, suc, Bool, List, [], ◌++◌, Option, Some, slice_get, remove, IsTrue};
 ghost use Rattle.call_trace.specs.declared.datagram.Message.{Message};
@@ -15,9 +15,9 @@ ghost use Rattle.call_trace.specs.Lives.{IsEnding, SparesCall, Stands};
 ghost use Rattle.call_trace.specs.Events.{taken_at, sent_at, passed, dialog_sent, AreNewBytes, EndsNow};
 ghost use Rattle.call_trace.specs.Runs.{AreRead};
 
-/// A dialog of a call that is listed no more has ended, and so has one that ends by an event, after it; the legs of a
-/// call that no end has left have not. The first 2xx of a call has bytes that were not sent before. An event of which
-/// nothing stands in the trace counts, and changes nothing.
+/// A dialog of a call that is no longer listed has ended, and so has one that ends by an event, after it; the legs of
+/// a call that no end has left have not. The first 2xx of a call has bytes that were not sent before. An event of
+/// which nothing is in the trace counts, and changes nothing.
 pub fn dialogs_are_known()
     ensures gone { (methods : List (List ℕ)) (calls : List Call) (n : ℕ) (t : List Datagram) (d e : Dialog) →
         Stands methods calls n t → CallOf methods t d e → AllOf (λ c. ¬ IsTagOf c d.ours) calls → Ended t d }

@@ -12,7 +12,7 @@ use crate::reply_words::is_reply;
 use crate::search::is_last_at;
 use text::{Text, Texts};
 
-/// Where the request and the response of an exchange stand in a trace.
+/// Where the request and the response of an exchange are in a trace.
 #[derive(Clone, Copy)]
 pub struct Places {
     pub asked: usize,
@@ -117,7 +117,7 @@ pub(crate) fn is_exchange_at(
     is_exchange_of(methods, trace, dialog, at, asked, answered)
 }
 
-/// Whether an offer and its answer stand at these places, in the dialog. The methods are those whose requests may carry
+/// Whether an offer and its answer are at these places, in the dialog. The methods are those whose requests may carry
 /// an offer (RFC 3261 sections 13 and 14, RFC 3264 section 4).
 pub fn is_exchange(methods: &Texts<'_>, trace: &[Datagram], dialog: &Dialog, at: Places) -> bool
     ensures { IsTrue result

@@ -10,8 +10,8 @@ ghost use Rattle.call_trace.specs.Promise.{MediaPromise, AllRelayed};
 
 use offer_answer::joined_is_direct;
 
-/// An exchange stays one when the trace grows, and one whose response stood in the shorter trace was one there: each of
-/// its conditions looks to the left of its response alone.
+/// An exchange stays one when the trace grows, and one whose response was in the shorter trace was one there: each of
+/// its conditions looks only to the left of its response.
 pub fn exchanges_stay()
     ensures longer { (methods : List (List ℕ)) (t s : List Datagram) (d : Dialog) (e : Exchange) →
         IsExchange methods t d e → IsExchange methods (t ++ s) d e }
@@ -28,8 +28,8 @@ pub fn calls_stay()
     ensures ended { (t s : List Datagram) (d : Dialog) → Ended t d → Ended (t ++ s) d }
 {}
 
-/// The media promise is kept where, for each live call with no offer open, the last exchanges were passed on, each end
-/// was told what is alike to what the other said, at the server's address, and the table has the session's rows.
+/// The media promise is kept where, for each live call with no offer open, the last exchanges were passed on, what
+/// each end was sent matches what the other said, at the server's address, and the table has the session's rows.
 pub fn relayed_is_promised()
     ensures { (methods : List (List ℕ)) (server : List ℕ) (table : ℕ → Option Addr) (t : List Datagram) →
         AllRelayed methods server table t → MediaPromise methods server table t }

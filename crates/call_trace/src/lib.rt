@@ -1,7 +1,7 @@
 //! What a trace of messages means: which datagrams belong to which dialog (RFC 3261), which offer and answer make an
 //! exchange (RFC 3264), which exchanges were passed together, which dialogs are calls and live, where an offer is open,
-//! and what the media promise is. Messages are read already, and nothing here knows of the server. Beside each
-//! definition stands a plain program that computes it: lists, no cleverness.
+//! and what the media promise is. Messages are read already, and nothing here knows of the server. Each definition
+//! comes with a plain program that computes it: lists, no cleverness.
 #![tactic(auto)]
 
 mod call;

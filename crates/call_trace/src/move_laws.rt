@@ -23,9 +23,9 @@ ghost use Rattle.call_trace.specs.Promised.{AreRelayed, AreServed, Promised, All
 use crate::laws::relayed_is_promised;
 use offer_answer::joined_is_direct;
 
-/// INVITE and UPDATE are methods that may carry an offer. No calls stand after the empty trace. Where calls stand after
-/// a trace and an event is a move, the calls after the move stand after the trace with the event's datagrams; and so it
-/// is with lists of moves.
+/// INVITE and UPDATE are methods that may carry an offer. No calls come after the empty trace. Where calls come after
+/// a trace and an event is a move, the calls after the move come after the trace with the event's datagrams; and the
+/// same holds for lists of moves.
 pub fn moves_keep()
     ensures offering { AreOffering offering }
     ensures none { (methods : List (List ℕ)) → AreOffering methods → Stands methods [] 0 [] }
@@ -35,9 +35,9 @@ pub fn moves_keep()
         Moves methods n t old events new → Stands methods old n t → Stands methods new (n + length events) (t ++ trace_from n events) }
 {}
 
-/// Calls that stand after a trace, whose sessions are relayed and served, give the whole promise. That the calls listed
-/// as answered are exactly the live ones needs no table; and of each of them the media promise says which end offered
-/// last.
+/// Calls that come after a trace, whose sessions are relayed and served, give the whole promise. That the calls
+/// listed as answered are exactly the live ones needs no table; and for each of them the media promise says which end
+/// offered last.
 pub fn standing_is_promised()
     ensures promised { (methods : List (List ℕ)) (server : List ℕ) (table : ℕ → Option Hop) (holder : ℕ → Option Dialog) (calls : List Call) (n : ℕ) (t : List Datagram) →
         Stands methods calls n t → AreServed server table holder calls → Promised methods server table holder calls t }
@@ -53,9 +53,8 @@ pub fn standing_is_promised()
 /// Calls are lists of moves, whatever their descriptions: one that its caller ends, one that the callee leaves before
 /// the caller's ACK has come, one that is cancelled while the callee accepts it, one whose callee offers again, is
 /// refused, and offers again, while a second telephone answers, and one whose caller offers by UPDATE, is refused, and
-/// offers again. And those whose ends are not plain: cancelled and then refused, given up, left by BYE before the
-/// answer, left while an offer is open that is answered too late, and left by the caller before the callee has
-/// acknowledged.
+/// offers again. And calls that end less simply: cancelled and then refused, given up, left by BYE before the answer,
+/// left while an offer is open that is answered too late, and left by the caller before the callee has acknowledged.
 pub fn calls_are_moves()
     ensures plain { (s : Session) → Moves offering 0 [] [] (plain_call s) [] }
     ensures left { (s : Session) → Moves offering 0 [] [] (left_before_ack s) [] }

@@ -1,4 +1,4 @@
-//! What one event takes of one end and sends to the other.
+//! What one event takes from one end and sends to the other.
 
 ghost use Rattle.std.specs.Prelude.{◌≡◌, ◌↔◌, IsTrue};
 ghost use Rattle.call_trace.specs.Passing.{IsPassedOn, PassedTogether};

@@ -15,7 +15,7 @@ fn is_answered_at(methods: &Texts<'_>, trace: &[Datagram], dialog: &Dialog, answ
     (0..answered).any(|asked| is_exchange_at(methods, trace, dialog, Places { asked, answered }))
 }
 
-/// Whether an exchange of the dialog was answered at the place, which is behind the other.
+/// Whether an exchange of the dialog was answered at the place, which is after the other.
 #[tactic(auto, unfolding(crate::specs::Computed::answered_behind))]
 fn is_answered_behind(
     methods: &Texts<'_>,
@@ -29,7 +29,7 @@ fn is_answered_behind(
     answered < place && is_answered_at(methods, trace, dialog, place)
 }
 
-/// Whether an exchange of the dialog was answered behind this place.
+/// Whether an exchange of the dialog was answered after this place.
 #[tactic(auto, unfolding(crate::specs::Computed::later_exchange))]
 fn has_later(methods: &Texts<'_>, trace: &[Datagram], dialog: &Dialog, answered: usize) -> bool
     ensures { result ≡ later_exchange methods.now trace.now dialog.now answered }

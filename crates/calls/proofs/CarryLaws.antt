@@ -1,4 +1,4 @@
--- What carrying a plan out at a place comes to.
+-- What carrying a plan out at a place results in.
 use Rattle.std.proofs.Common.{◌≡◌, ◌∙◌, ◌<◌, ℕ, cond, is_some, List, length, set, Some, sym, ap, subst}
 use Rattle.std.specs.Prelude.{slice_get}
 use Rattle.std.specs.List.{remove}
@@ -16,7 +16,7 @@ use Rattle.calls.specs.State.{AreKept, Standing}
 use Rattle.calls.specs.Timing.{timers_planned}
 use Rattle.calls.proofs.KeptLaws.{Spared, kept_gone, kept_set, number_beside, put_there, standing_beside}
 
--- the call as it stands at its place afterwards
+-- the call as it is at its place afterwards
 abbrev pub with_plan : StandingCall → pools.Contents → ℕ → Beside → Plan → StandingCall
 with_plan c pool now put plan = beside put (with_step c (carried c.call pool now plan))
 

@@ -210,7 +210,7 @@ none_held first pairs = λ number port above. ap (is_call number) (none_found (h
 pub kept_none : (first pairs : ℕ) → AreKept [] (pools.new_pool first pairs) 0
 kept_none first pairs = record { served = tt; numbers = omega arith; none = none_held first pairs }
 
--- ---- what stands at a place within the list
+-- ---- what is at a place within the list
 
 pub read_at : (cs : List StandingCall) (place : ℕ) (c : StandingCall) → place < length cs → c ≡ get_or cs place c → slice_get cs place ≡ Some c
 read_at [] place c within read = absurd (omega (arith, within))

@@ -1,5 +1,5 @@
--- The prints of tags stand for the tags: who has a tag has its print, so that the first with a print is looked for in
--- place of the first with a tag.
+-- The prints of tags represent the tags: a call that has a tag has its print, so the first with a print is looked up
+-- in place of the first with a tag.
 use Rattle.std.proofs.Common.{◌≡◌, ◌∙◌, ◌<◌, ◌≤◌, ◌+◌, ℕ, zero, suc, Bool, true, false, not, cond, is_some, List, [], ◌∷◌, length, get_or, map, set, Option, Some, None, refl, sym, ap, subst, ltb, arith}
 use Rattle.std.specs.Prelude.{◌||◌, ◌&&◌, nat_eq, option_map, slice_get}
 use Rattle.std.specs.List.{position, position_or_len, remove}
@@ -30,7 +30,7 @@ use Rattle.calls.proofs.KeptLaws.{read_at, same_read, set_read}
 use Rattle.std.proofs.lemmas.List.{length-set, map-set}
 use Rattle.std.proofs.lemmas.Bool.{eq-eqb, ltb-true, ltb-false}
 
--- ---- the first that passes, by a test of what stands for it
+-- ---- the first that passes, by a test of what represents it
 
 both_first : (b c : Bool) (m n : ℕ) → (b ≡ true → c ≡ true) → m ≤ n → cond (not c) (1 + m) 0 ≤ cond (not b) (1 + n) 0
 both_first true true m n passes less = omega arith

@@ -1,4 +1,4 @@
--- What carrying a plan out does to the calls that stand, and what is put beside a call.
+-- What carrying a plan out does to the live calls, and what is put beside a call.
 use Rattle.std.specs.Prelude.{◌≡◌, ℕ, List, [], ◌∷◌, ◌++◌, is_some, slice_get, slice_set, Option, Some, None, if◌then◌else◌}
 use Rattle.std.specs.List.{remove}
 use Rattle.port_pool.specs.Pool as pools
@@ -49,16 +49,16 @@ with_answered c = record { call = reached_call c.target c.call; callee_tag = c.c
 
 -- ---- the list of calls
 
--- the call at this place, changed, where one stands
+-- the call at this place, changed, where there is one
 abbrev pub changed_at : (StandingCall → StandingCall) → ℕ → List StandingCall → Option StandingCall → List StandingCall
 changed_at change place calls None = calls
 changed_at change place calls (Some c) = slice_set calls place (change c)
 
--- a call that begins is put behind the others, where it stands
+-- a call that begins is put after the others, where it has a standing
 abbrev pub pushed : StandingCall → List StandingCall → List StandingCall
 pushed c calls = if is_some c.call.standing then calls ++ c ∷ [] else calls
 
--- the call at this place is taken off, where it stands nowhere any more
+-- the call at this place is taken off, where it no longer has a standing
 abbrev pub without_gone : List StandingCall → ℕ → Option StandingCall → List StandingCall
 without_gone calls place None = calls
 without_gone calls place (Some c) = if is_some c.call.standing then calls else remove calls place
@@ -69,7 +69,7 @@ without_gone calls place (Some c) = if is_some c.call.standing then calls else r
 abbrev pub IsPlannedAt : List StandingCall → pools.Contents → ℕ → ℕ → Plan → Type 0
 IsPlannedAt calls pool place now plan = (c : StandingCall) → slice_get calls place ≡ Some c → IsPlanned c.call pool now plan
 
--- the call at this place did what was planned for it, and stands there still, as `new`
+-- the call at this place did what was planned for it, and is still there, as `new`
 pub record Did (before : List StandingCall) (pool : pools.Contents) (place now : ℕ) (plan : Plan) (c new : StandingCall)
     (after : List StandingCall) (pool_after : pools.Contents) (made : List Change) : Type 0 where
   pub calls : after ≡ slice_set before place new

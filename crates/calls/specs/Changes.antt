@@ -26,7 +26,7 @@ pub record Outcome : Type 0 where
 abbrev pub unchanged : Standing → Outcome
 unchanged s = record { standing = s; changes = [] }
 
--- ---- a call that stands
+-- ---- a live call
 
 abbrev pub with_leg : Option LegDialog → StandingCall → StandingCall
 with_leg None c = c
@@ -36,7 +36,7 @@ abbrev pub with_taken_if : Option TakenOffer → StandingCall → StandingCall
 with_taken_if None c = c
 with_taken_if (Some offer) c = with_taken offer c
 
--- a 200 that is new is the one that goes again, and answers the offer that was taken last
+-- a 200 that is new is the one that is sent again, and answers the offer that was taken last
 abbrev pub with_last : Option Sent → StandingCall → StandingCall
 with_last None c = c
 with_last (Some answer) c = with_answer (Some answer) (with_answered c)
@@ -60,7 +60,7 @@ abbrev pub carries : Standing → ℕ → ℕ → Beside → Plan → Option Sta
 carries s now place kept plan None = unchanged s
 carries s now place kept plan (Some c) = after_step s now place kept c (carried c.call s.pool now plan)
 
--- ---- a call that begins, behind the others
+-- ---- a call that begins, after the others
 
 abbrev pub after_first_step : Standing → ℕ → StandingCall → Step → Outcome
 after_first_step s now c step = record {
@@ -82,7 +82,7 @@ abbrev pub puts : Standing → ℕ → LegDialog → Outcome
 puts s place leg =
     unchanged (with_calls (changed_at (with_dialog_at leg.end leg.dialog) place s.calls (slice_get s.calls place)) s)
 
--- ---- what a change comes to, at this moment
+-- ---- what a change results in, at this moment
 
 abbrev pub entered : Standing → ℕ → CallChange → Outcome
 entered s now Unchanged = unchanged s
@@ -104,7 +104,7 @@ HasRoom s (Begins c plan) = (0 < s.room) × (length plan.actions ≤ s.timer_roo
 HasRoom s (Carries place kept plan) = length plan.actions ≤ s.timer_room
 HasRoom s (Puts place leg) = Unit {0}
 
--- it sets so many timers at most
+-- it sets at most this many timers
 abbrev pub timers_set : CallChange → ℕ
 timers_set Unchanged = 0
 timers_set (Begins c plan) = length plan.actions

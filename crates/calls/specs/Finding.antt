@@ -14,7 +14,7 @@ use Rattle.calls.specs.declared.standing_call.StandingCall.{StandingCall}
 
 -- ---- a request of an end
 
--- a request that was taken stands in this dialog, where there is one (RFC 3261 section 12.2.2)
+-- a request that was taken is in this dialog, where there is one (RFC 3261 section 12.2.2)
 abbrev pub is_of_dialog : Parts → Option Dialog → Bool
 is_of_dialog parts None = false
 is_of_dialog parts (Some d) = same_id d.id (id_of_request parts)
@@ -58,7 +58,7 @@ awaits_ack (Reanswered interval) = true
 awaits_ack Updating = false
 awaits_ack (Ending interval) = true
 
--- it stands in the dialog with the end whose INVITE was answered, and has that INVITE's number (section 13.2.2.4)
+-- it is in the dialog with the end whose INVITE was answered, and has that INVITE's number (section 13.2.2.4)
 abbrev pub is_ack_in : Parts → StandingCall → Option Standing → Bool
 is_ack_in parts c None = false
 is_ack_in parts c (Some s) = awaits_ack s.stage && parts.cseq.number == c.asked.number && is_of_end s.offerer parts c

@@ -1,4 +1,4 @@
--- Whether a call stands with no offer open, and each answered.
+-- Whether a call is live with no offer open, and each answered.
 use Rattle.std.specs.Prelude.{ℕ, ◌&&◌, Bool, List}
 use Rattle.std.specs.List.{list_any}
 use Rattle.call_core.specs.Calls.{holds_in}

@@ -1,4 +1,4 @@
--- The calls that stand, with the pool that serves them.
+-- The live calls, with the pool that serves them.
 use Rattle.std.specs.Prelude.{◌≡◌, ℕ, ◌<◌, ◌≤◌, false, List, [], ◌∷◌}
 use Rattle.port_pool.specs.Pool as pools
 use Rattle.call_core.specs.Calls.{IsServed}

@@ -1,4 +1,4 @@
-//! What is put beside a call that stands. Nothing here takes memory, and where no call stands at the place, nothing
+//! What is put beside a live call. Nothing here takes memory, and where there is no call at the place, nothing
 //! changes.
 
 ghost use Rattle.std.specs.Prelude.{◌≡◌, slice_get};

@@ -12,7 +12,7 @@ use crate::timer_id::CallTimerId;
 use call_core::{Action, CallTimer, Plan};
 use timers::{Timer, Timers};
 
-/// So many milliseconds later; a moment that can't be counted any more is the last.
+/// This many milliseconds later; a moment that can no longer be counted is the last.
 fn moment_after(now: u64, after: u64) -> u64
     ensures { result ≡ moment_after now after }
 {
@@ -108,7 +108,7 @@ impl Calls {
         self.timers.next()
     }
 
-    /// This timer is set no more. Takes no memory.
+    /// This timer is no longer set. Takes no memory.
     pub fn stop_timer(&mut self, timer: CallTimerId)
         ensures standing { standing self.new ≡ without_timer timer (standing self.old) }
         ensures room { self.old.room ≤ self.new.room }

@@ -45,7 +45,7 @@ fn carry_out_in(
     changes
 }
 
-/// A plan carried out by the call at this place, which stands there afterwards too, with what comes beside it.
+/// A plan carried out by the call at this place, which is still there afterwards, with what comes with it.
 fn carry_out_there(
     calls: &mut Vec<StandingCall>,
     pool: &mut Pool,
@@ -89,7 +89,7 @@ fn note_tags(
     }
 }
 
-/// Takes the call at this place off the list, with its tags, where it stands nowhere any more.
+/// Takes the call at this place off the list, with its tags, where it no longer has a standing.
 fn take_off(calls: &mut Vec<StandingCall>, tags: &mut Vec<TagPrints>, key: PrintKey, place: usize)
     requires there { place < vec_len calls.old }
     requires noted { tags.old.items ≡ map (prints_of key) calls.old.items }
@@ -102,7 +102,7 @@ fn take_off(calls: &mut Vec<StandingCall>, tags: &mut Vec<TagPrints>, key: Print
     }
 }
 
-/// Puts a call behind the others, and its tags, for which there is room.
+/// Puts a call after the others, and its tags, for which there is room.
 fn put_behind(
     calls: &mut Vec<StandingCall>,
     tags: &mut Vec<TagPrints>,
@@ -119,7 +119,7 @@ fn put_behind(
     calls.push_reserved(call);
 }
 
-/// A call that begins, with its plan carried out, behind the others.
+/// A call that begins, with its plan carried out, after the others.
 fn begin_in(
     calls: &mut Vec<StandingCall>,
     tags: &mut Vec<TagPrints>,
@@ -153,8 +153,8 @@ fn begin_in(
 }
 
 impl Calls {
-    /// Carries out what was planned for the call at this place, with what comes beside it, and answers the changes of
-    /// the relay table, by rising port; a call that is gone then is taken off the list. Where no call stands at the
+    /// Carries out what was planned for the call at this place, with what comes with it, and returns the changes of
+    /// the relay table, by rising port; a call that is gone then is taken off the list. Where there is no call at the
     /// place, nothing is done.
     pub(crate) fn carry_out(
         &mut self,
@@ -196,8 +196,8 @@ impl Calls {
         changes
     }
 
-    /// Begins a call, of the number that comes next, with its first plan carried out; answers the changes of the relay
-    /// table.
+    /// Begins a call, of the number that comes next, with its first plan carried out; returns the changes of the
+    /// relay table.
     pub(crate) fn begin(
         &mut self,
         alloc: Global,

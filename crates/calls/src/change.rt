@@ -20,8 +20,8 @@ pub struct Beside {
     pub leg: Option<LegDialog>,
     /// This offer is the one that was taken last.
     pub taken: Option<TakenOffer>,
-    /// This 200 is the one that goes again. The offerer is reached from then on where its offer said (RFC 3261 section
-    /// 12.2.2).
+    /// This 200 is the one that is sent again. The offerer is reached from then on where its offer said (RFC 3261
+    /// section 12.2.2).
     pub answer: Option<Sent>,
 }
 
@@ -43,7 +43,7 @@ pub enum CallChange {
     Unchanged,
     /// This call begins, and does what was planned for it.
     Begins(Boxed<StandingCall>, Boxed<Plan>),
-    /// The call at this place does what was planned for it. Where it still stands then, this is put beside it.
+    /// The call at this place does what was planned for it. Where it is still live then, this is put beside it.
     Carries {
         place: usize,
         beside: Boxed<Beside>,

@@ -42,7 +42,7 @@ impl Calls {
         }
     }
 
-    /// Enters a change that was planned on these calls at this moment, and answers the changes of the relay table, by
+    /// Enters a change that was planned on these calls at this moment, and returns the changes of the relay table, by
     /// rising port. Takes no memory.
     pub fn enter(&mut self, alloc: Global, change: CallChange, now: u64) -> Vec<Change>
         requires room { HasRoom self.old change }

@@ -1,6 +1,6 @@
-//! The calls that stand: each with what the server keeps beside it, in the order in which they began, and the pool of
-//! ports that serves them. Each call has a number of its own, and what one does spares all others. Nothing here knows
-//! of bytes, of the order of checks or of sockets.
+//! The live calls: each with what the server keeps for it, in the order in which they began, and the pool of ports
+//! that serves them. Each call has a number of its own, and what one does spares all others. Nothing here knows about
+//! bytes, the order of checks, or sockets.
 #![tactic(auto)]
 
 mod beside;

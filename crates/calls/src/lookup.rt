@@ -134,7 +134,7 @@ fn place_by_number(calls: &[StandingCall], number: u64) -> Option<usize>
     calls.iter().position(|call| has_number(call, number))
 }
 
-/// The place that `place_by_end` gives; a tag that has the print of the request's To is looked for first.
+/// The place that `place_by_end` gives; a tag with the print of the request's To is looked up first.
 fn first_of_end(
     calls: &[StandingCall],
     tags: &[TagPrints],
@@ -153,7 +153,7 @@ fn first_of_end(
     }
 }
 
-/// The place that `place_by_tag` gives; a tag of its print is looked for first.
+/// The place that `place_by_tag` gives; a tag with its print is looked up first.
 fn first_of_tag(
     calls: &[StandingCall],
     tags: &[TagPrints],
@@ -171,7 +171,7 @@ fn first_of_tag(
 }
 
 impl Calls {
-    /// The place of the call in whose dialog with this end a request stands (RFC 3261 section 12.2.2).
+    /// The place of the call in whose dialog with this end a request is (RFC 3261 section 12.2.2).
     pub fn place_by_end(&self, end: End, request: &Request<'_>) -> Option<usize>
         ensures { result ≡ place_by_end end request.now.parts self.now.calls }
     {

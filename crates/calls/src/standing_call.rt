@@ -1,4 +1,4 @@
-//! A call, with what the server keeps beside it.
+//! A call, with what the server keeps for it.
 
 ghost use Rattle.std.specs.Prelude.{◌≡◌};
 ghost use Rattle.calls.specs.Carrying.{offerer_of};
@@ -37,7 +37,7 @@ pub struct TakenOffer {
     pub target: Option<Uri<'static>>,
 }
 
-/// A call, with what the server keeps beside it.
+/// A call, with what the server keeps for it.
 pub struct StandingCall {
     pub call: Call,
     /// The tag of From in what the server sends the callee, which names that leg before there is a dialog.
@@ -47,7 +47,7 @@ pub struct StandingCall {
     /// Where the sender of that offer is reached once it is answered with 2xx, if the offer is inside the call and said
     /// so.
     pub target: Option<Uri<'static>>,
-    /// The 200 to it, which goes again until its ACK comes.
+    /// The 200 to it, which is sent again until its ACK comes.
     pub answer: Option<Sent>,
 }
 

@@ -1,4 +1,4 @@
-//! The calls that stand, with their pool.
+//! The live calls, with their pool.
 
 ghost use Rattle.std.specs.Prelude.{◌≡◌, ◌+◌, ◌<◌, ◌≤◌, ◌*◌, ◌%◌, ℕ, [], IfOk, IfSome, false, slice_get};
 ghost use Rattle.std.specs.Option.{option_copied};
@@ -15,7 +15,7 @@ use std::alloc::{AllocError, Global};
 use std::marker::Model;
 use timers::Timers;
 
-/// The calls that stand, in the order in which they began, and the pool that serves them.
+/// The live calls, in the order in which they began, and the pool that serves them.
 pub struct Calls {
     pub(crate) calls: Vec<StandingCall>,
     /// The key of the prints.
@@ -66,7 +66,7 @@ fn call_at(calls: &[StandingCall], place: usize) -> Option<&StandingCall>
 
 impl Calls {
     /// No call, over a pool of this many pairs, the first of which begins at this even port. Calls are looked up by
-    /// prints under this key. No answer depends on the key.
+    /// prints under this key. No result depends on the key.
     pub fn new(alloc: Global, key: PrintKey, first: u16, pairs: u16) -> Result<Calls, AllocError>
         requires even { first % 2 ≡ 0 }
         requires least { min_port ≤ first }
@@ -89,7 +89,7 @@ impl Calls {
         })
     }
 
-    /// The calls, lent, in the order in which they began. Takes no memory.
+    /// The calls, borrowed, in the order in which they began. Takes no memory.
     pub fn as_slice(&self) -> &[StandingCall]
         ensures { result.now ≡ self.now.calls }
     {

@@ -1,4 +1,4 @@
-//! The server's own tags of a call, as prints: what has another print is passed by without a look at its text.
+//! The server's own tags of a call, as prints: a tag with another print is skipped without looking at its text.
 
 ghost use Rattle.std.specs.Prelude.{◌≡◌};
 ghost use Rattle.std.specs.List.{position};
@@ -10,7 +10,7 @@ use call_core::End;
 use dialogs::Dialog;
 use index::PrintKey;
 
-/// The prints of the tags that a call has of the server.
+/// The prints of the server's tags of a call.
 #[derive(Clone, Copy)]
 pub(crate) struct TagPrints {
     /// Of the leg to the callee.

@@ -26,6 +26,6 @@ tag_run_at : (o : Option Param) → tag_fits o ≡ true → is_some o ≡ true �
 tag_run_at None h k = absurd cc
 tag_run_at (Some p) h k = fit_value p.value h
 
--- a tag that stands is a token
+-- a tag that is present is a token
 pub tag_run : (params : List Param) → has_fit_tag params ≡ true → has_tag params ≡ true → is_run_of is_token_byte (tag_text params) ≡ true
 tag_run params h k = tag_run_at (param_named (codes "tag") params) h k

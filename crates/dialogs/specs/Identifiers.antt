@@ -5,11 +5,11 @@ use Rattle.sip_message.specs.declared.message.Parts.{Parts}
 use Rattle.sip_message.specs.Words.{tag_text}
 use Rattle.dialogs.specs.declared.identifiers.DialogId.{DialogId}
 
--- in a request that was taken our tag stands in To; an absent tag is the empty text
+-- in a request that was taken our tag is in To; an absent tag is the empty text
 abbrev pub id_of_request : Parts → DialogId
 id_of_request parts = record { call_id = parts.call_id; ours = tag_text parts.to.params; theirs = tag_text parts.from.params }
 
--- in a response that was taken our tag stands in From
+-- in a response that was taken our tag is in From
 abbrev pub id_of_response : Parts → DialogId
 id_of_response parts = record { call_id = parts.call_id; ours = tag_text parts.from.params; theirs = tag_text parts.to.params }
 

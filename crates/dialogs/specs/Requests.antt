@@ -36,7 +36,7 @@ parts_in d via method number = record {
   cseq_text = cseq_text number method;
 }
 
--- a request to the target, with so many hops, and with further header fields and a body
+-- a request to the target, with this many hops, and with further header fields and a body
 unfoldable pub request_in : Dialog → Via → List ℕ → ℕ → ℕ → List Header → List ℕ → Request
 request_in d via method number hops further body = record {
   method = method;

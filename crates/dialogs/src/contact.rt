@@ -20,7 +20,8 @@ fn uri_of(alloc: Global, values: &[ContactValue<'_>]) -> Result<Option<Uri<'stat
     }
 }
 
-/// The URI of the one Contact address that these header fields have; none where there is no Contact, or another one.
+/// The URI of the one Contact address that these header fields have; none where there is no Contact, or more than
+/// one.
 pub fn contact_uri(
     alloc: Global,
     headers: &[Header<'_>],

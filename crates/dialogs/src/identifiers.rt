@@ -25,7 +25,7 @@ impl DialogId {
             && self.theirs.as_bytes() == tag_text(theirs)
     }
 
-    /// Whether a request that was taken belongs to this dialog: our tag stands in To. Takes no memory.
+    /// Whether a request that was taken belongs to this dialog: our tag is in To. Takes no memory.
     pub fn is_of_request(&self, request: &Request<'_>) -> bool
         ensures test { result ≡ same_id self.now (id_of_request request.now.parts) }
         ensures belongs { IsTrue result ↔ (id_of_request request.now.parts ≡ self.now) }
@@ -35,7 +35,7 @@ impl DialogId {
         self.names(&request.parts.call_id, ours, theirs)
     }
 
-    /// Whether a response that was taken belongs to this dialog: our tag stands in From. Takes no memory.
+    /// Whether a response that was taken belongs to this dialog: our tag is in From. Takes no memory.
     pub fn is_of_response(&self, response: &Response<'_>) -> bool
         ensures test { result ≡ same_id self.now (id_of_response response.now.parts) }
         ensures belongs { IsTrue result ↔ (id_of_response response.now.parts ≡ self.now) }

@@ -1,5 +1,5 @@
 //! Dialogs (RFC 3261 section 12): which messages belong together, in which order they count, and where the next request
-//! goes. Nothing here knows of transactions, timers, sockets or descriptions.
+//! goes. Nothing here knows about transactions, timers, sockets or descriptions.
 #![tactic(auto)]
 
 mod contact;

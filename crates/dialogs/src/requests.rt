@@ -25,7 +25,7 @@ pub struct Extras<'m, 'a> {
     /// One less than it came with in a request that is passed on, and 70 in all others (RFC 3261 sections 8.1.1.6 and
     /// 16.6).
     pub max_forwards: u8,
-    /// Header fields behind those that each request has, as Contact and Content-Type.
+    /// Header fields after those that each request has, such as Contact and Content-Type.
     pub further: &'m [Header<'a>],
     pub body: &'m [u8],
 }

@@ -1,4 +1,4 @@
-//! What a timer comes to that fires, and what a call whose media have stopped.
+//! What a timer that fires results in, and what a call whose media have stopped results in.
 
 ghost use Rattle.std.specs.Prelude.{◌≡◌, ◌<◌, ◌^◌, ◌∷◌, [], IfOk, IsTrue, Some};
 ghost use Rattle.timers.specs.Queue.{first_due};
@@ -47,7 +47,7 @@ pub(crate) fn silent_row(
     office.call_timer_row(setting, CallTimerId { number, timer })
 }
 
-/// What the timer that is due first comes to; at equal moments that of a transaction goes first.
+/// What the timer that is due first results in; at equal moments, that of a transaction goes first.
 pub(crate) fn due_row(office: &Office<'_>, setting: Setting) -> Result<Doing, AllocError>
     requires early { setting.now < 2 ^ 60 }
     requires few { office.now.tokens < 2 ^ 63 }

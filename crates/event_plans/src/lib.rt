@@ -1,5 +1,5 @@
-//! The plan of an event: which rule a datagram or a due timer meets, by the order of checks, and what that comes to. It
-//! looks at an office that is lent, and changes nothing.
+//! The plan of an event: which rule a datagram or a due timer meets, by the order of checks, and what that results
+//! in. It reads a borrowed office, and changes nothing.
 #![tactic(auto)]
 
 mod due;

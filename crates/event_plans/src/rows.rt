@@ -1,4 +1,5 @@
-//! What a datagram comes to, up to the rules: whether it can be read, its branch, and what the transactions say of it.
+//! What a datagram results in, up to the rules: whether it can be read, its branch, and what the transactions say
+//! about it.
 
 ghost use Rattle.std.specs.Prelude.{◌≡◌, ◌<◌, ◌^◌, ◌∷◌, [], IfOk};
 ghost use Rattle.event_rows.specs.Rule.{HandsOn};
@@ -78,7 +79,7 @@ fn ruled_row(
     rule_row(office, setting, request, begun, id, rule)
 }
 
-/// What a request comes to, by what the transactions say of it.
+/// What a request results in, by what the transactions say about it.
 #[tactic(auto, unfolding(event_rows::specs::Rows::request_by))]
 fn request_by(
     office: &Office<'_>,
@@ -102,7 +103,7 @@ fn request_by(
     }
 }
 
-/// What a response comes to, by what the transactions say of it.
+/// What a response results in, by what the transactions say about it.
 #[tactic(auto, unfolding(event_rows::specs::Rows::response_by))]
 fn response_by(
     office: &Office<'_>,
@@ -214,7 +215,7 @@ fn read_row(
     fit_row(office, setting, message)
 }
 
-/// What a datagram comes to.
+/// What a datagram results in.
 #[tactic(auto, unfolding(event_rows::specs::Rows::datagram_row))]
 fn datagram_row(office: &Office<'_>, setting: Setting, bytes: &[u8]) -> Result<Doing, AllocError>
     requires early { setting.now < 2 ^ 60 }
@@ -232,7 +233,7 @@ fn datagram_row(office: &Office<'_>, setting: Setting, bytes: &[u8]) -> Result<D
     }
 }
 
-/// What an event of the moment `now`, in milliseconds, comes to.
+/// What an event at the moment `now`, in milliseconds, results in.
 #[tactic(auto, unfolding(event_rows::specs::Rows::what_row))]
 pub fn plan_event(
     office: &Office<'_>,

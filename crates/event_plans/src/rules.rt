@@ -1,4 +1,4 @@
-//! Which rule a request falls under that begins a transaction: the order of checks.
+//! Which rule a request that begins a transaction falls under: the order of checks.
 
 ghost use Rattle.std.specs.Prelude.{◌≡◌, ◌||◌, IfOk, codes, is_some, not, option_map};
 ghost use Rattle.std.specs.Option.{option_copied};
@@ -118,7 +118,7 @@ fn cancels_rule(office: &Office<'_>, id: usize) -> Rule<'static>
 
 // ---- dialogs
 
-/// The rule of a request that stands in a dialog, or ought to.
+/// The rule of a request that is in a dialog, or ought to be.
 fn in_dialog_rule<'r>(office: &'r Office<'_>, request: &Request<'_>) -> Rule<'r>
     ensures { rule_value result ≡ of_dialog office.now.calls.calls (dialog_rule office.now.calls.calls request.now) }
 {

@@ -1,5 +1,5 @@
-//! Datagrams that can't be read, and branches that do not begin as they have to: what is answered, no transaction
-//! sends.
+//! Datagrams that can't be read, and branches that don't begin as they have to: no transaction sends the answers to
+//! these.
 
 ghost use Rattle.std.specs.Prelude.{◌≡◌, [], IfOk};
 ghost use Rattle.std.specs.Option.{option_copied};
@@ -64,7 +64,7 @@ fn unread_with(
     unread_by(alloc, setting, fault, parts.as_ref())
 }
 
-/// What a datagram comes to that can't be read.
+/// What a datagram that can't be read results in.
 #[tactic(auto, unfolding(event_rows::specs::Rows::unread_row, event_rows::specs::Rows::datagram_row))]
 pub(crate) fn unread_row(
     alloc: Global,
@@ -96,7 +96,7 @@ fn unfit_request(alloc: Global, setting: Setting, request: &Request<'_>) -> Resu
     refuses_alone(alloc, setting, &request.parts, Reason::NoBranch)
 }
 
-/// What a message comes to whose branch does not begin as it has to.
+/// What a message whose branch doesn't begin as it has to results in.
 pub(crate) fn unfit_branch(
     alloc: Global,
     setting: Setting,

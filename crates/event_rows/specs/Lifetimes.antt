@@ -1,4 +1,4 @@
--- How long a call may stand from its first answer on (the server's own).
+-- How long a call may last from its first answer on (the server's own).
 use Rattle.std.specs.Prelude.{ℕ, ◌*◌, List, Option, Some, None, option_map}
 use Rattle.timers.specs.declared.timers.Timer.{Timer}
 use Rattle.timers.specs.Queue.{set}
@@ -12,7 +12,7 @@ use Rattle.configuration.specs.declared.config.Config.{Config}
 use Rattle.plans.specs.declared.note.Note.{Note}
 use Rattle.plans.specs.declared.note.Note.TheVariants.{Call}
 
--- so many milliseconds, where the configuration says how many hours
+-- this many milliseconds, where the configuration says how many hours
 abbrev pub lifetime_of : Config → Option ℕ
 lifetime_of c = option_map (λ hours. 3600000 * hours) c.longest_call_hours
 

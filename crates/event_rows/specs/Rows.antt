@@ -1,4 +1,4 @@
--- What each event comes to: one row for each answer of the transactions and each rule.
+-- What each event results in: one row for each answer of the transactions and each rule.
 use Rattle.std.specs.Prelude.{ℕ, ◌+◌, ◌&&◌, ◌||◌, Bool, true, false, nat_le, nat_lt, List, [], ◌∷◌, length, map, min, codes, Option, Some, None, is_some, option_map, option_and_then, unwrap_or, Result, Ok, Err, if◌then◌else◌}
 use Rattle.sip_uri.specs.declared.uri.Addr.{Addr}
 use Rattle.sip_message.specs.declared.error.MessageError.{MessageError}
@@ -157,7 +157,7 @@ datagram_row s e bytes = by_reading s e bytes (message_of bytes)
 
 -- ---- a timer of a transaction
 
--- the ACK of an INVITE whose transaction ends goes no more
+-- the ACK of an INVITE whose transaction ends is no longer sent
 abbrev pub ends : Office → TimerId → Effect
 ends s timer = record { plan = moves (fire_of timer ∷ []) None; calls = unchanged s.calls; acks = without_ack timer.id s.acks }
 
@@ -218,7 +218,7 @@ abbrev pub row_by : Contents → Event → Option Taken → Effect
 row_by s e (Some taken) = of_plan (office s) (nothing taken)
 row_by s e None = what_row (office s) (moment_at s e.now) e.salt e.what
 
--- what an event comes to
+-- what an event results in
 unfoldable pub row : Contents → Event → Effect
 row s e = row_by s e (only_counts s e)
 

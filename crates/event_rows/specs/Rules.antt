@@ -70,7 +70,7 @@ unknown_line r = when (not (is_offered_method r)) (refused reasons.UnknownMethod
 abbrev pub extension_line : Request → Option Rule
 extension_line r = when (has_header (codes "Require") r.headers) (refused reasons.ExtensionRequired)
 
--- a proxy stands between, which is not served
+-- a proxy is in between, which is not served
 abbrev pub route_line : Request → Option Rule
 route_line r = when (has_header (codes "Record-Route") r.headers) (refused reasons.ProxyBetween)
 
@@ -82,7 +82,7 @@ register_line r = when (is_method (codes "REGISTER") r) (Alone Registration)
 
 -- ---- dialogs (section 12.2.2)
 
--- the call that stands at the place takes it
+-- the call at the place takes it
 abbrev pub with_call : (StandingCall → CallRule) → Option StandingCall → Rule
 with_call rule None = refused reasons.NoDialog
 with_call rule (Some call) = Call (rule call)
@@ -94,7 +94,7 @@ of_dialog standing (dialog.Leaves place end) = Call (calls.Leaves place end)
 of_dialog standing (dialog.Offers place end) = with_call (calls.Offers place end) (slice_get standing place)
 of_dialog standing (dialog.Plain place end) = with_call (calls.Refreshes place end) (slice_get standing place)
 
--- a request that is no INVITE, or whose To has a tag, stands in a dialog
+-- a request that is not an INVITE, or whose To has a tag, is in a dialog
 abbrev pub dialog_line : Office → Request → Option Rule
 dialog_line s r =
     when (not (is_method (codes "INVITE") r) || is_some (tag_value r.parts.to.params)) (of_dialog s.calls.calls (dialog_rule s.calls.calls r))

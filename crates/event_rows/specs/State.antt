@@ -31,10 +31,10 @@ use Rattle.plans.specs.Office.{Office}
 use Rattle.event_rows.specs.Lifetimes.{lifetime_of, with_lifetime}
 use Rattle.event_rows.specs.Tally.{counted, none_counted}
 
--- the registrar, the transactions, the calls with their pool, the ACKs that go again, and the changes that the last
--- event made in the relay table; where the server is reached, its relay ports, the seconds that a binding has to last
--- at least, and the milliseconds that a call may stand; the greatest moment so far in milliseconds, how many tokens
--- were made, how many events were answered how, what the last was about, and whose bindings it set
+-- the registrar, the transactions, the calls with their pool, the ACKs that are sent again, and the changes that the
+-- last event made in the relay table; where the server is reached, its relay ports, the least number of seconds that
+-- a binding has to last, and the milliseconds that a call may last; the greatest moment so far in milliseconds, how
+-- many tokens were made, the number of events by answer, what the last was about, and whose bindings it set
 pub record Contents : Type 0 where
   pub registrar : registrar.Contents
   pub table : transactions.Contents
@@ -126,11 +126,12 @@ server_of c = record { ip = c.ip; port = c.sip_port }
 abbrev pub range_of : Config → OwnRange
 range_of c = record { ip = c.ip; first = c.relay_first; last = c.relay_first + (2 * c.relay_pairs - 1) }
 
--- a callee's telephone has so many milliseconds for its first response, and one address so many server transactions
+-- a callee's telephone has this many milliseconds for its first response, and one address this many server
+-- transactions
 abbrev pub table_rules_of : Config → TableRules
 table_rules_of c = record { first_wait = 1000 * c.answer_within; share = c.source_share }
 
--- nothing has happened: no REGISTER was taken, no transaction stands, and no timer is set
+-- nothing has happened: no REGISTER was taken, no transaction is live, and no timer is set
 pub record IsNew (c : Config) (s : Contents) : Type 0 where
   pub registers : StandsAfter s.registrar (rules_by c) []
   pub slots : s.table.slots ≡ []
@@ -152,7 +153,7 @@ pub record IsNew (c : Config) (s : Contents) : Type 0 where
   pub note : s.note ≡ Quiet
   pub registered : s.registered ≡ None
 
--- the first rule that is broken is told; memory is asked for where none is
+-- the first broken rule is reported; memory is requested where none is broken
 abbrev pub RefusesConfig : Config → ConfigError → Type 0
 RefusesConfig c OutOfMemory = first_broken c ≡ None
 RefusesConfig c RelayPorts = first_broken c ≡ Some RelayPorts

@@ -1,4 +1,4 @@
--- Events one after the other, each with what it was answered and what was sent.
+-- Events one after another, each with its answer and what was sent.
 use Rattle.std.specs.Prelude.{◌≡◌, List, [], ◌∷◌, ◌++◌, fold, map, Option, Some, None}
 use Rattle.events.specs.declared.event.Event.{Event}
 use Rattle.events.specs.declared.sent.Sent.{Sent}
@@ -47,7 +47,7 @@ AreEntries s (x ∷ xs) = IsEntry s x × AreEntries (after_entry s x) xs
 abbrev pub events_of : List Entry → List Event
 events_of xs = map (λ (x : Entry). x.event) xs
 
--- these events were entered behind what the trace had, and this is the agent afterwards
+-- these events were entered after what the trace had, and this is the agent afterwards
 pub record Ran (s : Contents) (trace : List Entry) (events : List Event) (s_after : Contents) (trace_after : List Entry) : Type 0 where
   pub more : List Entry
   pub told : events_of more ≡ events

@@ -1,12 +1,12 @@
-//! How many events were answered how.
+//! The number of events by answer.
 
 ghost use Rattle.std.specs.Prelude.{◌≡◌};
 ghost use Rattle.event_rows.specs.Tally.{counted, none_counted, one_more};
 
 use plans::{Taken, Why};
 
-/// How many events were answered how, since the agent was made. A count that has reached 2^64 - 1 stays there. An event
-/// that was lost for want of memory is not counted.
+/// The number of events by answer, since the agent was made. A count that has reached 2^64 - 1 stays there. An event
+/// that was lost because memory ran out is not counted.
 #[derive(Clone, Copy)]
 pub struct Tally {
     pub done: u64,
@@ -75,7 +75,7 @@ impl Tally {
         }
     }
 
-    /// One event more.
+    /// One more event.
     pub fn with(self, taken: Taken) -> Tally
         ensures { result ≡ counted self taken }
     {

@@ -15,7 +15,7 @@ pub record IsAnswerSent (p : Datagram) : Type 0 where
   pub answer : IsTrue (is_answer p.message)
   pub method : IsTrue (is_listed offering p.message.method)
 
--- The server's tag in it was made; and where a call that stands has this tag in the dialog with one of its ends, a
+-- The server's tag in it was made; and where a current call has this tag in the dialog with one of its ends, a
 -- request with the number of the answer was taken in that dialog, or one with a greater number.
 pub record KnowsAnswers (s : Office) (t : List Datagram) : Type 0 where
   pub tag : (i : ℕ) (p : Datagram) → At t i p → IsAnswerSent p → IsMade s.tokens p.message.to_tag

@@ -27,7 +27,7 @@ entries_of s e r = change_of s.table (Kinds.Request r) e.source ∷ []
 
 -- The request begins the transaction of this number; the table afterwards has all that the event changes there at this
 -- moment, and these are the transactions that begin; and each call waits for an answer to a request whose transaction
--- stands (RFC 3261 section 17.2).
+-- is live (RFC 3261 section 17.2).
 pub record BeginsAt (s after : Office) (more : List Transaction) (moment : ℕ) (r : Request) (id : ℕ) (x : Effect) : Type 0 where
   pub verdict : (reception_of s.table (Kinds.Request r)).verdict ≡ verdicts.New id
   pub table : after.table.slots ≡ (entered_all moment s.table x.plan.changes).slots

@@ -22,7 +22,7 @@ use Rattle.plans.specs.Office.{Office}
 use Rattle.plans.specs.declared.setting.Setting.{Setting}
 use Rattle.message_laws.specs.Sound.{IsSoundLeg}
 
--- the scene of a call that stands, as its actions see it
+-- the scene of a current call, as its actions see it
 abbrev pub scene_at : Office → Setting → ComingValue → StandingCall → Option Description → Scene
 scene_at s e w c description = lent_scene (scene s.table (occasion s e) w c description)
 
@@ -60,6 +60,6 @@ pub record HasNumbersLeft (c : StandingCall) : Type 0 where
   pub caller : nat_lt (last_number c.call.caller) (max_for Bye) ≡ true
   pub callee : HasByeLeft c.call.callee
 
--- so it is of all calls that stand
+-- the same holds for all current calls
 abbrev pub KnowsNumbersLeft : Office → Type 0
 KnowsNumbersLeft s = All HasNumbersLeft s.calls.calls

@@ -1,4 +1,4 @@
--- What a fit answer to the open offer of a call comes to.
+-- What a fit answer to the open offer of a call results in.
 use Rattle.std.specs.Prelude.{◌≡◌, Option, Some}
 use Rattle.sdp.specs.declared.description.Description.{Description}
 use Rattle.call_core.specs.Plans.{Step}

@@ -23,7 +23,7 @@ pub record KeepsDialogs (c new : StandingCall) : Type 0 where
   pub callee : id_of new.call.callee ≡ id_of c.call.callee
   pub tag : new.callee_tag ≡ c.callee_tag
 
--- where it stands, its session and its open offer are those of the step
+-- where it still has a stage, its session and its open offer are those of the step
 pub record StandsBy (call : Call) (new : StandingCall) : Type 0 where
   pub standing : new.call.standing ≡ call.standing
   pub session : new.call.media.session ≡ call.media.session

@@ -18,7 +18,7 @@ abbrev pub HearsAgain : Option Sent → Message → Type 0
 HearsAgain None m = ⊥
 HearsAgain (Some again) m = IsMessage again.bytes m
 
--- what a trace sees of what an action says, where so many tokens were made before it
+-- what a trace sees of what an action says, where this many tokens were made before it
 abbrev pub HearsAction : Scene → ℕ → Action → Message → Type 0
 HearsAction s tokens (Trying end) m = SeesTo s.offer 100 None m
 HearsAction s tokens (Offer end method) m = SeesIn (dialog_with end s) (branch s tokens) following (method_text (method_of method)) (option_copied s.description) m
@@ -43,7 +43,7 @@ HearsOne hears [] ms = ms ≡ []
 HearsOne hears (d ∷ []) ms = (m : Message) × (ms ≡ m ∷ []) × IsMessage d.bytes m × hears m
 HearsOne hears (d ∷ e ∷ sends) ms = ⊥
 
--- one behind the other
+-- one after another
 abbrev pub HearsActions : Scene → ℕ → List Action → List Message → Type 0
 HearsActions s tokens [] ms = ms ≡ []
 HearsActions s tokens (action ∷ later) ms = (first rest : List Message) × (ms ≡ first ++ rest) × HearsOne (HearsAction s tokens action) (dress_one s tokens action).sends first

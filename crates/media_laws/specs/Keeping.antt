@@ -33,7 +33,7 @@ dialog_with_caller c = dialog_named c.call.caller.id
 abbrev pub dialog_with_callee : StandingCall → Option Dialog
 dialog_with_callee c = option_map (λ d. dialog_named d.id) c.call.callee
 
--- The calls stand after the trace of so many events and show those of the agent, which began these transactions. The
+-- The calls come after the trace of this many events and show those of the agent, which began these transactions. The
 -- whole media promise holds of them: with the agent's address, its relay table, and the holders of its ports.
 pub record KeepsPromise (s : Office) (begun : List Transaction) (t : List Datagram) (calls : List Call) (k : ℕ) : Type 0 where
   pub stands : Stands offering calls k t
@@ -66,9 +66,9 @@ IsDialogOf d c = (dialog_with_caller c ≡ d) ⊎ ShowsCallee c.callee_tag c.cal
 abbrev pub IsQuiet : List Datagram → StandingCall → Type 0
 IsQuiet t c = (d : Dialog) → IsDialogOf d c → ¬ Open offering t d
 
--- The pair of a port is held by the call of this number, which stands; where a live call names the pair, it is that
--- one; and while no offer is open in the trace, in the dialogs of the call that holds it, or the call awaits no answer,
--- its session has the pair.
+-- The pair of a port is held by the call of this number, which is current; where a live call names the pair, it is
+-- that one; and while no offer is open in the trace, in the dialogs of the call that holds it, or the call awaits no
+-- answer, its session has the pair.
 pub record HoldsFor (calls : List StandingCall) (t : List Datagram) (port : ℕ) (number : Option ℕ) : Type 0 where
   pub listed : (n : ℕ) → number ≡ Some n → AnyOf (λ c. c.call.number ≡ n) calls
   pub pairs : (caller callee : Dialog) (s : Session) → IsLiveSession offering t caller callee s → IsPairOf port s → option_map dialog_with_caller (call_numbered calls number) ≡ Some caller

@@ -48,10 +48,10 @@ pub record KnowsAgent (s : Office) (begun : List Transaction) (sent : List Sent)
   pub counted : KnowsTaken s
   pub staged : AreStaged s
 
--- ---- the calls of the trace, after so many events
+-- ---- the calls of the trace, after this many events
 
--- they show those of the server, and stand; what is known of late 2xx, of the answers that were sent, and of the 200s
--- to BYEs
+-- they show those of the server, and come after the trace; what is known of late 2xx, of the answers that were sent,
+-- and of the 200s to BYEs
 pub record IsTied (s : Office) (begun : List Transaction) (sent : List Sent) (t : List Datagram) (calls : List Call) (k : ℕ) : Type 0 where
   pub known : KnowsAgent s begun sent t
   pub stands : Stands offering calls k t
@@ -62,7 +62,7 @@ pub record IsTied (s : Office) (begun : List Transaction) (sent : List Sent) (t 
 
 -- ---- an event
 
--- what it took and sent is a move of these calls, after which the trace's calls show those that stand then
+-- what it took and sent is a move of these calls, after which the trace's calls show the calls current then
 abbrev pub IsMoved : Contents → Event → List Transaction → List Datagram → List Call → ℕ → Option Message → List Message → Type 0
 IsMoved s event begun t calls k taken sent =
     GoOn (ShowsCall (office (after s event)).table.slots (begun ++ begun_of (row s event).plan.changes) (t ++ passed k taken sent)) (office (after s event)).calls.calls t calls taken sent

@@ -31,7 +31,7 @@ dialog_asked asked = record { call_id = asked.call_id; ours = tag_text asked.fro
 abbrev pub IsAnsweredOrEnded : List Datagram → List Call → Dialog → Type 0
 IsAnsweredOrEnded t ds d = AnyOf (IsLegOf d) ds ⊎ Ended t d
 
--- of each that stands, and of each that was begun
+-- of each that is live, and of each that was begun
 pub record KnowsLate (s : Office) (begun : List Transaction) (t : List Datagram) (ds : List Call) : Type 0 where
   pub stands : (id : ℕ) (x : Transaction) → at s.table.slots id ≡ Some x → IsLater x → IsAnsweredOrEnded t ds (dialog_asked x.parts)
   pub asked : (u : Transaction) → IsAmong begun u → IsLater u → IsAnsweredOrEnded t ds (dialog_asked u.parts)

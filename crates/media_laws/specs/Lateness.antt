@@ -23,7 +23,7 @@ IsPassedOver (Refusal place status) = ⊥
 abbrev pub HaveNot : List ℕ → StandingCall → Type 0
 HaveNot tag c = has_tag tag c ≡ false
 
--- a call that stands has the request's tag, and it is not its open offer
+-- a current call has the request's tag, and it is not its open offer
 pub record IsClosed (calls : List StandingCall) (asked : Parts) : Type 0 where
   pub place : ℕ
   pub call : StandingCall

@@ -1,4 +1,4 @@
--- The calls that stand after the trace of some events, and that an end has left.
+-- The calls after the trace of some events, and that an end has left.
 use Rattle.std.specs.Prelude.{◌≡◌, Bool, true, false, List, Option, Some, ◌⊎◌}
 use Rattle.call_core.specs.Calls.{has_session, holds_in}
 use Rattle.call_core.specs.declared.stage.Stage.{Stage}
@@ -15,7 +15,7 @@ use Rattle.call_trace.specs.Messages.{offering}
 use Rattle.calls.specs.declared.standing_call.StandingCall.{StandingCall}
 use Rattle.media_laws.specs.Keeping.{dialog_with_callee, dialog_with_caller}
 
--- one end has left the call, and the other is being told
+-- one end has left the call, and the other is being notified
 abbrev pub is_ending : Stage → Bool
 is_ending (Asked rung) = false
 is_ending (Cancelling sent) = false
@@ -30,7 +30,7 @@ abbrev pub dialog_with : End → StandingCall → Option Dialog
 dialog_with Caller c = Some (dialog_with_caller c)
 dialog_with Callee c = dialog_with_callee c
 
--- in the trace the dialog with the end that left, the other than the one that is told, has ended
+-- in the trace the dialog with the end that left, other than the one that is notified, has ended
 pub record IsLeft (t : List Datagram) (c : StandingCall) (n : Standing) : Type 0 where
   pub dialog : Dialog
   pub with_it : dialog_with (other n.offerer) c ≡ Some dialog

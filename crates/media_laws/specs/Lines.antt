@@ -1,5 +1,5 @@
--- The lines of a call's table beside the moves of a trace's calls: what a line asks of the call and of its scene, and
--- what it does to the trace's calls.
+-- The lines of a call's table next to the moves of a trace's calls: what a line asks of the call and of its scene,
+-- and what it does to the trace's calls.
 use Rattle.std.specs.Prelude.{◌≡◌, ℕ, List, [], Option, Some, None, slice_set, remove}
 use Rattle.call_media.specs.declared.end.End.{End}
 use Rattle.call_media.specs.declared.end.End.TheVariants.{Caller, Callee}
@@ -84,7 +84,7 @@ HasLegs stage s d signal = Legs s d
 pub data LineMove (t : List Datagram) (ds : List Call) (k : ℕ) (d : Call) (taken : Option Message) (sent : List Message) (n : Standing) (next : Option Standing) : Type 0 where
   -- no call moves, and the call is listed as it was
   waits_on : (m : Standing) → next ≡ Some m → m.offerer ≡ n.offerer → listing m.stage ≡ listing n.stage → Move offering t ds taken sent ds → LineMove t ds k d taken sent n next
-  -- the trace lists it no more
+  -- the trace no longer lists it
   goes : ((m : Standing) → next ≡ Some m → listing m.stage ≡ hidden) → Move offering t ds taken sent (remove ds k) → LineMove t ds k d taken sent n next
   -- its open offer was refused
   released : (m : Standing) → next ≡ Some m → listing m.stage ≡ talking → Move offering t ds taken sent (slice_set ds k (without_offer d)) → LineMove t ds k d taken sent n next
@@ -96,7 +96,7 @@ pub data LineMove (t : List Datagram) (ds : List Call) (k : ℕ) (d : Call) (tak
 abbrev pub SaysNone : List Datagram → Option Message → Scene → Action → Type 0
 SaysNone t taken s action = (count : ℕ) (m : Message) → HearsAction s count action m → IsIdle offering t taken m
 
--- ---- a call that the trace lists no more
+-- ---- a call that the trace no longer lists
 
 -- no call of the trace has the tag
 abbrev pub IsTagOfNone : List Call → List ℕ → Type 0

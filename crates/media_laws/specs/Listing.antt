@@ -1,4 +1,4 @@
--- Which of the calls that stand a trace lists, and the list of a trace beside that of the server.
+-- Which of the current calls a trace lists, and the list of a trace next to that of the server.
 use Rattle.std.specs.Prelude.{◌≡◌, Bool, true, false, List, [], ◌∷◌, ◌⊎◌}
 use Rattle.call_core.specs.declared.stage.Stage.{Stage}
 use Rattle.call_core.specs.declared.stage.Stage.TheVariants.{Asked, Cancelling, Answered, Settled, Reasked, Reanswered, Updating, Ending}
@@ -6,8 +6,8 @@ use Rattle.call_core.specs.Calls.{holds_in}
 use Rattle.calls.specs.declared.standing_call.StandingCall.{StandingCall}
 use Rattle.call_trace.specs.declared.call.Call.{Call}
 
--- a call whose first offer was given up is listed by the server until its final response comes, and by a trace no more
--- (RFC 3261 section 9.1)
+-- a call whose first offer was given up is listed by the server until its final response comes, and no longer by a
+-- trace (RFC 3261 section 9.1)
 abbrev pub is_listed_stage : Stage → Bool
 is_listed_stage (Asked rung) = true
 is_listed_stage (Cancelling sent) = false

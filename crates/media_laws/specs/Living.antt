@@ -1,4 +1,4 @@
--- The calls that stand after the trace of some events, and the calls that are live in it.
+-- The calls after the trace of some events, and the calls that are live in it.
 use Rattle.std.specs.Prelude.{◌≡◌, ◌≢◌, true, List, [], ◌∷◌, Some}
 use Rattle.call_core.specs.Calls.{has_session, holds_in}
 use Rattle.call_trace.specs.declared.datagram.Datagram.{Datagram}
@@ -44,7 +44,7 @@ abbrev pub EachTalksApart : List StandingCall → Type 0
 EachTalksApart [] = Unit {0}
 EachTalksApart (c ∷ cs) = AllOf (TalkApart c) cs × EachTalksApart cs
 
--- ---- the calls that stand
+-- ---- the current calls
 
 -- Each call that was answered, and that no end has left, is a live one of the trace, each live call of the trace is one
 -- of these, and none is listed twice; of those that an end has left, what is listed is what has ended; and each live

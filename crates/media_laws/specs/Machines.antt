@@ -19,6 +19,6 @@ abbrev pub FitsMachineIf : Option Transaction → Type 0
 FitsMachineIf None = Unit {0}
 FitsMachineIf (Some x) = FitsMachine x.state x.parts
 
--- of each that stands
+-- of each that is live
 abbrev pub KnowsMachines : Office → Type 0
 KnowsMachines s = All FitsMachineIf s.table.slots

@@ -12,7 +12,7 @@ pub record IsRaised (c d : StandingCall) : Type 0 where
   pub tags : (end : End) → tag_to end d ≡ tag_to end c
   pub taken : (end : End) (number : ℕ) → IsTakenIn number (dialog_of end c.call) → IsTakenIn number (dialog_of end d.call)
 
--- a token that is made behind so many
+-- a token that is made after this many
 pub record IsMadeNext (made : ℕ) (text : List ℕ) : Type 0 where
   pub salt : ℕ
   pub count : ℕ
@@ -20,7 +20,7 @@ pub record IsMadeNext (made : ℕ) (text : List ℕ) : Type 0 where
   pub few : count < 2 ^ 64
   pub said : text ≡ token salt count
 
--- a call that stood before goes on so, or one begins, whose tags are made now
+-- an earlier call goes on this way, or one begins, whose tags are made now
 pub data RisesFrom (made : ℕ) (calls : List StandingCall) (d : StandingCall) : Type 0 where
   stood : (place : ℕ) (c : StandingCall) → slice_get calls place ≡ Some c → IsRaised c d → RisesFrom made calls d
   began : ((end : End) → IsMadeNext made (tag_to end d)) → RisesFrom made calls d

@@ -45,7 +45,7 @@ pub record Asks (t : List Datagram) (y : Dialog) (name : List ℕ) (offer : Desc
   pub in_leg : dialog_named leg.id ≡ y
   pub unused : IsUnused t m.branch
 
--- behind what is plain
+-- after what is plain
 pub record OfferHeard (t : List Datagram) (y : Dialog) (name : List ℕ) (offer : Description) (ms : List Message) : Type 0 where
   pub before : List Message
   pub went : Message

@@ -61,7 +61,7 @@ pub record KeepsMedia (c new : ServerCall) : Type 0 where
   pub session : (new.media.session ≡ c.media.session) ⊎ (new.media.session ≡ None)
   pub offer : (new.media.offer ≡ c.media.offer) ⊎ (new.media.offer ≡ None)
 
--- what it comes to: what the line of the signal says and leads to, in the dialogs of before
+-- the result: what the line of the signal says and leads to, in the dialogs of before
 pub record IsSignalStep (c : ServerCall) (n : Standing) (signal : Signal) (step : Step) : Type 0 where
   pub actions : step.actions ≡ actions_in (row_of n signal)
   pub next : step.call.standing ≡ next_in n (row_of n signal)
@@ -81,12 +81,12 @@ pub record GoesOnAt (c new : StandingCall) (next : Option Standing) : Type 0 whe
   pub asked : new.asked ≡ c.asked
   pub opens : (n m : Standing) → c.call.standing ≡ Some n → next ≡ Some m → m.offerer ≡ n.offerer → awaits_answer n.stage ≡ true → awaits_answer m.stage ≡ true → OpensAlike c new
 
--- the calls afterwards: it is put in its place where it stands, and else it is gone
+-- the calls afterwards: it is put in its place where it still has a stage, and otherwise it is gone
 abbrev pub calls_after : List StandingCall → ℕ → StandingCall → Option Standing → List StandingCall
 calls_after calls place new None = remove calls place
 calls_after calls place new (Some next) = slice_set calls place new
 
--- what the calls of the trace come to: this move leads to calls that show those that stand afterwards
+-- the result for the calls of the trace: this move leads to calls that show the current ones afterwards
 abbrev pub GoOn : (StandingCall → Call → Type 0) → List StandingCall → List Datagram → List Call → Option Message → List Message → Type 0
 GoOn shows after t old taken sent = (calls : List Call) × Move offering t old taken sent calls × Listed shows after calls
 

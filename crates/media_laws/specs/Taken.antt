@@ -24,6 +24,6 @@ HasTakenBy tag number c = (end : End) → tag_to end c ≡ tag → IsTakenIn num
 abbrev pub HasTakenOffer : StandingCall → Type 0
 HasTakenOffer c = holds_in awaits_final c.call.standing ≡ true → IsTakenIn c.asked.number (dialog_of (offerer_of c.call.standing) c.call)
 
--- of each call that stands
+-- of each current call
 abbrev pub KnowsTaken : Office → Type 0
 KnowsTaken s = All HasTakenOffer s.calls.calls

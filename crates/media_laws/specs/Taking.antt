@@ -20,7 +20,7 @@ use Rattle.media_laws.specs.Coming.{KnowsNumbersLeft}
 
 -- ---- the call
 
--- it stands at this place, and the trace lists it
+-- it is at this place, and the trace lists it
 pub record IsShownAt (s : Office) (begun : List Transaction) (t : List Datagram) (place : ℕ) (c : StandingCall) (n : Standing) (d : Call) : Type 0 where
   pub there : slice_get s.calls.calls place ≡ Some c
   pub stands : c.call.standing ≡ Some n
@@ -35,7 +35,7 @@ pub record KnowsLegs (s : Office) : Type 0 where
 
 -- ---- the signal
 
--- a line of the table can be told of it
+-- a line of the table can take it
 pub record TakesSignal (n : Standing) (scene : Scene) (d : Call) (taken : Option Message) (signal : Signal) : Type 0 where
   pub at : IsAt n.offerer n.stage d
   pub legs : HasLegs n.stage scene d signal

@@ -12,7 +12,7 @@ ghost use Rattle.media_laws.specs.Heard.{HearsActions};
 ghost use Rattle.message_laws.specs.Messages.{AreMessages};
 
 /// Where each action says one message of the written form at most, a trace that reads the datagrams hears what the
-/// actions say, one behind the other.
+/// actions say, one after another.
 pub fn actions_are_heard()
     ensures { (s : Scene) (tokens : ℕ) (actions : List Action) (ms : List Message) →
         AllOf (λ action. (count : ℕ) → OneIf (SaysAction s count action) (dress_one s count action).sends) actions →

@@ -1,4 +1,4 @@
-//! What a fit answer comes to in the call, and what a 2xx comes to in its transaction.
+//! What a fit answer results in for the call, and what a 2xx results in for its transaction.
 
 ghost use Rattle.std.specs.Prelude.{◌≡◌, ℕ, None, Option, Some, true};
 ghost use Rattle.media_laws.specs.FitSteps.{IsFitStep, Talks};
@@ -18,8 +18,8 @@ ghost use Rattle.sip_message.specs.declared.words.Class.TheVariants.{Success};
 ghost use Rattle.media_laws.specs.Lines.{next_in};
 ghost use Rattle.transactions.specs.Contents.{Contents, reception_of};
 
-/// A step of a call for a fit answer to its open offer does what the line of that signal says, and leads where that
-/// leads: both ends talk. The offerer is sent the answer at the server's address, and the session is that of the
+/// A step of a call for a fit answer to its open offer does what the line of that signal says, and leads to where
+/// that leads: both ends talk. The offerer is sent the answer at the server's address, and the session is that of the
 /// exchange.
 pub fn fit_steps_are_lines()
     ensures step { (c : Call) (n : Standing) (pool : pools.Contents) (now : ℕ) (given : Option Description) → c.standing ≡ Some n → awaits_answer n.stage ≡ true →

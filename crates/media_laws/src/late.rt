@@ -45,7 +45,7 @@ use dialogs::{contacts_are_read, dialogs_are_sound};
 use sip_writing::written_is_read;
 use trace_reading::{bodies_describe, bytes_say_all};
 
-/// Where the rule has no call take a response, no call that stands waits for the final response to its request. So the
+/// Where the rule has no call take a response, no current call waits for the final response to its request. So the
 /// response moves no call of the trace: it is calm, or its request was finally answered before, or its tag is of no
 /// call.
 pub fn late_responses_move_none()
@@ -58,8 +58,8 @@ pub fn late_responses_move_none()
 {}
 
 /// Such a response moves no call by what is sent of it either: what its transaction sends, or the ACK of a 2xx that
-/// goes again. In the dialog of a 2xx to a first INVITE, which no call has, ACK and BYE go, so that it ends at once; in
-/// that of a later INVITE, whose call is gone, an ACK alone: it has ended.
+/// is sent again. In the dialog of a 2xx to a first INVITE, which no call has, ACK and BYE go, so that it ends at
+/// once; in that of a later INVITE, whose call is gone, only an ACK: it has ended.
 pub fn passed_responses_move_none()
     ensures silent { (s : Office) (begun : List Transaction) (sent : List Sent) (t : List Datagram) (ds : List Call) → AreTied s begun sent t ds →
         (bytes : List ℕ) (r : Response) (taken : Option Message) (id : ℕ) (x : Transaction) (changes : List Entry) (ms : List Message) →
@@ -94,7 +94,7 @@ pub fn passed_responses_move_none()
 }
 
 /// A dialog that is a leg of an answered call of the trace, or has ended, stays so at each move. What is known of the
-/// later INVITEs that were begun is known of those whose transactions stand.
+/// later INVITEs that were begun is known of those whose transactions are live.
 pub fn later_dialogs_stay()
     ensures kept { (n : ℕ) (t : List Datagram) (old : List Call) → Stands offering old n t → (taken : Option Message) (sent : List Message) (d : Dialog)
         (new : List Call) → Move offering t old taken sent new → IsAnsweredOrEnded t old d → IsAnsweredOrEnded (t ++ passed n taken sent) new d }

@@ -26,8 +26,8 @@ ghost use Rattle.media_laws.specs.Lines.{HasLegs, HiddenMove, IsAt, IsTagOfNone,
 ghost use Rattle.media_laws.specs.Scenes.{LegIn};
 
 /// What a call does for a signal that is no offer and no fit answer is a move of the trace's calls, where the trace
-/// lists the call as its stage asks, its legs are there, and what was taken is what the signal stands for: no call
-/// moves; the call goes, or is listed no more; its open offer is gone; or one end has left it. Behind the messages that
+/// lists the call as its stage asks, its legs are there, and what was taken is what the signal means: no call moves;
+/// the call goes, or is no longer listed; its open offer is gone; or one end has left it. Behind the messages that
 /// move none, a trace hears just the actions of the line.
 pub fn lines_are_moves()
     ensures line { (t : List Datagram) (ds : List Call) (k : ℕ) (d : Call) → AllApart ds → slice_get ds k ≡ Some d → HasTags d →

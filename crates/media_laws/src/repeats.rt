@@ -32,8 +32,9 @@ use sip_writing::written_is_read;
 use trace_reading::bytes_say_all;
 
 /// What the transactions do by themselves moves no call of the trace: where nothing was taken and nothing goes, where a
-/// timer has something sent again, where a request comes again, and where a response is swallowed. What goes again went
-/// before; the ACK to a refusal too. So what the transactions send at a response moves none, whoever takes it.
+/// timer has something sent again, where a request is repeated, and where a response is swallowed. What is sent again
+/// was sent before; so was the ACK to a refusal. So what the transactions send at a response moves none, whoever
+/// takes it.
 pub fn repeats_move_none()
     ensures nothing { (t : List Datagram) (ds : List Call) (ms : List Message) → AreMessages [] ms → Move offering t ds None ms ds }
     ensures timer { (s : Office) (begun : List Transaction) (sent : List Sent) (t : List Datagram) (ds : List Call) → AreTied s begun sent t ds →

@@ -35,8 +35,8 @@ use transactions::replies;
 
 /// A call that the trace lists takes the signal of a response to the request that carried its open offer: of a
 /// provisional one, with which the trace takes it; of a refusal, which replies in the trace to the request of the offer
-/// that is open there; and of a 2xx, fit or not, which does so too, and in whose scene each leg stands, the one that a
-/// first 2xx makes among them, where the call stands in the trace.
+/// that is open there; and of a 2xx, fit or not, which does so too, and whose scene has each leg, the one that a
+/// first 2xx makes among them, where the trace lists the call.
 pub fn signals_come_of_responses()
     ensures ringing { (s : Office) (e : Setting) (place : ℕ) (c : StandingCall) (description : Option Description) (begun : List Transaction) (t : List Datagram)
         (n : Standing) (d : Call) (r : Response) (bytes : List ℕ) (taken : Option Message) → KnowsLegs s → IsShownAt s begun t place c n d →

@@ -31,8 +31,8 @@ ghost use Rattle.trace_reading.specs.Message.{trace_message};
 ghost use Rattle.transactions.specs.declared.transaction.Transaction.{Transaction};
 
 /// The scene of a call that waits for an answer has the request of the offer that the trace shows, and its responses
-/// have the tag of the offerer's dialog: where the call stands in the trace, that request is the caller's first, or
-/// names the dialog. Where a BYE comes, the scene has it, in the dialog of the end that sent it; or the CANCEL.
+/// have the tag of the offerer's dialog: where the trace lists the call, that request is the caller's first, or names
+/// the dialog. Where a BYE comes, the scene has it, in the dialog of the end that sent it; or the CANCEL.
 pub fn scenes_have_their_requests()
     ensures offer { (s : Office) (e : Setting) (w : ComingValue) (place : ℕ) (c : StandingCall) (description : Option Description) (begun : List Transaction)
         (t : List Datagram) (name : List ℕ) (n : Standing) (o : OpenOffer) (d : Call) (p : Offer) → KnowsAskers s → slice_get s.calls.calls place ≡ Some c →

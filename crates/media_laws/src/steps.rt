@@ -60,8 +60,8 @@ pub fn signal_steps_are_lines()
 {}
 
 /// Where what a call's line says moves the calls of the trace as that line does, the trace's calls after the move show
-/// the server's calls after the step: the call goes on, is hidden, has no offer more, was left by one end, or is gone,
-/// in both; and the others are as they were.
+/// the server's calls after the step: the call goes on, is hidden, has no offer any more, was left by one end, or is
+/// gone, in both; and the others are as they were.
 pub fn lines_go_on()
     ensures { (slots : List (Option Transaction)) (begun more : List Transaction) (t : List Datagram) (cs : List StandingCall) (old : List Call) (place : ℕ)
         (c : StandingCall) (n : Standing) → c.call.standing ≡ Some n → slice_get cs place ≡ Some c → (spot : HasSpot slots begun t cs old place c) →
@@ -75,7 +75,7 @@ pub fn lines_go_on()
     moves_keep();
 }
 
-/// What goes again of a call's own 200 moves no call, where no INVITE or UPDATE was taken: it went before.
+/// Resending a call's own 200 moves no call, where no INVITE or UPDATE was taken: it was sent before.
 pub fn answers_go_again()
     ensures { (s : Office) (begun : List Transaction) (sent : List Sent) (t : List Datagram) (taken : Option Message) → KnowsTrace s begun sent t →
         KnowsSent s sent → NoneAsked offering taken → (e : Setting) (w : ComingValue) (place : ℕ) (c : StandingCall) (description : Option Description) (x : End) →
@@ -86,7 +86,7 @@ pub fn answers_go_again()
 }
 
 /// Where a call that the trace lists takes a signal that is no offer and no fit answer, with what comes with it in the
-/// scene of its step, and the trace hears what the line of the signal says, behind what moves no call: that is a move,
+/// scene of its step, and the trace hears what the line of the signal says, after what moves no call: that is a move,
 /// and the trace's calls after it show the server's.
 pub fn signals_go_on()
     ensures { (slots : List (Option Transaction)) (begun more : List Transaction) (t : List Datagram) (cs : List StandingCall) (old : List Call) (place : ℕ)

@@ -41,7 +41,7 @@ use offer_answer::sent_is_read;
 use sip_writing::written_is_read;
 use trace_reading::{bodies_describe, bytes_say_all};
 
-/// A trace that reads what a call sends in a step hears what its actions say, one behind the other.
+/// A trace that reads what a call sends in a step hears what its actions say, one after another.
 pub fn steps_are_heard()
     ensures { (s : Office) (e : Setting) (place : ℕ) (c : StandingCall) (input : Input) (w : ComingValue) → KnowsScenes s →
         slice_get s.calls.calls place ≡ Some c → CanCome input w → (ms : List Message) →

@@ -22,8 +22,8 @@ ghost use Rattle.media_laws.specs.Shows.{IsUnanswered, ShowsCall};
 ghost use Rattle.message_laws.specs.Askers.{KeepsAsked, KeepsRequest};
 ghost use Rattle.transactions.specs.declared.transaction.Transaction.{Transaction};
 
-/// A move answers no offer that is open afterwards: what it sends with an answer goes again, or settles the offer of a
-/// call, which has none then.
+/// A move answers no offer that is open afterwards: what it sends with an answer is sent again, or settles the offer
+/// of a call, which has none then.
 pub fn open_offers_stay_unanswered()
     ensures { (n : ℕ) (t : List Datagram) (old : List Call) (taken : Option Message) (sent : List Message) (new : List Call) →
         Move offering t old taken sent new → AllApart new → (j : ℕ) (d : Call) (p : Offer) → slice_get new j ≡ Some d → d.offer ≡ Some p →

@@ -1,4 +1,4 @@
--- The ACKs that go again where their 2xx comes again, and how long they are kept (RFC 3261 section 13.2.2.4).
+-- The ACKs that are sent again where their 2xx comes again, and how long they are kept (RFC 3261 section 13.2.2.4).
 use Rattle.std.specs.Prelude.{◌≡◌, ℕ, Bool, true, false, List, [], ◌∷◌, Option, Some, ◌⊎◌}
 use Rattle.std.specs.List.{All}
 use Rattle.transaction_machines.specs.declared.invite_client.InviteClient.TheVariants as invites
@@ -27,7 +27,7 @@ pub record IsAnswered (slots : List (Option Transaction)) (id : ℕ) : Type 0 wh
   pub stands : at slots id ≡ Some transaction
   pub final : had_final transaction.state ≡ true
 
--- the transaction of its request stands, and may be answered again
+-- the transaction of its request is live, and may be answered again
 abbrev pub IsKept : List (Option Transaction) → KeptAck → Type 0
 IsKept slots ack = IsAnswered slots ack.id
 

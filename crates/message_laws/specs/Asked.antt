@@ -9,7 +9,7 @@ use Rattle.message_laws.specs.Askers.{waits_for}
 use Rattle.transactions.specs.Slots.{at}
 use Rattle.transactions.specs.declared.transaction.Transaction.{Transaction}
 
--- it stands, is of an INVITE or UPDATE, and has the number that the call keeps of its offer
+-- it is live, is of an INVITE or UPDATE, and has the number that the call keeps for its offer
 pub record HasAsker (slots : List (Option Transaction)) (c : StandingCall) : Type 0 where
   pub transaction : Transaction
   pub stands : at slots c.asked.id ≡ Some transaction
@@ -20,6 +20,6 @@ pub record HasAsker (slots : List (Option Transaction)) (c : StandingCall) : Typ
 abbrev pub HasAskerIf : List (Option Transaction) → StandingCall → Type 0
 HasAskerIf slots c = waits_for c ≡ true → HasAsker slots c
 
--- of each call that stands
+-- of each live call
 abbrev pub KnowsAsked : Office → Type 0
 KnowsAsked s = All (HasAskerIf s.table.slots) s.calls.calls

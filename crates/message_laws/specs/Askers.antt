@@ -45,11 +45,11 @@ pub record IsUnanswered (slots : List (Option Transaction)) (id : ℕ) : Type 0 
 abbrev pub waits_for : StandingCall → Bool
 waits_for c = holds_in awaits_answer c.call.standing
 
--- the transaction in which the offer came stands, while the call waits for its answer
+-- the transaction in which the offer came is live while the call waits for its answer
 abbrev pub IsServed : List (Option Transaction) → StandingCall → Type 0
 IsServed slots c = waits_for c ≡ true → IsUnanswered slots c.asked.id
 
--- a transaction that stood stands afterwards, of the same request
+-- a transaction that was live is live afterwards, with the same request
 abbrev pub KeepsRequest : List (Option Transaction) → List (Option Transaction) → ℕ → Type 0
 KeepsRequest slots later id = (x : Transaction) → at slots id ≡ Some x → (y : Transaction) × (at later id ≡ Some y) × (y.parts ≡ x.parts)
 

@@ -118,7 +118,7 @@ pub record KnowsStep (ip : List ℕ) (x : Step) : Type 0 where
 
 -- ---- all of them
 
--- of the calls that stand
+-- of the live calls
 pub record KnowsStanding (ip : List ℕ) (standing : Standing) : Type 0 where
   pub pairs : HavePorts standing.pool
   pub calls : All (KnowsCall ip) standing.calls

@@ -1,4 +1,4 @@
--- What comes to a call with an event, so that all that the call says of it is of the form that is written and read
+-- What reaches a call with an event, such that all that the call says about it has the form that is written and read
 -- again.
 use Rattle.std.specs.Prelude.{◌≡◌, ◌≤◌, ◌<◌, ◌^◌, Bool, true, false, is_some, Option, Some, None}
 use Rattle.call_core.specs.declared.input.Input.{Input}

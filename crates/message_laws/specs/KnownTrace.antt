@@ -1,4 +1,4 @@
--- What is known of the trace of an agent's events: whose texts stand in it, and that it has the requests for which
+-- What is known of the trace of an agent's events: whose texts are in it, and that it has the requests for which
 -- transactions stand.
 use Rattle.std.specs.Prelude.{◌≡◌, ℕ, false, List, Some, IsTrue, true}
 use Rattle.std.specs.List.{All}
@@ -36,7 +36,7 @@ HasBytes t d = (k : ℕ) × (q : Datagram) × At t k q × (q.direction ≡ direc
 
 -- ---- the server's own INVITEs and UPDATEs
 
--- the request of the transaction stands in the trace
+-- the request of the transaction is live in the trace
 abbrev pub IsRequested : List Datagram → Transaction → Type 0
 IsRequested t u = (i : ℕ) × (q : Datagram) × AsksAt offering t i q × IsRequestOf u.parts q.message
 
@@ -49,7 +49,7 @@ abbrev pub IsFinallyAnswered : List Datagram → Transaction → Type 0
 IsFinallyAnswered t x =
     (i : ℕ) × (q : Datagram) × (k : ℕ) × (r : Datagram) × AsksAt offering t i q × IsRequestOf x.parts q.message × At t k r × TakesFinal r q.message
 
--- ---- what goes again
+-- ---- what is sent again
 
 pub record IsResponseText (bytes : List ℕ) : Type 0 where
   pub response : Response

@@ -60,7 +60,7 @@ GoInOrder (t ∷ own) (d ∷ sends) = ((t.last ≡ Some d.bytes) × GoInOrder ow
 abbrev pub IsBelow : Transaction → Transaction → Type 0
 IsBelow t u = IsOffering t → IsOffering u → from_tag t ≡ from_tag u → t.parts.cseq.number < u.parts.cseq.number
 
--- ---- what the agent knows of these transactions, whether they stand or not
+-- ---- what the agent knows of these transactions, whether they are live or not
 
 -- the call that its tag names counted its number
 abbrev pub WasCounted : Transaction → StandingCall → Type 0
@@ -105,7 +105,7 @@ EndsLeg begun t c = IsByeOf c t → All (IsPast t) begun
 abbrev pub EndsLegs : List StandingCall → List Transaction → Transaction → Type 0
 EndsLegs calls begun t = All (EndsLeg begun t) calls
 
--- at each of these events, behind these requests
+-- at each of these events, after these requests
 abbrev pub EndLegsIn : Contents → List Transaction → List Entry → Type 0
 EndLegsIn s begun [] = Unit {0}
 EndLegsIn s begun (x ∷ xs) = All (EndsLegs s.calls.calls begun) (begun_at s x.event x.answer) × EndLegsIn (after_entry s x) (begun ++ begun_at s x.event x.answer) xs

@@ -58,12 +58,12 @@ pub record SeenMove (methods : List (List ℕ)) (t : List Datagram) (old : List 
 
 -- ---- what was taken
 
--- nothing that stands in the trace, or a request
+-- nothing that is in the trace, or a request
 abbrev pub IsRequestIf : Option Message → Type 0
 IsRequestIf None = Unit {0}
 IsRequestIf (Some m) = m.kind ≡ kinds.Request
 
--- ---- what goes again
+-- ---- what is sent again
 
 -- The trace has these bytes as sent, as a message; and that asks nothing, or nothing that asks was taken.
 pub record GoesAgain (methods : List (List ℕ)) (t : List Datagram) (taken : Option Message) (m : Message) : Type 0 where

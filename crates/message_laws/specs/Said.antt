@@ -20,7 +20,7 @@ use Rattle.message_laws.specs.Saying.{OneIf, SeesAgain, SeesCancel, SeesIn, Sees
 abbrev pub IsSaid : (Message → Type 0) → Sent → Type 0
 IsSaid sees d = (m : messages.Message) × (d.bytes ≡ message_text m) × IsWrittenMessage m × sees (trace_message d.bytes m)
 
--- what an action says, where so many tokens were made before it
+-- what an action says, where this many tokens were made before it
 abbrev pub SaysAction : Scene → ℕ → Action → Sent → Type 0
 SaysAction s tokens (Trying end) d = IsSaid (SeesTo s.offer 100 None) d
 SaysAction s tokens (Offer end method) d = IsSaid (SeesIn (dialog_with end s) (branch s tokens) following (method_text (method_of method)) (option_copied s.description)) d
@@ -39,7 +39,7 @@ SaysAction s tokens (Set timer after) d = ⊥
 SaysAction s tokens (Stop timer) d = ⊥
 SaysAction s tokens (Abandon end) d = ⊥
 
--- what actions say, one behind the other
+-- what actions say, one after another
 abbrev pub SaysActions : Scene → ℕ → List Action → List Sent → Type 0
 SaysActions s tokens [] sends = sends ≡ []
 SaysActions s tokens (action ∷ later) sends = (first rest : List Sent) × (sends ≡ first ++ rest) × OneIf (SaysAction s tokens action) first

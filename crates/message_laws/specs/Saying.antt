@@ -50,7 +50,7 @@ SeesAgain (Some again) d = d ≡ again
 abbrev pub IsSeen : (Message → Type 0) → Sent → Type 0
 IsSeen sees d = (m : messages.Message) × (d.bytes ≡ message_text m) × sees (trace_message d.bytes m)
 
--- what an action says, where so many tokens were made before it
+-- what an action says, where this many tokens were made before it
 abbrev pub SeesAction : Scene → ℕ → Action → Sent → Type 0
 SeesAction s tokens (Trying end) d = IsSeen (SeesTo s.offer 100 None) d
 SeesAction s tokens (Offer end method) d = IsSeen (SeesIn (dialog_with end s) (branch s tokens) following (method_text (method_of method)) (option_copied s.description)) d
@@ -75,7 +75,7 @@ OneIf is [] = Unit {0}
 OneIf is (d ∷ []) = is d
 OneIf is (d ∷ e ∷ sends) = ⊥
 
--- what actions say, one behind the other
+-- what actions say, one after another
 abbrev pub SeesActions : Scene → ℕ → List Action → List Sent → Type 0
 SeesActions s tokens [] sends = sends ≡ []
 SeesActions s tokens (action ∷ later) sends = (first rest : List Sent) × (sends ≡ first ++ rest) × OneIf (SeesAction s tokens action) first

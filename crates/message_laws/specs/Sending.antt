@@ -21,7 +21,7 @@ abbrev pub LastWasSent : List Sent → Option Transaction → Type 0
 LastWasSent sent None = Unit {0}
 LastWasSent sent (Some t) = WasSentIf sent t.last
 
--- the 200 that goes again until its ACK comes (RFC 3261 section 13.3.1.4)
+-- the 200 that is sent again until its ACK comes (RFC 3261 section 13.3.1.4)
 abbrev pub AnswerWasSent : List Sent → Option Sent → Type 0
 AnswerWasSent sent None = Unit {0}
 AnswerWasSent sent (Some answer) = WasSent sent answer.bytes
@@ -29,7 +29,7 @@ AnswerWasSent sent (Some answer) = WasSent sent answer.bytes
 abbrev pub CallWasSent : List Sent → StandingCall → Type 0
 CallWasSent sent c = AnswerWasSent sent c.answer
 
--- the ACK that goes again where its 2xx comes again (section 13.2.2.4)
+-- the ACK that is sent again where its 2xx comes again (section 13.2.2.4)
 abbrev pub AckWasSent : List Sent → KeptAck → Type 0
 AckWasSent sent ack = WasSent sent ack.sent.bytes
 

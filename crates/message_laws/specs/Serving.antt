@@ -1,4 +1,4 @@
--- The sessions of the calls that stand, as the pool of ports and the relay table serve them.
+-- The sessions of the live calls, as the pool of ports and the relay table serve them.
 use Rattle.std.specs.Prelude.{◌≡◌, ◌≢◌, ℕ, true, false, is_some, List, find, Option, Some, None, IfSome, option_map}
 use Rattle.std.specs.FinMap.{get}
 use Rattle.port_pool.specs.Holdings.{even_of, holder_at, is_among}
@@ -21,7 +21,7 @@ use Rattle.call_trace.specs.Serving.{Hop, IsPairOf, IsRowOf, LeadsSession}
 
 -- ---- as a trace sees them
 
--- the session: what the ends said last, and what they were told of it
+-- the session: what the ends said last, and what they were sent
 abbrev pub trace_session : Session → traces.Session
 trace_session x = record { offer_taken = x.offer_taken; answer_sent = x.answer_sent; offer_sent = x.offer_sent; answer_taken = x.answer_taken }
 
@@ -48,8 +48,8 @@ pub record IsServedAsAsked (server : OwnRange) (pool : Contents) (m : CallMedia)
 
 -- ---- what the agent knows
 
--- Each row of the table is of a pair that is held; the pool serves each call that stands, as it asks; and it is held by
--- these calls alone.
+-- Each row of the table is of a pair that is held; the pool serves each live call, as it asks; and only these calls
+-- hold it.
 pub record IsServing (server : OwnRange) (s : Standing) : Type 0 where
   pub pool : IsPool s.pool
   pub kept : AreKept s.calls s.pool s.begun
@@ -61,18 +61,17 @@ pub record KnowsServing (s : Office) : Type 0 where
   pub address : s.range.ip ≢ hold_address
   pub calls : IsServing s.range s.calls
 
--- ---- what follows of the sessions of the calls that stand
+-- ---- what follows of the sessions of the live calls
 
--- the session stands in the call
+-- the session is the call's
 abbrev pub IsSessionOf : Session → StandingCall → Type 0
 IsSessionOf x c = c.call.media.session ≡ Some x
 
--- P holds of each session that stands, with its call
+-- P holds for each live session, with its call
 abbrev pub OfEach : (StandingCall → Session → Type 0) → Office → Type 0
 OfEach P s = AllOf (λ c. (x : Session) → IsSessionOf x c → P c x) s.calls.calls
 
--- a session stands in a call exactly where the stage of the call has one, and an offer is open where it awaits an
--- answer
+-- a call has a session exactly where its stage has one, and an offer is open where it awaits an answer
 pub record IsStaged (c : Call) : Type 0 where
   pub session : is_some c.media.session ≡ holds_in has_session c.standing
   pub offer : is_some c.media.offer ≡ holds_in awaits_answer c.standing
@@ -80,7 +79,7 @@ pub record IsStaged (c : Call) : Type 0 where
 abbrev pub AreStaged : Office → Type 0
 AreStaged s = AllOf (λ c. IsStaged c.call) s.calls.calls
 
--- each end was told what is alike to what the other said, with places at the server
+-- what each end was sent matches what the other said, with places at the server
 abbrev pub AreTold : Office → Type 0
 AreTold s = OfEach (λ c x. IsReaddressed s.range.ip (trace_session x)) s
 
@@ -88,7 +87,7 @@ AreTold s = OfEach (λ c x. IsReaddressed s.range.ip (trace_session x)) s
 abbrev pub AreLed : Office → Type 0
 AreLed s = OfEach (λ c x. LeadsSession (trace_table s.calls.pool) (trace_session x)) s
 
--- each row of the table is a row of a session that stands
+-- each row of the table is a row of a live session
 abbrev pub HasNoOtherRow : Office → Type 0
 HasNoOtherRow s = (port : ℕ) (hop : Hop) → trace_table s.calls.pool port ≡ Some hop
     → AnyOf (λ c. (x : Session) × IsSessionOf x c × IsRowOf (record { port = port; to = hop.to; from = hop.from }) (trace_session x)) s.calls.calls
@@ -97,11 +96,11 @@ HasNoOtherRow s = (port : ℕ) (hop : Hop) → trace_table s.calls.pool port ≡
 abbrev pub HoldTheirPairs : Office → Type 0
 HoldTheirPairs s = OfEach (λ c x. (port : ℕ) → IsPairOf port (trace_session x) → holder_in s.calls.pool port ≡ Some c.call.number) s
 
--- a port is held by a call that stands, by its number
+-- a port is held by a live call, by its number
 abbrev pub AreHeldByCalls : Office → Type 0
 AreHeldByCalls s = (port number : ℕ) → holder_in s.calls.pool port ≡ Some number → AnyOf (λ c. c.call.number ≡ number) s.calls.calls
 
--- the call that stands under this number
+-- the live call with this number
 abbrev pub call_numbered : List StandingCall → Option ℕ → Option StandingCall
 call_numbered calls None = None
 call_numbered calls (Some number) = find (has_number number) calls
@@ -114,7 +113,7 @@ call_holding s port = call_numbered s.calls.calls (holder_in s.calls.pool port)
 abbrev pub HeldByTheirCalls : Office → Type 0
 HeldByTheirCalls s = OfEach (λ c x. (port : ℕ) → IsPairOf port (trace_session x) → call_holding s port ≡ Some c) s
 
--- a port is held by a call that stands
+-- a port is held by a live call
 abbrev pub HoldersStand : Office → Type 0
 HoldersStand s = (port : ℕ) (c : StandingCall) → call_holding s port ≡ Some c → AnyOf (λ x. x ≡ c) s.calls.calls
 

@@ -1,5 +1,4 @@
--- The dialogs of the calls that stand are of messages that were read (RFC 3261 section 12.1), and each leads to an
--- address.
+-- The dialogs of the live calls are of messages that were read (RFC 3261 section 12.1), and each leads to an address.
 use Rattle.std.specs.Prelude.{◌≡◌, ℕ, true, false, is_some, IsTrue, List, Option, Some, None}
 use Rattle.std.specs.List.{All}
 use Rattle.text.specs.Class.{is_run_of, is_token_byte}
@@ -65,8 +64,8 @@ IsBound b = IsTarget b.uri
 
 -- ---- what the agent knows
 
--- The server has an address; each contact that a user is bound to leads to one; the dialogs of each call that stands
--- are sound; and each request of the server's own whose transaction stands says what a dialog is made of.
+-- The server has an address; each contact that a user is bound to leads to one; the dialogs of each live call are
+-- sound; and each request of the server's own whose transaction is live says what a dialog is made of.
 pub record KnowsDialogs (s : Office) : Type 0 where
   pub server : HasOctets s.server.ip
   pub bindings : (user : List ℕ) → All IsBound (bindings_of s.registrar.entries user)

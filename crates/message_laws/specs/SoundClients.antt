@@ -1,4 +1,4 @@
--- The requests of the server's own whose transactions stand are of values that were read, and no dialog of a call
+-- The requests of the server's own whose transactions are live are of values that were read, and no dialog of a call
 -- counts past the numbers of CSeq (RFC 3261 section 8.1.1.5).
 use Rattle.std.specs.Prelude.{◌≡◌, false, Option, Some, None}
 use Rattle.std.specs.List.{All}
@@ -27,7 +27,7 @@ abbrev pub IsSoundClientIf : Option Transaction → Type 0
 IsSoundClientIf None = Unit {0}
 IsSoundClientIf (Some t) = IsSoundClient t
 
--- of all that stand; and where the server is reached
+-- of all that are live; and where the server is reached
 pub record KnowsClients (s : Office) : Type 0 where
   pub server : IsReached s.server
   pub slots : All IsSoundClientIf s.table.slots

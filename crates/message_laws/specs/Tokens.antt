@@ -7,14 +7,14 @@ use Rattle.sip_writing.specs.Requests.{branch_text}
 use Rattle.transaction_machines.specs.Machines.{is_server}
 use Rattle.transactions.specs.declared.transaction.Transaction.{Transaction}
 
--- one of the first so many tokens, whatever the salt
+-- one of the first `made` tokens, whatever the salt
 pub record IsMade (made : ℕ) (text : List ℕ) : Type 0 where
   pub salt : ℕ
   pub count : ℕ
   pub early : count ≤ made
   pub said : text ≡ token salt count
 
--- the same, behind the cookie of a branch (RFC 3261 section 8.1.1.7)
+-- the same, after the cookie of a branch (RFC 3261 section 8.1.1.7)
 pub record IsMadeBranch (made : ℕ) (branch : Option (List ℕ)) : Type 0 where
   pub salt : ℕ
   pub count : ℕ

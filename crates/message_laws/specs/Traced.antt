@@ -1,5 +1,5 @@
--- The calls that stand beside the calls that a trace lists: where the two are of the same sessions, what the agent
--- serves is what the trace is promised of ports and rows.
+-- The live calls next to the calls that a trace lists: where the two are of the same sessions, what the agent serves
+-- is what the trace is promised of ports and rows.
 use Rattle.std.specs.Prelude.{◌≡◌, ◌||◌, ℕ, true, List, Option, option_map}
 use Rattle.call_media.specs.declared.session.Session.{Session}
 use Rattle.call_core.specs.Calls.{awaits_answer, has_session, holds_in}
@@ -20,9 +20,8 @@ holder_by caller s port = option_map caller (call_holding s port)
 abbrev pub WasSettled : Session → Call → Type 0
 WasSettled y x = (z : Settled) × (x.stage ≡ Answered z) × (z.session ≡ trace_session y)
 
--- The session of each answered call stands in a call of the same caller's dialog; each session that stands was settled
--- last in an answered call; and each call that stands and has a session, or awaits an answer, is listed by its caller's
--- dialog.
+-- The session of each answered call is in a call of the same caller's dialog; each live session was settled last in
+-- an answered call; and each live call that has a session, or awaits an answer, is listed by its caller's dialog.
 pub record AreTraced (caller : StandingCall → Dialog) (standing : List StandingCall) (calls : List Call) : Type 0 where
   pub settled : AllOf (λ x. (z : Settled) → x.stage ≡ Answered z → AnyOf (λ c. (y : Session) × IsSessionOf y c × (z.session ≡ trace_session y) × (caller c ≡ x.caller)) standing) calls
   pub sessions : AllOf (λ c. (y : Session) → IsSessionOf y c → AnyOf (WasSettled y) calls) standing

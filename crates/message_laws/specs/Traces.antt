@@ -1,4 +1,4 @@
--- The trace of an agent's events: of each one what it took, and behind it what it sent.
+-- The trace of an agent's events: for each one what it took, and after it what it sent.
 use Rattle.std.specs.Prelude.{◌≡◌, ℕ, suc, List, [], ◌∷◌, ◌++◌, Option, Some, None}
 use Rattle.event_rows.specs.Trace.{Entry}
 use Rattle.call_trace.specs.declared.datagram.Datagram.{Datagram}
@@ -40,7 +40,7 @@ IsShownWith (Some answer) what sends taken sent = IsPassed what answer sends tak
 pub record IsShown (x : Entry) (taken : Option TraceMessage) (sent : List TraceMessage) : Type 0 where
   pub shown : IsShownWith x.answer x.event.what x.sends taken sent
 
--- what stands first in the trace, event n, and behind it the rest
+-- what is first in the trace, event n, and after it the rest
 pub record StandsFirst (n : ℕ) (x : Entry) (taken : Option TraceMessage) (sent : List TraceMessage) (t rest : List Datagram) : Type 0 where
   pub shown : IsShown x taken sent
   pub whole : t ≡ passed n taken sent ++ rest

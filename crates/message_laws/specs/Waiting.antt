@@ -53,7 +53,7 @@ abbrev pub FitsCall : Transaction → StandingCall → Type 0
 FitsCall t c = has_tag (from_tag t) c ≡ true → IsAwaited t c
 
 -- Each request that may carry an offer and has no final response is the open offer of the call that its tag names, or
--- of no call that stands; and in no leg has a number been given twice.
+-- of no live call; and in no leg has a number been given twice.
 pub record KnowsWaiting (s : Office) : Type 0 where
   pub awaited : (id : ℕ) (t : Transaction) → at s.table.slots id ≡ Some t → IsOffering t → All (FitsCall t) s.calls.calls
   pub once : (i j : ℕ) (t u : Transaction) → at s.table.slots i ≡ Some t → at s.table.slots j ≡ Some u → IsOffering t → IsOffering u → from_tag t ≡ from_tag u

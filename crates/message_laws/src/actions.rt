@@ -9,7 +9,7 @@ ghost use Rattle.message_laws.specs.Said.{SaysAction, SaysActions};
 ghost use Rattle.message_laws.specs.SoundScenes.{HasFitStatus, HaveFitStatuses, IsSoundScene, answer_offer, answers_offer};
 
 /// Each datagram that an action of a call says in a sound scene is the bytes of a message of the written form, of which
-/// a trace sees this; or the 200 that goes again. No action says two.
+/// a trace sees this; or the 200 that is sent again. No action says two.
 pub fn actions_are_said()
     ensures one { (s : Scene) (tokens : ℕ) (action : Action) → IsSoundScene s (answers_offer action) → HasFitStatus action →
         OneIf (SaysAction s tokens action) (dress_one s tokens action).sends }

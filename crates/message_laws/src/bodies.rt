@@ -68,7 +68,7 @@ pub fn descriptions_are_read()
 
 /// What a call sends on for an input is sent in place of a description that was read, where that of the input was, and
 /// so are those that it keeps. What is sent so reads back, and so do the offer that is open and what was sent in the
-/// session of a call that stands; it is no longer than a body may be.
+/// session of a live call; it is no longer than a body may be.
 pub fn descriptions_read_back()
     ensures call { (ip : List ℕ) (c : Call) (input : Input) (pool : pools.Contents) (now : ℕ) → IsServerAddress ip → KnowsMedia ip c.media →
         HavePorts pool → WasReadIn input → KnowsStep ip (call_row c input pool now) }

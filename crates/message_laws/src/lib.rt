@@ -1,4 +1,4 @@
-//! What the agent knows after any events, as laws over what each event comes to: of its own messages, of its pool of
+//! What the agent knows after any events, as laws over the outcome of each event: of its own messages, of its pool of
 //! ports and relay table, of what it sends, which reads back, and of the trace of all that. Nothing here runs.
 #![tactic(auto)]
 

@@ -87,7 +87,7 @@ pub fn responses_are_seen()
 }
 
 /// Each datagram that an action of a call says is a message's bytes, of which a trace sees this, where the description
-/// that is sent on reads back; or the 200 that goes again. No action says two.
+/// that is sent on reads back; or the 200 that is sent again. No action says two.
 pub fn actions_are_seen()
     ensures one { (s : Scene) (tokens : ℕ) (action : Action) → ReadsBackIf (option_copied s.description) →
         OneIf (SeesAction s tokens action) (dress_one s tokens action).sends }

@@ -1,4 +1,4 @@
-//! What the trace has of what goes again, and of what a response replies to.
+//! What the trace has of what is sent again, and of what a response replies to.
 
 ghost use Rattle.std.specs.Prelude.{◌≡◌, ℕ, false, List, Some};
 ghost use Rattle.call_trace.specs.declared.datagram.Datagram.{Datagram};
@@ -21,9 +21,9 @@ ghost use Rattle.transactions.specs.declared.transaction.Transaction.{Transactio
 ghost use Rattle.transactions.specs.Matching.{RepliesTo};
 ghost use Rattle.transactions.specs.Slots.{at};
 
-/// In the trace stands what was sent before in these bytes, as the same message; and the INVITE or UPDATE of the
-/// server's own whose transaction a response is one to, to which it replies there too. Where that waits for no final
-/// response, the trace has one, so that this one moves no call.
+/// The trace has what was sent before in these bytes, as the same message. It has the server's own INVITE or UPDATE
+/// whose transaction a response belongs to, and the response replies to it there too. Where that transaction waits
+/// for no final response, the trace has one, so that this one moves no call.
 pub fn replies_stand_in_traces()
     ensures again { (s : Office) (begun : List Transaction) (sent : List Sent) (t : List Datagram) (bytes : List ℕ) (m : Message) →
         KnowsTrace s begun sent t → WasSent sent bytes → IsMessage bytes m →

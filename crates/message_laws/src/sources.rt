@@ -30,7 +30,7 @@ fn what_fits(what: &What)
     }
 }
 
-/// A datagram that comes comes from an address.
+/// A datagram that arrives comes from an address.
 pub fn event_comes_from_source(event: &Event)
     ensures { ComesFromSource event.entry.now.what }
 {

@@ -43,8 +43,8 @@ use offer_answer::sent_is_read;
 use trace_reading::bodies_describe;
 
 /// Each datagram that a call says in a step, as it begins, or that is said in a dialog of no call, is the bytes of a
-/// message of the written form, of which a trace sees what its action says; or the 200 that goes again. So it is too
-/// where a timer of a call is due.
+/// message of the written form, of which a trace sees what its action says; or the 200 that is sent again. The same
+/// holds where a timer of a call is due.
 pub fn steps_are_said()
     ensures step { (s : Office) (e : Setting) (place : ℕ) (c : StandingCall) (input : Input) (w : ComingValue) → KnowsScenes s →
         slice_get s.calls.calls place ≡ Some c → CanCome input w →
@@ -69,9 +69,9 @@ pub fn steps_are_said()
     sent_is_read();
 }
 
-/// What comes to a call with a message that was read can come: with a CANCEL, a BYE, an offer and a 2xx that a call
-/// takes; and alone, with an ACK, a response of another class, or a timer. In the dialog of a 2xx that no call takes a
-/// request can be said.
+/// A message that was read can reach a call: with a CANCEL, a BYE, an offer and a 2xx that a call takes; and alone,
+/// with an ACK, a response of another class, or a timer. In the dialog of a 2xx that no call takes a request can be
+/// said.
 pub fn comings_are_sound()
     ensures alone { (input : Input) → ComesWithFitStatus input → is_offer_input input ≡ false → WasReadIn input → CanCome input (without_offer None None) }
     ensures cancel { (s : Office) (e : Setting) (text : List ℕ) (r : Request) (id place : ℕ) → KnowsScenes s → IsSource e.source →

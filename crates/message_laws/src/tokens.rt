@@ -14,8 +14,8 @@ pub fn tokens_of_other_counts_differ()
 {}
 
 /// Of a new agent, and after any event: branch and From tag of each request of the server's own whose transaction
-/// stands, and the server's tags in the two dialogs of each call, are tokens that were made, whatever the salts; and no
-/// tag is of two dialogs.
+/// is live, and the server's tags in the two dialogs of each call, are tokens that were made, whatever the salts; and
+/// no tag is of two dialogs.
 pub fn tokens_are_drawn_once()
     ensures begins { (config : Config) (s : Contents) → IsNew config s → KnowsTokens (office s) }
     ensures step { (s : Contents) (event : Event) → KnowsTokens (office s) → KnowsTokens (office (after s event)) }

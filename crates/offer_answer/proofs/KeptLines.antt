@@ -1,4 +1,4 @@
--- Attributes that tell places of their own are no direction and no rtpmap.
+-- Attributes that name places of their own are neither a direction nor an rtpmap.
 use Rattle.std.proofs.Common.{◌≡◌, ◌∙◌, ℕ, Bool, true, false, cond, not, ◌&&◌, eqb, List, [], ◌∷◌, Some, None, codes, refl, sym, ap}
 use Rattle.std.specs.Prelude.{nat_eq}
 use Rattle.std.specs.Option.{option_or}
@@ -10,7 +10,7 @@ use Rattle.sdp.specs.WayOf.{way_named, way_on, first_way}
 use Rattle.offer_answer.specs.Formats.{rtpmap_in, first_rtpmap}
 use Rattle.offer_answer.specs.Alike.{tells_place, is_kept, kept_lines}
 
--- a line that is left out is an attribute that tells a place
+-- a line that is left out is an attribute that names a place
 pub left_out : (l : Line) → is_kept l ≡ false → (eqb l.letter 97 ≡ true) × (tells_place (before 58 l.value) ≡ true)
 left_out l e = step (eqb l.letter 97) (tells_place (before 58 l.value)) e where
   step : (a b : Bool) → not (a && b) ≡ false → (a ≡ true) × (b ≡ true)
@@ -44,7 +44,7 @@ no_rtpmap format l e = step (pointwise nat_eq (before 58 l.value) (codes "rtpmap
   step true h = let wrong : true ≡ false = sym out.1 ∙ ap tells_place ((bytes_decides (before 58 l.value) (codes "rtpmap")).0 h) in absurd cc
   step false h = rw (out.0, h) refl
 
--- the first way and the first rtpmap stand among the lines that are kept
+-- the first way and the first rtpmap are among the lines that are kept
 pub first_way-kept : (ls : List Line) → first_way (kept_lines ls) ≡ first_way ls
 first_way-kept [] = refl
 first_way-kept (l ∷ ls) = step (is_kept l) refl (first_way-kept ls) where

@@ -1,4 +1,4 @@
--- Lines that stand in order stand so without the attributes that tell places of their own.
+-- Lines that are in order are in order without the attributes that name places of their own.
 use Rattle.std.proofs.Common.{◌≡◌, ◌∙◌, ℕ, Bool, true, false, not, cond, List, [], ◌∷◌, map, codes, refl, sym, ap}
 use Rattle.std.specs.List.{list_all}
 use Rattle.std.proofs.lemmas.Bool.{and_parts, and_from, eqb-true, true≢false}
@@ -98,7 +98,7 @@ cut_one set others out apart (l ∷ ls) h = step (begins set (line_text l)) refl
 
 -- ---- the lines at the end: k, and attributes
 
--- the key and the attributes behind it
+-- the key and the attributes after it
 abbrev is_end : List (List ℕ) → Bool
 is_end xs = is_nothing (less_all (codes "a") (less_one (codes "k") xs))
 
@@ -124,7 +124,7 @@ media_after_kept ls h =
 
 -- ---- in the session
 
--- the zones, and what stands behind them
+-- the zones, and what comes after them
 abbrev is_zoned : List (List ℕ) → Bool
 is_zoned xs = is_end (less_one (codes "z") xs)
 
@@ -141,7 +141,7 @@ zoned_kept ls h =
     let zone = cut_one (codes "z") (codes "ka") refl refl ls (end_types (less_one (codes "z") (lines ls)) h) in
     ap is_end zone.kept_at ∙ end_kept zone.rest (ap is_end (sym zone.at) ∙ h)
 
--- the times, and what stands behind them
+-- the times, and what comes after them
 abbrev is_timed : List (List ℕ) → Bool
 is_timed xs = is_zoned (less_all (codes "tr") xs)
 

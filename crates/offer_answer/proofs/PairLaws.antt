@@ -34,7 +34,7 @@ differ a b h = step (eqb a b) refl where
 pub equal : (a b : ℕ) → eqb a b ≡ false → a ≡ b → ⊥
 equal a b e h = let wrong : true ≡ false = sym (eq-eqb a b h) ∙ e in absurd cc
 
--- neither port of an even pair stands among those of other even pairs
+-- neither port of an even pair is among those of other even pairs
 apart : (p : ℕ) (ps : List ℕ) → is_even p ≡ true → list_all is_even ps ≡ true → list_any (λ q. eqb q p) ps ≡ false
     → (list_any (λ q. eqb q p) (both_ports ps) ≡ false) × (list_any (λ q. eqb q (p + 1)) (both_ports ps) ≡ false)
 unfolding both_ports

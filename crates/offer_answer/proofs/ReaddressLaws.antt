@@ -1,4 +1,4 @@
--- What is sent on is alike, is at the server, and has the ports and the origin asked for.
+-- What is sent on is alike to what was taken, is at the server, and has the ports and the origin asked for.
 use Rattle.std.proofs.Common.{◌≡◌, ◌≢◌, ◌∙◌, ◌||◌, not, ℕ, Bool, true, false, cond, eqb, List, [], ◌∷◌, length, map, Option, Some, None, refl, sym, ap, arith}
 use Rattle.std.proofs.lemmas.Bool.{and_parts}
 use Rattle.std.specs.Prelude.{option_map, nat_eq}

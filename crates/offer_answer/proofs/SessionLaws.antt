@@ -1,4 +1,4 @@
--- The lines of a session: whose ports they are of, that none stands twice, and what a table that has them leads to.
+-- The lines of a session: whose ports they are of, that none occurs twice, and what a table that has them leads to.
 use Rattle.std.proofs.Common.{◌≡◌, ◌≢◌, ◌==◌, ◌||◌, ◌∙◌, ◌+◌, ◌-◌, ◌%◌, ◌≤◌, not, ℕ, Bool, true, false, cond, length, take, drop, List, [], ◌∷◌, ◌++◌, All, get_or, map, Option, Some, None, option_map, refl, sym, ap, subst, arith}
 use Prim.Native.Nat.{suc}
 use Rattle.std.proofs.Math.Seq.{take-length}
@@ -105,7 +105,7 @@ pub held_even : (pool : Contents) (call : ℕ) (OX SX OY SY : Description) → (
     → list_all is_even (pairs_named OX SX OY SY) ≡ true
 held_even pool call OX SX OY SY leads held = even_each (pairs_named OX SX OY SY) (leading pool call leads (pairs_named OX SX OY SY) held)
 
--- ---- the media behind the first
+-- ---- the media after the first
 
 behind : {A : Type 0} (x : A) (xs : List A) → take (length (x ∷ xs) - 1) (drop 1 (x ∷ xs)) ≡ xs
 behind x xs = let same : length (x ∷ xs) - 1 ≡ length xs = omega arith in rw same (take-length xs)

@@ -34,7 +34,7 @@ server_somewhere server (Name text) port s h = absurd cc
 abbrev place_at : Option Address → ℕ → Option Place
 place_at a port = option_map (λ x. record { address = x; port = port }) a
 
--- the place told leads to the place at which media are wanted, and is a destination where that is
+-- the place that was sent leads to the place at which media are wanted, and is a destination where that is one
 record Leads (server : List ℕ) (table : ℕ → Option Addr) (wanted told : Option Place) : Type 0 where
   through_table : through server table told ≡ destination_at wanted
   also_some : is_some (destination_at wanted) ≡ true → is_some (destination_at told) ≡ true

@@ -1,4 +1,4 @@
--- When two descriptions are alike: they say the same of media, and differ in who and where alone.
+-- When two descriptions are alike: they say the same about media, and differ only in who and where.
 use Rattle.std.specs.Prelude.{◌≡◌, ℕ, Bool, not, ◌&&◌, ◌||◌, ◌==◌, nat_eq, List, map, filter, codes, Option, option_map}
 use Rattle.std.specs.List.{starts_with}
 use Rattle.std.specs.Cmp.Lexicographic.{pointwise}
@@ -8,7 +8,7 @@ use Rattle.sdp.specs.declared.description.Media.{Media}
 use Rattle.sdp.specs.declared.description.Description.{Description}
 use Rattle.offer_answer.specs.Direct.{is_hold}
 
--- the names of attributes that tell addresses and ports of their own: those of RFC 3605 and of ICE (RFC 8839)
+-- the names of attributes that name addresses and ports of their own: those of RFC 3605 and of ICE (RFC 8839)
 abbrev pub tells_place : List ℕ → Bool
 tells_place name =
     pointwise nat_eq name (codes "rtcp") || pointwise nat_eq name (codes "candidate") || pointwise nat_eq name (codes "remote-candidates") || starts_with nat_eq name (codes "ice-")
@@ -57,7 +57,7 @@ bare d = record {
   media = map bare_media d.media;
 }
 
--- equal but for the `o=` line, addresses, ports and the attributes that tell them; port 0 and 0.0.0.0 stand at the same
--- places
+-- equal except for the `o=` line, addresses, ports and the attributes that name them; port 0 and 0.0.0.0 are at the
+-- same places
 abbrev pub Alike : Description → Description → Type 0
 Alike d e = bare d ≡ bare e

@@ -7,11 +7,11 @@ use Rattle.text.specs.Cut.{before, after}
 use Rattle.sdp.specs.declared.line.Line.{Line}
 use Rattle.sdp.specs.declared.description.Media.{Media}
 
--- an attribute of this name, with or without a value behind a colon (RFC 4566 section 5.13)
+-- an attribute of this name, with or without a value after a colon (RFC 4566 section 5.13)
 abbrev pub is_attribute : List ℕ → Line → Bool
 is_attribute name l = l.letter == 97 && pointwise nat_eq (before 58 l.value) name
 
--- the text behind the format and a space, where it is this format
+-- the text after the format and a space, where it is this format
 abbrev pub text_for : List ℕ → Option (List ℕ) → Option (List ℕ)
 text_for format None = None
 text_for format (Some value) = if pointwise nat_eq (before 32 value) format then after 32 value else None

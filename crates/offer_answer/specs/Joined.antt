@@ -56,6 +56,6 @@ abbrev pub is_own_or_hold : List ℕ → Option Address → Bool
 is_own_or_hold server None = true
 is_own_or_hold server (Some a) = is_server server a || is_hold a
 
--- a description that tells no address but the server's and 0.0.0.0
+-- a description that names only the server's address and 0.0.0.0
 abbrev pub is_at_server : List ℕ → Description → Bool
 is_at_server server d = is_own_or_hold server d.connection && list_all (λ m. is_own_or_hold server m.connection) d.media

@@ -18,7 +18,7 @@ origin_of o = record { username = codes "-"; id = decimal o.id; version = decima
 abbrev pub readdressed_address : List ℕ → Address → Address
 readdressed_address ip a = if is_hold a then Ip4 hold_address else Ip4 ip
 
--- the port told in place of a medium's: 0 stays 0 (RFC 3264 sections 6 and 8.2)
+-- the port sent in place of a medium's: 0 stays 0 (RFC 3264 sections 6 and 8.2)
 abbrev pub told_port : ℕ → Media → ℕ
 told_port port m = if m.port == 0 then 0 else port
 
@@ -38,7 +38,7 @@ abbrev pub readdressed_media : List ℕ → List ℕ → List Media → List Med
 readdressed_media ip (port ∷ ports) (m ∷ ms) = readdressed_medium ip port m ∷ readdressed_media ip ports ms
 readdressed_media ip _ _ = []
 
--- what is told for each medium
+-- what is sent for each medium
 abbrev pub told_ports : List ℕ → List Media → List ℕ
 told_ports (port ∷ ports) (m ∷ ms) = told_port port m ∷ told_ports ports ms
 told_ports _ _ = []

@@ -28,8 +28,8 @@ above (Some a) = if nat_lt a.port 65535 then Some (record { ip = a.ip; port = a.
 abbrev pub pair_named : ℕ → Option Addr → ℕ → List Named
 pair_named port to from = record { port = port; to = to; from = from } ∷ record { port = port + 1; to = above to; from = from + 1 } ∷ []
 
--- for a medium that neither end rejects: the port told to the offerer leads to the answerer, from the port told to the
--- answerer; and the port told to the answerer leads to the offerer, from the port told to the offerer
+-- for a medium that neither end rejects: the port given to the offerer leads to the answerer, from the port given to
+-- the answerer; and the port given to the answerer leads to the offerer, from the port given to the offerer
 abbrev pub medium_named : Description → Media → ℕ → ℕ → Description → Media → List Named
 medium_named OX ox to_offerer to_answerer SY sy =
     if ox.port == 0 || sy.port == 0 then []
@@ -43,8 +43,8 @@ media_named OX _ _ _ SY _ = []
 abbrev pub ports_named : Description → Description → Description → Description → List Named
 ports_named OX SX OY SY = media_named OX OX.media SX.media OY.media SY SY.media
 
--- the pairs of ports that the session names, by their even ports: for each medium that is not rejected, the one told to
--- the offerer and the one told to the answerer
+-- the pairs of ports that the session names, by their even ports: for each medium that is not rejected, the one given
+-- to the offerer and the one given to the answerer
 abbrev pub medium_pairs : Media → Media → Media → Media → List ℕ
 medium_pairs ox sx oy sy = if ox.port == 0 || sy.port == 0 then [] else sx.port ∷ oy.port ∷ []
 
@@ -79,7 +79,7 @@ table_of (r ∷ rs) port = if r.port == port then Some r.to else table_of rs por
 abbrev pub is_even : ℕ → Bool
 is_even n = n % 2 == 0
 
--- no number stands twice
+-- no number occurs twice
 abbrev pub are_distinct : List ℕ → Bool
 are_distinct [] = true
 are_distinct (n ∷ ns) = not (list_any (λ q. q == n) ns) && are_distinct ns

@@ -8,10 +8,10 @@ pub enum OfferFault {
     /// The description that this end gave before has more media (RFC 3264 section 8).
     #[error("O1: fewer media")]
     FewerMedia,
-    /// The protocol of a medium is not one of those that the relay carries.
+    /// The relay doesn't carry the protocol of a medium.
     #[error("O2: protocol")]
     Protocol,
-    /// A number of ports is written behind a port.
+    /// A number of ports is written after a port.
     #[error("O3: port count")]
     PortCount,
     /// The address is a host name.
@@ -29,7 +29,7 @@ pub enum OfferFault {
 /// Why an answer is refused: the first fault in the order of the variants, after `NumberOfMedia` medium by medium.
 #[derive(Clone, Copy, Debug, Error)]
 pub enum AnswerFault {
-    /// The answer has not as many media as the offer (RFC 3264 section 6).
+    /// The answer doesn't have as many media as the offer (RFC 3264 section 6).
     #[error("N1: number of media")]
     NumberOfMedia,
     /// The kind or the protocol is not the offered one (RFC 3264 section 6.1).

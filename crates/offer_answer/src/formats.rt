@@ -57,7 +57,7 @@ fn maps_match(a: Option<&[u8]>, b: Option<&[u8]>, same_token: bool) -> bool
     }
 }
 
-/// Whether format `f` of medium `m` and format `g` of medium `n` match: both have an `rtpmap` whose texts behind the
+/// Whether format `f` of medium `m` and format `g` of medium `n` match: both have an `rtpmap` whose texts after the
 /// format agree without case, or one has none and the formats are equal (RFC 3264 section 6.1, RFC 4566 section 6).
 #[tactic(auto, unfolding(crate::specs::Formats::formats_match))]
 pub(crate) fn formats_match(m: &Media<'_>, f: &Text<'_>, n: &Media<'_>, g: &Text<'_>) -> bool

@@ -33,7 +33,7 @@ pub fn alike_is_equivalence()
 {}
 
 /// Two legs that a relay table joins mean what the offer and the answer of the two ends mean directly. X is the
-/// offerer's leg, Y the answerer's: each end is sent what the other said but for the server's address and ports, and
+/// offerer's leg, Y the answerer's: each end is sent what the other said except the server's address and ports, and
 /// the table has the rows of the four.
 pub fn joined_is_direct()
     ensures { (server : List ℕ) (table : ℕ → Option Addr) (OX SX OY SY : Description) →
@@ -41,15 +41,15 @@ pub fn joined_is_direct()
         HasRows table OX SX OY SY → joined server table OX SX OY SY ≡ direct OX SY }
 {}
 
-/// The table of a session's rows alone has them, where the pairs that the session names are even and differ.
+/// The table of only a session's rows has them, where the pairs that the session names are even and differ.
 pub fn rows_lead()
     ensures { (OX SX OY SY : Description) →
         IsTrue (list_all is_even (pairs_named OX SX OY SY)) → IsTrue (are_distinct (pairs_named OX SX OY SY)) →
         HasRows (table_of (rows_of OX SX OY SY)) OX SX OY SY }
 {}
 
-/// What the server sends on in place of an offer and of its answer, with the session's rows alone, means what the offer
-/// and the answer mean directly, where the pairs that the session names are even and differ.
+/// What the server sends on in place of an offer and of its answer, with only the session's rows, means what the
+/// offer and the answer mean directly, where the pairs that the session names are even and differ.
 pub fn relayed_is_direct()
     ensures { (server : List ℕ) (offer answer offer_sent answer_sent : Description) →
         SentBy server offer offer_sent → SentBy server answer answer_sent →
@@ -68,8 +68,8 @@ pub fn sent_is_read()
         (readdressed_description origin ports taken) }
 {}
 
-/// The lines of a session are of the ports of a call that holds the session's pairs, no port stands in two of them, and
-/// a table with these lines has the rows of the session.
+/// The lines of a session are of the ports of a call that holds the session's pairs, no port is in two of them, and a
+/// table with these lines has the rows of the session.
 pub fn rows_of_session_stand()
     ensures own { (pool : Contents) (call : ℕ) (OX SX OY SY : Description) →
         IsTrue (list_all is_even (pairs_named OX SX OY SY)) → HoldsPairs pool call OX SX OY SY →
@@ -81,8 +81,8 @@ pub fn rows_of_session_stand()
         All (λ l. map.get rows l.port ≡ l.hop) (session_lines OX SX OY SY) → HasRows (leads_by rows) OX SX OY SY }
 {}
 
-/// A medium at the address 0.0.0.0 is refused neither in an offer nor in an answer on account of its place, whatever
-/// the server's own places are (RFC 3264 section 8.4).
+/// A medium at the address 0.0.0.0 is refused neither in an offer nor in an answer because of its place, whatever the
+/// server's own places are (RFC 3264 section 8.4).
 pub fn hold_passes()
     ensures offer { (range : OwnRange) (d : Description) (m : Media) →
         address_of_medium d m ≡ Some (Ip4 hold_address) → IsTrue (is_carried m.proto) → m.count ≡ None →
@@ -104,8 +104,8 @@ pub fn plain_call()
     ensures alike_answers { Alike answer_taken answer_sent }
 {}
 
-/// The plain call where the offerer holds: by `sendonly` the side to the offerer is off, and by the address 0.0.0.0 it
-/// has no destination besides (RFC 3264 section 8.4).
+/// The plain call where the offerer holds: `sendonly` turns off the side to the offerer, and the address 0.0.0.0 also
+/// leaves it without a destination (RFC 3264 section 8.4).
 #[tactic(auto, unfolding(sdp::specs::WayOf::way_of, crate::specs::Formats::formats_match, crate::specs::Direct::is_answered, crate::specs::Direct::stream_of))]
 pub fn held_call()
     ensures sendonly { direct (offer_at (codes "ann") ann 5004 (codes "sendonly"))

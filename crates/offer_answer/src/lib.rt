@@ -1,6 +1,6 @@
 //! What an offer and an answer of descriptions mean (RFC 3264), directly and through a relay; which the server refuses;
-//! and what it sends in place of those that it took. That the two meanings are one is a law for all descriptions.
-//! Nothing here knows of calls or messages.
+//! and what it sends in place of those that it took. That the two meanings are the same is a law for all
+//! descriptions. Nothing here knows about calls or messages.
 #![tactic(auto)]
 
 mod checks;

@@ -86,7 +86,7 @@ fn is_kept(line: &Line<'_>) -> bool
     !(line.letter == b'a' && tells_place(cut(line.value.as_bytes(), b':').0))
 }
 
-/// The lines but for the attributes that tell places of their own.
+/// The lines except the attributes that name places of their own.
 fn kept_lines(alloc: Global, lines: &Lines<'_>) -> Result<Lines<'static>, AllocError>
     ensures { IfOk result (λ ls. ls ≡ kept_lines lines.now) }
 {
@@ -187,9 +187,9 @@ fn four_octets(ip: &[u8; 4])
 {}
 
 /// The description that the server sends in place of the one that it took (RFC 3264): each medium that has a port gets
-/// its port of `ports`, each address but 0.0.0.0 is the server's, and the attributes that tell addresses and ports of
-/// their own are left out. There is one port for each medium, not 0 where the medium's is not, and the server's address
-/// is not 0.0.0.0.
+/// its port from `ports`, each address but 0.0.0.0 is the server's, and the attributes that name addresses and ports
+/// of their own are left out. There is one port for each medium, not 0 where the medium's is not, and the server's
+/// address is not 0.0.0.0.
 #[tactic(auto, using(crate::proofs::ReaddressLaws::readdressed_alike, crate::proofs::ReaddressLaws::readdressed_at_server, crate::proofs::ReaddressLaws::readdressed_ports, crate::proofs::ReaddressLaws::readdressed_origin))]
 pub fn readdress(
     alloc: Global,

@@ -224,8 +224,8 @@ pub fn session_pairs(
     Ok(pairs)
 }
 
-/// The changes of the relay table that lead to the rows of a call's session in place of its former ones. With them the
-/// table has the rows of the session, and at the call's other ports none.
+/// The changes of the relay table that put the rows of a call's session in place of its former ones. With them the
+/// table has the rows of the session, and none at the call's other ports.
 pub fn plan_session(
     alloc: Global,
     pool: &Pool,

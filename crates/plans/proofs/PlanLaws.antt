@@ -1,4 +1,4 @@
--- A step of a call behind what the transactions do.
+-- A step of a call after what the transactions do.
 use Rattle.std.proofs.Common.{◌≡◌, ◌∙◌, ℕ, ◌<◌, ◌≤◌, ◌+◌, ◌^◌, List, Option, Result, IfOk, Bool, false, cond, [], Some, None, refl, ap, sym, subst, arith}
 use Rattle.transactions.specs.declared.change.Entry.{Entry}
 use Rattle.transactions.specs.declared.outcome.Outgoing.{Outgoing}
@@ -17,7 +17,7 @@ use Rattle.plans.specs.declared.reason.Reason.TheVariants.{TooManyCalls}
 use Rattle.plans.specs.Office.{Office}
 use Rattle.plans.specs.Effect.{CanEnter, Effect, effect}
 
--- the same step, behind the same
+-- the same step, after the same
 pub stepped_as : {E : Type 0} (r : Result Doing E) (calls : Standing) (acks : List KeptAck) (now : ℕ) (b b_as : List Entry) (send send_as : Option Outgoing) (id id_as : Option ℕ) (x y : steps.Effect)
     → b ≡ b_as → send ≡ send_as → id ≡ id_as → x ≡ y
     → IfOk r (λ d. effect calls acks now d ≡ with_step acks b send id x) → IfOk r (λ d. effect calls acks now d ≡ with_step acks b_as send_as id_as y)
@@ -35,7 +35,7 @@ effect_as r calls acks now x y same h = subst (λ e. IfOk r (λ d. effect calls 
 abbrev pub put_beside : Office → Plan → ℕ → Option LegDialog → Effect
 put_beside s plan place leg = record { plan = plan; calls = unchanged (puts_if s.calls place leg); acks = s.acks }
 
--- a call more may stand
+-- one more call may begin
 pub not_full : (s : Office) (e : Setting) (r : Request) (begun : List Entry) (id : ℕ) (x : steps.Effect) → false ≡ are_full s
     → with_step s.acks begun None None x ≡ unless_full s e r begun id x
 not_full s e r begun id x h = ap (λ (b : Bool). cond b (refuses_first s e r begun id TooManyCalls) (with_step s.acks begun None None x)) h

@@ -1,4 +1,4 @@
--- Each reason is told by a status that refuses (RFC 3261 sections 21.4 to 21.6).
+-- Each reason is given by a status that refuses (RFC 3261 sections 21.4 to 21.6).
 use Rattle.std.proofs.Common.{ℕ, ◌≤◌, arith}
 use Rattle.sip_message.specs.declared.error.MessageError.{MessageError}
 use Rattle.sip_message.specs.declared.error.MessageError.TheVariants as faults

@@ -1,4 +1,4 @@
--- What an event comes to that calls have to do with: one row for each rule of calls, for ACK, for responses and for
+-- What an event that concerns calls results in: one row for each rule of calls, for ACK, for responses and for
 -- timers.
 use Rattle.std.specs.Prelude.{ℕ, ◌+◌, ◌==◌, Bool, true, false, nat_le, List, [], ◌∷◌, ◌++◌, codes, find, length, is_some, slice_get, Option, Some, None, option_map, if◌then◌else◌}
 use Rattle.sip_uri.specs.declared.uri.Addr.{Addr}
@@ -80,7 +80,7 @@ of_plan s p = alone s.calls s.acks p
 abbrev pub occasion : Office → Setting → Occasion
 occasion s e = record { server = s.server; range = s.range; now = e.now; salt = e.salt; tokens = s.tokens }
 
--- ---- a step of a call, behind what the transactions do
+-- ---- a step of a call, after what the transactions do
 
 -- the ACK of a 2xx is kept by the number of its INVITE's transaction
 abbrev pub acks_with : List KeptAck → Option ℕ → Option Sent → List KeptAck
@@ -132,7 +132,7 @@ abbrev pub has_pairs : Office → ℕ → Description → Bool
 has_pairs s now offer =
     nat_le (fresh_needed (new_media (s.calls.begun + 1) s.range) Caller offer) (length (free_pairs now s.calls.pool.holdings))
 
--- it is refused before a call stands
+-- it is refused before there is a call
 abbrev pub refuses_first : Office → Setting → Request → List Entry → ℕ → Reason → Effect
 refuses_first s e r begun id reason = of_plan s (refuses_for s e r begun id reason)
 
@@ -141,7 +141,7 @@ unless_full s e r begun id step =
     if are_full s then refuses_first s e r begun id reasons.TooManyCalls
     else with_step s.acks begun None None step
 
--- the offer is none that the relay carries (RFC 3264 section 6), too few pairs are free, or as many calls stand as may
+-- the relay doesn't carry the offer (RFC 3264 section 6), too few pairs are free, or as many calls are live as may be
 abbrev pub first_by : Office → Setting → Request → List Entry → ℕ → Uri → Description → Effect
 first_by s e r begun id target offer =
     if is_some (offer_fault s.range offer None) then refuses_first s e r begun id reasons.UnfitOffer
@@ -193,7 +193,7 @@ reason_of_rule asked.Unreached = Some reasons.Unreached
 reason_of_rule (asked.Content rule) = Some (reason_of_content rule)
 reason_of_rule asked.Passes = None
 
--- why the call itself refuses it, but for want of memory
+-- why the call itself refuses it, unless memory ran out
 abbrev pub reason_of_refusal : CallRefusal → Option Reason
 reason_of_refusal refusals.OutOfMemory = None
 reason_of_refusal (refusals.Crosses clash) = Some (reason_of_clash clash)
@@ -278,7 +278,7 @@ ack_row s e r begun = ack_by s e begun (place_by_ack r.parts s.calls.calls)
 
 -- ---- a response to the request of transaction `id`
 
--- the ACK of a 2xx goes again, where it is kept
+-- the ACK of a 2xx is sent again, where it is kept
 abbrev pub again : Option KeptAck → List Sent
 again None = []
 again (Some ack) = ack.sent ∷ []
@@ -339,7 +339,7 @@ timer_input timers.Repeat = inputs.Repeat
 timer_input timers.Wait = inputs.Wait
 timer_input timers.Lifetime = inputs.Lifetime
 
--- the calls once the timer is set no more
+-- the calls once the timer is no longer set
 abbrev pub without_call_timer : CallTimerId → Office → Office
 without_call_timer timer s = record s { calls = without_timer timer s.calls }
 

@@ -21,7 +21,7 @@ pub data CallRule : Type 0 where
   -- an UPDATE of this end of this call without an offer
   Refreshes : ℕ → End → StandingCall → CallRule
 
--- where what was found is lent: it is the same, wherever it stands
+-- where what was found is borrowed: it is the same, wherever it is
 abbrev pub call_rule : LentRule → CallRule
 call_rule (lent.Begins to) = Begins to.now
 call_rule (lent.Cancels place) = Cancels place
@@ -29,7 +29,7 @@ call_rule (lent.Leaves place end) = Leaves place end
 call_rule (lent.Offers place end call) = Offers place end call.now
 call_rule (lent.Refreshes place end call) = Refreshes place end call.now
 
--- it is for this request: the call that it hands on stands at its place, and the type and the coding of the body that a
+-- it is for this request: the call that it hands on is at its place, and the type and the coding of the body that a
 -- call begins with are taken
 abbrev pub IsFor : List StandingCall → Request → CallRule → Type 0
 IsFor standing r (Begins to) = content_rule r.headers ≡ None

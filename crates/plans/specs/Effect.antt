@@ -1,5 +1,5 @@
--- What an event comes to for all that the agent has: its plan, and what changes among the calls and the ACKs that go
--- again.
+-- What an event results in for all that the agent has: its plan, and what changes among the calls and the ACKs that
+-- are sent again.
 use Rattle.std.specs.Prelude.{ℕ, ◌<◌, ◌≤◌, ◌+◌, ◌^◌, ◌==◌, not, List, [], ◌∷◌, ◌++◌, filter, Option, Some, None}
 use Rattle.events.specs.declared.sent.Sent.{Sent}
 use Rattle.calls.specs.State.{Standing}
@@ -13,7 +13,7 @@ use Rattle.plans.specs.declared.effects_of_events.Doing.{Doing}
 use Rattle.plans.specs.Plan.{Plan}
 
 -- what is answered, sent and changed in transactions and registrar; the calls afterwards, with the changes of the relay
--- table; and the ACKs that go again
+-- table; and the ACKs that are sent again
 pub record Effect : Type 0 where
   pub plan : Plan
   pub calls : Outcome
@@ -23,7 +23,8 @@ pub record Effect : Type 0 where
 abbrev pub alone : Standing → List KeptAck → Plan → Effect
 alone calls acks plan = record { plan = plan; calls = unchanged calls; acks = acks }
 
--- ---- the ACKs of 2xx that go again: each is kept by the number of its INVITE's transaction, until that ends (section
+-- ---- the ACKs of 2xx that are sent again: each is kept by the number of its INVITE's transaction, until that ends
+-- (section
 -- 13.2.2.4)
 
 abbrev pub without_ack : ℕ → List KeptAck → List KeptAck
@@ -36,12 +37,12 @@ acks_after acks (Ends id) = without_ack id acks
 
 -- ---- what was planned, as its effect
 
--- the timer that fired is set no more
+-- the timer that fired is no longer set
 abbrev pub fired_off : Option CallTimerId → Standing → Standing
 fired_off None calls = calls
 fired_off (Some timer) calls = without_timer timer calls
 
--- so many tokens more are made
+-- `more` tokens more are made
 abbrev pub with_made : ℕ → Plan → Plan
 with_made more p = record { taken = p.taken; changes = p.changes; sends = p.sends; registration = p.registration; made = more + p.made; note = p.note }
 

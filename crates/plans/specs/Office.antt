@@ -8,8 +8,8 @@ use Rattle.offer_answer.specs.Direct.{hold_address}
 use Rattle.calls.specs.State.{Standing}
 use Rattle.plans.specs.declared.acks.KeptAck.{KeptAck}
 
--- the registrar, the transactions, the calls with their pool, and the ACKs that go again; where the server is reached,
--- its relay ports, the seconds that a binding has to last at least, and how many tokens were made
+-- the registrar, the transactions, the calls with their pool, and the ACKs that are sent again; where the server is
+-- reached, its relay ports, the seconds that a binding has to last at least, and how many tokens were made
 pub record Office : Type 0 where
   pub registrar : registrar.Contents
   pub table : transactions.Contents

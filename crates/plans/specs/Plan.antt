@@ -1,4 +1,4 @@
--- What an event comes to: what it is answered, what is sent, and what changes.
+-- What an event results in: what it is answered, what is sent, and what changes.
 use Rattle.std.specs.Prelude.{ℕ, List, [], ◌∷◌, ◌++◌, Option, Some, None, option_map}
 use Rattle.events.specs.declared.sent.Sent.{Sent}
 use Rattle.sip_uri.specs.declared.uri.Addr.{Addr}

@@ -1,11 +1,11 @@
-//! The ACKs of 2xx that go again.
+//! The ACKs of 2xx that are sent again.
 
 ghost use Rattle.std.specs.Prelude.{◌≡◌, find, ◌==◌};
 ghost use Rattle.std.specs.Option.{option_copied};
 
 use events::Sent;
 
-/// The ACK of a 2xx, which goes again where that 2xx comes again (RFC 3261 section 13.2.2.4).
+/// The ACK of a 2xx, which is sent again where that 2xx comes again (RFC 3261 section 13.2.2.4).
 pub struct KeptAck {
     /// The number of the transaction of its INVITE.
     pub id: usize,
@@ -18,7 +18,7 @@ impl Drop for KeptAck {
     }
 }
 
-/// What changes among the ACKs that go again.
+/// What changes among the ACKs that are sent again.
 #[derive(Drop)]
 pub enum AckChange {
     /// Nothing.

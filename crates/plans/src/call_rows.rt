@@ -1,4 +1,4 @@
-//! What an event comes to that calls have to do with. Each makes values and changes nothing.
+//! What an event that concerns calls results in. Each makes values and changes nothing.
 
 ghost use Rattle.std.specs.Prelude.{◌≡◌, ◌<◌, ◌^◌, ◌∷◌, [], ℕ, IfOk, List, None, Some, Option, option_map, slice_get};
 ghost use Rattle.std.specs.Option.{option_copied};
@@ -32,7 +32,7 @@ use sip_uri::Uri;
 use std::alloc::AllocError;
 use transactions::Change;
 
-/// As many calls stand as may.
+/// As many calls are live as may be.
 const MAX_CALLS: usize = 256;
 
 /// The server's tag in the responses to the call's offer.
@@ -164,7 +164,7 @@ impl<'o> Office<'o> {
         self.calls.as_slice().len() >= MAX_CALLS
     }
 
-    /// The call that was planned begins, unless as many stand as may.
+    /// The call that was planned begins, unless as many are live as may be.
     fn begins_unless_full(
         &self,
         setting: Setting,
@@ -246,7 +246,7 @@ impl<'o> Office<'o> {
 
     // ---- a request in a dialog
 
-    /// The dialog of this request of this call, which stands at this place, counts its number, whatever it is answered.
+    /// The dialog of this request of this call, which is at this place, counts its number, whatever the answer to it.
     pub(crate) fn counts_its_number(
         &self,
         request: &Request<'_>,

@@ -1,4 +1,4 @@
-//! What an event comes to for all that the agent has.
+//! What an event results in for all that the agent has.
 
 ghost use Rattle.std.specs.Prelude.{◌≡◌, ◌++◌, ℕ, IfOk, List, None, Some};
 ghost use Rattle.calls.specs.State.{Standing};
@@ -23,8 +23,8 @@ use events::Sent;
 use std::alloc::AllocError;
 use transactions::{Change, Outgoing};
 
-/// What an event comes to: its plan, and what changes among the calls and the ACKs that go again. All that takes memory
-/// has been done, but for the room of the lists that it goes into.
+/// What an event results in: its plan, and what changes among the calls and the ACKs that are sent again. All that
+/// takes memory has been done, except the room of the lists that it goes into.
 #[derive(Drop)]
 pub struct Doing {
     pub plan: Plan,
@@ -32,12 +32,12 @@ pub struct Doing {
     /// The timer of a call that fires.
     pub fired: Option<CallTimerId>,
     pub acks: AckChange,
-    /// How many tokens are made for the calls, beside those of the plan.
+    /// How many tokens are made for the calls, besides those of the plan.
     pub made: u64,
 }
 
 impl Doing {
-    /// No call has to do with it. Takes no memory.
+    /// It concerns no call. Takes no memory.
     pub fn alone(plan: Plan) -> Doing
         ensures row { (calls : Standing) (acks : List KeptAck) (now : ℕ) → effect calls acks now result ≡ alone calls acks plan }
         ensures fits { (calls : Standing) (now : ℕ) → Fits calls now result }
@@ -66,7 +66,7 @@ impl Doing {
         }
     }
 
-    /// A timer of a call fires, and no call has to do with it. Takes no memory.
+    /// A timer of a call fires, and this concerns no call. Takes no memory.
     pub(crate) fn of_fired_timer(plan: Plan, timer: CallTimerId) -> Doing
         ensures row { (calls : Standing) (acks : List KeptAck) (now : ℕ) →
             effect calls acks now result ≡ alone (without_timer timer calls) acks plan }
@@ -100,7 +100,7 @@ impl Doing {
         }
     }
 
-    /// A step of a call, behind what the transactions do.
+    /// A step of a call, after what the transactions do.
     pub(crate) fn of_step(before: Before, step: CallStep) -> Result<Doing, AllocError>
         ensures row { (calls : Standing) (acks : List KeptAck) (now : ℕ) →
             IfOk result (λ d. effect calls acks now d ≡ with_step acks before.begun.items before.send before.id (steps.effect calls now step)) }
@@ -211,7 +211,7 @@ fn kept(id: Option<usize>, ack: Option<Sent>) -> AckChange
     }
 }
 
-/// What the transactions send by themselves, and behind it what a step sends.
+/// What the transactions send by themselves, and after it what a step sends.
 fn with_first(send: Option<Outgoing>, mut sends: Vec<Sent>) -> Result<Vec<Sent>, AllocError>
     ensures { IfOk result (λ all. all.items ≡ goes send ++ sends.items) }
 {
@@ -221,7 +221,7 @@ fn with_first(send: Option<Outgoing>, mut sends: Vec<Sent>) -> Result<Vec<Sent>,
     Ok(sends)
 }
 
-/// The plan of a step, behind what the transactions do.
+/// The plan of a step, after what the transactions do.
 fn plan_of(
     mut begun: Vec<Change>,
     send: Option<Outgoing>,

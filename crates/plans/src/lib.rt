@@ -1,6 +1,6 @@
-//! What each rule comes to, as one value: what is answered and sent, and what changes in the transactions, the
-//! registrar, the calls and the ACKs that go again. It is asked of an office that is lent, so nothing changes here.
-//! Nothing here knows of the order of checks.
+//! What each rule results in, as one value: what is answered and sent, and what changes in the transactions, the
+//! registrar, the calls and the ACKs that are sent again. It works on a borrowed office, so nothing changes here.
+//! Nothing here knows about the order of checks.
 #![tactic(auto)]
 
 mod acks;

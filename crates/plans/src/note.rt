@@ -1,4 +1,4 @@
-//! What an event was about, for whoever watches the server.
+//! What an event was about, for observers of the server.
 
 ghost use Rattle.std.specs.Prelude.{◌≡◌};
 ghost use Rattle.plans.specs.Note.{note_of_call, note_of_taken};
@@ -10,8 +10,8 @@ use call_core::NoteOfCall;
 /// What an event was about.
 #[derive(Clone, Copy)]
 pub enum Note {
-    /// Nothing that is told: what comes again, what transactions do by themselves, and requests that are answered 200
-    /// and change nothing.
+    /// Nothing that is reported: repeats, what transactions do by themselves, and requests that are answered 200 and
+    /// change nothing.
     Quiet,
     /// Something happened to a call.
     Call(NoteOfCall),

@@ -1,4 +1,4 @@
-//! What an offer inside a call comes to, and an UPDATE without one. Each makes values and changes nothing.
+//! What an offer inside a call, and an UPDATE without one, result in. Each makes values and changes nothing.
 
 ghost use Rattle.std.specs.Prelude.{◌≡◌, ◌<◌, ◌^◌, ◌∷◌, [], IfErr, IfOk, List, None, OnOk, Some, slice_get};
 ghost use Rattle.timers.specs.declared.timers.Timer.{Timer};
@@ -110,7 +110,7 @@ impl<'o> Office<'o> {
 
     // ---- an offer
 
-    /// What this call, which stands at this place, does for an offer, whatever timers the calls have.
+    /// What this call, which is at this place, does for an offer, whatever timers the calls have.
     #[tactic(auto, using(crate::proofs::CallLaws::can_enter_offer))]
     fn offer_step(
         &self,
@@ -206,7 +206,7 @@ impl<'o> Office<'o> {
         }
     }
 
-    /// What an offer of this end inside this call, which stands at this place, comes to.
+    /// What an offer of this end inside this call, which is at this place, results in.
     #[tactic(auto, unfolding(crate::specs::CallRows::offers), using(crate::proofs::OfferLaws::only_passes))]
     pub(crate) fn offers(
         &self,
@@ -265,7 +265,7 @@ impl<'o> Office<'o> {
         Ok(Doing::puts(plan, place, leg))
     }
 
-    /// What an UPDATE of this end of this call, which stands at this place, without an offer comes to.
+    /// What an UPDATE without an offer, of this end of this call, which is at this place, results in.
     #[tactic(auto, unfolding(crate::specs::CallRows::refreshes_at))]
     pub(crate) fn refreshes_at(
         &self,

@@ -21,20 +21,20 @@ use std::marker::Model;
 use text::Text;
 use transactions::{Change, Outgoing, Table};
 
-/// An office as an event finds it, lent: a plan changes nothing.
+/// An office as an event finds it, borrowed: a plan changes nothing.
 #[derive(Drop)]
 pub struct Office<'o> {
     pub alloc: Global,
     pub registrar: &'o Registrar,
     pub table: &'o Table,
     pub calls: &'o Calls,
-    /// The ACKs of 2xx that go again.
+    /// The ACKs of 2xx that are sent again.
     pub acks: &'o [KeptAck],
     /// Where the server is reached.
     pub server: Addr,
     /// The server's address and relay ports.
     pub range: OwnRange,
-    /// The seconds that a binding has to last at least.
+    /// The least number of seconds that a binding has to last.
     pub least: u32,
     /// How many tokens were made.
     pub tokens: u64,
@@ -68,7 +68,7 @@ impl<'o> Office<'o> {
         }
     }
 
-    /// A transaction does something by itself, and no call has to do with it.
+    /// A transaction does something by itself, and this concerns no call.
     pub fn moves_row(&self, begun: Vec<Change>, send: Option<Outgoing>) -> Result<Doing, AllocError>
         ensures row { (now : ℕ) → IfOk result (λ d. effect self.now.calls self.now.acks now d ≡ of_plan self.now (moves begun.items send)) }
         ensures fits { (now : ℕ) → IfOk result (Fits self.now.calls now) }
@@ -76,7 +76,7 @@ impl<'o> Office<'o> {
         Ok(Doing::alone(Plan::moves(self.alloc, begun, send)?))
     }
 
-    /// The office's users are to be these: who is one already keeps its bindings.
+    /// The office's users are to be these: one who is a user already keeps its bindings.
     pub fn users_row(&self, users: &[Text<'_>]) -> Result<Doing, AllocError>
         ensures row { (now : ℕ) → IfOk result (λ d. effect self.now.calls self.now.acks now d ≡ of_plan self.now (lists (kept_entries self.now.registrar.entries users.now))) }
         ensures fits { (now : ℕ) → IfOk result (Fits self.now.calls now) }

@@ -1,4 +1,4 @@
-//! What an event comes to.
+//! What an event results in.
 
 ghost use Rattle.std.specs.Prelude.{◌≡◌, ◌∷◌, ◌++◌, [], IfOk, None, Some};
 ghost use Rattle.sip_message.specs.Words.{class_of};
@@ -20,7 +20,7 @@ use std::marker::Model;
 use text::Text;
 use transactions::{Change, Outgoing};
 
-/// What an event comes to: its answer, the changes of the transactions, what is sent, and what changes in the
+/// What an event results in: its answer, the changes of the transactions, what is sent, and what changes in the
 /// registrar. All that takes memory has been done.
 #[derive(Drop)]
 pub struct Plan {
@@ -136,7 +136,7 @@ impl Plan {
         })
     }
 
-    /// A refusal that no transaction sends, for this reason, of which these are the bytes.
+    /// A refusal that no transaction sends, for this reason, with these bytes.
     pub fn replies(
         alloc: Global,
         to: Addr,
@@ -162,8 +162,8 @@ impl Plan {
         })
     }
 
-    /// A request began transaction `id`, and is answered there at once, with a response of this status, of which these
-    /// are the bytes.
+    /// A request began transaction `id`, and is answered there at once, with a response of this status and these
+    /// bytes.
     pub(crate) fn answers(
         alloc: Global,
         begun: Vec<Change>,

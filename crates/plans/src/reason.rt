@@ -18,10 +18,10 @@ pub enum Reason {
     /// Its top branch doesn't begin as section 8.1.1.7 says.
     #[error("no branch of RFC 3261")]
     NoBranch,
-    /// A CANCEL of no request that stands (section 9.2).
+    /// A CANCEL of no live request (section 9.2).
     #[error("nothing to cancel")]
     NothingToCancel,
-    /// It came on another way, too (section 8.2.2.2).
+    /// It came by another path, too (section 8.2.2.2).
     #[error("merged")]
     Merged,
     /// A method that is known and not offered (section 8.2.1).
@@ -33,10 +33,10 @@ pub enum Reason {
     /// It requires an extension (section 8.2.2.3).
     #[error("extension required")]
     ExtensionRequired,
-    /// A proxy stands between, which is not served.
+    /// A proxy is in between, which is not served.
     #[error("proxy between")]
     ProxyBetween,
-    /// It stands in no dialog of a call, or in one of a call that has no place for it (section 12.2.2).
+    /// It is in no dialog of a call, or in one of a call that has no place for it (section 12.2.2).
     #[error("no dialog")]
     NoDialog,
     /// Its number is not above the last (section 12.2.2).
@@ -63,13 +63,13 @@ pub enum Reason {
     /// Its offer has no description that can be read (K3).
     #[error("no description")]
     Undescribed,
-    /// Its offer may not be made, or is none that the relay carries (K3).
+    /// Its offer may not be made, or the relay doesn't carry it (K3).
     #[error("unfit offer")]
     UnfitOffer,
     /// Too few pairs of ports are free (K4).
     #[error("no ports")]
     NoPorts,
-    /// As many calls stand as may.
+    /// As many calls are live as may be.
     #[error("too many calls")]
     TooManyCalls,
     /// An offer of the other end is open (K1, section 14.2).
@@ -78,7 +78,7 @@ pub enum Reason {
     /// An offer of the same end is open (K2, section 14.2).
     #[error("second offer")]
     SecondOffer,
-    /// No number is left for a request to the end across (K5).
+    /// No number is left for a request to the other end (K5).
     #[error("number at its end")]
     NumberAtItsEnd,
     /// The registrar refuses it (section 10.3).

@@ -1,4 +1,4 @@
-//! What requests are answered that no call has to do with. Each makes values and changes nothing.
+//! The answers to requests that concern no call. Each makes values and changes nothing.
 
 ghost use Rattle.std.specs.Prelude.{◌≡◌, ◌<◌, ◌^◌, ◌∷◌, [], ℕ, List, Option, Result, IfOk, None, Some, Ok, unwrap_or};
 ghost use Rattle.std.specs.Option.{option_copied};
@@ -323,7 +323,7 @@ impl<'o> Office<'o> {
         self.responds_in(setting, request, begun, id, 200, &further)
     }
 
-    /// What a reply comes to, to a request that began transaction `id`.
+    /// What a reply to a request that began transaction `id` results in.
     #[tactic(auto, unfolding(crate::specs::Replies::reply_row))]
     pub fn reply_row(
         &self,

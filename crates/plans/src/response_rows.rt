@@ -1,4 +1,4 @@
-//! What an ACK, a response and a timer come to for the calls. Each makes values and changes nothing.
+//! What an ACK, a response and a timer result in for the calls. Each makes values and changes nothing.
 
 ghost use Rattle.std.specs.Prelude.{◌≡◌, ◌<◌, ◌^◌, ◌∷◌, [], IfOk, Some};
 ghost use Rattle.std.specs.Option.{option_copied};
@@ -60,7 +60,7 @@ fn again(alloc: Global, ack: Option<&KeptAck>) -> Result<Vec<Sent>, AllocError>
 }
 
 impl<'o> Office<'o> {
-    /// What an ACK comes to: the call that waits for it takes it.
+    /// What an ACK results in: the call that waits for it takes it.
     #[tactic(auto, unfolding(crate::specs::CallRows::ack_row))]
     pub fn ack_row(
         &self,
@@ -80,7 +80,7 @@ impl<'o> Office<'o> {
 
     // ---- responses
 
-    /// The ACK of a 2xx that comes again goes again.
+    /// The ACK of a 2xx that comes again is sent again.
     fn acks_again(&self, begun: Vec<Change>, id: usize) -> Result<Plan, AllocError>
         ensures { IfOk result (λ p. p ≡ acks_again self.now begun.items id) }
     {
@@ -196,7 +196,7 @@ impl<'o> Office<'o> {
         }
     }
 
-    /// What a response to the request of transaction `id` comes to.
+    /// What a response to the request of transaction `id` results in.
     #[tactic(auto, unfolding(crate::specs::CallRows::response_row))]
     pub fn response_row(
         &self,
@@ -259,7 +259,7 @@ impl<'o> Office<'o> {
         self.timed_out(setting, begun, self.table.transaction(timer.id))
     }
 
-    /// A timer of the call at this place fires, and is set no more.
+    /// A timer of the call at this place fires, and is no longer set.
     fn takes_timer(
         &self,
         setting: Setting,
@@ -278,7 +278,7 @@ impl<'o> Office<'o> {
         Doing::of_fired_step(Some(timer), before, step)
     }
 
-    /// What a timer of a call comes to.
+    /// What a timer of a call results in.
     #[tactic(auto, unfolding(crate::specs::CallRows::call_timer_row))]
     pub fn call_timer_row(&self, setting: Setting, timer: CallTimerId) -> Result<Doing, AllocError>
         requires few { self.now.tokens < 2 ^ 63 }

@@ -5,7 +5,7 @@ use call_core::End;
 use calls::StandingCall;
 use sip_uri::Uri;
 
-/// A final response to a request that no call has to do with.
+/// A final response to a request that concerns no call.
 #[derive(Clone, Copy)]
 pub enum Reply {
     /// 200 to a CANCEL of the request of this transaction.

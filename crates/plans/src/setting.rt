@@ -1,4 +1,4 @@
-//! What a row is told beside the message.
+//! What a row is given besides the message.
 
 use sip_uri::Addr;
 

@@ -1,4 +1,4 @@
--- The rules and the bindings behind one event more.
+-- The rules and the bindings after one more event.
 use Rattle.std.proofs.Common.{◌≡◌, ◌∙◌, ℕ, Bool, cond, List, [], ◌∷◌, ◌++◌, None, refl, ap}
 use Rattle.registrar.specs.declared.binding.Binding.{Binding}
 use Rattle.sip_uri.specs.declared.uri.Uri.{Uri}

@@ -23,7 +23,7 @@ count_le p q (x ∷ xs) imp =
     let rest = count_le p q xs imp in
     rw (count-cons p x xs, count-cons q x xs) (omega arith)
 
--- it stands in the list
+-- it is in the list
 abbrev pub IsIn : Binding → List Binding → Type 0
 IsIn b [] = ⊥
 IsIn b (x ∷ xs) = (x ≡ b) ⊎ IsIn b xs

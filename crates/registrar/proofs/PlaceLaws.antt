@@ -1,4 +1,4 @@
--- What is found by the index of names, and the index behind a change.
+-- What is found by the index of names, and the index after a change.
 use Rattle.std.proofs.Common.{◌≡◌, ℕ, ◌+◌, ◌<◌, true, false, cond, eqb, List, [], ◌∷◌, length, map, drop, get_or, set, Option, Some, None, option_map, unwrap_or, find, position, slice_get, IfSome, refl, sym, ap, ◌∙◌, arith}
 use Prim.Native.Nat.{suc}
 use Rattle.std.specs.Cmp.Lexicographic.{bytes_decides}

@@ -7,7 +7,7 @@ use Rattle.std.specs.List.{list_all, list_any}
 use Rattle.registrar.specs.declared.binding.Binding.{Binding}
 use Rattle.registrar.specs.Registering.{present}
 
--- one more, behind a change
+-- one more, after a change
 pub map_more : {X Y : Type 0} (f : X → Y) (xs : List X) (i : ℕ) (x : X) → i < length xs → x ≡ get_or xs i x
     → map f (take (suc i) xs) ≡ map f (take i xs) ++ f x ∷ []
 map_more f [] i x within at = absurd (omega arith)

@@ -84,7 +84,7 @@ none_leaves rules bs few = rw (le-ltb max_bindings (length bs) few) (either (rul
     either true = refl
     either false = refl
 
--- what all have, those that stand have
+-- what all have, those that remain have
 pub standing_all : (P : Binding → Type 0) (rules : BindingRules) (bs : List Binding) → All P bs → All P (standing rules bs)
 standing_all P rules bs h =
     elim (rules.oldest_leaves && nat_lt max_bindings (length bs)) as (λ v. All P (cond v (recent bs) bs)) [

@@ -1,4 +1,4 @@
--- A registrar that stands after some events stands after one more.
+-- A registrar that is as some events leave it is also as one more leaves it.
 use Rattle.std.proofs.Common.{◌≡◌, ◌&&◌, ◌||◌, ◌∙◌, find, map, option_map, unwrap_or, ℕ, Bool, true, false, cond, List, [], ◌∷◌, ◌++◌, filter, Option, Some, None, Result, Ok, Err, IfOk, All, nat_eq, nat_lt, refl, sym, ap, subst, rules}
 use Rattle.std.specs.Cmp.Lexicographic.{pointwise, bytes_decides}
 use Rattle.std.specs.List.{list_any}
@@ -19,7 +19,7 @@ use Rattle.registrar.specs.Registrar.{Contents, StandsAfter, rules_of, rules_giv
 use Rattle.registrar.proofs.FoldLaws.{rules_after-append, fold_from-append}
 use Rattle.registrar.proofs.EntryLaws.{known, own_entry, other_entry, same_users, users-without_bindings, none-without_bindings}
 
--- a new registrar stands after no REGISTER
+-- a new registrar is as no REGISTER leaves it
 pub stands_new : (users : List (List ℕ)) (ip : List ℕ) (sip_port : ℕ) (domain : List ℕ) (binding_rules : BindingRules)
     → StandsAfter (made_of users ip sip_port domain binding_rules) (rules_given users ip sip_port domain binding_rules) []
 stands_new users ip sip_port domain binding_rules = record {
@@ -99,7 +99,7 @@ kept-users : (es : List UserBindings) (users : List (List ℕ)) → map (λ l. l
 kept-users es [] = refl
 kept-users es (u ∷ us) = ap (λ vs. u ∷ vs) (kept-users es us)
 
--- who is on the list has what it had, and nobody else has anything
+-- a user on the list has what it had, and nobody else has anything
 pub kept-bindings : (es : List UserBindings) (users : List (List ℕ)) (user : List ℕ)
     → bindings_of (kept_entries es users) user ≡ cond (list_any (λ u. pointwise nat_eq u user) users) (bindings_of es user) []
 kept-bindings es [] user = refl
@@ -143,7 +143,7 @@ answered_at : (r : Contents) (g : Register) (now : ℕ) (user : List ℕ) (bs : 
 answered_at r g now user bs false is e = cc
 answered_at r g now user bs true is e = rw e (own_entry r.entries user bs (has_entry r user is))
 
--- whoever is answered has the bindings of the answer
+-- a user who is answered has the bindings of the answer
 answered_for : (r : Contents) (g : Register) (now : ℕ) (user : List ℕ) (bs : List Binding) (named : Option (List ℕ)) → named ≡ Some user → answer_for (rules_of r) (bindings_of r.entries) g now named ≡ Ok bs
     → bindings_of (registered_for r named (answer_for (rules_of r) (bindings_of r.entries) g now named)).entries user ≡ bs
 answered_for r g now user bs None is e = cc

@@ -23,7 +23,7 @@ abbrev pub AreApart : List Binding → Type 0
 AreApart [] = Unit {0}
 AreApart (b ∷ bs) = All (λ c. c.refreshed ≢ b.refreshed) bs × AreApart bs
 
--- where there are enough, as many stand as a user may have
+-- where there are enough, as many remain as a user may have
 abbrev pub EightStand : Type 0
 EightStand = (bindings : List Binding) → AreApart bindings → max_bindings ≤ length bindings → length (recent bindings) ≡ max_bindings
 

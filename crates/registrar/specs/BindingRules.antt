@@ -28,6 +28,6 @@ is_recent bindings b = nat_lt (later bindings b) max_bindings
 abbrev pub recent : List Binding → List Binding
 recent bindings = filter (is_recent bindings) bindings
 
--- those that stand: the others leave where they would be too many and the rules say so
+-- those that remain: the others are dropped where they would be too many and the rules say so
 abbrev pub standing : BindingRules → List Binding → List Binding
 standing rules bindings = if rules.oldest_leaves && nat_lt max_bindings (length bindings) then recent bindings else bindings

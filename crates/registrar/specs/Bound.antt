@@ -46,7 +46,7 @@ abbrev pub rules_with : Rules → Event → Rules
 rules_with rules (Registered r) = rules
 rules_with rules (Listed users) = with_users rules users
 
--- the rules behind these: the users are those of the last list
+-- the rules after these: the users are those of the last list
 abbrev pub rules_after : Rules → List Event → Rules
 rules_after rules [] = rules
 rules_after rules (e ∷ es) = rules_after (rules_with rules e) es
@@ -82,7 +82,7 @@ target_of bindings = option_map (λ b. b.uri) (latest bindings)
 
 -- ---- what follows
 
--- a user has no more bindings than the limit at any moment
+-- a user has at most as many bindings as the limit at any moment
 abbrev pub FewBound : Type 0
 FewBound = (rules : Rules) (history : List Event) (user : List ℕ) (now : ℕ) → length (bound rules user history now) ≤ max_bindings
 
@@ -103,7 +103,7 @@ abbrev pub GoneIsUnbound : Type 0
 GoneIsUnbound = (rules : Rules) (history : List Event) (users : List (List ℕ)) (user : List ℕ) (now : ℕ) → is_known (with_users rules users) user ≡ false
     → bound rules user (history ++ Listed users ∷ []) now ≡ []
 
--- who is on it is bound to what it was bound to
+-- a user on it is bound to what it was bound to
 abbrev pub KnownKeepsBindings : Type 0
 KnownKeepsBindings = (rules : Rules) (history : List Event) (users : List (List ℕ)) (user : List ℕ) (now : ℕ) → is_known (with_users rules users) user ≡ true
     → bound rules user (history ++ Listed users ∷ []) now ≡ bound rules user history now

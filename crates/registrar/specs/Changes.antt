@@ -7,7 +7,7 @@ use Rattle.registrar.specs.Registrar.{Contents, after_plan, bindings_of}
 
 -- ---- a list of users
 
--- a user with what it is bound to there: nothing, for who was no user
+-- a user with what it is bound to there: nothing, for one who was no user
 abbrev pub kept_entry : List UserBindings → List ℕ → UserBindings
 kept_entry entries user = record { user = user; bindings = bindings_of entries user }
 

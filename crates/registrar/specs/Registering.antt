@@ -25,7 +25,7 @@ pub record Rules : Type 0 where
   pub domain : List ℕ
   pub binding_rules : BindingRules
 
--- no user stands twice
+-- no user occurs twice
 abbrev pub are_distinct : List (List ℕ) → Bool
 are_distinct [] = true
 are_distinct (u ∷ us) = not (list_any (λ v. pointwise nat_eq v u) us) && are_distinct us
@@ -77,7 +77,7 @@ abbrev pub binding_by : Register → Uri → ℕ → ℕ → ℕ → Binding
 binding_by register uri seconds number now =
     record { uri = uri; expires_at = now + seconds * 1000; call_id = register.call_id; cseq = register.cseq; refreshed = number }
 
--- a binding that stands keeps its place, and a new one goes last
+-- an existing binding keeps its place, and a new one goes last
 abbrev pub put_at : List Binding → Binding → Option ℕ → List Binding
 put_at bindings new None = bindings ++ new ∷ []
 put_at bindings new (Some place) = slice_set bindings place new
@@ -141,7 +141,7 @@ with_contacts rules register now number [] bindings = Ok bindings
 with_contacts rules register now number (c ∷ cs) bindings =
     and_then (with_contact rules register now bindings number c) (λ kept. with_contacts rules register now (number + 1) cs kept)
 
--- no more bindings than a user may have, numbered by the order of their refresh
+-- at most as many bindings as a user may have, numbered by the order of their refresh
 abbrev pub within_limit : List Binding → Result (List Binding) Refusal
 within_limit bindings = if nat_lt max_bindings (length bindings) then Err TooManyBindings else Ok (with_ranks bindings)
 
@@ -151,7 +151,7 @@ abbrev pub is_zero : Option ℕ → Bool
 is_zero None = false
 is_zero (Some seconds) = seconds == 0
 
--- a star stands alone, and with Expires 0
+-- a star is alone, and with Expires 0
 abbrev pub is_star_misused : Register → Bool
 is_star_misused register = register.star && not (length register.contacts == 0 && is_zero register.expires)
 
@@ -174,7 +174,7 @@ is_bindable ip sip_port contact = is_bindable_uri ip sip_port contact.uri
 
 -- ---- a REGISTER of a known user
 
--- what it is refused for as a whole, before any of its contacts counts
+-- why it is refused as a whole, before any of its contacts counts
 unfoldable pub whole_refusal : Rules → Register → ℕ → List Binding → Option Refusal
 whole_refusal rules register now bindings =
     if is_star_misused register then Some StarMisused

@@ -1,4 +1,4 @@
--- The registrar, and what it means that it stands after a list of REGISTERs and lists of users.
+-- The registrar, and what it means that it is as a list of REGISTERs and lists of users leave it.
 use Rattle.std.specs.Prelude.{◌≡◌, ℕ, Bool, List, [], ◌∷◌, find, map, nat_eq, Option, Some, None, option_map, unwrap_or, Result, Ok, Err, if◌then◌else◌}
 use Rattle.std.specs.Cmp.Lexicographic.{pointwise}
 use Rattle.std.specs.declared.vec.Vec.{Vec}
@@ -51,7 +51,7 @@ event register now = Registered (record { register = register; now = now })
 unfoldable pub answer_of : Contents → Register → ℕ → Result (List Binding) Refusal
 answer_of r register now = answer_by (rules_of r) (bindings_of r.entries) register now
 
--- what it is refused for without a request for memory
+-- why it is refused without a request for memory
 unfoldable pub refusal_of : Contents → Register → ℕ → Option Refusal
 refusal_of r register now = early_refusal (rules_of r) (bindings_of r.entries) register now
 
@@ -65,7 +65,7 @@ abbrev pub Gives : Result (Vec Binding Global) Refusal → Result (List Binding)
 Gives (Ok bindings) answer = answer ≡ Ok bindings.items
 Gives (Err refusal) answer = Fails refusal answer
 
--- a call that was refused for want of memory counts as not made
+-- a call that was refused because memory ran out counts as not made
 abbrev pub Counts : Result (Vec Binding Global) Refusal → Type 0
 Counts (Ok bindings) = Unit {0}
 Counts (Err OutOfMemory) = ⊥
@@ -121,7 +121,7 @@ plan_of user bindings = record { user = user; bindings = bindings }
 abbrev pub after_plan : Contents → PlanContents → Contents
 after_plan r plan = with_user r plan.user plan.bindings
 
--- the plan is of the user that the REGISTER names, and leaves it what it is answered; it fails where the answer is a
+-- the plan is of the user that the REGISTER names, and leaves it what the answer says; it fails where the answer is a
 -- refusal, or memory ran out
 abbrev pub Plans : Result PlanContents Refusal → Option (List ℕ) → Result (List Binding) Refusal → Type 0
 Plans (Ok plan) user answer = (user ≡ Some plan.user) × (answer ≡ Ok plan.bindings)

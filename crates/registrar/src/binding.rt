@@ -5,9 +5,9 @@ use std::alloc::{AllocError, Global};
 use std::marker::Model;
 use text::Text;
 
-/// A contact of a user, with the moment in milliseconds at which it is over, and the Call-ID and number of the
+/// A contact of a user, with the moment in milliseconds at which it expires, and the Call-ID and number of the
 /// REGISTER that made or refreshed it last. Of two bindings of a user, the one whose `refreshed` is greater was
-/// refreshed later; the numbers are given anew by each REGISTER.
+/// refreshed later; each REGISTER gives the numbers anew.
 pub struct Binding {
     pub uri: Uri<'static>,
     pub expires_at: u64,
@@ -32,7 +32,7 @@ impl Binding {
     ghost use Rattle.std.specs.Prelude.{◌≡◌, ◌+◌, ◌-◌, ◌*◌, ◌<◌, ◌≤◌, nat_lt, IfOk};
     ghost use Rattle.std.specs.Int.{div_ceil};
 
-    /// The same binding. Takes memory for its texts alone.
+    /// The same binding. Takes memory only for its texts.
     pub fn copy(&self, alloc: Global) -> Result<Binding, AllocError>
         ensures { IfOk result (λ copy. copy ≡ self.now) }
     {
@@ -45,7 +45,7 @@ impl Binding {
         })
     }
 
-    /// Whether it is not over: it is over at its very moment of expiry.
+    /// Whether it has not expired: it has expired at its very moment of expiry.
     pub fn is_present(&self, now: u64) -> bool
         ensures { result ≡ nat_lt now self.now.expires_at }
     {
@@ -92,7 +92,7 @@ impl Bindings {
         Bindings { entries }
     }
 
-    /// The bindings, lent. Takes no memory.
+    /// The bindings, borrowed. Takes no memory.
     pub fn as_slice(&self) -> &[Binding]
         ensures { result.now ≡ self.now }
     {

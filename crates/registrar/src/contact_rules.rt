@@ -40,7 +40,7 @@ fn draft_of<'a>(bindings: &'a [Draft], uri: &Uri<'_>) -> Option<&'a Draft>
     bindings.iter().find(|b| same_binding(&b.binding.uri, uri))
 }
 
-/// Whether the request is of the Call-ID that bound it last, and no newer.
+/// Whether the request has the Call-ID that bound it last, and is no newer.
 pub(crate) fn is_older_than(register: &Register<'_>, binding: &Binding) -> bool
     ensures { result ≡ is_older_than register.now binding.now }
 {
@@ -95,7 +95,7 @@ fn place_of(bindings: &[Draft], uri: &Uri<'_>) -> Option<usize>
         .position(|b| same_binding(&b.binding.uri, uri))
 }
 
-// A binding that stands keeps its place, and a new one goes last.
+// An existing binding keeps its place, and a new one goes last.
 fn put(bindings: &mut Vec<Draft>, binding: Draft) -> Result<(), AllocError>
     ensures put { OnOk result (bindings.new.items ≡ put bindings.old.items binding) }
     ensures last { OnOk result ((now : ℕ) → nat_lt now binding.expires_at ≡ true → AllLast now bindings.old.items → AllLast now bindings.new.items) }
@@ -201,7 +201,7 @@ pub(crate) fn with_contacts(
     Ok(kept)
 }
 
-// The bindings that stand: the others leave.
+// The bindings that remain: the others are dropped.
 fn standing(alloc: Global, rules: BindingRules, kept: Vec<Draft>) -> Result<Vec<Draft>, AllocError>
     ensures bindings { IfOk result (λ after. after.items ≡ standing rules kept.items) }
     ensures memory { OnErr result (rules.oldest_leaves ≡ true) }
@@ -213,7 +213,7 @@ fn standing(alloc: Global, rules: BindingRules, kept: Vec<Draft>) -> Result<Vec<
     }
 }
 
-/// The bindings that stand, numbered by the order of their refresh, if they are no more than a user may have.
+/// The bindings that remain, numbered by the order of their refresh, if they are at most as many as a user may have.
 pub(crate) fn within_limit(
     alloc: Global,
     rules: BindingRules,

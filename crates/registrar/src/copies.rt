@@ -17,7 +17,7 @@ pub(crate) fn copy_all(alloc: Global, bindings: &[Binding]) -> Result<Vec<Bindin
     Ok(copies)
 }
 
-/// The bindings that are not over, copied.
+/// The bindings that have not expired, copied.
 pub(crate) fn present(
     alloc: Global,
     bindings: &[Binding],

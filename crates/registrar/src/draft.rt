@@ -28,7 +28,7 @@ impl Model for Draft {
 }
 
 impl Draft {
-    /// The same draft. Takes memory for its texts alone.
+    /// The same draft. Takes memory only for its texts.
     fn copy(&self, alloc: Global) -> Result<Draft, AllocError>
         ensures { IfOk result (λ copy. copy ≡ self.now) }
     {
@@ -48,7 +48,7 @@ fn draft_of(alloc: Global, binding: &Binding) -> Result<Draft, AllocError>
     })
 }
 
-/// The bindings that are not over, copied.
+/// The bindings that have not expired, copied.
 pub(crate) fn drafts_of(
     alloc: Global,
     bindings: &[Binding],

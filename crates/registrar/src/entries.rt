@@ -90,7 +90,7 @@ impl Entries {
         })
     }
 
-    /// The entries, lent. Takes no memory.
+    /// The entries, borrowed. Takes no memory.
     pub(crate) fn as_slice(&self) -> &[UserBindings]
         ensures { result.now ≡ self.now }
     {

@@ -1,7 +1,7 @@
 //! The registrar: which contacts each user of the office is bound to (RFC 3261 section 10.3).
 //!
-//! A user has a list of bindings. A REGISTER changes it by all of its contacts, or not at all. A list of users says who
-//! the users are from then on.
+//! A user has a list of bindings. A REGISTER changes it by all of its contacts, or doesn't change it. A list of users
+//! says who the users are from then on.
 #![tactic(auto)]
 
 mod binding;

@@ -33,7 +33,7 @@ impl Plan {
         }
     }
 
-    /// The bindings that the REGISTER is answered with, oldest first. Takes no memory.
+    /// The bindings in the answer to the REGISTER, oldest first. Takes no memory.
     pub fn bindings(&self) -> &[Binding]
         ensures { result.now ≡ self.now.bindings }
     {

@@ -4,8 +4,8 @@ use sip_uri::Uri;
 use std::marker::Model;
 use text::Text;
 
-/// A value of Contact that is no star: its URI, none where the value cannot be read as a URI of the scheme `sip`, and
-/// the seconds that its own parameter `expires` gives.
+/// A value of Contact that is not a star: its URI, none where the value cannot be read as a URI of the scheme `sip`,
+/// and the seconds that its own parameter `expires` gives.
 pub struct Contact<'a> {
     pub uri: Option<Uri<'a>>,
     pub expires: Option<u32>,
@@ -49,7 +49,7 @@ impl<'a> Contacts<'a> {
         self.entries
     }
 
-    /// The contacts, lent.
+    /// The contacts, borrowed.
     pub fn as_slice(&self) -> &[Contact<'a>]
         ensures { result.now ≡ self.now }
     {
@@ -57,7 +57,7 @@ impl<'a> Contacts<'a> {
     }
 }
 
-/// A REGISTER (RFC 3261 section 10.2): the user that its To names, whether `*` stands among its contacts, the other
+/// A REGISTER (RFC 3261 section 10.2): the user that its To names, whether `*` is among its contacts, the other
 /// contacts, a further `*` being one without a URI, the seconds of its header Expires, and its Call-ID and number.
 pub struct Register<'a> {
     pub user: Option<Text<'a>>,

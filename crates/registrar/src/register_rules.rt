@@ -1,4 +1,4 @@
-//! What a REGISTER is refused for as a whole, before any of its contacts counts.
+//! Why a REGISTER is refused as a whole, before any of its contacts counts.
 
 ghost use Rattle.std.specs.Prelude.{◌≡◌, ◌&&◌, nat_lt};
 ghost use Rattle.std.specs.List.{list_any, list_all};
@@ -29,7 +29,7 @@ fn is_older_than_any(register: &Register<'_>, bindings: &[Binding], now: u64) ->
         .any(|b| b.is_present(now) && is_older_than(register, b))
 }
 
-/// Whether a star is to remove a binding that the REGISTER is no newer than.
+/// Whether a star would remove a binding than which the REGISTER is no newer.
 pub(crate) fn is_star_stale(register: &Register<'_>, bindings: &[Binding], now: u64) -> bool
     ensures { result ≡ is_star_stale register.now (present now bindings.now) }
 {

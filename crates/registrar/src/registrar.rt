@@ -112,7 +112,7 @@ impl Registrar {
         self.look_up(user).0
     }
 
-    /// What `apply` answers to a REGISTER, and the change that it would make. Changes nothing.
+    /// What `apply` returns for a REGISTER, and the change that it would make. Changes nothing.
     #[tactic(auto, unfolding(crate::specs::Registrar::answer_of, crate::specs::Registrar::refusal_of, crate::specs::Registering::answer_by, crate::specs::Registering::early_refusal))]
     pub fn plan(&self, register: &Register<'_>, now: u64) -> Result<Plan, Refusal>
         requires { now < 2 ^ 60 }
@@ -145,8 +145,8 @@ impl Registrar {
         user
     }
 
-    /// What `make_change` is to change so that these are the users: who is one already keeps its bindings. Changes
-    /// nothing.
+    /// What `make_change` is to change so that these are the users: one who is a user already keeps its bindings.
+    /// Changes nothing.
     pub fn listing(&self, users: &[Text<'_>]) -> Result<Listing, AllocError>
         ensures { IfOk result (λ listing. listing ≡ kept_entries self.now.entries users.now) }
     {
@@ -167,8 +167,8 @@ impl Registrar {
         }
     }
 
-    /// Makes these the users from now on: `listing` and `make_change` together. Who is no user any more loses its
-    /// bindings; who is one already keeps them.
+    /// Makes these the users from now on: `listing` and `make_change` together. One who is no longer a user loses its
+    /// bindings; one who already is keeps them.
     pub fn put_users(&mut self, users: &[Text<'_>]) -> Result<(), AllocError>
         ensures stands { OnOk result ((rules : Rules) (history : List Event) → StandsAfter self.old rules history
             → StandsAfter self.new rules (history ++ Listed users.now ∷ [])) }
@@ -180,9 +180,9 @@ impl Registrar {
         Ok(())
     }
 
-    /// Takes a REGISTER, and answers the bindings that its user then has, oldest first (RFC 3261 section 10.3): `plan`
-    /// and `carry_out` together. The refusals are met in the order B1, B2, B6, then contact by contact B3 and B4, then
-    /// B5.
+    /// Takes a REGISTER, and returns the bindings that its user then has, oldest first (RFC 3261 section 10.3):
+    /// `plan` and `carry_out` together. The refusals are met in the order B1, B2, B6, then contact by contact B3 and
+    /// B4, then B5.
     pub fn apply(&mut self, register: &Register<'_>, now: u64) -> Result<Vec<Binding>, Refusal>
         requires { now < 2 ^ 60 }
         ensures answer { (rules : Rules) (history : List Event) → StandsAfter self.old rules history
@@ -218,8 +218,8 @@ impl Registrar {
         self.entries.as_slice()
     }
 
-    /// Where a call to a user goes: the URI of the binding that was refreshed last, of those that are not over (RFC
-    /// 3261 section 16.5, one target of several). Takes no memory.
+    /// Where a call to a user goes: the URI of the binding that was refreshed last, of those that have not expired
+    /// (RFC 3261 section 16.5, one target of several). Takes no memory.
     #[tactic(auto, unfolding(crate::specs::Bound::bound, crate::specs::Registrar::bindings_at))]
     pub fn target(&self, user: &Text<'_>, now: u64) -> Option<&Uri<'static>>
         ensures bound { (rules : Rules) (history : List Event) → StandsAfter self.now rules history

@@ -32,14 +32,14 @@ fn first_latest(bindings: &[Binding], now: u64) -> Option<&Binding>
         .find(|b| b.is_present(now) && is_latest(bindings, b, now))
 }
 
-// Of the bindings that are not over, the one that was refreshed last.
+// Of the bindings that have not expired, the one that was refreshed last.
 fn latest(bindings: &[Binding], now: u64) -> Option<&Binding>
     ensures { option_copied result ≡ latest (present now bindings.now) }
 {
     first_latest(bindings, now)
 }
 
-/// The URI of the binding that was refreshed last, of those that are not over.
+/// The URI of the binding that was refreshed last, of those that have not expired.
 #[tactic(auto, unfolding(crate::specs::Bound::target_of))]
 pub(crate) fn target(bindings: &[Binding], now: u64) -> Option<&Uri<'static>>
     ensures { option_copied result ≡ target_of (present now bindings.now) }

@@ -7,7 +7,7 @@ use crate::binding::Bindings;
 use std::alloc::{AllocError, Global};
 use text::{Text, Texts};
 
-/// A user and its bindings, oldest first, those that are over too.
+/// A user and its bindings, oldest first, including expired ones.
 pub struct UserBindings {
     pub user: Text<'static>,
     pub bindings: Bindings,

@@ -44,7 +44,7 @@ contact_from Unreadable = Some (record { uri = None; expires = None })
 abbrev pub contacts_without_star : List ContactValue → List Contact
 contacts_without_star values = filter_map contact_from values
 
--- a further star stands as a contact that can't be read, and so beside the first one, which is to stand alone
+-- a further star counts as a contact that can't be read, and so occurs with the first one, which is to be alone
 abbrev pub further_star : List ContactValue → List Contact
 further_star values = if nat_lt 1 (count_by is_star values) then record { uri = None; expires = None } ∷ [] else []
 

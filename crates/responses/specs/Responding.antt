@@ -54,6 +54,6 @@ stateless = codes "stateless"
 abbrev pub with_headers : List Header → Response → Response
 with_headers further response = record response { headers = response.headers ++ further }
 
--- a response without a body: what it repeats of the request, and further header fields
+-- a response without a body: what it repeats from the request, and further header fields
 unfoldable pub responds : Parts → Addr → ℕ → List ℕ → List Header → Response
 responds parts source status tag further = with_headers further (reply_of parts source status tag)

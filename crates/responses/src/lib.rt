@@ -1,5 +1,5 @@
-//! The responses of the server's own (RFC 3261 sections 8.2, 10.3 and 11.2): what a request asks for, and what it is
-//! answered beside what every response repeats. Nothing here knows of transactions, dialogs or calls.
+//! The responses of the server's own (RFC 3261 sections 8.2, 10.3 and 11.2): what a request asks for, and what its
+//! answer has besides what every response repeats. Nothing here knows about transactions, dialogs or calls.
 #![tactic(auto)]
 
 mod own_responses;

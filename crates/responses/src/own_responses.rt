@@ -22,10 +22,10 @@ const ALLOW: &[u8] = b"INVITE, ACK, CANCEL, BYE, REGISTER, OPTIONS, UPDATE";
 /// The tag of To in a response that no transaction sends.
 pub const STATELESS: &[u8] = b"stateless";
 
-/// Bytes that most values of Contact have at most, so that their buffer grows seldom.
+/// The most bytes that most values of Contact have, so that their buffer seldom grows.
 const USUAL_CONTACT_BYTES: usize = 96;
 
-/// The bytes of a response without a body: what it repeats of the request, and further header fields.
+/// The bytes of a response without a body: what it repeats from the request, and further header fields.
 #[tactic(auto, unfolding(crate::specs::Responding::responds, sip_writing::specs::Reply::reply_of))]
 pub fn response_with(
     alloc: Global,

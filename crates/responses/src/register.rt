@@ -12,7 +12,7 @@ use sip_uri::{NameAddr, Param, param_named};
 use std::alloc::{AllocError, Global};
 use text::{Text, is_run_of_digits, number_upto};
 
-/// The seconds of a text that is no number below 2^32.
+/// The seconds for a text that is not a number below 2^32.
 const UNREADABLE_SECONDS: u32 = 3600;
 
 fn seconds_of(text: &Text<'_>) -> u32
@@ -136,7 +136,7 @@ fn contacts_from<'a>(
     Ok(Contacts::from_vec(contacts))
 }
 
-/// The same text, lent.
+/// The same text, borrowed.
 fn lent_text<'m>(text: &'m Text<'_>) -> Text<'m>
     ensures { result ≡ text.now }
 {
@@ -152,7 +152,7 @@ fn header_seconds(alloc: Global, value: Option<&FieldValue<'_>>) -> Result<Optio
     }
 }
 
-/// What a REGISTER asks of a registrar, lent of both.
+/// What a REGISTER asks of a registrar, borrowed from both.
 #[tactic(auto, unfolding(crate::specs::Registering::register_of))]
 pub fn register_of<'m>(
     alloc: Global,

@@ -6,7 +6,8 @@ ghost use Rattle.responses.specs.Tokens.{token};
 use std::alloc::{AllocError, Global};
 use text::{Room, Text};
 
-/// The token of this salt that is so many-th of the agent: sixteen hexadecimal digits, a full stop and the number.
+/// The token of this salt, with this number among the agent's: sixteen hexadecimal digits, a full stop and the
+/// number.
 #[tactic(auto, unfolding(crate::specs::Tokens::token))]
 pub fn token(alloc: Global, salt: u64, count: u64) -> Result<Text<'static>, AllocError>
     ensures { IfOk result (λ t. t ≡ token salt count) }

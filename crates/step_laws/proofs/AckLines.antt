@@ -80,7 +80,7 @@ module _ (s : Scene) where
     wait_ends across stages.Updating waits talks = absurd (false≢true waits)
     wait_ends across (stages.Ending interval) waits talks = absurd (false≢true talks)
 
-  -- ---- the 200 goes again
+  -- ---- the 200 is sent again
 
   then_answer_again : (o : Option Sent) → option_copied s.again ≡ o → (end : End) (after : ℕ) → Tells s (AnswerAgain end ∷ Set timers.Repeat after ∷ []) (answer_again o)
   then_answer_again None has end after = then_none_again s end has (then_silent s (Set timers.Repeat after) (λ tokens. sets_none s tokens timers.Repeat after) (tells_nothing s))

@@ -1,4 +1,4 @@
--- What an end is told is alike to what the other said: of the offer that is open in a call, and of the answer of its
+-- What an end is sent matches what the other said: of the offer that is open in a call, and of the answer of its
 -- session.
 use Rattle.std.proofs.Common.{◌≡◌, ℕ, zero, suc, List, [], ◌∷◌, Some, subst}
 use Rattle.std.specs.Prelude.{slice_get}

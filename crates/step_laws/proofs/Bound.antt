@@ -1,4 +1,4 @@
--- What a REGISTER is answered by a registrar that stands after some, from the list of these alone: and what its user is
+-- What a REGISTER is answered by the registrar that some REGISTERs leave, from their list alone: and what its user is
 -- bound to then.
 use Rattle.std.proofs.Common.{◌≡◌, ◌∙◌, ◌++◌, ◌&&◌, ℕ, Bool, true, false, List, [], ◌∷◌, Option, Some, None, Ok, Err, cond, ap, refl, subst}
 use Rattle.std.proofs.lemmas.Bool.{and_from, cond-true}

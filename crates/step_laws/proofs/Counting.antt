@@ -1,4 +1,4 @@
--- The registrar stands after the REGISTERs and the lists of users that the entries bring, each of them counted.
+-- The registrar is as left by the REGISTERs and the lists of users that the entries bring, each of them counted.
 use Rattle.std.proofs.Common.{◌≡◌, ◌∙◌, ◌++◌, List, [], ◌∷◌, Option, Some, None, ap, inl, inr, refl, subst, sym}
 use Rattle.std.proofs.lemmas.List.{append-nil, append_assoc}
 use Rattle.configuration.specs.declared.config.Config.{Config}

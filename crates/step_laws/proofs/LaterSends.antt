@@ -1,4 +1,4 @@
--- An offer inside a call that is passed on: what the call sends, and that this is alike.
+-- An offer inside a call that is passed on: what the call sends, and that this matches.
 use Rattle.std.proofs.Common.{◌≡◌, ◌∙◌, ◌++◌, ℕ, ◌+◌, ◌<◌, ◌^◌, ◌≤◌, Bool, true, false, cond, is_some, List, [], ◌∷◌, codes, Option, Some, None, Ok, refl, ap, sym, subst, arith}
 use Rattle.std.specs.List.{All}
 use Rattle.std.specs.Option.{option_copied}

@@ -1,4 +1,4 @@
--- A refusal of the request of an open offer: the offerer gets its number, or the one that stands for it.
+-- A refusal of the request of an open offer: the offerer gets its number, or the one sent in its place.
 use Rattle.std.proofs.Common.{◌≡◌, ◌∙◌, ℕ, ◌==◌, ◌||◌, Bool, true, false, cond, List, [], ◌∷◌, ◌++◌, Option, Some, None, inl, inr, refl, ap, sym, subst}
 use Rattle.std.specs.Prelude.{unwrap_or}
 use Rattle.std.proofs.lemmas.Bool.{eqb-true, false≢true}
@@ -100,7 +100,7 @@ module _ (scene : Scene) (c : StandingCall) (offered : Transaction) (has : scene
   stage_refuses stages.Updating x waits ms h = by_row x (row (Refusal x (status_passed_on status) ∷ Release ∷ []) x stages.Settled) (fails x status) _ _ refl refl ms h
   stage_refuses (stages.Ending interval) x waits ms h = absurd (false≢true waits)
 
--- behind what the transactions send
+-- after what the transactions send
 pub refused_behind : (status : ℕ) (offered : Transaction) (first ms : List Message) → PassesRefusal status offered ms → PassesRefusal status offered (first ++ ms)
 refused_behind status offered first ms h = record {
   before = first ++ h.before;

@@ -49,7 +49,7 @@ use Rattle.step_laws.proofs.RepeatEvents.{moves_just}
 use Rattle.step_laws.proofs.Ringing.{provisional_silent}
 use Rattle.step_laws.proofs.SpeakingEvents.{nothing_asked, row_speaks}
 
--- ---- one list behind the other
+-- ---- one list after another
 
 each_behind : (P : Addr → Message → Type 0) (xs ys : List Sent) (ms ns : List Message) → EachGoes P xs ms → EachGoes P ys ns → EachGoes P (xs ++ ys) (ms ++ ns)
 each_behind P [] ys ms ns one all = subst (λ l. EachGoes P ys (l ++ ns)) (sym one) all

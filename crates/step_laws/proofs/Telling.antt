@@ -1,4 +1,4 @@
--- What the actions of a call send, and to whom: each action with what goes by it, one behind the other.
+-- What the actions of a call send, and to whom: each action with what goes by it, one after another.
 use Rattle.std.proofs.Common.{◌≡◌, ℕ, nat_lt, true, Bool, false, cond, is_some, codes, List, [], ◌∷◌, ◌++◌, ◌+◌, Option, Some, None, refl, ap, sym, subst}
 use Rattle.std.specs.Option.{option_copied}
 use Rattle.std.proofs.lemmas.Bool.{false≢true}
@@ -45,7 +45,7 @@ pub record Tells (s : Scene) (actions : List Action) (what : List Going) : Type 
 abbrev SendsTo : Scene → ℕ → Action → (Addr → Type 0) → Type 0
 SendsTo s tokens action to = (x : Sent) × ((dress_one s tokens action).sends ≡ x ∷ []) × to x.to
 
--- ---- one behind the other
+-- ---- one after another
 
 pub tells_nothing : (s : Scene) → Tells s [] []
 tells_nothing s = record { each = λ tokens ms h. (refl, h) }

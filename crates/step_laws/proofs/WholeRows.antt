@@ -27,7 +27,7 @@ use Rattle.media_laws.specs.Coming.{scene_at}
 use Rattle.step_laws.specs.Whole.{GoesByItself, HasReason, begins, by_itself, by_line, fork, late, nothing, stands}
 
 module _ (s : Contents) (event : Event) where
-  -- a step of a call, behind this
+  -- a step of a call, after this
   module _ (e : Setting) (x : Effect) (before : List Sent) (first : GoesByItself s event before) where
     call_by : (place : ℕ) (input : Input) (leg : Option LegDialog) (request : Option AskerValue) (o : Option StandingCall) → slice_get s.calls.calls place ≡ o
         → x.plan.sends ≡ before ++ (takes_by s.calls s.table (occasion (office s) e) place input leg request o).dressed.sends → HasReason s event x

@@ -30,9 +30,9 @@ use Rattle.step_laws.specs.Sending.{Going, Sends, asks}
 use Rattle.transactions.specs.Slots.{at}
 use Rattle.transactions.specs.declared.transaction.Transaction.{Transaction}
 
--- the response is one of a call that waits for it: it falls under this rule, and that call stands at this place and
--- waits for an answer to its open offer, which came in the request of this transaction (RFC 3261 sections 13.2.2 and
--- 14.1, RFC 3311 section 5.1)
+-- the response is one for which a call waits: it falls under this rule, and that call is at this place and waits for
+-- an answer to its open offer, which came in the request of this transaction (RFC 3261 sections 13.2.2 and 14.1, RFC
+-- 3311 section 5.1)
 pub record IsAwaited (s : Contents) (asked : Transaction) (r : SipResponse) (rule : ResponseRule) (place : ℕ) (c : StandingCall) (offered : Transaction) : Type 0 where
   pub rule_is : response_rule s.calls.calls asked.parts r ≡ rule
   pub there : slice_get s.calls.calls place ≡ Some c
@@ -52,7 +52,7 @@ pub record IsFitAnswer (c : StandingCall) (r : SipResponse) (answer : Descriptio
   pub described : described r.headers r.body ≡ Some answer
   pub fit : is_fit c.call c.call.media.offer (Some answer) ≡ true
 
--- an ACK to that of an INVITE, and a 200 to the offerer, whose description is alike (RFC 3261 section 13.2.2.4, RFC
+-- an ACK to that of an INVITE, and a 200 to the offerer, whose description matches (RFC 3261 section 13.2.2.4, RFC
 -- 3311 section 5)
 pub record PassesAnswer (asked offered : Transaction) (answer : Description) (ms : List Message) : Type 0 where
   pub acks : List Message

@@ -1,4 +1,4 @@
--- What comes to the agent in an event: a message that was read, and what the transactions say of it.
+-- What reaches the agent in an event: a message that was read, and what the transactions say of it.
 use Rattle.std.specs.Prelude.{◌≡◌, ℕ, List, Some, None, Ok, true, false}
 use Rattle.sip_uri.specs.declared.uri.Addr.{Addr}
 use Rattle.sip_message.specs.Read.{message_of}

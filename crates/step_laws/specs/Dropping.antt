@@ -62,8 +62,8 @@ pub record HasNoBranch (event : Event) : Type 0 where
   pub branch : has_fit_branch (parts_of message).vias ≡ false
   pub kind : IsUnansweredKind message
 
--- a response that replies to no request of the server's own whose transaction stands, or a 2xx that says no address to
--- go on with (sections 12.1.2 and 17.1.3)
+-- a response that replies to no request of the server's own whose transaction is live, or a 2xx that says no address
+-- to go on with (sections 12.1.2 and 17.1.3)
 pub record IsStray (s : Contents) (event : Event) : Type 0 where
   pub response : Response
   pub comes : IsBranched event (Kinds.Response response)
@@ -93,7 +93,7 @@ IsDroppedFor s event NoBranch = HasNoBranch event
 IsDroppedFor s event Clock = moments_end ≤ event.now
 IsDroppedFor s event Spent = max_tokens ≤ s.tokens
 
--- a request that would begin a transaction, where as many stand as may, of all or of those from its address
+-- a request that would begin a transaction, where as many are live as may be, of all or of those from its address
 pub record IsShed (s : Contents) (event : Event) : Type 0 where
   pub request : Request
   pub comes : IsBranched event (Kinds.Request request)
@@ -107,7 +107,7 @@ pub record LooksInVain (s : Contents) (event : Event) : Type 0 where
   pub of_transactions : first_due s.table.timers (moment_at s event.now) ≡ None
   pub of_calls : first_due s.calls.timers (moment_at s event.now) ≡ None
 
--- silence is told of, and no call of this number is settled
+-- silence is reported, and no call of this number is settled
 pub record SpeaksOfNone (s : Contents) (event : Event) : Type 0 where
   pub number : ℕ
   pub silent : event.what ≡ whats.Silent number

@@ -54,7 +54,7 @@ pub record RequestTimesOut (s : Contents) (event : Event) (place : ℕ) : Type 0
   pub ends : fired_of (at s.table.slots timer.key.id) timer.key.kind ≡ Some fires.TimedOut
   pub call : timeout_rule s.calls.calls asked.parts ≡ Some place
 
--- both ends get a BYE, each in its own dialog, first the one across from the offerer, behind this (section 12.2.1.2)
+-- both ends get a BYE, each in its own dialog, first the one across from the offerer, after this (section 12.2.1.2)
 pub record LeavesBoth (before : List Going) (c : StandingCall) (offerer : End) (x : Effect) : Type 0 where
   pub across : Dialog
   pub own : Dialog

@@ -25,7 +25,7 @@ use Rattle.step_laws.specs.Sending.{Going, Sends, asks, responds}
 
 -- ---- the call
 
--- a call stands at this place
+-- a call is at this place
 pub record StandsAt (s : Contents) (place : ℕ) (c : StandingCall) (n : Standing) : Type 0 where
   pub there : slice_get s.calls.calls place ≡ Some c
   pub stands : c.call.standing ≡ Some n
@@ -70,7 +70,7 @@ to_offerer c offered status = responds offered.parts c.asked.source status
 abbrev pub bye : Dialog → Going
 bye d = asks d (codes "BYE")
 
--- the BYE came in the dialog with its end, and the other end gets one in its own dialog, behind this (section 15)
+-- the BYE came in the dialog with its end, and the other end gets one in its own dialog, after this (section 15)
 pub record PassesBye (before : List Going) (r : Request) (c : StandingCall) (end : End) (x : Effect) : Type 0 where
   pub came : IsOfDialog r.parts c end
   pub across : Dialog

@@ -8,7 +8,7 @@ use Rattle.event_rows.specs.Rows.{only_counts}
 use Rattle.event_rows.specs.State.{Contents}
 use Rattle.step_laws.specs.Expiring.{CallTimerIsDue}
 
--- the call at this place has stood as long as it may (the server's own)
+-- the call at this place has lived as long as it may (the server's own)
 abbrev pub LifetimeIsOver : Contents → Event → ℕ → Type 0
 LifetimeIsOver s event place = CallTimerIsDue s event place timers.Lifetime
 

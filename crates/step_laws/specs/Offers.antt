@@ -1,4 +1,4 @@
--- What a step does for an offer: it asks the other end what was offered, or answers the request for good.
+-- What a step does for an offer: it asks the other end what was offered, or answers the request finally.
 use Rattle.std.specs.Prelude.{◌≡◌, ◌≤◌, ◌<◌, ◌⊎◌, ℕ, true, codes, length, map, List, [], ◌∷◌, ◌++◌, Option, Some, None, IsTrue, slice_get, if◌then◌else◌}
 use Rattle.sip_uri.specs.declared.uri.Addr.{Addr}
 use Rattle.sip_uri.specs.declared.uri.Uri.{Uri}
@@ -47,8 +47,8 @@ pub record AsksAlike (came : Message) (offer : Description) (went : Message) : T
 
 -- ---- a first INVITE
 
--- one by whose rule a call begins to this target, with this offer, which the relay carries; fewer calls stand than may,
--- and enough pairs are free (RFC 3261 sections 8.2, 13.3.1 and 16.5)
+-- one by whose rule a call begins to this target, with this offer, which the relay carries; fewer calls are live than
+-- may be, and enough pairs are free (RFC 3261 sections 8.2, 13.3.1 and 16.5)
 pub record IsFirstCall (s : Contents) (now : ℕ) (r : SipRequest) (to : Uri) (offer : Description) : Type 0 where
   pub rule : request_rule (office s) r now ≡ Call (calls.Begins to)
   pub described : described r.headers r.body ≡ Some offer
@@ -105,8 +105,8 @@ pub record IsServed (bytes : List ℕ) (r : SipRequest) (x : Effect) : Type 0 wh
 abbrev pub trying_first : SipRequest → Addr → List Going
 trying_first r source = if is_method (codes "INVITE") r then responds r.parts source 100 ∷ [] else []
 
--- it came in the dialog with an end of a call that stands, and goes, by its method, in the dialog with the other end of
--- that call
+-- it came in the dialog with an end of a live call, and goes, by its method, in the dialog with the other end of that
+-- call
 pub record GoesAcross (calls : List StandingCall) (r : SipRequest) (source : Addr) (x : Effect) : Type 0 where
   pub place : ℕ
   pub call : StandingCall

@@ -1,5 +1,5 @@
--- The REGISTERs and the lists of users of a list of events, and what each comes to: a fold over all of them (RFC 3261
--- section 10.3).
+-- The REGISTERs and the lists of users of a list of events, and what each results in: a fold over all of them (RFC
+-- 3261 section 10.3).
 use Rattle.std.specs.Prelude.{◌≡◌, ◌⊎◌, ℕ, map, List, [], ◌∷◌, ◌++◌, None}
 use Rattle.sip_uri.specs.declared.uri.Addr.{Addr}
 use Rattle.sip_message.specs.declared.message.Request.{Request}
@@ -93,7 +93,7 @@ pub record Refuses (source : Addr) (r : Request) (least : ℕ) (refusal : Refusa
   pub sends : x.plan.sends ≡ sent_response (response_address r.parts.vias source) (responds r.parts source (status_of refusal) tag (refusal_headers least refusal)) ∷ []
   pub registration : x.plan.registration ≡ None
 
--- after a list of users the registrar stands with it, all calls stand as they did, and nothing is sent
+-- after a list of users the registrar has it, all calls are as they were, and nothing is sent
 pub record TakesUsers (rules : Rules) (history : List RegistrarEvent) (users : List (List ℕ)) (s : Contents) (event : Event) : Type 0 where
   pub taken : (row s event).plan.taken ≡ Done
   pub sends : (row s event).plan.sends ≡ []

@@ -50,7 +50,7 @@ pub record SendsJust (datagrams : List Sent) (x : Effect) : Type 0 where
 abbrev pub last_of : Transaction → List Sent
 last_of t = goes (option_map (outgoing t.place) t.last)
 
--- the transaction of the request stands, and sends that again (sections 17.2.1 and 17.2.2)
+-- the transaction of the request is live, and sends that again (sections 17.2.1 and 17.2.2)
 pub record RespondsAgain (s : Contents) (r : Request) (x : Effect) : Type 0 where
   pub id : ℕ
   pub first : Transaction
@@ -58,7 +58,8 @@ pub record RespondsAgain (s : Contents) (r : Request) (x : Effect) : Type 0 wher
   pub copies : is_asked r.parts (Some first) ≡ true
   pub again : SendsJust (last_of first) x
 
--- the transaction whose request it responds to stands, and sends again what it sent last, or nothing (section 17.1.1.2)
+-- the transaction whose request it responds to is live, and sends again what it sent last, or nothing (section
+-- 17.1.1.2)
 pub record GoesAgainOrNothing (s : Contents) (r : Response) (x : Effect) : Type 0 where
   pub id : ℕ
   pub asked : Transaction

@@ -36,7 +36,7 @@ pub data GoesByItself (s : Contents) (event : Event) (datagrams : List Sent) : T
   for_timer : (id : ℕ) (t : Transaction) → at s.table.slots id ≡ Some t → datagrams ≡ last_of t → GoesByItself s event datagrams
   kept : (id : ℕ) → datagrams ≡ ack_kept s id → GoesByItself s event datagrams
 
--- the actions of a line of the calls' table, for a call that stands or begins; or those for a 2xx that no call takes
+-- the actions of a line of the calls' table, for a call that is live or begins; or those for a 2xx that no call takes
 pub data AreOfALine (s : Contents) (actions : List Action) : Type 0 where
   stands : (place : ℕ) (c : StandingCall) (input : Input) (now : ℕ) → slice_get s.calls.calls place ≡ Some c → actions ≡ (call_row c.call input s.calls.pool now).actions → AreOfALine s actions
   begins : actions ≡ first_row.actions → AreOfALine s actions
@@ -44,7 +44,7 @@ pub data AreOfALine (s : Contents) (actions : List Action) : Type 0 where
   late : actions ≡ Ack Callee ∷ [] → AreOfALine s actions
 
 -- one response to the request that came, of which all or only the parts that can be answered were read; what goes by
--- itself; and behind that, the messages of the actions of one line
+-- itself; and after that, the messages of the actions of one line
 pub data HasReason (s : Contents) (event : Event) (x : Effect) : Type 0 where
   response : (source : Addr) (bytes : List ℕ) (r : Request) → event.what ≡ whats.Datagram source bytes → message_of bytes ≡ Ok (Kinds.Request r) → RespondsOnce r.parts source x → HasReason s event x
   unread : (source : Addr) (bytes : List ℕ) (parts : Parts) → event.what ≡ whats.Datagram source bytes → answerable_of bytes ≡ Some parts → RespondsOnce parts source x → HasReason s event x

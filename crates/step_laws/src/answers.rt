@@ -32,9 +32,9 @@ use trace_reading::{bodies_describe, bytes_say_all};
 use transactions::replies;
 
 /// A 2xx for which a call waits, with an answer that its open offer lets the end give: in that step the offerer gets a
-/// 200 to its request, whose answer is alike; and the ACK goes in front of it where the 2xx is one to an INVITE, and
-/// none where it is one to an UPDATE. The agent stands after any events, and the transaction of the server's own
-/// request hands the 2xx up.
+/// 200 to its request, with a matching answer; the ACK goes before it where the 2xx answers an INVITE, and none goes
+/// where it answers an UPDATE. This holds after any events, where the transaction of the server's own request hands
+/// the 2xx up.
 pub fn fit_answers_are_passed_on()
     ensures { (s : Contents) (event : Event) (t : List Datagram) (k : ℕ) → AgentStands s t k → (source : Addr) (bytes : List ℕ) (r : Response) (id : ℕ) (asked : Transaction) →
         GoesUp s event source bytes r id asked → (place : ℕ) (c : StandingCall) (offered : Transaction) →
@@ -53,8 +53,8 @@ pub fn fit_answers_are_passed_on()
 }
 
 /// A refusal for which a call waits: in that step the offerer gets it as the final response to its request, with the
-/// same number, but of a redirection with 480, and of a demand for credentials with 500. The agent stands after any
-/// events, and the transaction of the server's own request hands the refusal up.
+/// same number, except that a redirection becomes 480, and a demand for credentials 500. This holds after any events,
+/// where the transaction of the server's own request hands the refusal up.
 pub fn refusals_are_passed_on()
     ensures { (s : Contents) (event : Event) (t : List Datagram) (k : ℕ) → AgentStands s t k → (source : Addr) (bytes : List ℕ) (r : Response) (id : ℕ) (asked : Transaction) →
         GoesUp s event source bytes r id asked → (place status : ℕ) (c : StandingCall) (offered : Transaction) →
@@ -95,8 +95,8 @@ pub fn fit_answers_go_back()
 /// A 2xx for which a call waits, without an answer that its open offer lets the end give. Of a first INVITE: in that
 /// step ACK and BYE go in the dialog that it makes, to the address of its Contact, and the caller gets 500 (`first`).
 /// Of an INVITE inside a call: ACK and BYE to its sender, 500 to the offerer's request, and a BYE to the offerer
-/// (`inside`). Of an UPDATE: 500, and a BYE to each end (`update`). Nothing else is sent. The agent stands after any
-/// events, and the transaction of the server's own request hands the 2xx up.
+/// (`inside`). Of an UPDATE: 500, and a BYE to each end (`update`). Nothing else is sent. This holds after any
+/// events, where the transaction of the server's own request hands the 2xx up.
 pub fn unfit_answers_end_calls()
     ensures first { (s : Contents) (event : Event) (t : List Datagram) (k : ℕ) → AgentStands s t k → (source : Addr) (bytes : List ℕ) (r : Response) (id : ℕ) (asked : Transaction) →
         GoesUp s event source bytes r id asked → (place : ℕ) (c : StandingCall) (n : Standing) → StandsAt s place c n → response_rule s.calls.calls asked.parts r ≡ rule.Answer place →

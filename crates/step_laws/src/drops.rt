@@ -1,4 +1,4 @@
-//! Events that count as not come.
+//! Events that count as if they had not come.
 
 ghost use Rattle.std.specs.Prelude.{◌≡◌, [], List};
 ghost use Rattle.event_rows.specs.Rows.{row};
@@ -13,13 +13,13 @@ ghost use Rattle.step_laws.specs.Dropping.{IsAnsweredFor};
 /// Whatever is not done is not done for a reason. A datagram is dropped only if it has more bytes than are read; if it
 /// can't be read, and no response can be made for it; if it is an ACK or a response whose branch does not begin as it
 /// has to; if it is a response to no request that waits for one, or a 2xx that says no address to go on with; or if it
-/// is an ACK that no call waits for. An event is also dropped where its moment can't be counted with, or no token is
-/// left. A request is shed only if it would begin a transaction where as many stand as may, and `Idle` is answered only
-/// if no timer is due, no call of a number is settled, or a configuration may not list such users. Every other event is
-/// done.
+/// is an ACK that no call waits for. An event is also dropped where its moment can't be counted, or no token is left.
+/// A request is shed only if it would begin a transaction where as many are live as may be, and `Idle` is answered
+/// only if no timer is due, no call of a number is settled, or a configuration may not list such users. Every other
+/// event is done.
 ///
-/// So it is of each agent whose timers that are set do something when they fire (`reasons`). Those of a new agent do,
-/// and do after any events (`fireable`): so it is of every agent (`agents`).
+/// This holds for each agent whose set timers do something when they fire (`reasons`). Those of a new agent do, also
+/// after any events (`fireable`), so this holds for every agent (`agents`).
 pub fn nothing_is_dropped_unasked()
     ensures reasons { (s : Contents) → IsFireable s.table.slots s.table.timers → (event : Event) → IsAnsweredFor s event (row s event).plan.taken }
     ensures fireable { (config : Config) (s : Contents) (entries : List Entry) → IsNew config s → AreEntries s entries →

@@ -33,10 +33,10 @@ use trace_reading::{bodies_describe, bytes_say_all};
 use transactions::replies;
 
 /// A 2xx to a first INVITE, of another end than the call's or of a call that is gone: in that step ACK and BYE go in
-/// the dialog that it makes, to the address of its Contact (`fork`). So they go where the first INVITE was given up and
-/// its call waits for its final response (`given_up`). One to a later INVITE, whose call is gone and whose dialog has
-/// ended, gets ACK there alone (`late`). Nothing else is sent. The agent stands after any events, and the transaction
-/// of the server's own INVITE hands the 2xx up.
+/// the dialog that it makes, to the address of its Contact (`fork`). They also go where the first INVITE was given up
+/// and its call waits for its final response (`given_up`). One to a later INVITE, whose call is gone and whose dialog
+/// has ended, gets only an ACK there (`late`). Nothing else is sent. This holds after any events, where the
+/// transaction of the server's own INVITE hands the 2xx up.
 pub fn forks_are_ended()
     ensures fork { (s : Contents) (event : Event) (t : List Datagram) (k : ℕ) → AgentStands s t k → (source : Addr) (bytes : List ℕ) (r : Response) (id : ℕ) (asked : Transaction) →
         GoesUp s event source bytes r id asked → (target : Uri) → IsLeftOver s asked r rule.Fork target →

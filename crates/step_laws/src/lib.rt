@@ -1,6 +1,6 @@
-//! What a step of the agent does, over its rows: why an event counts as not come, what the REGISTERs of its events are
-//! answered, and what is sent, and to whom, for each event that a call takes: offers, their answers, BYE, CANCEL,
-//! provisional responses and timers. Nothing here runs.
+//! What a step of the agent does, over its rows: why an event counts as if it had not come, what the REGISTERs of its
+//! events are answered, and what is sent, and to whom, for each event that a call takes: offers, their answers, BYE,
+//! CANCEL, provisional responses and timers. Nothing here runs.
 #![tactic(auto)]
 
 mod acks;

@@ -23,10 +23,10 @@ use offer_answer::sent_is_read;
 use sip_writing::written_is_read;
 use trace_reading::{bodies_describe, bytes_say_all};
 
-/// Where the office limits how long a call may stand, the event with its first answer sets its timer, to so many
-/// milliseconds behind the event (`begins`). A call is settled: where its lifetime ends (`over`), and where its media
-/// have stopped (`silent`), both ends get a BYE, first the caller (RFC 3261 section 15), and nothing else is sent. The
-/// agent stands after any events.
+/// Where the office limits how long a call may last, the event with its first answer sets its timer, to that many
+/// milliseconds after the event (`begins`). A call is settled: where its lifetime ends (`over`), and where its media
+/// have stopped (`silent`), both ends get a BYE, first the caller (RFC 3261 section 15), and nothing else is sent.
+/// This holds after any events.
 pub fn calls_end_with_their_lifetimes()
     ensures begins { (s : Contents) (event : Event) (number longest : ℕ) → lifetime_begun (row s event).plan.note ≡ Some number → s.lifetime ≡ Some longest →
         moment same_timer (after s event).calls.timers (id number Lifetime) ≡ Some (timing.moment_after (moment_after s event) longest) }

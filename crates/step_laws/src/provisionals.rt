@@ -26,9 +26,9 @@ use sip_writing::written_is_read;
 use trace_reading::{bodies_describe, bytes_say_all};
 
 /// A provisional response to an INVITE for whose final response a call waits: in that step the offerer gets it with its
-/// number, but no 100 (`passed`). Where a CANCEL waited for it, that goes behind it, where the INVITE was passed on to
-/// (`kept`); and alone, where the offerer had its final response already (`given_up`). Nothing else is sent. The agent
-/// stands after any events, and the transaction of the server's own INVITE hands the response up.
+/// number, but no 100 (`passed`). Where a CANCEL waited for it, that goes after it, to where the INVITE was passed on
+/// (`kept`); and alone, where the offerer had its final response already (`given_up`). Nothing else is sent. This
+/// holds after any events, where the transaction of the server's own INVITE hands the response up.
 pub fn provisionals_are_passed_on()
     ensures passed { (s : Contents) (event : Event) (t : List Datagram) (k : ℕ) → AgentStands s t k → (source : Addr) (bytes : List ℕ) (r : Response) (id : ℕ) (asked : Transaction) →
         GoesUp s event source bytes r id asked → (place : ℕ) (c : StandingCall) (n : Standing) → StandsAt s place c n → response_rule s.calls.calls asked.parts r ≡ rule.Provisional place r.status →

@@ -31,9 +31,9 @@ use offer_answer::sent_is_read;
 use sip_writing::written_is_read;
 use trace_reading::{bodies_describe, bytes_say_all};
 
-/// To whom a refusal goes: the response of `refusals_are_passed_on` goes back to where the offer came from, behind the
+/// To whom a refusal goes: the response of `refusals_are_passed_on` goes back to where the offer came from, after the
 /// ACK of an INVITE's refusal, which goes where that INVITE went (`first`, `inside`). After 408 or 481 to a request
-/// inside a call both ends get a BYE behind it (`lost`). The refusal of an INVITE that was given up gets its ACK alone
+/// inside a call both ends get a BYE after it (`lost`). The refusal of an INVITE that was given up gets only its ACK
 /// (`given_up`). Nothing else is sent.
 pub fn refusals_go_back()
     ensures first { (s : Contents) (event : Event) (t : List Datagram) (k : ℕ) → AgentStands s t k → (source : Addr) (bytes : List ℕ) (r : Response) (id : ℕ) (asked : Transaction) →
@@ -60,8 +60,8 @@ pub fn refusals_go_back()
 }
 
 /// A response that goes up and that no call takes: a refusal gets the ACK of its INVITE, at the address where that went
-/// (`refusal`); a 2xx or a provisional response gets nothing (`success`, `provisional`). Nothing else is sent. The
-/// agent stands after any events.
+/// (`refusal`); a 2xx or a provisional response gets nothing (`success`, `provisional`). Nothing else is sent. This
+/// holds after any events.
 pub fn unclaimed_responses_get_an_ack_at_most()
     ensures refusal { (s : Contents) (event : Event) (t : List Datagram) (k : ℕ) → AgentStands s t k → (source : Addr) (bytes : List ℕ) (r : Response) (id : ℕ) (asked : Transaction) →
         GoesUp s event source bytes r id asked → response_rule s.calls.calls asked.parts r ≡ rule.Silent → class_of r.status ≡ Failure → Sends (own_acks asked r) (row s event) }

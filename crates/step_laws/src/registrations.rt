@@ -17,12 +17,12 @@ ghost use Rattle.sip_uri.specs.declared.uri.Addr.{Addr};
 ghost use Rattle.step_laws.specs.Registering.{AreRegistrations, BringsUsers, ListsBound, Refuses, Registers, TakesUsers, registration_at};
 
 /// After any events of a new agent its registrar has what the REGISTERs and the lists of users among them leave, in
-/// their order, and nothing else changes it (`stands`). Where a registrar stands so, a REGISTER that comes is answered
-/// by the fold over that list: where it is not refused, the one response is a 200 that lists what its user is bound to
+/// their order, and nothing else changes it (`stands`). Where a registrar is so, an arriving REGISTER is answered by
+/// the fold over that list: where it is not refused, the one response is a 200 that lists what its user is bound to
 /// at its moment, itself counted, each binding with the rest of its life (`lists`); where it is refused, the one
-/// response has the status of the refusal, and the registrar stays (`refused`). A list of users is taken: the registrar
-/// then stands with it, nothing is sent, and all calls stand as they did (`listed`). Whether an event brings a REGISTER
-/// or a list can be decided, so there is such a list of any events (`exact`).
+/// response has the status of the refusal, and the registrar stays (`refused`). A list of users is taken: the
+/// registrar then has it, nothing is sent, and all calls are as they were (`listed`). Whether an event brings a
+/// REGISTER or a list can be decided, so there is such a list of any events (`exact`).
 pub fn registers_are_counted()
     ensures stands { (config : Config) (s : Contents) (entries : List Entry) (history : List RegistrarEvent) → IsNew config s → AreEntries s entries →
         AreRegistrations (rules_by config) s entries history → StandsAfter (after_entries s entries).registrar (rules_by config) history }

@@ -23,10 +23,10 @@ ghost use Rattle.transactions.specs.declared.transaction.Transaction.{Transactio
 ghost use Rattle.step_laws.specs.Coming.{GoesUp};
 ghost use Rattle.step_laws.specs.Repeats.{FiresAgain, Finds, GoesAgainOrNothing, RespondsAgain, SendsJust, TimerIsDue, ack_kept};
 
-/// What comes again: a request that is a repeat gets the bytes that its transaction sent last, at the address to which
-/// they went (`request`), or nothing (`absorbed`), as an ACK does. A response that its transaction keeps for itself
-/// gets what that sent last, which is the ACK of a refusal, or nothing (`response`). A 2xx that its call has had gets
-/// the ACK that is kept for it, byte by byte, to where that went (`success`). Nothing else is sent.
+/// Repeats: a request that is one gets the bytes that its transaction sent last, at the address to which they went
+/// (`request`), or nothing (`absorbed`), as an ACK does. A response that its transaction keeps for itself gets what
+/// that sent last, which is the ACK of a refusal, or nothing (`response`). A 2xx that its call already had gets the
+/// ACK that is kept for it, byte by byte, to where that went (`success`). Nothing else is sent.
 pub fn repeats_get_what_went_before()
     ensures request { (s : Contents) (event : Event) (source : Addr) (bytes : List ℕ) (r : Request) → Finds s event source bytes (Kinds.Request r) verdicts.Repeat → RespondsAgain s r (row s event) }
     ensures absorbed { (s : Contents) (event : Event) (source : Addr) (bytes : List ℕ) (r : Request) → Finds s event source bytes (Kinds.Request r) verdicts.Swallowed → SendsJust [] (row s event) }

@@ -23,8 +23,7 @@ use trace_reading::{bodies_describe, bytes_say_all};
 /// The callee of a first INVITE rings longer than it may: in that step the caller gets 480, and CANCEL goes where the
 /// INVITE was passed on to (`ringing`). No response comes in time to the first INVITE: the caller gets 408
 /// (`unanswered`). None comes in time to an INVITE or UPDATE inside a call (`inside`), or its INVITE rings too long
-/// (`inside_ringing`): the offerer gets 408, and both ends a BYE. Nothing else is sent. The agent stands after any
-/// events.
+/// (`inside_ringing`): the offerer gets 408, and both ends a BYE. Nothing else is sent. This holds after any events.
 pub fn unanswered_offers_end()
     ensures ringing { (s : Contents) (event : Event) (t : List Datagram) (k : ℕ) → AgentStands s t k → (place : ℕ) (c : StandingCall) (n : Standing) → StandsAt s place c n →
         LimitIsReached s event place → n.stage ≡ stages.Asked true → (went : Transaction) → IsGoingOn s c went →

@@ -6,7 +6,7 @@ use Rattle.sdp.specs.Reading.{description_of}
 use Rattle.sip_message.specs.declared.headers.Header.{Header}
 use Rattle.sip_message.specs.Content.{has_description_type, is_uncoded}
 
--- by its header fields the body is a description as it stands
+-- by its header fields the body is a description as it is
 unfoldable pub may_describe : List Header → Bool
 may_describe headers = has_description_type headers && is_uncoded headers
 

@@ -23,7 +23,7 @@ read_of bytes = and_then (message_of bytes) (λ m. Ok (trace_message bytes m))
 
 -- ---- one function from bytes to messages
 
--- bytes that are no message stand in no trace; here they are a request that names nothing
+-- bytes that are not a message are in no trace; here they are a request that names nothing
 abbrev pub seen_by : List ℕ → Result TraceMessage MessageError → TraceMessage
 seen_by bytes (Ok m) = m
 seen_by bytes (Err e) = record {

@@ -27,7 +27,7 @@ fn kept(
     Ok(Some(description.keep(alloc)?))
 }
 
-/// The description that the body is, kept; none where it is none.
+/// The body as a description, kept; none where it is not one.
 fn description_read(alloc: Global, body: &[u8]) -> Result<Option<Description<'static>>, AllocError>
     ensures { IfOk result (λ d. d ≡ if_read (description_of body.now)) }
 {

@@ -1,4 +1,4 @@
-//! What a trace says of messages is what messages, transactions, dialogs and descriptions say of them.
+//! What a trace says about messages is what messages, transactions, dialogs and descriptions say about them.
 
 ghost use Rattle.std.specs.Prelude.{◌≡◌, ◌↔◌, ℕ, List, Some, IsTrue};
 ghost use Rattle.call_trace.specs.declared.datagram.Datagram.{Datagram};
@@ -30,8 +30,8 @@ ghost use Rattle.trace_reading.specs.Message.{body_in, trace_message, dialog_nam
 ghost use Rattle.trace_reading.specs.Read.{Shows, AreShown, seen};
 ghost use Rattle.transactions.specs.Matching.{RepliesTo};
 
-/// A response replies to a request in a trace exactly where a transaction takes it as one to that request: no branch
-/// and no tag that is read is empty. What the server writes as the response to a request replies to it.
+/// A response replies to a request in a trace exactly where a transaction takes it as a response to that request: no
+/// branch and no tag that is read is empty. What the server writes as the response to a request replies to it.
 pub fn replies_agree()
     ensures read { (asked answered : List ℕ) (request : Request) (response : Response) →
         ReadsMessage asked (Kinds.Request request) → ReadsMessage answered (Kinds.Response response) →
@@ -42,8 +42,8 @@ pub fn replies_agree()
         Replies (trace_message answered (Kinds.Response response)) (trace_message asked (Kinds.Request request)) }
 {}
 
-/// The dialog that a datagram names in a trace is the one that it belongs to by its direction: our tag stands in To of
-/// a request that was taken and of a response that was sent, and in From of the others. A request that the server makes
+/// The dialog that a datagram names in a trace is the one that it belongs to by its direction: our tag is in To of a
+/// request that was taken and of a response that was sent, and in From of the others. A request that the server makes
 /// in a dialog names that dialog.
 pub fn dialogs_agree()
     ensures request_taken { (n : ℕ) (bytes : List ℕ) (request : Request) →
@@ -58,8 +58,8 @@ pub fn dialogs_agree()
         dialog_of (sent_at n (trace_message bytes (Kinds.Request (request_in d via method number hops further body)))) ≡ dialog_named d.id }
 {}
 
-/// The method of a message in a trace is that of its CSeq, which of a request that was read is the request's own; and
-/// the methods that a trace speaks of are written as dialogs write them.
+/// The method of a message in a trace is that of its CSeq, which for a request that was read is the request's own;
+/// and the methods that a trace speaks of are written as dialogs write them.
 pub fn methods_agree()
     ensures request { (bytes : List ℕ) (request : Request) →
         ReadsMessage bytes (Kinds.Request request) → (trace_message bytes (Kinds.Request request)).method ≡ request.method }
@@ -71,7 +71,7 @@ pub fn methods_agree()
     ensures ack { ack_text ≡ traces.ack }
 {}
 
-/// A message in a trace has a description exactly where its body is one as it stands, by its type and its codings, and
+/// A message in a trace has a description exactly where its body is one as it is, by its type and its codings, and
 /// reads as that description.
 pub fn bodies_describe()
     ensures { (bytes : List ℕ) (m : Message) (d : Description) →

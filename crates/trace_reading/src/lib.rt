@@ -1,6 +1,6 @@
 //! Datagrams as messages of a trace: what `call_trace` sees of the bytes that came or went. Which response replies to
-//! which request, which dialog a datagram names, of which method it is and what its body describes are the same there
-//! as where messages, transactions, dialogs and descriptions are read. Nothing here knows of the server.
+//! which request, which dialog a datagram names, which method it has and what its body describes are the same there
+//! as where messages, transactions, dialogs and descriptions are read. Nothing here knows about the server.
 #![tactic(auto)]
 
 mod body;

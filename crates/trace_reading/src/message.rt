@@ -59,7 +59,7 @@ fn branch_text<'m>(vias: &'m Vias<'_>) -> &'m [u8]
     }
 }
 
-/// The texts of a message with these parts, which stood in these bytes.
+/// The texts of a message with these parts, which was in these bytes.
 fn texts_of(alloc: Global, parts: &Parts<'_>, bytes: &[u8]) -> Result<Texts, AllocError>
     ensures branch { IfOk result (λ t. t.branch.items ≡ branch_text parts.now.vias) }
     ensures call_id { IfOk result (λ t. t.call_id.items ≡ parts.now.call_id) }
@@ -78,7 +78,7 @@ fn texts_of(alloc: Global, parts: &Parts<'_>, bytes: &[u8]) -> Result<Texts, All
     })
 }
 
-/// The message of these texts. With no way out it keeps the proof of the one that reads it short.
+/// The message of these texts. Without an early return it keeps the proof of its caller short.
 fn message_with(
     kind: Kind,
     number: u32,
@@ -110,7 +110,7 @@ fn message_with(
     }
 }
 
-/// What a trace sees of a message that stood in these bytes.
+/// What a trace sees of a message that was in these bytes.
 #[tactic(auto, unfolding(crate::specs::Message::trace_message))]
 pub(crate) fn trace_message(
     alloc: Global,

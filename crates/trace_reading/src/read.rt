@@ -1,4 +1,4 @@
-//! Reading of messages of a trace.
+//! Reading the messages of a trace.
 
 ghost use Rattle.std.specs.Prelude.{◌≡◌, Ok, IfOk, IfErr};
 ghost use Rattle.sip_message.specs.declared.message.Message.{Message};
@@ -21,7 +21,7 @@ fn shown(alloc: Global, bytes: &[u8], message: &Message<'_>) -> Result<TraceMess
     }
 }
 
-/// The same of a message that is then let go.
+/// The same for a message that is then dropped.
 fn shown_last(
     alloc: Global,
     bytes: &[u8],
@@ -43,8 +43,7 @@ fn read(alloc: Global, bytes: &[u8]) -> Result<TraceMessage, MessageError>
 }
 
 /// What a trace sees of a datagram with these bytes: its kind, the branch of the top Via, Call-ID, tags, number and
-/// method of CSeq, the description that its body is, if it is one, and the bytes. An absent branch or tag is the empty
-/// text.
+/// method of CSeq, its body as a description, if it is one, and the bytes. An absent branch or tag is the empty text.
 pub fn read_trace_message(alloc: Global, bytes: &[u8]) -> Result<TraceMessage, MessageError>
     // What is read is what the message that the bytes are shows, and they are within the limits.
     ensures found { IfOk result (λ m. Shows bytes.now m) }

@@ -23,7 +23,8 @@ invite_server_row Proceeding (Answer Success) = line (machine.InviteServer Accep
 invite_server_row Accepted (Answer Success) = line (machine.InviteServer Accepted) Fresh Silent stops.NoTimer NoTimer
 invite_server_row Accepted Ack = line (machine.InviteServer Accepted) Nothing Up stops.NoTimer NoTimer
 invite_server_row Accepted (Fires L) = ended Ended
--- a refusal goes again after T1 and then at intervals that double up to T2, and on each copy of the INVITE, for 64*T1
+-- a refusal is sent again after T1 and then at intervals that double up to T2, and on each copy of the INVITE, for
+-- 64*T1
 invite_server_row Proceeding (Answer Failure) =
     line (machine.InviteServer (Completed t1)) Fresh Silent stops.Every (Two (timer G t1) (timer H timeout))
 invite_server_row (Completed interval) Repeat = line (machine.InviteServer (Completed interval)) Again Silent stops.NoTimer NoTimer

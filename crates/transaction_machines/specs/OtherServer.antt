@@ -14,7 +14,7 @@ use Rattle.transaction_machines.specs.declared.step.Stops.TheVariants as stops
 use Rattle.transaction_machines.specs.declared.step.Step.{Step}
 use Rattle.transaction_machines.specs.Steps.{line, ended, timer, timeout}
 
--- the final response, which goes again on each copy of the request for 64*T1
+-- the final response, which is sent again on each copy of the request for 64*T1
 abbrev pub final_answer : Option Step
 final_answer = line (machine.OtherServer Completed) Fresh Silent stops.Every (One (timer J timeout))
 

@@ -41,7 +41,7 @@ after_limit interval = min (2 * interval) timeout
 abbrev pub timer : TimerKind → ℕ → Start
 timer kind after = record { kind = kind; after = after }
 
--- the next state, what is sent, what the core is told, which timers stop, and which start then
+-- the next state, what is sent, what is reported to the core, which timers stop, and which start then
 abbrev pub line : State → Sending → Told → Stops → Starts → Option Step
 line next send told stops starts = Some (record { next = Some next; send = send; told = told; stops = stops; starts = starts })
 

@@ -1,4 +1,4 @@
-//! What a transaction is told.
+//! The inputs of a transaction.
 
 use sip_message::Class;
 
@@ -20,7 +20,7 @@ pub enum TimerKind {
     N,
 }
 
-/// What a transaction is told.
+/// The inputs of a transaction.
 #[derive(Clone, Copy)]
 pub enum Input {
     /// The request of a server transaction comes again.

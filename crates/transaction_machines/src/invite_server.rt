@@ -40,7 +40,7 @@ fn accepts() -> Option<Step>
     )
 }
 
-// A refusal, which goes again until its ACK comes.
+// A refusal, which is sent again until its ACK comes.
 #[tactic(auto, unfolding(crate::specs::InviteServer::invite_server_row))]
 fn refuses() -> Option<Step>
     ensures row { result ≡ invite_server_row InviteServer.Proceeding (Input.Answer Class.Failure) }

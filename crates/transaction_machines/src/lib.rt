@@ -1,6 +1,6 @@
 //! The machines of transactions (RFC 3261 section 17, with the Accepted states of RFC 6026): for a state and an input
-//! the next state, what is sent, whom that is told, and which timers stop and start. Nothing here knows of a message's
-//! bytes, of a clock, or of more than one transaction.
+//! the next state, what is sent, what is reported to the core, and which timers stop and start. Nothing here knows
+//! about a message's bytes, a clock, or more than one transaction.
 #![tactic(auto)]
 
 mod input;

@@ -1,4 +1,4 @@
-//! The client transaction of a request that is no INVITE (RFC 3261 section 17.1.2).
+//! The client transaction of a request other than an INVITE (RFC 3261 section 17.1.2).
 
 ghost use Rattle.std.specs.Prelude.{◌≡◌, IfSome};
 ghost use Rattle.transaction_machines.specs.OtherClient.{other_client_row, again_after};

@@ -1,4 +1,4 @@
-//! The server transaction of a request that is no INVITE (RFC 3261 section 17.2.2).
+//! The server transaction of a request other than an INVITE (RFC 3261 section 17.2.2).
 
 ghost use Rattle.std.specs.Prelude.{◌≡◌, IfSome};
 ghost use Rattle.transaction_machines.specs.OtherServer.{other_server_row};

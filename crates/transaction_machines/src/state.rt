@@ -1,4 +1,4 @@
-//! The state of a transaction, of whichever machine.
+//! The state of a transaction, of any machine.
 
 ghost use Rattle.std.specs.Prelude.{◌≡◌, IfSome, IsTrue};
 ghost use Rattle.transaction_machines.specs.Lines.{follows, is_answer};

@@ -28,7 +28,7 @@ pub enum Sending {
     Fresh,
 }
 
-/// What the core is told.
+/// What is reported to the core.
 #[derive(Clone, Copy, Debug)]
 pub enum Told {
     Silent,
@@ -76,7 +76,7 @@ pub struct Step {
     pub starts: Starts,
 }
 
-/// The next state, in which nothing else changes, with what is sent and told.
+/// The next state, in which nothing else changes, with what is sent and reported.
 pub(crate) fn stays(state: State, send: Sending, told: Told) -> Option<Step>
     ensures { result ≡ line state send told Stops.NoTimer Starts.NoTimer }
 {

@@ -29,7 +29,7 @@ module _ (p : Option Transaction → Bool) where
   one_more slots t = one_more_by slots (free_number slots) t (nat_lt (free_number slots) (length slots)) (λ e. ltb-true (free_number slots) (length slots) e)
 
   module _ (nobody : p None ≡ false) (stays : (t u : Transaction) → is_server u.state ≡ is_server t.state → u.place ≡ t.place → p (Some u) ≡ p (Some t)) where
-    -- one that is told something is no more than it was
+    -- one that gets an input counts at most as much as before
     one_left : (t : Transaction) (b : Bool) (o : Option Transaction) → IsLeftBy t b o → one p o ≤ one p (Some t)
     one_left t true o left =
         let none : one p o ≡ 0 = ap (one p) left ∙ ap (λ s. cond s 1 0) nobody in

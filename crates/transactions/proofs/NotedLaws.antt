@@ -1,4 +1,4 @@
--- The prints that are kept beside the places, behind a change of these.
+-- The prints that are kept with the places, after a change of these.
 use Rattle.std.proofs.Common.{◌≡◌, ℕ, ◌+◌, ◌-◌, ◌<◌, ◌≤◌, Bool, true, false, cond, ltb, List, [], ◌∷◌, ◌++◌, length, map, get_or, set, Option, Some, None, option_map, refl, sym, ap, ◌∙◌, arith}
 use Rattle.std.proofs.lemmas.List.{get_or-map, length-map, map-append, map-set}
 use Rattle.std.proofs.Math.Seq.{map-set_same}
@@ -13,7 +13,7 @@ use Rattle.transaction_machines.specs.Machines.{is_server}
 use Rattle.transactions.specs.Prints.{branch_print, ip_print, prints_at, tag_print}
 use Rattle.transactions.specs.Transactions.{went}
 
--- ---- what is made of each element, behind a change of one
+-- ---- what is made of each element, after a change of one
 
 module _ {X Y : Type 0} (f : X → Y) where
   set_both : (xs : List X) (ys : List Y) (i : ℕ) (x : X) (y : Y) → ys ≡ map f xs → y ≡ f x → set ys i y ≡ map f (set xs i x)

@@ -1,4 +1,4 @@
--- The numbers of those that pass a test, once a transaction stands at the least free place.
+-- The numbers of those that pass a test, once a transaction is at the least free place.
 use Rattle.std.proofs.Common.{◌≡◌, ℕ, ◌+◌, Bool, true, false, cond, List, [], ◌∷◌, length, Option, Some, None, is_none, count_by, refl, sym, ap, ◌∙◌, inl, inr, arith}
 use Prim.Native.Nat.{suc}
 use Rattle.std.specs.List.{position_or_len}

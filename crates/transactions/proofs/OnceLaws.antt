@@ -68,7 +68,7 @@ pub by_transaction : (id : ℕ) (t : Option Transaction) (input : Input) (fresh 
 by_transaction id None input fresh h = h
 by_transaction id (Some t) input fresh h = by_step id t input fresh (row_of t.state input) h
 
--- ---- none stands before
+-- ---- none is live before
 
 begun_only : (table : Contents) (r : Request) (number : Option ℕ) → IsNew (request_reception table r number).verdict → number ≡ None
 begun_only table r None h = refl
@@ -78,11 +78,11 @@ pub none_asked : (table : Contents) (r : Request) → IsNew (reception_of table 
 unfolding reception_of
 none_asked table r h = begun_only table r (position (is_asked r.parts) table.slots) h
 
--- a request is New only where no server transaction of its key stands
+-- a request is New only where no server transaction of its key is live
 pub begins : (table : Contents) (r : Request) → IsNew (reception_of table (Kinds.Request r)).verdict → stands table r.parts ≡ false
 begins table r h = sym (is_some-position (is_asked r.parts) table.slots) ∙ ap is_some (none_asked table r h)
 
--- ---- one stands then
+-- ---- one is live then
 
 both : (a b : Bool) → a ≡ true → b ≡ true → (a && b) ≡ true
 both a b p q = rw (p, q) refl

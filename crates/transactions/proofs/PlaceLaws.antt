@@ -1,4 +1,4 @@
--- The places of the table: what is found by the index, and the index behind a change.
+-- The places of the table: what is found by the index, and the index after a change.
 use Rattle.std.proofs.Common.{◌≡◌, ℕ, ◌+◌, ◌-◌, ◌<◌, ◌≤◌, Bool, true, false, ◌&&◌, cond, ltb, eqb, List, [], ◌∷◌, ◌++◌, drop, length, map, get_or, set, Option, Some, None, is_none, is_some, option_map, count_by, find, position, slice_get, unwrap_or, refl, sym, ap, ◌∙◌, inl, inr, arith}
 use Rattle.std.specs.Prelude.{IsSome}
 use Rattle.std.specs.List.{list_any}

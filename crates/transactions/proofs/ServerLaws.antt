@@ -1,4 +1,4 @@
--- No two server transactions have one key, and there are no more than may be.
+-- No two server transactions have one key, and there are at most as many as may be.
 use Rattle.std.proofs.Common.{◌≡◌, ◌≢◌, ◌≤◌, ◌<◌, ◌+◌, ℕ, Bool, true, false, cond, not, ◌&&◌, nat_eq, List, [], ◌∷◌, ◌++◌, length, set, Option, Some, None, option_map, codes, nat_lt, unwrap_or, is_none, position, refl, ap, sym, subst, ◌∙◌, inl, inr, arith}
 use Rattle.std.specs.List.{list_any}
 use Rattle.std.specs.Cmp.Lexicographic.{pointwise, bytes_decides}
@@ -117,7 +117,7 @@ new_key slots t i u free there server =
 
 -- ---- a transaction takes a line
 
--- who stands afterwards stood before
+-- who is live afterwards was live before
 record Was (slots : List (Option Transaction)) (j : ℕ) (u : Transaction) : Type 0 where
   t : Transaction
   there : at slots j ≡ Some t

@@ -1,4 +1,4 @@
--- A call that tells a transaction nothing leaves it as it was, with its timers.
+-- A call that gives a transaction no input leaves it as it was, with its timers.
 use Rattle.std.proofs.Common.{◌≡◌, ◌≢◌, ℕ, Bool, true, false, cond, not, eqb, nat_lt, List, [], ◌∷◌, filter, Option, Some, None, option_map, codes, position, refl, ap, sym, ◌∙◌}
 use Rattle.std.proofs.lemmas.Bool.{false≢true, and_left, eq-eqb, eqb-true, ne_eqb}
 use Rattle.timers.specs.declared.timers.Timer.{Timer}
@@ -79,7 +79,7 @@ own_started id place ts starts.NoTimer now other = refl
 own_started id place ts (starts.One s) now other = own_start id place ts s now other
 own_started id place ts (starts.Two s t) now other = own_start id place (start ts place s now) t now other ∙ own_start id place ts s now other
 
--- ---- another transaction is told something
+-- ---- another transaction gets an input
 
 own_stepped : (table : Contents) (place id : ℕ) (u : Transaction) (fresh : Option (List ℕ)) (now : ℕ) (line : Option Step) → place ≢ id
     → own_timers id (stepped_by table place u fresh now line).timers ≡ own_timers id table.timers

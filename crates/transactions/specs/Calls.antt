@@ -37,7 +37,7 @@ abbrev pub after_all : Contents → List Call → Contents
 after_all table [] = table
 after_all table (call ∷ calls) = after_all (after table call) calls
 
--- what a transaction is told
+-- the input that a transaction gets
 pub record Notice : Type 0 where
   pub id : ℕ
   pub input : Input
@@ -59,7 +59,7 @@ abbrev pub is_end : Option Step → Bool
 is_end None = false
 is_end (Some step) = is_none step.next
 
--- the line of what a call tells ends transaction id
+-- the line of the input that a call gives ends transaction id
 abbrev pub is_ended : Transaction → ℕ → Option Notice → Bool
 is_ended t id None = false
 is_ended t id (Some notice) = notice.id == id && is_end (row_of t.state notice.input)

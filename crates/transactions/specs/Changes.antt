@@ -24,7 +24,7 @@ use Rattle.transactions.specs.Slots.{at, free_number, is_asked, is_answered}
 use Rattle.transaction_machines.specs.Steps.{IsShort}
 use Rattle.transactions.specs.Transactions.{served, asking, asking_timers}
 
--- the table after a change. What a transaction is told is looked up now: where it has no line, nothing is done
+-- the table after a change. A transaction's input is looked up now: where it has no line, nothing is done
 abbrev pub entered : ℕ → Contents → Entry → Contents
 entered now table (Opens t starts) = opened table t starts now
 entered now table (Tells id input fresh) = table_at table id (at table.slots id) input fresh now

@@ -38,7 +38,7 @@ use Rattle.transactions.specs.Timing.{same_timer, stopped_by, started}
 use Rattle.transactions.specs.Transactions.{went, sent, outgoing}
 use Rattle.transactions.specs.Waiting.{starts_within}
 
--- Place i of the slots has the transaction with the number i. The timers stand in the order in which they are due, each
+-- Place i of the slots has the transaction with the number i. The timers are in the order in which they are due, each
 -- key once: that is what `next`, `first_due` and `timer_count` say of every table.
 pub record Contents : Type 0 where
   pub slots : List (Option Transaction)

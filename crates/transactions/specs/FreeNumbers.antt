@@ -7,7 +7,7 @@ pub record Free : Type 0 where
   pub numbers : List ℕ
   pub room : ℕ
 
--- none is less than one that is in front of it
+-- none is less than one before it
 abbrev pub NumbersRise : List ℕ → Type 0
 NumbersRise [] = Unit {0}
 NumbersRise (n ∷ ns) = AllByRecursion (λ m. nat_lt m n ≡ false) ns × NumbersRise ns

@@ -6,7 +6,7 @@ use Rattle.transactions.specs.declared.print.Prints.{Prints}
 use Rattle.transactions.specs.declared.transaction.Transaction.{Transaction}
 use Rattle.transactions.specs.Prints.{prints_at}
 
--- each place's prints stand at its number, and there is room for those of so many transactions more
+-- each place's prints are at its number, and there is room for those of this many more transactions
 pub record AreNoted (key : PrintKey) (slots : List (Option Transaction)) (prints : List Prints) (used capacity room : ℕ) : Type 0 where
   pub noted : prints ≡ map (prints_at key) slots
   pub for_prints : used + room ≤ capacity

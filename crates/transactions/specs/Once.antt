@@ -14,7 +14,7 @@ use Rattle.transactions.specs.Changes.{after_message}
 use Rattle.transactions.specs.Calls.{Call, after, after_all, is_ended, noticed}
 use Rattle.transactions.specs.Slots.{at, is_asked}
 
--- a server transaction stands that has the request's branch, sent-by and method
+-- a live server transaction has the request's branch, sent-by and method
 abbrev pub stands : Contents → Parts → Bool
 stands table parts = list_any (is_asked parts) table.slots
 
@@ -34,7 +34,7 @@ IsLeftBy t false (Some u) = IsSameRequest t u
 abbrev pub IsLeft : Contents → Call → ℕ → Type 0
 IsLeft table call id = (t : Transaction) → at table.slots id ≡ Some t → IsLeftBy t (is_ended t id (noticed table call)) (at (after table call).slots id)
 
--- transaction id stands, and after each of the calls too
+-- transaction id is live, and after each of the calls too
 abbrev pub Lasts : ℕ → Contents → List Call → Type 0
 Lasts id table [] = IsSome (at table.slots id)
 Lasts id table (call ∷ calls) = IsSome (at table.slots id) × Lasts id (after table call) calls

@@ -20,7 +20,7 @@ use Rattle.transactions.specs.Contents.{Contents, line_at, answer_input, after_a
 use Rattle.transactions.specs.Calls.{Call, after, after_all}
 use Rattle.transactions.specs.Once.{Lasts}
 
--- the final response goes again on each copy
+-- the final response is sent again on each copy
 abbrev pub is_completed : State → Bool
 is_completed (InviteClient state) = false
 is_completed (OtherClient state) = false
@@ -53,7 +53,7 @@ abbrev pub KeepsIfThere : List ℕ → Option Transaction → Type 0
 KeepsIfThere bytes None = Unit {0}
 KeepsIfThere bytes (Some t) = KeepsAnswer bytes t
 
--- transaction id stands, and has given this final response
+-- transaction id is live, and has given this final response
 abbrev pub KeepsAt : List ℕ → Contents → ℕ → Type 0
 KeepsAt bytes table id = (t : Transaction) × (at table.slots id ≡ Some t) × KeepsAnswer bytes t
 

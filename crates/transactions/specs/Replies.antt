@@ -26,6 +26,6 @@ pub record IsReplyTo (table : Contents) (response : Parts) (reception : Receptio
   pub before : reception.before ≡ Some t.state
   pub number : (up : ℕ) → reception.verdict ≡ verdicts.Up up → up ≡ id
 
--- a response goes up or is swallowed only where a client transaction stands whose request it replies to
+-- a response goes up or is swallowed only where a live client transaction has the request it replies to
 abbrev pub RepliesWhereTaken : Contents → Parts → Reception → Type 0
 RepliesWhereTaken table response reception = IsTaken reception.verdict → (id : ℕ) × (t : Transaction) × IsReplyTo table response reception id t

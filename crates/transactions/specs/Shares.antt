@@ -32,11 +32,11 @@ unfoldable pub serves : List ℕ → Option Transaction → Bool
 serves ip None = false
 serves ip (Some t) = is_server t.state && nat_eq (ip_number t.place.ip) (ip_number ip)
 
--- how many of them stand
+-- how many of them are live
 abbrev pub serving_from : List ℕ → List (Option Transaction) → ℕ
 serving_from ip slots = count_by (serves ip) slots
 
--- so many are the share of one address, or more
+-- this many are the share of one address, or more
 abbrev pub meets : Option ℕ → ℕ → Bool
 meets None count = false
 meets (Some share) count = nat_le share count

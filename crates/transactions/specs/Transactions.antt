@@ -48,7 +48,7 @@ abbrev pub latest : Option (List ℕ) → Option (List ℕ) → Option (List ℕ
 latest None last = last
 latest (Some fresh) last = Some fresh
 
--- the transaction in its next state. What was fresh is what it sends again
+-- the transaction in its next state. What was new is what it sends again
 abbrev pub went : Transaction → Option (List ℕ) → State → Transaction
 went t fresh state = record { uri = t.uri; parts = t.parts; state = state; place = t.place; last = latest fresh t.last }
 

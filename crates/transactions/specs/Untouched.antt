@@ -1,4 +1,4 @@
--- A call that tells a transaction nothing leaves it as it was, with its timers.
+-- A call that gives a transaction no input leaves it as it was, with its timers.
 use Rattle.std.specs.Prelude.{◌≡◌, ℕ, ◌==◌, Bool, false, List, filter, Option, Some, None}
 use Rattle.timers.specs.declared.timers.Timer.{Timer}
 use Rattle.transactions.specs.declared.transaction.TimerId.{TimerId}
@@ -7,7 +7,7 @@ use Rattle.transactions.specs.Slots.{at}
 use Rattle.transactions.specs.Contents.{Contents}
 use Rattle.transactions.specs.Calls.{Call, Notice, after, noticed}
 
--- the call tells transaction id something
+-- the call gives transaction id an input
 abbrev pub is_told : ℕ → Option Notice → Bool
 is_told id None = false
 is_told id (Some notice) = notice.id == id

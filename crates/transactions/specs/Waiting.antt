@@ -11,7 +11,7 @@ use Rattle.transaction_machines.specs.declared.step.Starts.TheVariants.{NoTimer,
 abbrev pub begins_dialog : Parts → Bool
 begins_dialog parts = is_method (codes "INVITE") parts && not (is_some (tag_value parts.to.params)) && parts.cseq.number == 1
 
--- after so many milliseconds at most
+-- after at most this many milliseconds
 abbrev pub sooner : ℕ → Start → Start
 sooner wait start = record { kind = start.kind; after = min wait start.after }
 

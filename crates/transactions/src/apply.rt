@@ -37,7 +37,7 @@ fn starts_count(starts: Starts) -> usize
     }
 }
 
-// How many timers transaction id starts when it is told this.
+// How many timers transaction id starts when it gets this input.
 fn line_timers(slots: &[Slot], id: usize, input: Input) -> usize
     ensures { result ≡ line_timers slots.now id input }
 {
@@ -74,7 +74,7 @@ fn places_of(change: &Change) -> usize
     }
 }
 
-/// Room for one change, and no more than it takes.
+/// Room for one change, and at most what it takes.
 pub(crate) fn make_room_for(
     places: &mut Places,
     timers: &mut Timers<TimerId>,
@@ -110,8 +110,8 @@ pub(crate) fn make_room(
     timers.reserve(most)
 }
 
-/// All changes, in order. There is room for them. An INVITE that begins a dialog waits so many milliseconds at most for
-/// its first response.
+/// All changes, in order. There is room for them. An INVITE that begins a dialog waits at most this many milliseconds
+/// for its first response.
 pub(crate) fn enter_all(
     places: &mut Places,
     timers: &mut Timers<TimerId>,
@@ -189,7 +189,7 @@ fn open(
     set_all(timers, id, within, now);
 }
 
-// A transaction is told something, with what it is to send. Where it has no line, or there is none, nothing is done.
+// A transaction gets an input, with what it is to send. Where it has no line, or doesn't exist, nothing is done.
 fn tell(
     places: &mut Places,
     timers: &mut Timers<TimerId>,

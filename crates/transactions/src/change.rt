@@ -1,4 +1,4 @@
-//! Changes of the table for which all is at hand that takes memory.
+//! Changes of the table for which all memory is at hand.
 
 ghost use Rattle.std.specs.Prelude.{ℕ, ◌≡◌, ◌+◌, IfOk, IsTrue, Some, None, false};
 ghost use Rattle.sip_writing.specs.Writing.{message_text};
@@ -31,7 +31,7 @@ use transaction_machines::{Input, Starts};
 pub enum Entry {
     /// A new transaction, under the least number that is free, and its timers.
     Opens(Boxed<Transaction>, Starts),
-    /// A transaction is told something that is no response of the core, perhaps with what it is to send.
+    /// A transaction gets an input that is no response of the core, perhaps with what it is to send.
     Tells(usize, Input, Option<Text<'static>>),
     /// A response of the core, with its bytes.
     Answers(usize, Class, Text<'static>),
@@ -39,8 +39,8 @@ pub enum Entry {
     Leaves,
 }
 
-/// A change of the table, made ready before any is made: to enter it takes no memory but room for a transaction and
-/// its timers. What a transaction does is looked up when the change is entered.
+/// A change of the table, made ready before any is made: entering it takes no memory except room for a transaction
+/// and its timers. What a transaction does is looked up when the change is entered.
 #[derive(Drop)]
 pub struct Change {
     pub(crate) entry: Entry,
@@ -115,7 +115,7 @@ impl Change {
         }
     }
 
-    /// A transaction is told something that is no response of the core.
+    /// A transaction gets an input that is no response of the core.
     pub(crate) fn tells(id: usize, input: Input, fresh: Option<Text<'static>>) -> Change
         requires { is_answer input ≡ false }
         ensures { result ≡ Tells id input fresh.entry }

@@ -1,4 +1,4 @@
-//! What the table would answer, and the change that it would make. Nothing changes here.
+//! What the table would return, and the change that it would make. Nothing changes here.
 
 ghost use Rattle.std.specs.Prelude.{◌≡◌, ◌<◌, IfOk, IfErr, Some, None, IsTrue, true, false};
 ghost use Rattle.sip_uri.specs.declared.uri.Addr.{Addr};
@@ -27,10 +27,10 @@ use std::alloc::{AllocError, Global};
 use text::Text;
 use transaction_machines::{Input, advance};
 
-/// Server transactions at most. What the server itself asks is not counted.
+/// The most server transactions. What the server itself asks is not counted.
 const MAX_SERVED: usize = 4096;
 
-/// What a message would be answered, and the change that it would make.
+/// What would be returned for a message, and the change that it would make.
 #[derive(Drop)]
 pub struct Foreseen {
     pub reception: Reception,
@@ -58,8 +58,9 @@ pub struct ForeseenFire {
 }
 
 impl Table {
-    /// What `receive` would answer, and the change that it would make: to enter that is to receive the message. A
-    /// refusal is X3, or for want of memory where the message begins a transaction, sends something or starts a timer.
+    /// What `receive` would return, and the change that it would make: entering that is receiving the message. A
+    /// refusal is X3, or for lack of memory where the message begins a transaction, sends something or starts a
+    /// timer.
     pub fn foresee(&self, message: &Message, source: Addr) -> Result<Foreseen, TableError>
         ensures reception { IfOk result (λ f. f.reception ≡ reception_of self.now message.now) }
         ensures change { IfOk result (λ f. f.change ≡ change_of self.now message.now source) }
@@ -73,8 +74,8 @@ impl Table {
         }
     }
 
-    /// What `fire` would answer, and the change that it would make: to enter that is to let the timer fire. A refusal
-    /// is X1 or for want of memory.
+    /// What `fire` would return, and the change that it would make: entering that lets the timer fire. A refusal is
+    /// X1, or for lack of memory.
     pub fn foresee_fire(&self, timer: TimerId, now: u64) -> Result<ForeseenFire, TableError>
         ensures fired { IfOk result (λ f. Some f.fired ≡ fired_of (at self.now.slots timer.id) timer.kind) }
         ensures change { IfOk result (λ f. f.change ≡ fire_of timer) }
@@ -169,7 +170,7 @@ impl Table {
         self.places.serving_count() >= MAX_SERVED || self.meets_share(source.ip)
     }
 
-    // Whether so many server transactions of this address stand as its share is.
+    // Whether as many server transactions of this address are live as its share allows.
     fn meets_share(&self, ip: [u8; 4]) -> bool
         ensures { result ≡ meets self.now.rules.share (serving_from ip self.now.slots) }
     {

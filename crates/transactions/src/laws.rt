@@ -1,4 +1,4 @@
-//! What holds of the table over its calls.
+//! What holds for the table over its calls.
 
 ghost use Rattle.std.specs.Prelude.{◌≡◌, ◌↔◌, ℕ, List, [], true, false};
 ghost use Rattle.sip_uri.specs.declared.uri.Addr.{Addr};
@@ -22,7 +22,7 @@ ghost use Rattle.transactions.specs.Matching.{is_reply, RepliesTo};
 ghost use Rattle.transactions.specs.Replies.{RepliesWhereTaken};
 ghost use Rattle.transactions.specs.Once.{stands, IsLeft, NewOnce};
 
-/// A request is new only where no server transaction of its key stands, and then one stands. A call takes a transaction
+/// A request is new only where no server transaction of its key is live, and then one is. A call takes a transaction
 /// away where its line ends it, and nowhere else; so over any list of calls a request is not new again, nor is a copy
 /// of it, while the transaction that it began lasts.
 pub fn once()
@@ -36,9 +36,9 @@ pub fn once()
         NewOnce table request source now calls }
 {}
 
-/// A response goes up or is swallowed only where a client transaction stands whose request it replies to: branch,
+/// A response goes up or is swallowed only where a live client transaction has the request it replies to: branch,
 /// Call-ID, tag of From, number and method agree, and the tag of To where the request has one. Its state before is
-/// told. What is written in response to a request replies to it.
+/// reported. What is written in response to a request replies to it.
 pub fn replies()
     ensures written { (response request : Parts) (status : ℕ) (tag : List ℕ) → Replies response request status tag → RepliesTo response request }
     ensures reply { (response : Parts) (request : Parts) → (is_reply response request ≡ true) ↔ RepliesTo response request }
@@ -46,7 +46,7 @@ pub fn replies()
         RepliesWhereTaken table response.parts (reception_of table (Kinds.Response response)) }
 {}
 
-/// No two server transactions have one key (method, branch and sent-by), and there are no more than 4,096: of a table
+/// No two server transactions have one key (method, branch and sent-by), and there are at most 4,096: of a table
 /// without transactions, and after any calls that were done, since none begins one where there is no room; and after
 /// any change that may be entered, as what is foreseen of a message may, where that is entered before other messages
 /// come. Nor has an address more than its share, of an empty table and after any calls that were done.
@@ -64,7 +64,7 @@ pub fn servers()
         AreShared table → WereDone table calls → AreShared (after_all table calls) }
 {}
 
-/// A call that tells a transaction nothing leaves it as it was, with its timers.
+/// A call that gives a transaction no input leaves it as it was, with its timers.
 pub fn others_are_untouched()
     ensures { (table : Contents) (call : Call) → LeavesOthers table call }
 {}
@@ -80,7 +80,7 @@ pub fn answers_are_repeated()
     ensures timer { (transaction : Transaction) → ResendsAnswer transaction }
 {}
 
-/// A request of the server's own that is no ACK has the timer set at which it is given up: B of an INVITE, and F of
+/// A request of the server's own that is no ACK has the timer set at which it is given up: B for an INVITE, and F for
 /// another request, 64*T1 after it was sent (RFC 3261 sections 17.1.1.2 and 17.1.2.2). An INVITE that begins a dialog
 /// has it sooner, where the table is made so.
 pub fn requests_are_given_up()

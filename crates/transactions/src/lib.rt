@@ -1,5 +1,5 @@
 //! Transactions of the session initiation protocol (RFC 3261 section 17, with the Accepted states of RFC 6026): which
-//! request is new, what is sent again and when, and which response belongs to which request. Nothing here knows of
+//! request is new, what is sent again and when, and which response belongs to which request. Nothing here knows about
 //! dialogs, calls or users.
 #![tactic(auto)]
 

@@ -38,7 +38,7 @@ fn served_method<'m>(method: &'m Text<'_>) -> &'m [u8]
     }
 }
 
-/// Whether a request is one with this one: branch, sent-by and method agree.
+/// Whether a request is the same as this one: branch, sent-by and method agree.
 #[tactic(auto, unfolding(crate::specs::Matching::is_copy))]
 pub(crate) fn is_copy(request: &Parts, first: &Parts) -> bool
     ensures { result ≡ is_copy request.now first.now }

@@ -1,4 +1,4 @@
-//! What the calls of the table answer.
+//! What the calls of the table return.
 
 ghost use Rattle.std.specs.Prelude.{◌≡◌};
 ghost use Rattle.transactions.specs.Contents.{stray};
@@ -62,7 +62,7 @@ pub struct Started {
 /// What a timer did.
 #[derive(Drop)]
 pub enum Fired {
-    /// The same bytes go again.
+    /// The same bytes are sent again.
     Send(Outgoing),
     /// No response came, or no ACK, and the transaction ended.
     TimedOut,

@@ -22,7 +22,7 @@ use std::marker::Model;
 use text::Text;
 use transaction_machines::State;
 
-/// For so many transactions there is room made at once, where room is asked for at all: so it is seldom asked for.
+/// Room for this many transactions is made at once, where room is needed at all, so that this is seldom.
 const SPARE: usize = 16;
 
 /// The places of the table.
@@ -137,7 +137,7 @@ impl Places {
         self.sources.numbers(ip_print(ip)).len()
     }
 
-    /// Makes room for `n` transactions more, and for the end of each that there is.
+    /// Makes room for `n` transactions more, and for the end of each existing one.
     pub(crate) fn reserve(&mut self, n: usize) -> Result<(), AllocError>
         ensures slots { self.new.slots ≡ self.old.slots }
         ensures ok { OnOk result (n ≤ self.new.room) }

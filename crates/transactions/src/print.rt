@@ -1,4 +1,4 @@
-//! Numbers for what a transaction is looked up by: one with another print is passed by without a look at its parts.
+//! Numbers for what a transaction is looked up by: one with another print is skipped without looking at its parts.
 
 ghost use Rattle.std.specs.Prelude.{◌≡◌, Some, None, IsTrue};
 ghost use Rattle.std.specs.Option.{option_copied};
@@ -78,7 +78,7 @@ fn tag_print(key: PrintKey, params: &[Param<'_>]) -> u64
     print_by(key, tag_value(params))
 }
 
-/// The print of an address, which is no other address's, and not 0.
+/// The print of an address, which no other address has, and which is not 0.
 #[tactic(auto, unfolding(crate::specs::Shares::ip_number))]
 pub(crate) fn ip_print(ip: [u8; 4]) -> u64
     ensures { result ≡ ip_print ip }

@@ -100,8 +100,8 @@ fn cancel_by(
     request_like(alloc, uri, via, invite, &invite.to, b"CANCEL")
 }
 
-/// The CANCEL of the INVITE of a client transaction: its Request-URI, top Via alone, From, To, Call-ID and number (RFC
-/// 3261 section 9.1). None where the transaction is no client's of an INVITE, or the INVITE has no Via.
+/// The CANCEL of the INVITE of a client transaction: its Request-URI, only its top Via, From, To, Call-ID and number
+/// (RFC 3261 section 9.1). None where the transaction is no client's of an INVITE, or the INVITE has no Via.
 pub fn cancel_of(
     alloc: Global,
     invite: &Transaction,

@@ -74,7 +74,7 @@ fn first_answered(entries: &[Entry], slots: &[Slot], parts: &Parts) -> Option<us
         .map(|entry| entry.number)
 }
 
-/// The client transaction whose request a response is one to.
+/// The client transaction whose request a response answers.
 pub(crate) fn client_place(places: &Places, parts: &Parts) -> Option<usize>
     ensures { result ≡ position (is_answered parts.now) places.now.slots }
 {
@@ -161,7 +161,7 @@ fn merges_any(entries: &[Entry], slots: &[Slot], parts: &Parts) -> bool
         .any(|entry| is_merged(slots, entry.number, parts))
 }
 
-/// Whether a server transaction has the request of another way.
+/// Whether a server transaction has the request from another path.
 pub(crate) fn any_merged(places: &Places, parts: &Parts) -> bool
     ensures { result ≡ list_any (is_merged parts.now) places.now.slots }
 {

@@ -71,7 +71,7 @@ impl Model for Table {
 }
 
 impl Table {
-    /// A table without transactions, which keeps to these rules and looks them up by prints under this key. No result
+    /// A table without transactions, which follows these rules and looks them up by prints under this key. No result
     /// depends on the key. Takes no memory.
     pub fn new(alloc: Global, key: PrintKey, rules: TableRules) -> Self
         ensures slots { result.slots ≡ [] }
@@ -181,7 +181,7 @@ impl Table {
     }
 
     /// Lets a timer fire that is due. One that is not due, or not set, is refused (X1), and one that sends something or
-    /// starts a timer may be refused for want of memory: an ending timer is not.
+    /// starts a timer may be refused because memory ran out: an ending timer is not.
     pub fn fire(&mut self, timer: TimerId, now: u64) -> Result<Fired, TableError>
         requires { now < 2 ^ 60 }
         ensures fired { IfOk result (λ fired. Some fired ≡ fired_of (at self.old.slots timer.id) timer.kind) }
@@ -195,7 +195,7 @@ impl Table {
         Ok(fired)
     }
 
-    /// Enters all changes, in order, or none: the only refusal is for want of memory. Each is looked up when it is
+    /// Enters all changes, in order, or none: the only refusal is for lack of memory. Each is looked up when it is
     /// entered, so that a response may follow the request in one list.
     pub fn apply(&mut self, changes: Vec<Change>, now: u64) -> Result<(), AllocError>
         requires { now < 2 ^ 60 }
@@ -233,8 +233,8 @@ impl Table {
         self.places.serving_count()
     }
 
-    /// How many timers are set: each belongs to a transaction, and a transaction has one of a letter at most. Takes no
-    /// memory.
+    /// How many timers are set: each belongs to a transaction, and a transaction has at most one of a letter. Takes
+    /// no memory.
     pub fn timer_count(&self) -> usize
         ensures count { result ≡ length self.now.timers }
         ensures once { EachKeyOnce same_timer self.now.timers }
@@ -260,8 +260,8 @@ impl Table {
         self.timers.next()
     }
 
-    /// The server transaction that a CANCEL names by branch and sent-by (RFC 3261 section 9.2): the INVITE's, else the
-    /// one with the least number that is none of a CANCEL. Takes no memory.
+    /// The server transaction that a CANCEL names by branch and sent-by (RFC 3261 section 9.2): the INVITE's,
+    /// otherwise the one with the least number that is not a CANCEL's. Takes no memory.
     pub fn cancels(&self, request: &Request) -> Option<usize>
         ensures { result ≡ named self.now.slots request.now.parts }
     {
@@ -277,7 +277,7 @@ impl Table {
     }
 
     /// Whether another server transaction has the tag of From, Call-ID, number and method of a request without tag in
-    /// To: it came on two ways (RFC 3261 section 8.2.2.2). Takes no memory.
+    /// To: it came by two paths (RFC 3261 section 8.2.2.2). Takes no memory.
     pub fn is_merged_request(&self, request: &Request) -> bool
         ensures { result ≡ merged self.now request.now.parts }
     {

@@ -127,7 +127,7 @@ fn starts_two(again: TimerKind, limit: TimerKind) -> Starts
     )
 }
 
-/// The timers of a request of the server's own: when it goes again, and when it is given up.
+/// The timers of a request of the server's own: when it is sent again, and when it is given up.
 #[tactic(auto, unfolding(transaction_machines::specs::Machines::row_of, transaction_machines::specs::InviteClient::invite_client_row, transaction_machines::specs::OtherClient::other_client_row))]
 pub(crate) fn asking_timers(parts: &Parts) -> Starts
     ensures timers { result ≡ asking_timers parts.now }
@@ -142,7 +142,7 @@ pub(crate) fn asking_timers(parts: &Parts) -> Starts
 }
 
 impl Transaction {
-    /// It goes on to its next state. What was fresh is what it sends again.
+    /// It goes on to its next state. What was new is what it sends again.
     pub(crate) fn advance(&mut self, fresh: Option<Text<'static>>, state: State)
         ensures { self.new ≡ went self.old fresh.entry state }
     {

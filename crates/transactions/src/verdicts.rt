@@ -8,7 +8,7 @@ use crate::outcome::{Fired, Outgoing, Verdict};
 use sip_message::{Parts, is_method};
 use transaction_machines::{Input, Sending, Told};
 
-/// What a request of a transaction that stands is to it.
+/// What a request of a live transaction is to it.
 pub(crate) fn input_of(parts: &Parts) -> Input
     ensures input { result ≡ input_of parts.now }
     ensures not_ours { is_answer result ≡ false }
@@ -20,7 +20,7 @@ pub(crate) fn input_of(parts: &Parts) -> Input
     }
 }
 
-/// What a message was, by what its line sends and whom it tells.
+/// What a message was, by what its line sends and whom it notifies.
 pub(crate) fn verdict_by(id: usize, input: Input, sending: Sending, told: Told) -> Verdict
     ensures verdict { result ≡ verdict_by id input sending told }
     ensures old { IsNew result → ⊥ }

@@ -16,7 +16,7 @@ fn begins_dialog(parts: &Parts) -> bool
     is_method(parts, b"INVITE") && !has_to_tag(parts) && parts.cseq.number == 1
 }
 
-// The same timer, after so many milliseconds at most.
+// The same timer, after at most this many milliseconds.
 fn sooner(wait: u64, start: Start) -> Start
     ensures { result ≡ sooner wait start }
 {
@@ -37,8 +37,8 @@ fn limited(wait: u64, starts: Starts) -> Starts
     }
 }
 
-/// The timers of a new transaction whose request has these parts: an INVITE that begins a dialog waits so many
-/// milliseconds at most for its first response. They are as many, of the same letters, and none runs longer.
+/// The timers of a new transaction whose request has these parts: an INVITE that begins a dialog waits at most this
+/// many milliseconds for its first response. They are as many, of the same letters, and none runs longer.
 #[tactic(auto, unfolding(crate::specs::Waiting::starts_within))]
 pub(crate) fn starts_within(wait: u64, parts: &Parts, starts: Starts) -> Starts
     requires { IsShort starts }

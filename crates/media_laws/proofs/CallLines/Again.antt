@@ -1,4 +1,4 @@
--- What goes again of a call's own 200 went before, so that it moves no call.
+-- A call's own 200 that is sent again was sent before, so that it moves no call.
 use Rattle.std.proofs.Common.{◌≡◌, ℕ, List, Option, Some, None, option_map, inr}
 use Rattle.std.specs.Option.{option_copied}
 use Rattle.std.specs.Prelude.{slice_get}
@@ -24,7 +24,7 @@ use Rattle.media_laws.proofs.Scenes.Reading.{Reading}
 use Rattle.media_laws.specs.Coming.{scene_at}
 use Rattle.media_laws.proofs.Scenes.QuietSends.{before_idle, went_before}
 
--- ---- the 200 that goes again
+-- ---- the 200 that is sent again
 
 again_by : Reading → (s : Office) (begun : List Transaction) (sent : List Sent) (t : List Datagram) (taken : Option Message) → KnowsTrace s begun sent t → NoneAsked offering taken → (o : Option Sent) → AnswerWasSent sent o
     → (m : Message) → HearsAgain (option_copied (option_map lent o)) m → IsIdle offering t taken m

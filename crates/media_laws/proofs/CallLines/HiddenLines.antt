@@ -1,5 +1,5 @@
--- The lines of a call that a trace lists no more: its first INVITE was given up, and has no final response. They move
--- none of the trace's calls.
+-- The lines of a call that a trace no longer lists: its first INVITE was given up, and has no final response. They
+-- move none of the trace's calls.
 use Rattle.std.proofs.Common.{◌≡◌, ◌∙◌, ℕ, Bool, true, false, List, [], ◌∷◌, ◌++◌, Option, Some, None, refl, ap, sym, subst, inl, inr}
 use Rattle.std.specs.Prelude.{IsTrue}
 use Rattle.std.proofs.lemmas.Option.{same_Some}

@@ -68,7 +68,7 @@ module _ (t : List Datagram) (ds : List Call) (k : ℕ) (d : Call) (apart : AllA
   none : IsIdleTaken offering t taken → (n : Standing) → Line n None
   none took n = no_line t ds k d apart there has taken before idle s tokens n took
 
-  -- ---- the call has stood long enough, while an offer or its ACK is open
+  -- ---- the call has lived long enough, while an offer or its ACK is open
 
   later_set : taken ≡ None → (ms : List Message) → HearsActions s tokens (Set timers.Lifetime short_time ∷ []) ms → Move offering t ds taken (before ++ ms) ds
   later_set took ms h = quiet_line t ds k d apart there has taken before idle s tokens (Set timers.Lifetime short_time ∷ []) ms (none_idle_taken t taken took) ((λ count m e. absurd e), tt) h

@@ -55,7 +55,7 @@ module _ (t : List Datagram) (old : List Call) (k : ℕ) (d : Call) (apart : All
   answered_goes actions ms one two took earlier each h =
       goes_over t taken (before ++ ms) old k d apart there has one two took (all_behind (EndSaid t taken (before ++ ms) d) before ms earlier (all_said (EndSaid t taken (before ++ ms) d) s tokens actions ms each h))
 
-  -- a leg ends by the BYE behind these actions
+  -- a leg ends by the BYE after these actions
   pub bye_ends : (first : List Action) (end : End) (later : List Action) (ms : List Message) (y : Dialog) → LegIn s end y → HearsActions s tokens (first ++ Bye end ∷ later) ms → EndsNow t taken (before ++ ms) y
   bye_ends first end later ms y l h =
       let found = stands_behind s tokens first (Bye end) later ms (λ count. bye_one s count end l.leg l.has l.numbered l.leads) h in

@@ -62,7 +62,7 @@ module _ (slots : List (Option Transaction)) (begun : List Transaction) (t : Lis
   abbrev Shows : StandingCall → Call → Type 0
   Shows = ShowsCall s.table.slots (begun ++ more) (t ++ passed k taken sent)
 
-  -- what the calls come to
+  -- what the calls result in
   abbrev Goes : Type 0
   Goes = GoOn Shows s.calls.calls t old taken sent
 
@@ -182,7 +182,7 @@ module _ (slots : List (Option Transaction)) (begun : List Transaction) (t : Lis
               (ap (λ (x : End). traces.Ending (is_caller (other x))) (sym offerer), refl));
         })
 
-  -- both list it no more
+  -- both no longer list it
   leave : next ≡ None → Move offering t old taken sent (remove old spot.place_there) → Goes
   leave none move = (
     remove old spot.place_there,

@@ -15,7 +15,7 @@ use Rattle.sdp.specs.declared.description.Description.{Description}
 use Rattle.media_laws.specs.Lines.{actions_in, next_in}
 use Rattle.media_laws.specs.Steps.{IsSignalOf, IsSignalStep, KeepsMedia}
 
--- what a line comes to
+-- what a line results in
 record IsLineStep (c : Call) (n : Standing) (line : Option Row) (step : Step) : Type 0 where
   actions : step.actions ≡ actions_in line
   next : step.call.standing ≡ next_in n line

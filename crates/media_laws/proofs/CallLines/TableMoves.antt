@@ -113,7 +113,7 @@ module _ (t : List Datagram) (old : List Call) (k : ℕ) (d : Call) (apart : All
       (inl (bye_ends t old k d apart there has taken before s tokens (Refusal x status ∷ []) y (Bye x ∷ later) ms (leg d (not b)) ly h)) earlier
       (refusal_said t taken (before ++ ms) d s x status low, (bye_said t taken (before ++ ms) d s y (leg d (not b)) ly (leg_tag d (not b)), (bye_said t taken (before ++ ms) d s x (leg d b) lx (leg_tag d b), rest))) h
 
-  -- x was left by y, and is told by BYE
+  -- x was left by y, and is notified by BYE
   pub last_told : (ms : List Message) → d.stage ≡ Ending (not b) → LegIn s x (leg d b) → AllOf (EndSaid t taken (before ++ ms) d) before → HearsActions s tokens (Bye x ∷ []) ms
       → Move offering t old taken (before ++ ms) (remove old k)
   last_told ms stage lx earlier h =
@@ -123,7 +123,7 @@ module _ (t : List Datagram) (old : List Call) (k : ℕ) (d : Call) (apart : All
 -- ---- an end leaves by BYE
 
 module _ (t : List Datagram) (old : List Call) (k : ℕ) (d : Call) (apart : AllApart old) (there : slice_get old k ≡ Some d) (has : HasTags d) (came : Message) (s : Scene) (tokens : ℕ) (took : EndTaken t (Some came) d) (b : Bool) (x y : End) (bye : ByeIn s (leg d b) came) where
-  -- x leaves an answered call, and y is told
+  -- x leaves an answered call, and y is notified
   pub one_left : (ms : List Message) → LegIn s y (leg d (not b)) → HearsActions s tokens (Okay x ∷ Bye y ∷ []) ms → Move offering t old (Some came) ms (remove old k)
   one_left ms ly h =
       let both = both_of (LeavesCall t (Some came) ms d) b (inl (okay_ends t [] s tokens [] x (Bye y ∷ []) ms (leg d b) came bye h))
@@ -146,7 +146,7 @@ module _ (t : List Datagram) (old : List Call) (k : ℕ) (d : Call) (apart : All
       let both = both_of (LeavesCall t (Some came) ms d) b (inl (okay_ends t [] s tokens [] x [] ms (leg d b) came bye h)) (inr stage) in
       answered_goes t old k d apart there has (Some came) [] s tokens (Okay x ∷ []) ms both.0 both.1 took tt (left_said t (Some came) ms d s x (leg d b) came bye refl (leg_tag d b), tt) h
 
-  -- x leaves before the ACK of y's INVITE has come, and y is told behind it
+  -- x leaves before the ACK of y's INVITE has come, and y is notified after it
   pub one_leaves_early : (z : Settled) (later : List Action) (ms : List Message) → d.stage ≡ Answered z → AreSilent s later → IsIdleTaken offering t (Some came) → HearsActions s tokens (Okay x ∷ later) ms
       → Move offering t old (Some came) ms (slice_set old k (ending d b))
   one_leaves_early z later ms stage silent idle h =

@@ -1,4 +1,4 @@
--- The tags of the calls of a trace are those of the calls that stand.
+-- The tags of the calls of a trace are those of the current calls.
 use Rattle.std.proofs.Common.{◌≡◌, ◌∙◌, ℕ, true, List, [], ◌∷◌, Option, Some, None, ap, sym, subst, inl, inr}
 use Rattle.std.specs.Cmp.Lexicographic.{bytes_decides}
 use Rattle.std.specs.List.{All}
@@ -32,7 +32,7 @@ shown_tag made tag c d own shows (inl is) =
 shown_tag made tag c d own shows (inr is) =
     or_left (is_text c.callee_tag tag) (is_tag_in (dialog_of Caller c.call) tag) (same_text tag c.callee_tag (is ∙ callee_tag c.callee_tag c.call.callee d.callee own.leg shows.callee))
 
--- where no call that stands has the tag, none of the trace has it
+-- where no current call has the tag, none of the trace has it
 module _ (made : ℕ) (tag : List ℕ) (P : StandingCall → Call → Type 0) (legs : (c : StandingCall) (d : Call) → P c d → ShowsLegs c d) where
   pub none_tagged : (cs : List StandingCall) (ds : List Call) → All (HasMadeTags made) cs → AllOf (HaveNot tag) cs → Listed P cs ds → AllOf (λ d. ¬ IsTagOf d tag) ds
   none_tagged [] ds own none h = subst (AllOf (λ d. ¬ IsTagOf d tag)) (sym h) tt

@@ -1,5 +1,4 @@
--- A response that no call takes: of the calls that stand, none has the tag of its request, or its request waits no
--- more.
+-- A response that no call takes: no current call has the tag of its request, or its request no longer waits.
 use Rattle.std.proofs.Common.{◌≡◌, ◌∙◌, ℕ, ◌+◌, Bool, true, false, cond, List, [], ◌∷◌, length, ltb, suc, Option, Some, None, ◌<◌, ◌≤◌, ltb-false, ltb-true, not, refl, sym, subst, inl, inr, arith}
 use Rattle.std.specs.Prelude.{slice_get}
 use Rattle.std.specs.List.{position_or_len}

@@ -40,9 +40,9 @@ use Rattle.transactions.specs.declared.transaction.Transaction.{Transaction}
 use Rattle.message_laws.specs.Sending.{LastWasSent, WasSentIf}
 use Rattle.message_laws.proofs.TokenUse.Rows.{answered_client}
 
--- ---- what goes again
+-- ---- what is sent again
 
--- what a transaction that stands sent last
+-- what a live transaction sent last
 pub record LastGoes (slots : List (Option Transaction)) (out : Outgoing) : Type 0 where
   pub id : ℕ
   pub transaction : Transaction

@@ -1,4 +1,4 @@
--- A response that a transaction swallows is one to a request that waits no more (RFC 3261 section 17.1).
+-- A response that a transaction swallows is one to a request that no longer waits (RFC 3261 section 17.1).
 use Rattle.std.proofs.Common.{◌≡◌, ℕ, true, false, List, Option, Some, None, position, refl, subst}
 use Rattle.std.proofs.lemmas.Bool.{false_from_ne_true, false≢true}
 use Rattle.std.proofs.lemmas.List.Quantifiers.{position-Some}
@@ -24,7 +24,7 @@ use Rattle.transactions.specs.declared.transaction.Transaction.{Transaction}
 use Rattle.message_laws.specs.Waiting.{waits}
 use Rattle.media_laws.specs.Verdicts.{IsTransactions}
 
--- it belongs to a transaction that waits no more
+-- it belongs to a transaction that no longer waits
 pub record IsSwallowed (slots : List (Option Transaction)) (r : Response) : Type 0 where
   pub id : ℕ
   pub transaction : Transaction
@@ -57,7 +57,7 @@ up_other others.Proceeding Success w = refl
 up_other others.Proceeding Failure w = refl
 up_other others.Completed class w = absurd (false≢true w)
 
--- what comes to one that waits goes up
+-- what reaches one that waits goes up
 goes_up : (state : State) (class : Class) → waits state ≡ true → GoesUp (row_of state (inputs.Response class))
 unfolding row_of
 goes_up (machine.InviteClient state) class w = up_invite state class w

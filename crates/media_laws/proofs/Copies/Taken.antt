@@ -32,13 +32,13 @@ use Rattle.media_laws.proofs.Copies.CallTags.{none_tagged}
 use Rattle.std.proofs.Common.{subst}
 
 module _ (s : Office) (begun : List Transaction) (sent : List Sent) (t : List Datagram) (ds : List Call) (known : KnowsTrace s begun sent t) where
-  -- to a request of the server's own that waits no more
+  -- to a request of the server's own that no longer waits
   pub waits_no_more : (id : ℕ) (x : Transaction) (m : Message) → at s.table.slots id ≡ Some x → IsOffering x → waits x.state ≡ false → m.branch ≡ branch_text x.parts.vias → IsIdleTaken offering t (Some m)
   waits_no_more id x m there offers over same =
       let f = known.answered id x there offers over in
       swallowed m f.0 f.2 f.1 f.3 refl f.4 (f.5.branch ∙ sym same) f.6 f.7
 
-  -- ---- by the calls that stand
+  -- ---- by the current calls
 
   module _ (listed : Listed (ShowsCall s.table.slots begun t) s.calls.calls ds) (tokens : KnowsTokens s) (waiting : KnowsWaiting s) (bytes : List ℕ) (r : Response) (id : ℕ) (x : Transaction)
       (there : at s.table.slots id ≡ Some x) (answers : is_answered r.parts (Some x) ≡ true) where

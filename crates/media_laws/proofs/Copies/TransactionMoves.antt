@@ -1,5 +1,5 @@
--- What the transactions do by themselves moves no call of the trace: what goes again went before, and the ACK to a
--- refusal is of an INVITE that went.
+-- What the transactions do by themselves moves no call of the trace: what is sent again was sent before, and the ACK
+-- to a refusal is of an INVITE that was sent.
 use Rattle.std.proofs.Common.{◌≡◌, ◌∙◌, ℕ, ◌==◌, Bool, true, false, cond, find, ◌&&◌, not, List, [], ◌∷◌, Option, Some, None, Ok, refl, ap, sym, subst, inl, inr}
 use Rattle.std.specs.Prelude.{IsTrue}
 use Rattle.std.specs.List.{All}
@@ -145,7 +145,7 @@ module _ (r : Reading) (s : Office) (begun : List Transaction) (sent : List Sent
         → AreMessages (moves changes (reception_of s.table (Kinds.Response q)).send).sends ms → Move offering t ds (Some (trace_message text (Kinds.Response q))) ms ds
     silent_response changes ms took are = idle_move t ds (Some (trace_message text (Kinds.Response q))) ms took (response_sends ms are)
 
-    -- the ACK of a 2xx goes again
+    -- the ACK of a 2xx is sent again
     again_all : (ms : List Message) (o : Option KeptAck) → ((ack : KeptAck) → o ≡ Some ack → WasSent sent ack.sent.bytes) → AreMessages (again o) ms
         → AllOf (IsIdle offering t (Some (trace_message text (Kinds.Response q)))) ms
     again_all [] None h are = tt

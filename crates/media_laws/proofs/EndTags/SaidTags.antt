@@ -102,7 +102,7 @@ module _ (reads : Reading) (s : Scene) (t : List Datagram) (made : ℕ) where
   okay_tagged None m tag h = absurd h
   okay_tagged (Some a) m tag h = own (λ ok by. subst (IsMade made) (sym h.to_tag) (tag (ap (λ name. is_method bye name) (sym h.method) ∙ by)))
 
-  -- what went before stands in the trace
+  -- what was sent before is in the trace
   again_tagged : (again : Option Sent) (d : Sent) (m : Message) → ((sent : Sent) → again ≡ Some sent → (n : Message) → IsMessage sent.bytes n → IsTagged t made n) → IsMessage d.bytes m → SeesAgain again d → IsTagged t made m
   again_tagged None d m was is h = absurd h
   again_tagged (Some sent) d m was is h = was sent refl m (subst (λ (x : Sent). IsMessage x.bytes m) h is)

@@ -110,7 +110,7 @@ module _ (laws : Laws) (s : Office) (begun : List Transaction) (sent : List Sent
       all_idle t s.tokens (Some (trace_message text (Kinds.Response r))) ms
       (sends_are_idle laws.reads laws.names s begun sent t ds k text r (Some (trace_message text (Kinds.Response r))) ms read (record { message = Kinds.Response r; reads = laws.names.message text (Kinds.Response r) read; seen = refl }) are)
 
-  -- behind them what a call says
+  -- after them what a call says
   behind_goes : (send : Option Outgoing) (sends : List Sent) → ((ms : List Message) → AreMessages (goes send) ms → Tagged ms) → ((ms : List Message) → AreMessages sends ms → Tagged ms) → (ms : List Message) → AreMessages (goes send ++ sends) ms
       → Tagged ms
   behind_goes send sends first rest ms are =

@@ -111,12 +111,12 @@ module _ (laws : Laws) (s : Office) (begun : List Transaction) (sent : List Sent
   pub before_tagged : (bytes : List ℕ) (m : Message) → WasSent sent bytes → IsMessage bytes m → IsTagged t s.tokens m
   before_tagged bytes m was is = let w = went_before laws.reads t sent bytes m k.trace.read k.trace.sent was is in was_sent w.place w.before w.there w.sent w.same
 
-  -- the 200 that goes again
+  -- the 200 that is sent again
   answer_before : (again : Option Sent) → AnswerWasSent sent again → (x : Sent) → option_copied (option_map lent again) ≡ Some x → (n : Message) → IsMessage x.bytes n → IsTagged t s.tokens n
   answer_before None was x is n message = absurd (none-some x is)
   answer_before (Some own) was x is n message = before_tagged x.bytes n (subst (λ (y : Sent). WasSent sent y.bytes) (same_Some own x is) was) message
 
-  -- ---- a call that stands
+  -- ---- a current call
 
   -- its own offer waits, or the one that comes came in no BYE
   own_offer : (c : StandingCall) (o : Option Transaction) → HasAskerIf s.table.slots c → at s.table.slots c.asked.id ≡ o → waits_for c ≡ true → (x : AskerValue) → asker_by c o ≡ Some x → is_bye x.parts ≡ false

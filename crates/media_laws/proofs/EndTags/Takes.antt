@@ -110,7 +110,7 @@ module _ (reads : Reading) (describes : BodiesDescribe) (law : SentIsRead) (keep
         (stage_moves t old spot.place_there spot.call apart spot.there (all_at HasTags old spot.place_there spot.call before.stands.sessions.tags spot.there) taken first idle (scene_at s e w c step.description) s.tokens n.offerer n.stage signal alone again
         took.legs took.at took.awaited took.took ms hears)
 
-    -- what the row comes to
+    -- what the row results in
     abbrev Takes : Type 0
     Takes = AreMessages (takes_row s.calls s.table (occasion s e) place input leg request).dressed.sends ms → after.calls.calls ≡ (takes_row s.calls s.table (occasion s e) place input leg request).outcome.standing.calls
         → GoOn (Shows (passed k taken (first ++ ms))) after.calls.calls t old taken (first ++ ms)

@@ -1,4 +1,4 @@
--- A call that takes an input: it is listed by the trace, or no more, or stands nowhere, or there is none.
+-- A call that takes an input: it is listed by the trace, or no longer, or has no standing, or there is none.
 use Rattle.std.proofs.Common.{◌∷◌, Bool, List, None, Option, Some, [], ap, false, refl, subst, sym, true, ℕ, ◌++◌, ◌∙◌, ◌≡◌}
 use Rattle.std.specs.Prelude.{slice_get}
 use Rattle.events.specs.declared.sent.Sent.{Sent}
@@ -53,7 +53,7 @@ module _ (laws : Laws) (s after : Office) (begun more : List Transaction) (sent 
       no_messages [] h = refl
       no_messages (m ∷ l) h = absurd h
 
-  -- what an input comes to, by where its call stands
+  -- what an input results in, by the standing of its call
   module _ (e : Setting) (place : ℕ) (input : Input) (leg : Option LegDialog) (request : Option AskerValue) (can : (c : StandingCall) → slice_get s.calls.calls place ≡ Some c → CanCome input (without_offer leg request)) (move : Move offering t old taken [] old) (at_listed : (c : StandingCall) (n : Standing) → slice_get s.calls.calls place ≡ Some c → c.call.standing ≡ Some n → is_listed_call c ≡ true → Goes) (at_hidden : (c : StandingCall) (n : Standing) → slice_get s.calls.calls place ≡ Some c → c.call.standing ≡ Some n → is_listed_call c ≡ false → Goes) (are : AreMessages (takes_row s.calls s.table (occasion s e) place input leg request).dressed.sends ms) (calls : after.calls.calls ≡ (takes_row s.calls s.table (occasion s e) place input leg request).outcome.standing.calls) where
     by_listing : (c : StandingCall) (n : Standing) → slice_get s.calls.calls place ≡ Some c → c.call.standing ≡ Some n → (listed : Bool) → is_listed_call c ≡ listed → Goes
     by_listing c n there stands true is = at_listed c n there stands is

@@ -1,4 +1,4 @@
--- A datagram that comes: by what it is.
+-- A datagram that arrives, by what it is.
 use Rattle.std.proofs.Common.{List, Ok, Option, ap, false, refl, subst, sym, ℕ, ◌++◌, ◌∙◌, ◌≡◌}
 use Rattle.events.specs.declared.sent.Sent.{Sent}
 use Rattle.sip_message.specs.Read.{message_of}

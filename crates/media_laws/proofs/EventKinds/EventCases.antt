@@ -1,4 +1,4 @@
--- An event, as a list of cases: each row of the agent for it, as promise's lists have it, with what else tells whether
+-- An event, as a list of cases: each row of the agent for it, as promise's lists have it, with what else says whether
 -- a call takes it.
 use Rattle.std.proofs.Common.{◌≡◌, ◌∙◌, ℕ, true, false, List, codes, Option, Some, None, Result, Ok, Err, position, refl, sym, subst}
 use Rattle.std.specs.Prelude.{slice_get}

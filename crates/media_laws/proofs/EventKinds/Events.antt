@@ -77,7 +77,7 @@ timer_signal timers.Repeat = (signals.Repeat, refl)
 timer_signal timers.Wait = (signals.Wait, refl)
 timer_signal timers.Lifetime = (signals.Lifetime, refl)
 
--- the calls are the same once it is set no more
+-- the calls are the same once it is no longer set
 same_by : (s : Office) (timer : CallTimerId) (e : Setting) (place : ℕ) (input : Input) (c : Option StandingCall)
     → ((takes_by (without_call_timer timer s).calls s.table (occasion s e) place input None None c).dressed ≡ (takes_by s.calls s.table (occasion s e) place input None None c).dressed)
     × ((takes_by (without_call_timer timer s).calls s.table (occasion s e) place input None None c).outcome.standing.calls ≡ (takes_by s.calls s.table (occasion s e) place input None None c).outcome.standing.calls)

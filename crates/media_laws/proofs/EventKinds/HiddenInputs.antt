@@ -1,5 +1,5 @@
--- What a call that the trace lists no more takes moves no call of the trace, and the trace's calls show the server's
--- afterwards.
+-- What a call that the trace no longer lists takes moves no call of the trace, and the trace's calls show the
+-- server's afterwards.
 use Rattle.std.proofs.Common.{Bool, is_some, List, None, Ok, Option, Some, [], ap, codes, false, inl, inr, refl, subst, sym, true, ℕ, ◌++◌, ◌∙◌, ◌≡◌}
 use Rattle.std.specs.Prelude.{IsTrue, nat_lt, slice_get}
 use Rattle.std.proofs.lemmas.Bool.{false≢true, ltb-false, ltb-true}

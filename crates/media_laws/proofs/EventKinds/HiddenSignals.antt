@@ -1,4 +1,4 @@
--- What comes to a call that the trace lists no more: its first INVITE was given up, and has no final response.
+-- What reaches a call that the trace no longer lists: its first INVITE was given up, and has no final response.
 use Rattle.std.proofs.Common.{◌≡◌, ◌∙◌, ℕ, Bool, true, false, List, [], ◌∷◌, ◌++◌, Option, Some, None, refl, sym, ap, subst, inl, inr, suc}
 use Rattle.std.specs.Prelude.{slice_get}
 use Rattle.std.specs.List.{All}
@@ -71,7 +71,7 @@ module _ (made : ℕ) (tag : List ℕ) (P : StandingCall → Call → Type 0) (l
 
 -- ---- the lines
 
--- a signal for which none stands
+-- a signal for which there is none
 abbrev pub HasNoLine : Signal → Type 0
 HasNoLine signal = (sent : Bool) (x : End) → cancelling_row sent x signal ≡ None
 
@@ -148,7 +148,7 @@ module _ (t : List Datagram) (ds : List Call) (taken : Option Message) (before :
   without_line x sent signal none took =
       subst (λ line. (ms : List Message) → HearsActions s tokens (actions_in line) ms → HiddenMove t ds taken (before ++ ms) (next_in (standing x (Cancelling sent)) line)) (sym none) (ignored x sent took)
 
-  -- ---- where the call stands
+  -- ---- where the call has a standing
 
   module _ (n : Standing) (sent : Bool) (at : n.stage ≡ Cancelling sent) where
     where_it_stands : (signal : Signal) → MovesNone (standing n.offerer (Cancelling sent)) signal → MovesNone n signal

@@ -98,7 +98,7 @@ module _ (keep : (k : ℕ) (t : List Datagram) (old new : List Call) (taken : Op
           apart later.numbers later.keeps calls (λ m is. staged_new) (waits_on n refl refl refl move)
       put_on n stands false unlisted = stay (subst (λ l. Listed (IsLeft s.table.slots begun t) l old) (sym calls) (stays_hidden s.table.slots begun t s.calls.calls old place c new before.listed before.asked there unlisted (ap (holds_in is_listed_stage) stands_as ∙ unlisted)))
 
-      -- a call that stands nowhere is listed by no trace
+      -- a call without a standing is listed by no trace
       put_at : (o : Option Standing) → c.call.standing ≡ o → Goes
       put_at None nowhere = stay (subst (λ l. Listed (IsLeft s.table.slots begun t) l old) (sym calls) (stays_hidden s.table.slots begun t s.calls.calls old place c new before.listed before.asked there (ap (holds_in is_listed_stage) nowhere)
           (ap (holds_in is_listed_stage) (stands_as ∙ nowhere))))

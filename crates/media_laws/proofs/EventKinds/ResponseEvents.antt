@@ -92,7 +92,7 @@ module _ (laws : Laws) (s after : Office) (begun more : List Transaction) (sent 
   stays : Move offering t old taken ms old → after.calls.calls ≡ s.calls.calls → Goes
   stays move same = none_goes_on laws.keep s after begun more t old k shows later taken ms move same
 
-  -- ---- the call that waits for it stands
+  -- ---- the call that waits for it is there
 
   module _ (place : ℕ) (c : StandingCall) (there : slice_get s.calls.calls place ≡ Some c) (asked : IsAsked y.parts c) where
     stands : (n : Standing) × (c.call.standing ≡ Some n)

@@ -1,4 +1,4 @@
--- A call that the trace lists no more takes an input that is a signal: no call of the trace moves, and the trace's
+-- A call that the trace no longer lists takes an input that is a signal: no call of the trace moves, and the trace's
 -- calls show the server's afterwards.
 use Rattle.std.proofs.Common.{◌≡◌, ◌∙◌, ℕ, false, cond, is_some, List, [], ◌++◌, Option, Some, None, ap, sym, subst, refl}
 use Rattle.std.specs.Prelude.{remove, slice_get, slice_set}
@@ -98,7 +98,7 @@ module _ (reads : Reading) (describes : BodiesDescribe) (law : SentIsRead) (keep
         by_step (subst (λ o. AreMessages (takes_by s.calls s.table (occasion s e) place input leg request o).dressed.sends ms) there are)
         (calls ∙ ap (λ o. (takes_by s.calls s.table (occasion s e) place input leg request o).outcome.standing.calls) there)
 
--- ---- a call that stands nowhere
+-- ---- a call without a standing
 
 nowhere_step : (c : ServerCall) (input : Input) (pool : Contents) (now : ℕ) → c.standing ≡ None → call_row c input pool now ≡ unchanged c pool
 unfolding call_row

@@ -1,4 +1,4 @@
--- What is said in the dialog of a 2xx that no call takes: an ACK, and a BYE behind it (RFC 3261 section 13.2.2.4).
+-- What is said in the dialog of a 2xx that no call takes: an ACK, and a BYE after it (RFC 3261 section 13.2.2.4).
 use Rattle.std.proofs.Common.{◌≡◌, ◌∙◌, ℕ, ◌+◌, nat_le, nat_lt, Bool, true, false, cond, List, [], ◌∷◌, is_some, Option, Some, None, position, refl, ap, sym, subst, le-ltb, leb-true, lt-ltb, arith}
 use Rattle.std.proofs.lemmas.Bool.{and_parts, false≢true}
 use Rattle.std.proofs.lemmas.List.Quantifiers.{position-Some}
@@ -107,7 +107,7 @@ pub success_none : (table : Contents) (r : Response) → is_success r.status ≡
 unfolding reception_of
 success_none table r success = none_in table r (position (is_answered r.parts) table.slots) success refl
 
--- two messages, and none behind them
+-- two messages, and none after them
 two_whole : (ms rest more : List Message) (a b : Message) → ms ≡ a ∷ rest → rest ≡ b ∷ more → more ≡ [] → ms ≡ a ∷ b ∷ []
 two_whole ms rest more a b e f g = e ∙ ap (λ l. a ∷ l) (f ∙ ap (λ l. b ∷ l) g)
 
@@ -148,7 +148,7 @@ module _ (reads : Reading) (describes : BodiesDescribe) (s : Office) (e : Settin
     in_leg : LegIn alone Callee (dialog_named leg.id)
     in_leg = record { leg = leg; has = refl; is = refl; leads = leads; numbered = numbered }
 
-    -- the ACK, and the BYE behind it
+    -- the ACK, and the BYE after it
     pub record ForkSaid (ms : List Message) : Type 0 where
       pub ack : Message
       pub bye : Message

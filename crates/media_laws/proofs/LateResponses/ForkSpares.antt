@@ -141,7 +141,7 @@ module _ (slots : List (Option Transaction)) (begun : List Transaction) (t : Lis
   standing_some c None d h = absurd h
   standing_some c (Some n) d h = (n, refl)
 
-  -- a call with the tag that waits no more has a dialog with its callee
+  -- a call with the tag that no longer waits has a dialog with its callee
   has_callee : (asked : Parts) (r : Response) (c : StandingCall) (d : Call) → HasCallee c → IsOtherDialog asked r c → ShowsCall slots begun t c d → c.call.callee ≢ None
   has_callee asked r c d callee k h none =
       let n = standing_some c c.call.standing d h.standing in

@@ -1,4 +1,4 @@
--- What is known of the later INVITEs that were begun is known of those whose transactions stand.
+-- What is known of the later INVITEs that were begun is known of those whose transactions are live.
 use Rattle.std.proofs.Common.{◌≡◌, ℕ, true, false, List, Some, sym, subst}
 use Rattle.std.proofs.lemmas.Bool.{or_left}
 use Rattle.events.specs.declared.sent.Sent.{Sent}

@@ -25,7 +25,7 @@ use Rattle.media_laws.specs.Taken.{HasTakenBy, IsTakenIn}
 use Rattle.call_steps.specs.Scenes.{tag_to}
 use Rattle.message_laws.proofs.AwaitedOffers.Awaiting.{all_at}
 
--- of the dialog with this end of the call that stands at the place
+-- of the dialog with this end of the call at the place
 abbrev pub IsAboveAt : List StandingCall → Request → ℕ → End → Type 0
 IsAboveAt standing r place end = (c : StandingCall) → slice_get standing place ≡ Some c → (d : Dialog) → dialog_of end c.call ≡ Some d → IsAbove d.remote_number r.parts.cseq.number
 

@@ -155,7 +155,7 @@ module _ (reads : Reading) (names : ReadsNames) (describes : BodiesDescribe) (la
   abbrev line : IsOfferStep c.call end (offer_method r) offer s.calls.pool e.now step
   line = later_line names describes s begun sent t old tied knows e bytes r id read place end c offer p
 
-  -- where the call stood, in the server and in the trace
+  -- the call's standing before, in the server and in the trace
   stood : (n : Standing) × (c.call.standing ≡ Some n) × (n.stage ≡ stages.Settled)
   stood = stands_settled c.call.standing (later_settled names describes s begun sent t old tied knows e bytes r id read place end c offer p)
 

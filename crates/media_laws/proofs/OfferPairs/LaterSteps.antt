@@ -1,4 +1,4 @@
--- An offer inside a call that is passed on, as the agent's row has it: what the call does, how it stands then, and the
+-- An offer inside a call that is passed on, as the agent's row has it: what the call does, its standing then, and the
 -- transactions that begin.
 use Rattle.std.proofs.Common.{◌≡◌, ◌∙◌, ℕ, Bool, true, false, cond, ◌||◌, is_some, List, ◌++◌, codes, Option, Some, None, Ok, refl, sym, ap, subst}
 use Rattle.std.specs.Prelude.{nat_eq}
@@ -89,7 +89,7 @@ named_by bytes r read may false is =
     let none : is_invite r.parts ≡ false = subst (λ (name : List ℕ). pointwise nat_eq name (codes "INVITE") ≡ false) (sym (same_method bytes r read)) is in
     (bytes_decides r.parts.cseq.method update).0 (update_by (is_invite r.parts) (is_update r.parts) none may)
 
--- ---- where a settled call stands
+-- ---- the standing of a settled call
 
 pub stands_settled : (o : Option Standing) → holds_in is_settled o ≡ true → (n : Standing) × (o ≡ Some n) × (n.stage ≡ stages.Settled)
 stands_settled None h = absurd (false≢true h)

@@ -41,7 +41,7 @@ old_tags made slots begun t (c ∷ cs) ds own (inr h) =
 
 -- ---- a call whose tags are made now
 
--- its tags are tokens, one behind the other
+-- its tags are tokens, one after another
 pub record MakesTags (made : ℕ) (d : Call) : Type 0 where
   pub salt : ℕ
   pub first : ℕ

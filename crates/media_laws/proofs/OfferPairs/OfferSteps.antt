@@ -1,4 +1,4 @@
--- A step of a settled call for an offer: what it does, where it stands then, and the offer that it keeps as open.
+-- A step of a settled call for an offer: what it does, its standing then, and the offer that it keeps as open.
 use Rattle.std.proofs.Common.{◌≡◌, ℕ, true, Option, Some, None, refl, sym, subst, false}
 use Rattle.std.proofs.lemmas.Bool.{false≢true}
 use Rattle.port_pool.specs.Pool as pools
@@ -23,7 +23,7 @@ use Rattle.call_rules.specs.Offers.{is_settled}
 use Rattle.message_laws.proofs.AwaitedOffers.WaitPassed.{settled_stage}
 use Rattle.media_laws.specs.Lines.{actions_in}
 
--- where it stands once it passed on an INVITE, or an UPDATE
+-- its stage once it passed on an INVITE or an UPDATE
 abbrev pub offer_stage : OfferMethod → Stage
 offer_stage Invite = stages.Reasked false Never
 offer_stage Update = stages.Updating

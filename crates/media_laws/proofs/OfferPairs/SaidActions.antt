@@ -141,9 +141,9 @@ all_said P s tokens (action ∷ later) ms each h =
     one_said P s tokens action (d ∷ []) ms f h = subst (AllOf P) (sym h.1) (f h.0 h.3, tt)
     one_said P s tokens action (d ∷ e ∷ sends) ms f h = absurd h
 
--- ---- one of them, wherever it stands
+-- ---- one of them, wherever it is
 
--- a place behind these
+-- a place after these
 abbrev pub behind : List Message → ℕ → ℕ
 behind [] i = i
 behind (x ∷ xs) i = suc (behind xs i)

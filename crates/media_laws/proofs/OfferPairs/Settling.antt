@@ -64,7 +64,7 @@ pub record AnswerHeard (t : List Datagram) (x y : Dialog) (p : TraceOffer) (z : 
   pub answer : Answers t x p z went
   pub other : acked.bytes ≢ went.bytes
 
--- three actions behind, which say nothing
+-- three later actions, which say nothing
 abbrev pub AreSilent : Scene → List Action → Type 0
 AreSilent s actions = AllOf (λ action. (tokens : ℕ) → (dress_one s tokens action).sends ≡ []) actions
 

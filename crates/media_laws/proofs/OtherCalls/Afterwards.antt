@@ -22,7 +22,7 @@ use Rattle.media_laws.specs.Listing.{Listed}
 use Rattle.media_laws.specs.Shows.{ShowsCall}
 use Rattle.media_laws.proofs.OtherCalls.Untouched.{stays_shown}
 
--- each that is listed, where it stands in both lists
+-- each that is listed, at its places in both lists
 pub listed_where : (P Q : StandingCall → Call → Type 0) (cs : List StandingCall) (ds : List Call)
     → ((c : StandingCall) (d : Call) → P c d → (place : ℕ) → slice_get cs place ≡ Some c → (j : ℕ) → slice_get ds j ≡ Some d → Q c d) → Listed P cs ds → Listed Q cs ds
 listed_where P Q [] ds f h = h

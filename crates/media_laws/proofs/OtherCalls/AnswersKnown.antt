@@ -71,7 +71,7 @@ pub record IsCounted (s : Office) (tag : List ℕ) (number : ℕ) : Type 0 where
   pub made : IsMade s.tokens tag
   pub counted : All (HasTakenBy tag number) s.calls.calls
 
--- the answer to the offer of a call that stands
+-- the answer to the offer of a current call
 counted_in : (s : Office) (m : Message) (place : ℕ) (c : StandingCall) → KnowsCalls s.tokens s.calls.calls → slice_get s.calls.calls place ≡ Some c → IsNumberedIn c m → IsCounted s m.to_tag m.number
 counted_in s m place c knows there n =
     let own = tag_of_end n.end c m.to_tag (sym n.tag) in
@@ -144,7 +144,7 @@ pub new_answers : (c : Config) (s : Contents) → IsNew c s → KnowsAnswers (of
 unfolding At
 new_answers c s new = record { tag = λ i p e is. absurd (cc); counted = λ i p e is. absurd (cc) }
 
--- ---- in a dialog of a call that stands
+-- ---- in a dialog of a current call
 
 pub dialog_tag : (made : ℕ) (c : StandingCall) (end : End) (d : Dialog) → HasMadeTags made c → dialog_of end c.call ≡ Some d → tag_to end c ≡ d.id.ours
 dialog_tag made c Caller d tags at = ap (λ (x : Dialog). x.id.ours) (same_Some c.call.caller d at)

@@ -64,7 +64,7 @@ module _ (P Q : StandingCall → Call → Type 0) (R : StandingCall → Type 0) 
         listed_set cs h.2 h.5 k c new d there was is q beside.1,
       )
 
-  -- the trace lists it no more
+  -- the trace no longer lists it
   pub listed_hidden : (cs : List StandingCall) (ds : List Call) (h : Listed P cs ds) (k : ℕ) (c new : StandingCall) → slice_get cs k ≡ Some c → is_listed c ≡ true → is_listed new ≡ false → Besides cs k R
       → Listed Q (slice_set cs k new) (remove ds (spot P cs ds h k))
   listed_hidden [] ds h k c new there was is beside = absurd (none-some c there)
@@ -82,7 +82,7 @@ module _ (P Q : StandingCall → Call → Type 0) (R : StandingCall → Type 0) 
         listed_hidden cs h.2 h.5 k c new there was is beside.1,
       )
 
-  -- both list it no more
+  -- both no longer list it
   pub listed_gone : (cs : List StandingCall) (ds : List Call) (h : Listed P cs ds) (k : ℕ) (c : StandingCall) → slice_get cs k ≡ Some c → is_listed c ≡ true → Besides cs k R
       → Listed Q (remove cs k) (remove ds (spot P cs ds h k))
   listed_gone [] ds h k c there was beside = absurd (none-some c there)

@@ -1,5 +1,5 @@
--- An answer that replies to the open offer of a trace's call has the server's tag in the dialog of the call that
--- stands, and a number that was taken there.
+-- An answer that replies to the open offer of a trace's call has the server's tag in the dialog of the current call,
+-- and a number that was taken there.
 use Rattle.std.proofs.Common.{◌≡◌, ◌∙◌, ℕ, suc, zero, true, List, [], ◌∷◌, Option, Some, None, refl, ap, sym, subst, inl, inr}
 use Rattle.std.specs.Prelude.{slice_get}
 use Rattle.std.proofs.lemmas.Option.{none-some, same_Some}
@@ -32,7 +32,7 @@ use Rattle.media_laws.specs.Shows.{Came, ShowsCall, ShowsCallee, ShowsOpen, Show
 use Rattle.media_laws.specs.Answering.{IsOfferersTag, IsReplyTo}
 use Rattle.media_laws.specs.Taken.{HasTakenOffer, IsTakenIn}
 
--- ---- the call that stands
+-- ---- the current call
 
 pub listed_at : (P : StandingCall → Call → Type 0) (cs : List StandingCall) (ds : List Call) → Listed P cs ds → (j : ℕ) (d : Call) → slice_get ds j ≡ Some d → (place : ℕ) × (c : StandingCall) × (slice_get cs place ≡ Some c) × P c d
 listed_at P [] ds h j d there = absurd (none-some d (ap (λ l. slice_get l j) (sym h) ∙ there))

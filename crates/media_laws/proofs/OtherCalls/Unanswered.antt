@@ -114,7 +114,7 @@ open_unanswered t new j d p tag number m apart there open_is of none is answers 
           none-some p (sym found.3.0 ∙ ap (λ (c : Call). c.offer) one ∙ open_is))
     ]
 
--- what answers it neither stood in the trace nor is sent now
+-- what answers it neither was in the trace nor is sent now
 pub stays_unanswered : (n : ℕ) (t : List Datagram) (old : List Call) (taken : Option Message) (sent : List Message) (new : List Call) → Move offering t old taken sent new → AllApart new
     → (j : ℕ) (d : Call) (p : Offer) → slice_get new j ≡ Some d → d.offer ≡ Some p → (tag : List ℕ) (number : ℕ) → IsTagOf d tag → IsUnanswered t tag number → IsUnanswered (t ++ passed n taken sent) tag number
 stays_unanswered n t old taken sent new move apart j d p there open_is tag number of none = λ i q at out answers listed to_tag. elim (at_split t (passed n taken sent) i q at) [

@@ -1,4 +1,4 @@
--- What a step of a call makes of the calls that stand: their dialogs have taken what they had, and the number of each
+-- What a step of a call makes of the current calls: their dialogs have taken what they had, and the number of each
 -- open offer.
 use Rattle.std.proofs.Common.{◌≡◌, ◌∙◌, ℕ, ◌+◌, ◌<◌, ◌^◌, Bool, true, false, cond, get_or, List, [], ◌∷◌, ◌++◌, Option, Some, None, is_some, refl, ap, sym, subst, arith}
 use Rattle.std.specs.Prelude.{slice_get}
@@ -101,7 +101,7 @@ pub answers_raises : (calls : List StandingCall) (place : ℕ) (asked : Parts) (
 unfolding answers_leg
 answers_raises calls place asked r c there = subst (λ o. LegRaises c.call (leg_by asked r (reached_at (contacts_of r.headers)) o)) (sym there) (leg_by_raises asked r (reached_at (contacts_of r.headers)) c)
 
--- ---- a call that stands
+-- ---- a current call
 
 -- what may be put beside it
 pub record CanPut (made : ℕ) (c : StandingCall) (leg : Option LegDialog) : Type 0 where

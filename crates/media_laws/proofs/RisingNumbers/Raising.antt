@@ -95,7 +95,7 @@ last_put : (c : StandingCall) (answer : Option Sent) → CallRaises c.call (with
 last_put c None end number k = k
 last_put c (Some answer) end number k = reached_put c.target c.call end number k
 
--- behind the dialog
+-- after the dialog
 behind_leg : (c : StandingCall) (kept : Beside) → CallRaises (with_leg kept.leg c).call (beside kept c).call
 behind_leg c kept end number k =
     last_put (with_taken_if kept.taken (with_leg kept.leg c)) kept.answer end number (taken_put (with_leg kept.leg c) kept.taken end number k)

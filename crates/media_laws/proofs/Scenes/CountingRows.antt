@@ -1,4 +1,4 @@
--- What each event comes to: a number for a BYE is left in each dialog of the calls afterwards.
+-- What each event results in: a number for a BYE is left in each dialog of the calls afterwards.
 use Rattle.std.proofs.Common.{◌≡◌, ◌∙◌, ℕ, true, List, [], ◌∷◌, Option, Some, None, refl, sym, ap, subst}
 use Rattle.std.specs.Prelude.{slice_get}
 use Rattle.std.specs.List.{All}

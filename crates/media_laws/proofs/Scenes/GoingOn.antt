@@ -97,7 +97,7 @@ leg_tag : (c : StandingCall) (leg : Option Put) → (with_leg leg c).callee_tag 
 leg_tag c None = refl
 leg_tag c (Some leg) = refl
 
--- behind the dialog that is put in place
+-- after the dialog that is put in place
 behind_ids : (w : ComingValue) (said : StepMessages) (call : Call) (c : StandingCall) → SameIds (with_leg w.leg (with_call call c)).call (put_as w said call c).call
 behind_ids w said call c =
     let one = with_leg w.leg (with_call call c) in
@@ -162,7 +162,7 @@ first_legs w said c input pool now d new p asked bytes r target shows came reque
           );
     }
 
--- ---- where it stands, its media and its last offer
+-- ---- its standing, its media and its last offer
 
 dialog_standing : (end : End) (d : LegDialog) (c : Call) → (with_dialog end d c).standing ≡ c.standing
 dialog_standing Caller d c = refl

@@ -63,7 +63,7 @@ in_dialog parts c end (Some d) is h =
       theirs = sym ((bytes_decides d.id.theirs (tag_text parts.from.params)).0 one.1);
     }
 
--- of any call that stands there
+-- of any call there
 abbrev IsNamedAt : List StandingCall → Request → ℕ → End → Type 0
 IsNamedAt standing r place end = (c : StandingCall) → slice_get standing place ≡ Some c → IsInDialog r.parts c end
 

@@ -86,7 +86,7 @@ pub number_left : (c : StandingCall) (end : End) (old : LegDialog) → HasNumber
 number_left c Caller old h is = callee_left (Some c.call.caller) old is h.caller
 number_left c Callee old h is = callee_left c.call.callee old is h.callee
 
--- ---- legs of a call that stands
+-- ---- legs of a current call
 
 leg_of : (s : Office) (e : Setting) (w : ComingValue) (c : StandingCall) (description : Option Description) (end : End) (old : LegDialog) (y : Dialog) → y ≡ dialog_named old.id
     → nat_lt (last_number old) (max_for methods.Bye) ≡ true → IsIn c w.leg end old → LegIn (scene_at s e w c description) end y

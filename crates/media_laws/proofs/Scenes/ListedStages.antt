@@ -1,4 +1,4 @@
--- Where a call stands, the trace's call stands too, and the scene has the legs that its stage asks for.
+-- Where a call has a standing, so has the trace's call, and the scene has the legs that its stage asks for.
 use Rattle.std.proofs.Common.{◌≡◌, ◌≢◌, ◌∙◌, ℕ, Bool, false, List, Option, Some, None, refl, sym, subst}
 use Rattle.std.proofs.lemmas.Bool.{false≢true}
 use Rattle.sdp.specs.declared.description.Description.{Description}

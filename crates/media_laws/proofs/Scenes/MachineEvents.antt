@@ -42,7 +42,7 @@ RowFits x = OpensFit x.plan.changes
 own_fit : (changes : List Entry) → NoneOwn changes → OpensFit changes
 own_fit changes none = λ x opens. server_fits x.state x.parts (none x opens)
 
--- behind what the transactions do first
+-- after what the transactions do first
 behind_fit : (begun changes : List Entry) → NoneOwn begun → OpensFit changes → OpensFit (begun ++ changes)
 behind_fit begun changes none h = both_fit begun changes (own_fit begun none) h
 

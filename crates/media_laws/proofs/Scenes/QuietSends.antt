@@ -69,7 +69,7 @@ module _ (t : List Datagram) (ds : List Call) (taken : Option Message) where
 
 -- ---- what went before
 
--- the bytes of this message stand in the trace as sent
+-- the bytes of this message are in the trace as sent
 pub record WentBefore (t : List Datagram) (m : Message) : Type 0 where
   pub place : ℕ
   pub before : Datagram

@@ -44,7 +44,7 @@ legs_on c new d same h = record {
 
 -- ---- an open offer
 
--- what an event leaves of it: the transaction of its request stands, nothing was begun in its place, and nothing
+-- what an event leaves of it: the transaction of its request is live, nothing was begun in its place, and nothing
 -- answered it
 pub record OfferOn (slots later : List (Option Transaction)) (begun more : List Transaction) (t longer : List Datagram) (c new : StandingCall) (d : Call) (p : Offer) : Type 0 where
   pub stands : Came slots c.asked.id p → Came later new.asked.id p
@@ -70,7 +70,7 @@ pub open_on : (slots later : List (Option Transaction)) (begun more : List Trans
 open_on slots later begun more t longer name c new x None d on h = h
 open_on slots later begun more t longer name c new x (Some o) d on h = (h.0, offer_on slots later begun more t longer name c new x o d h.0 (on h.0 h.1.open_is) h.1)
 
--- the transaction stands with the same parts
+-- the transaction is live with the same parts
 pub came_on : (later : List (Option Transaction)) (slots : List (Option Transaction)) (id new : ℕ) (p : Offer) → new ≡ id → ((a : Came slots id p) → StandsAs a.transaction.parts later id) → Came slots id p → Came later new p
 came_on later slots id new p same on a =
     let b = on a in

@@ -126,7 +126,7 @@ asked_by t old taken sent new move =
 
 -- ---- the longer trace
 
--- such a request stood in the trace, or it carries the open offer of a call
+-- such a request was in the trace, or it carries the open offer of a call
 pub asks_one : (n : ℕ) (t : List Datagram) (old : List Call) (taken : Option Message) (sent : List Message) (new : List Call) → Move offering t old taken sent new → (i : ℕ) (q : Datagram) → AsksAt offering (t ++ passed n taken sent) i q → AsksOne t new q.message
 asks_one n t old taken sent new move i q h =
     elim (at_split t (passed n taken sent) i q h.at) [

@@ -1,4 +1,4 @@
--- An event that is only counted is not taken up, and comes to nothing.
+-- An event that is only counted is not taken up, and has no effect.
 use Rattle.std.proofs.Common.{◌≡◌, ℕ, cond, ◌||◌, is_some, length, Option, Some, None, ap, subst}
 use Rattle.std.specs.Prelude.{nat_le, nat_lt}
 use Rattle.event_rows.specs.Rows.{only_counts, row, row_by, what_counts}

@@ -49,7 +49,7 @@ use Rattle.media_laws.specs.Living.{ListsLive}
 use Rattle.media_laws.proofs.WholePromise.QuietCalls.{each_settles}
 use Rattle.media_laws.proofs.WholePromise.Sessions.{are_traced}
 
--- what stands and is served is promised
+-- what comes after the trace and is served is promised
 pub record PromiseLaws : Type 0 where
   pub served : (s : Office) (calls : List Call) → KnowsServing s → AreTraced dialog_with_caller s.calls.calls calls → AreServed s.range.ip (trace_table s.calls.pool) (holder_by dialog_with_caller s) calls
   pub promised : (server : List ℕ) (table : ℕ → Option Hop) (holder : ℕ → Option Dialog) (calls : List Call) (n : ℕ) (t : List Datagram) → Stands offering calls n t → AreServed server table holder calls
@@ -113,7 +113,7 @@ standing_holds laws promises holders exact s t k port h = record {
 pub standing_exact : ((s : Office) → KnowsServing s → HoldNoOthers s) → (s : Contents) (t : List Datagram) (k : ℕ) → AgentStands s t k → HoldNoOthers (office s)
 standing_exact exact s t k h = exact (office s) h.2.1.known.serving
 
--- ---- what is answered, and what is put behind what was sent
+-- ---- what is answered, and what is put after what was sent
 
 pub answers_on : Laws → EventsAreMoves → (s : Contents) (event : Event) (answer : Taken) (before now : List Sent) (later : Contents) → ComesFromSource event.what → answer ≡ (row s event).plan.taken → now ≡ before ++ (row s event).plan.sends → later ≡ after s event
     → StandsOn s event.what answer before now later

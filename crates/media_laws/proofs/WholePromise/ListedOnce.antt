@@ -53,7 +53,7 @@ module _ (slots : List (Option Transaction)) (begun : List Transaction) (t : Lis
   other_silent : (c d : StandingCall) → holds_in has_session d.call.standing ≡ false → TalkApart c d
   other_silent c d bare_is = λ a b x y talks speaks. absurd (false≢true (sym bare_is ∙ speaks.answered))
 
-  -- ---- a call and those behind it
+  -- ---- a call and those after it
 
   none_talk : (c : StandingCall) (cs : List StandingCall) → holds_in has_session c.call.standing ≡ false → AllOf (TalkApart c) cs
   none_talk c [] h = tt

@@ -1,4 +1,4 @@
--- What an agent that stands sends are messages by the grammar.
+-- What an agent that stands sends is messages by the grammar.
 use Rattle.std.proofs.Common.{◌≡◌, List, [], ◌∷◌, ◌++◌, refl, sym, subst, ◌∙◌}
 use Rattle.std.specs.List.{All}
 use Rattle.std.proofs.lemmas.List.{append_cancel_left}
@@ -15,7 +15,7 @@ use Rattle.message_laws.specs.ReadDatagrams.{IsReadDatagram}
 use Rattle.trace_reading.specs.Message.{trace_message}
 use Rattle.message_laws.specs.Messages.{AreMessages}
 
--- those behind
+-- those after
 last_read : (sent sends : List Sent) → All IsReadDatagram (sent ++ sends) → All IsReadDatagram sends
 last_read [] sends each = each
 last_read (d ∷ sent) sends each = last_read sent sends (All-tail IsReadDatagram d (sent ++ sends) each)

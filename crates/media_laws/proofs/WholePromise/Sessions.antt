@@ -31,7 +31,7 @@ not_asked z e = absurd cc
 not_ending : (b : Bool) (z : Settled) → Ending b ≡ Answered z → ⊥
 not_ending b z e = absurd cc
 
--- a call that the trace lists no more has no media
+-- a call that the trace no longer lists has no media
 stage_bare : (stage : Stage) → is_listed_stage stage ≡ false → (has_session stage ≡ false) × (awaits_answer stage ≡ false)
 stage_bare (stages.Asked rung) h = absurd cc
 stage_bare (stages.Cancelling sent) h = (refl, refl)

@@ -55,7 +55,7 @@ use Rattle.message_laws.proofs.Askers.SpokenSteps.{IsBegun, IsBegunAs}
 
 -- ---- what the transactions do with a message
 
--- the last bytes of a transaction that stands
+-- the last bytes of a live transaction
 last_at : (slots : List (Option Transaction)) (id : ℕ) (t : Transaction) → All LastIsOwn slots → at slots id ≡ Some t → OwnIf t.last
 last_at slots id t each there = elim (cases_lt id (length slots)) [
   | inl lt ↦ subst LastIsOwn there (each id None lt)

@@ -50,7 +50,7 @@ pub record IsNewRequest (s : Office) (e : Setting) (r : Request) (begun : List E
   pub opens : IsBegunAs s.table begun id
   pub read : (offer : Description) → described r.headers r.body ≡ Some offer → WasRead offer
 
--- it is refused, and counts where it stands in a dialog
+-- it is refused, and counts where it is in a dialog
 refuses_ask : (s : Office) → IsReady s → (e : Setting) (r : Request) (begun : List Entry) (id : ℕ) (reason : Reason) → IsNewRequest s e r begun id → AskedEffect s (refuses_first s e r begun id reason)
 refuses_ask s k e r begun id reason n = reply_asks s k begun id _ (refuses_reply s e r begun id reason) n.begins n.opens.free (refuses_own s e r begun id reason n.can k.askers.least)
 

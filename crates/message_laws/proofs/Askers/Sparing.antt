@@ -1,5 +1,5 @@
 -- The responses that a step says are final for the transactions that it answers alone, and for the open offer where the
--- call waits no more.
+-- call no longer waits.
 use Rattle.std.proofs.Common.{◌≡◌, ℕ, ◌+◌, Bool, true, false, cond, ◌||◌, List, [], ◌∷◌, codes, Option, Some, None, refl, sym}
 use Rattle.std.specs.Option.{option_copied}
 use Rattle.std.proofs.lemmas.Bool.{false≢true, lt-ltb}

@@ -59,7 +59,7 @@ pub asked_joined : (xs ys : List Entry) → EnterAsked xs → EnterAsked ys → 
 asked_joined [] ys h k = k
 asked_joined (x ∷ xs) ys h k = (h.0, asked_joined xs ys h.1 k)
 
--- the 200 that goes again
+-- the 200 that is sent again
 abbrev pub AgainIsOwn : Option Sent → Type 0
 AgainIsOwn None = Unit {0}
 AgainIsOwn (Some sent) = IsOwnDatagram sent

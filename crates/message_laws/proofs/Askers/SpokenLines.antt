@@ -78,7 +78,7 @@ LineSpeaksIf s signal (Some line) = LineSpeaks s (is_offer_signal signal) line.a
 
 -- ---- kinds of lines
 
--- of a call that waits: one that it goes on to wait behind, and one that it does not
+-- of a call that waits: one after which it goes on waiting, and one after which it does not
 abbrev standing : End → Stage → Standing
 standing x stage = record { offerer = x; stage = stage }
 
@@ -404,7 +404,7 @@ step_speaks c s inputs.Repeat pool now stands f = signal_speaks c s signals.Repe
 step_speaks c s inputs.Wait pool now stands f = signal_speaks c s signals.Wait pool now stands tt
 step_speaks c s inputs.Lifetime pool now stands f = signal_speaks c s signals.Lifetime pool now stands tt
 
--- of a call, wherever it stands
+-- of a call, whatever its standing
 abbrev pub OpenIn : Call → Bool → Type 0
 OpenIn c offer = (offer ≡ true) ⊎ (waits_in c.standing ≡ true)
 

@@ -70,7 +70,7 @@ pub record SpokenStep (table : transactions.Contents) (begun : List Entry) (x : 
   pub offers : (now : ℕ) → KnowsOffers (entered_all now table (begun ++ x.dressed.changes)).slots x.outcome.standing.calls
   pub keeps : (now : ℕ) → All (KeepsAsked table.slots (entered_all now table (begun ++ x.dressed.changes)).slots) x.outcome.standing.calls
 
--- what is known before it: of the transactions, the calls, the tags and what goes again
+-- what is known before it: of the transactions, the calls, the tags and what is sent again
 pub record IsOccasion (table : transactions.Contents) (calls : List StandingCall) (o : Occasion) : Type 0 where
   pub slots : All IsAskedIf table.slots
   pub offers : KnowsOffers table.slots calls
@@ -95,7 +95,7 @@ pub keeps_through : (table : transactions.Contents) (begun later : List Entry) (
     → KeepsRequest table.slots (entered_all now table (begun ++ later)).slots id
 keeps_through table begun later id now b spares a = keeps_all table (begun ++ later) id now (spare_joined id begun later (b.spares id) spares) a
 
--- where none stood
+-- where there was none
 pub free_keeps : (before after : List (Option Transaction)) (id : ℕ) → at before id ≡ None → KeepsRequest before after id
 free_keeps before after id free = λ x there. absurd (none-some x (sym free ∙ there))
 
@@ -113,7 +113,7 @@ opens_through table begun later id now opens spares =
 pub differs : (slots : List (Option Transaction)) (id other : ℕ) → at slots other ≡ None → IsUnanswered slots id → id ≢ other
 differs slots id other free a same = none-some a.transaction (sym free ∙ ap (at slots) (sym same) ∙ a.stands)
 
--- ---- the scene of a call that stands
+-- ---- the scene of a live call
 
 tag_made_or : (made : ℕ) (tag other : List ℕ) (d : Option Dialog) → IsTokenRun tag → IsTokenRun other → HasLegTag other d → IsTokenRun (tag_or tag d)
 tag_made_or made tag other None h k leg = h

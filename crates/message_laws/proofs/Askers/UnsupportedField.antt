@@ -1,5 +1,5 @@
--- The tags that a request requires, as they are told back (RFC 3261 section 20.40): of header fields that were read, a
--- value that can be written.
+-- The tags that a request requires, as they are reported back (RFC 3261 section 20.40): of header fields that were
+-- read, a value that can be written.
 use Rattle.std.proofs.Common.{◌≡◌, ◌∙◌, ℕ, Bool, true, false, cond, List, [], ◌∷◌, ◌++◌, codes, filter, flat_map, map, Ok, refl, sym, ap, subst}
 use Rattle.std.specs.List.{list_all}
 use Rattle.std.proofs.lemmas.Bool.{and_from, and_parts}

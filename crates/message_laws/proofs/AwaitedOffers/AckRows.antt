@@ -1,4 +1,4 @@
--- What each event comes to: an ACK is kept for a transaction that had its 2xx, until that ends.
+-- What each event results in: an ACK is kept for a transaction that had its 2xx, until that ends.
 use Rattle.std.proofs.Common.{◌≡◌, ◌≢◌, ◌∙◌, ℕ, ◌==◌, Bool, true, false, cond, not, List, [], ◌∷◌, ◌++◌, codes, Option, Some, None, is_some, position, refl, ap, sym, subst, inl, inr}
 use Rattle.std.specs.Prelude.{◌⊎◌, slice_get}
 use Rattle.std.specs.List.{All}

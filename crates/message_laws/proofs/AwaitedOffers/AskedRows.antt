@@ -1,4 +1,4 @@
--- What each event comes to for the offers for whose answers the calls wait, row by row.
+-- What each event results in for the offers for whose answers the calls wait, row by row.
 use Rattle.std.proofs.Common.{◌≡◌, ℕ, Bool, true, false, cond, ◌||◌, nat_lt, List, [], ◌∷◌, ◌++◌, codes, get_or, Option, Some, None, Ok, position, refl, sym, ap, subst, inl, inr, arith}
 use Rattle.std.specs.Prelude.{nat_eq}
 use Rattle.std.specs.Cmp.Lexicographic.{pointwise}

@@ -185,7 +185,7 @@ beside_keeps c kept h =
     let two = with_taken_if kept.taken one in
     call_keeps_then c.call two.call (beside kept c).call (call_keeps_then c.call one.call two.call (leg_keeps c kept.leg h) (taken_keeps one kept.taken)) (last_keeps two kept.answer)
 
--- where the call stands is as it was
+-- the call's standing is as it was
 
 dialog_standing : (end : End) (d : Dialog) (c : Call) → (with_dialog end d c).standing ≡ c.standing
 dialog_standing Caller d c = refl
@@ -200,7 +200,7 @@ beside_standing = beside_same (λ c. c.standing) dialog_standing target_standing
 
 -- ---- an offer that is open
 
--- where a call stands that has it open
+-- the standing of a call that has it open
 pub record IsOpen (parts : Parts) (c : StandingCall) (s : stage.Standing) : Type 0 where
   pub stands : c.call.standing ≡ Some s
   pub awaits : awaits_final s.stage ≡ true

@@ -1,4 +1,4 @@
--- Changes that tell no timer leave a transaction that had its 2xx as one.
+-- Changes that notify no timer leave a transaction that had its 2xx as one that had it.
 use Rattle.std.proofs.Common.{◌≡◌, ◌≢◌, ◌∙◌, ℕ, ◌+◌, zero, suc, Bool, true, false, cond, List, [], ◌∷◌, ◌++◌, find, length, nat_lt, Option, Some, None, option_map, refl, ap, sym, subst, inl, inr, arith}
 use Rattle.std.specs.Prelude.{slice_set}
 use Rattle.std.proofs.lemmas.Bool.{cases_eq, false≢true}
@@ -53,7 +53,7 @@ fires_append (Tells id input fresh ∷ xs) ys h k = (h.0, fires_append xs ys h.1
 fires_append (Answers id class bytes ∷ xs) ys h k = fires_append xs ys h k
 fires_append (Leaves ∷ xs) ys h k = fires_append xs ys h k
 
--- ---- the messages of a step tell no timer
+-- ---- the messages of a step notify no timer
 
 said_none : (all : List Sent) (changes : List Entry) → EntriesWereSaid all changes → NoneFires changes
 said_none all [] h = tt

@@ -38,7 +38,7 @@ use Rattle.message_laws.specs.Datagrams.{IsRequestText}
 use Rattle.message_laws.specs.KnownTrace.{IsResponseText, KeepsOwnKind}
 use Rattle.message_laws.proofs.Traces.Saying.{EntryKeeps, KeepsFresh, is_of_response}
 
--- ---- no server transaction is told of a response, and no client transaction is given one to send
+-- ---- no server transaction is notified of a response, and no client transaction is given one to send
 
 invite_told : (state : InviteServer) (class : Class) → invite_server_row state (inputs.Response class) ≡ None
 unfolding invite_server_row

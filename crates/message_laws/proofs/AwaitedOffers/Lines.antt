@@ -121,7 +121,7 @@ goes_on (machine.InviteServer state) input = server_on state input
 goes_on (machine.OtherClient state) input = other_on state input
 goes_on (machine.OtherServer state) input = served_on state input
 
--- ---- a final response: what it was one to waits no more
+-- ---- a final response: what it answered no longer waits
 
 abbrev pub waits_after : State → Option Step → Bool
 waits_after state None = waits state

@@ -24,7 +24,7 @@ pub record IsSameNumber (t u : Transaction) : Type 0 where
 abbrev pub AreOnce : List (Option Transaction) → Type 0
 AreOnce slots = (i j : ℕ) (t u : Transaction) → at slots i ≡ Some t → at slots j ≡ Some u → IsOffering t → IsOffering u → IsSameNumber t u → i ≡ j
 
--- what changes begin has a number that none has that stands
+-- what changes begin has a number that no live one has
 abbrev pub AreFresh : List (Option Transaction) → List Entry → Type 0
 AreFresh slots changes = (t : Transaction) → OpensIn t changes → IsOffering t → (id : ℕ) (v : Transaction) → at slots id ≡ Some v → IsOffering v → IsSameNumber v t → ⊥
 
@@ -62,7 +62,7 @@ same_both t u v w one two same = same_turned v t (same_left v w t two (same_turn
 
 -- ---- a change that begins none
 
--- all that stands stood before
+-- all that is live was live before
 abbrev Stays : List (Option Transaction) → List (Option Transaction) → Type 0
 Stays slots next = (j : ℕ) (u : Transaction) → at next j ≡ Some u → (t : Transaction) × (at slots j ≡ Some t) × IsLater t u
 

@@ -1,5 +1,4 @@
--- What a step of a call begins is of the server's own: so a server transaction that stands goes on to be of one
--- request.
+-- What a step of a call begins is of the server's own: so a live server transaction stays one of a request.
 use Rattle.std.proofs.Common.{◌≡◌, ◌∙◌, ℕ, ◌+◌, ◌<◌, Bool, true, false, cond, List, [], ◌∷◌, ◌++◌, codes, find, length, nat_lt, Option, Some, None, sym, ap, subst, inl, inr, arith}
 use Rattle.std.specs.Option.{option_copied}
 use Rattle.std.proofs.lemmas.Bool.{false≢true}
@@ -166,7 +165,7 @@ pub late_own : (calls : Standing) (o : Occasion) (asked : Parts) (r : Response) 
 unfolding late_row
 late_own calls o asked r t opens = late_by_own calls o asked r (reached_at (contacts_of r.headers)) t opens
 
--- ---- a transaction that stands
+-- ---- a live transaction
 
 -- what is put elsewhere leaves it
 spot_differs : (slots : List (Option Transaction)) (id : ℕ) (t : Transaction) (b : Bool) → at slots id ≡ Some t → id ≡ cond b (free_number slots) (length slots) → ⊥
@@ -206,7 +205,7 @@ same_server now table (change ∷ []) rest t u id one own there e server =
     stays_by (entered now table change).slots rest t u id own server (λ v at_v. one_same now table change t v id there at_v) (all_came now (entered now table change) rest id u e)
 same_server now table (change ∷ other ∷ changes) rest t u id one own there e server = absurd one
 
--- one that began now, where none stood
+-- one that began now, where there was none
 pub new_server : (now : ℕ) (table : Contents) (begun rest : List Entry) (u : Transaction) (id : ℕ) → AllOwn rest → at table.slots id ≡ None → at (entered_all now table (begun ++ rest)).slots id ≡ Some u → is_server u.state ≡ true
     → (t : Transaction) × OpensIn t begun × (u.parts ≡ t.parts)
 new_server now table begun rest u id own free e server = by_came (all_came now table (begun ++ rest) id u e)

@@ -119,7 +119,7 @@ pub after_numbers : (s : Contents) (e : Event) (begun : List Transaction) → Kn
     → KnowsNumbers (office (after s e)) (begun ++ begun_of (row s e).plan.changes)
 after_numbers s e begun tokens waiting k = numbers_by s begun k (moment_after s e) (row s e) (row_owns s tokens e) (row_waits s tokens waiting e)
 
--- a BYE in a leg of a call that stood
+-- a BYE in a leg of a call that was live
 pub after_byes : (s : Contents) (e : Event) (begun : List Transaction) → KnowsTokens (office s) → KnowsWaiting (office s) → KnowsNumbers (office s) begun
     → All (EndsLegs s.calls.calls begun) (begun_of (row s e).plan.changes)
 after_byes s e begun tokens waiting k =

@@ -325,7 +325,7 @@ abbrev pub IsNoOfferInput : Input → Type 0
 IsNoOfferInput (inputs.Offer x method offer) = ⊥
 IsNoOfferInput input = Unit {0}
 
--- the offer that was open is it still, or none is
+-- the offer that was open is still open, or none is
 abbrev pub KeepsOffer : Call → Call → Type 0
 KeepsOffer c d = (d.media.offer ≡ None) ⊎ (d.media.offer ≡ c.media.offer)
 
@@ -408,7 +408,7 @@ step_fits c s inputs.Repeat pool now stands n = signal_fits c s signals.Repeat p
 step_fits c s inputs.Wait pool now stands n = signal_fits c s signals.Wait pool now stands tt
 step_fits c s inputs.Lifetime pool now stands n = signal_fits c s signals.Lifetime pool now stands tt
 
--- of a call, wherever it stands
+-- of a call, whatever its standing
 pub record TakesFits (c : Call) (final : Bool) (step : Step) : Type 0 where
   pub none_offered : has_offer step.actions ≡ false
   pub caller : step.call.caller ≡ c.caller

@@ -1,4 +1,4 @@
--- What stands in a longer trace: messages, and texts of the server's own.
+-- What is in a longer trace: messages, and texts of the server's own.
 use Rattle.std.proofs.Common.{◌≡◌, ◌∙◌, ℕ, ◌≤◌, true, false, List, [], ◌∷◌, ◌++◌, codes, Option, Some, None, refl, sym, ap, subst, inl, inr}
 use Rattle.std.specs.Prelude.{IsTrue, unwrap_or}
 use Rattle.std.proofs.lemmas.Bool.{false≢true}
@@ -143,7 +143,7 @@ abbrev pub AreTokens : ℕ → List Datagram → Type 0
 AreTokens made t = (i : ℕ) (p : Datagram) → At t i p → HasTokens made p
 
 module _ (law : WrittenReads) (before : List Sent) (t : List Datagram) (reads : AreReadIn t) (was : All (HasBytes t) before) where
-  -- what went before stands in the trace
+  -- what went before is in the trace
   again_tokens : (old made n : ℕ) (d : Sent) (m : TraceMessage) → old ≤ made → AreTokens old t → IsMessage d.bytes m → WasSent before d.bytes → HasTokens made (sent_at n m)
   again_tokens old made n d m le k h sent =
       let w = was_place t before d.bytes was sent in

@@ -1,5 +1,4 @@
--- What an event comes to, where it begins no offer: what waits afterwards, what was counted, and what open offers
--- carry.
+-- The outcome of an event that begins no offer: what waits afterwards, what was counted, and what open offers carry.
 use Rattle.std.proofs.Common.{◌≡◌, ◌∙◌, ◌<◌, ◌≤◌, ℕ, Bool, true, false, List, [], ◌∷◌, ◌++◌, Option, Some, None, refl, ap, sym, subst, inl, inr, arith}
 use Rattle.std.specs.Prelude.{slice_get}
 use Rattle.std.specs.List.{All}

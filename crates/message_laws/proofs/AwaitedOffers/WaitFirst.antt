@@ -53,7 +53,7 @@ use Rattle.message_laws.proofs.AwaitedOffers.Once.{OneOffers}
 use Rattle.message_laws.proofs.TokenUse.TaggedSteps.{new_tags}
 use Rattle.message_laws.proofs.AwaitedOffers.Tagged.{asked_callee, tagged}
 
--- ---- a step that may begin an offer, where so many tokens were made before it
+-- ---- a step that may begin an offer, where this many tokens were made before it
 
 pub record BeginsOffer (made : ℕ) (calls : List StandingCall) (x : steps.Effect) : Type 0 where
   pub stayed : (t u : Transaction) → IsLater t u → IsMade made (from_tag t) → All (FitsCall t) calls → All (FitsCall u) x.outcome.standing.calls

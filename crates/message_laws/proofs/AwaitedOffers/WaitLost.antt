@@ -1,4 +1,4 @@
--- A final response, or the end of its time: the request that it is for waits no more.
+-- A final response, or the end of its time: the request that it is for no longer waits.
 use Rattle.std.proofs.Common.{◌≡◌, ◌∙◌, ℕ, Bool, true, false, cond, not, ◌||◌, List, ◌∷◌, Option, Some, None, option_map, is_none, refl, ap, sym, subst}
 use Rattle.std.specs.Prelude.{slice_get}
 use Rattle.std.proofs.lemmas.Bool.{false≢true}
@@ -45,7 +45,7 @@ use Rattle.message_laws.proofs.AwaitedOffers.Once.{NoneOffers, offering_before}
 use Rattle.message_laws.proofs.Messages.ResponseViews.{IsAsked, tag_at}
 use Rattle.message_laws.proofs.AwaitedOffers.WaitTakes.{IsLost, same_number}
 
--- ---- what a transaction that was told this is afterwards
+-- ---- what a transaction that was given this is afterwards
 
 went_waits : (t v : Transaction) (fresh : Option (List ℕ)) (next : Option State) → option_map (went t fresh) next ≡ Some v → waits v.state ≡ true → waits_next next ≡ true
 went_waits t v fresh None e w = absurd (none-some v e)
@@ -79,7 +79,7 @@ told_lost now table id t u input fresh changes there ends none offers e w =
 later_offering : (t u : Transaction) → IsLater t u → IsOffering t → IsOffering u
 later_offering t u later offers = record { client = later.side ∙ offers.client; offers = subst (λ p. may_offer p ≡ true) (sym later.parts) offers.offers }
 
--- this request is told something, after which it waits no more
+-- this request is given something, after which it no longer waits
 pub record IsFinal (s : Office) (id : ℕ) (t : Transaction) (input : Input) (place : ℕ) (c : StandingCall) : Type 0 where
   pub there : at s.table.slots id ≡ Some t
   pub client : is_server t.state ≡ false

@@ -117,7 +117,7 @@ carried_elsewhere made calls place x c step d t leg p at_leg is h =
     alone_tagged (λ y. is_open t.parts y ≡ true → has_leg (dialog_of (asked_end t.parts y) y.call) y.call.standing ≡ true → CarriesIf t y.call.media.offer) (from_tag t) calls place c d p.knows.apart p.there
     (tag_of_end (other x) c (from_tag t) tag) (λ has opens has_dialog. h)
 
--- one of before is the open offer no more
+-- an earlier one is no longer the open offer
 passed_by : (made : ℕ) (calls : List StandingCall) (place : ℕ) (x : End) (c : StandingCall) (step : Step) (d : StandingCall) (t : Transaction) → Passing made calls place x c step d → has_tag (from_tag t) d ≡ true
     → is_open t.parts d ≡ true → has_leg (dialog_of (asked_end t.parts d) d.call) d.call.standing ≡ true → WasCounted t c → ⊥
 passed_by made calls place x c step d t p has opens leg was =

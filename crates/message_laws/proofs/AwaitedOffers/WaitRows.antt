@@ -1,5 +1,5 @@
--- What each event comes to: a request that waits is the open offer of the call that its tag names, or of none, numbers
--- rise in each leg, and what is open carries the offer that its call keeps.
+-- What each event results in: a request that waits is the open offer of the call that its tag names, or of none,
+-- numbers rise in each leg, and what is open carries the offer that its call keeps.
 use Rattle.std.proofs.Common.{◌≡◌, ◌∙◌, ◌<◌, ◌^◌, ℕ, Bool, true, false, cond, List, [], ◌∷◌, codes, Option, Some, None, position, refl, sym, subst, inl, inr}
 use Rattle.std.specs.Prelude.{slice_get}
 use Rattle.std.proofs.lemmas.Bool.{false≢true}

@@ -71,7 +71,7 @@ calm_opens t made c step kept keeps fits_leg leg fits stands h =
     opens_on t.parts c d before.0 after.0 (same_beside made c step.call kept keeps fits_leg) (keeps_from c.call false step d.call fits (beside_keeps (with_step c step) kept (leg_keeps_on c.call false step kept.leg fits leg)))
     before.1 (beside_standing (with_step c step) kept ∙ after.1) after.2 after.3
 
--- what stands for this call afterwards, of a request that it has
+-- what holds for this call afterwards, of a request that it has
 pub step_fits : (t u : Transaction) (made : ℕ) (c : StandingCall) (final : Bool) (step : Step) (kept : Beside) → KeepsIds c.call step.call → FitsLeg made c kept.leg → LegGrows c.call kept.leg
     → TakesFits c.call final step → IsLater t u → (has_tag (from_tag t) c ≡ true → waits u.state ≡ true → is_open t.parts c ≡ true → is_open t.parts (beside kept (with_step c step)) ≡ true) → FitsCall t c
     → FitsCall u (beside kept (with_step c step))

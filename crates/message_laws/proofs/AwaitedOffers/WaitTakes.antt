@@ -93,7 +93,7 @@ same_number t u c has_t has_u open_t open_u fits_t fits_u =
 
 -- ---- a step of a call
 
--- the request waits no more afterwards, where the call at this place had it open
+-- the request no longer waits afterwards, where the call at this place had it open
 abbrev pub IsLost : List StandingCall → ℕ → Transaction → Transaction → Type 0
 IsLost calls place t u = (c : StandingCall) → slice_get calls place ≡ Some c → has_tag (from_tag t) c ≡ true → waits u.state ≡ true → is_open t.parts c ≡ true → ⊥
 

@@ -52,7 +52,7 @@ beside_media c kept = beside_same (λ (c : Call). c.media) dialog_media target_m
 beside_knows : (ip : List ℕ) (c : StandingCall) (kept : Beside) → KnowsCall ip c → KnowsCall ip (beside kept c)
 beside_knows ip c kept h = subst (KnowsMedia ip) (sym (beside_media c kept)) h
 
--- ---- a call that stands
+-- ---- a live call
 
 pub call_at : (ip : List ℕ) (calls : List StandingCall) (place : ℕ) (c : StandingCall) → All (KnowsCall ip) calls → slice_get calls place ≡ Some c → KnowsCall ip c
 call_at ip calls place c each there = subst (KnowsCall ip) (get_or_from_slice_get calls place c c there) (each place c (slice_get_within calls place c there))

@@ -84,7 +84,7 @@ pub entries_joined : (all : List Sent) (xs ys : List Entry) → EntriesWereSent 
 entries_joined all [] ys h k = k
 entries_joined all (x ∷ xs) ys h k = (h.0, entries_joined all xs ys h.1 k)
 
--- ---- changes that tell a transaction nothing
+-- ---- changes that give a transaction nothing
 
 abbrev pub BytesWereSaid : List Sent → Option (List ℕ) → Type 0
 BytesWereSaid all None = ⊥

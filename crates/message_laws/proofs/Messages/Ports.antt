@@ -123,7 +123,7 @@ seated_ports caller_offers (m ∷ ms) kept fresh h each =
     (seat_ports caller_offers m (first kept) fresh (first_ports kept h) each)
     (seated_ports caller_offers ms (rest kept) (pairs_left m (first kept) fresh) (rest_ports kept h) (left_ports m (first kept) fresh each))
 
--- ---- ports that are told
+-- ---- ports that are given
 
 told_at : (f : Option Seat → ℕ) (seats : List (Option Seat)) → All (λ s. f s ≤ 65535) seats → (i : ℕ) → slice_index (map f seats) i ≤ 65535
 told_at f seats each i = elim (cases_lt i (length (map f seats))) [

@@ -32,7 +32,7 @@ use Rattle.trace_reading.specs.Message.{body_in, trace_message}
 use Rattle.message_laws.specs.Bodies.{WasRead, WasReadIf}
 use Rattle.message_laws.proofs.QuietEvents.Describing.{BodiesDescribe}
 
--- ---- what stands behind lines is no longer than all
+-- ---- what comes after lines is no longer than all
 
 abbrev IsWithin : ℕ → Option (List ℕ) → Type 0
 IsWithin n None = Unit {0}

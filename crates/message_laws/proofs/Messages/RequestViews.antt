@@ -51,7 +51,7 @@ use Rattle.message_laws.proofs.Messages.Repeats.{FitsReply}
 
 -- ---- why
 
--- a first INVITE, which stands in no dialog
+-- a first INVITE, which is in no dialog
 abbrev pub IsFirst : Request → Type 0
 IsFirst r = (request_method (codes "INVITE") r ≡ true) × (tag_value r.parts.to.params ≡ None) × (is_some (contact_address (contacts_of r.headers)) ≡ true)
 
@@ -75,7 +75,7 @@ pub record IsPassedOffer (s : Office) (now : ℕ) (r : Request) (place : ℕ) (e
   pub paired : has_pairs_for s now c.call end offer ≡ true
   pub numbered : has_number_left (dialog_of (other end) c.call) ≡ true
 
--- a request that may stand in a dialog: its method is offered, and is none that no dialog has
+-- a request that may be in a dialog: its method is offered, and is none that no dialog has
 pub record IsInside (r : Request) : Type 0 where
   pub offered : is_offered_method r ≡ true
   pub no_options : request_method (codes "OPTIONS") r ≡ false
@@ -101,7 +101,7 @@ pub by_if : {X : Type 0} (P : X → Type 0) (b : Bool) (x y : X) → (b ≡ true
 by_if P true x y p q = p refl
 by_if P false x y p q = q refl
 
--- ---- a request that begins transaction id, behind what the transactions do
+-- ---- a request that begins transaction id, after what the transactions do
 
 pub data RequestRow (s : Office) (e : Setting) (r : Request) (begun : List Entry) (id : ℕ) (x : Effect) : Type 0 where
   -- no call has to do with it
@@ -135,7 +135,7 @@ module _ (s : Office) (r : Request) where
   FitsRule (rules.Call (callrules.Offers place end c)) = (dialog_rule s.calls.calls r ≡ dialogrules.Offers place end) × (slice_get s.calls.calls place ≡ Some c)
   FitsRule (rules.Call (callrules.Refreshes place end c)) = (dialog_rule s.calls.calls r ≡ dialogrules.Plain place end) × IsInside r
 
-  -- a line, and what comes behind it
+  -- a line, and what comes after it
   unless : (b : Bool) (rule next : Rule) → (b ≡ true → FitsRule rule) → (b ≡ false → FitsRule next) → FitsRule (checks.otherwise (checks.when b rule) next)
   unless true rule next h n = h refl
   unless false rule next h n = n refl

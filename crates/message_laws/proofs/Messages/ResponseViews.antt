@@ -33,11 +33,11 @@ pub record IsAsked (asked : Parts) (c : StandingCall) : Type 0 where
   pub tag : has_tag (tag_text asked.from.params) c ≡ true
   pub waits : is_open asked c ≡ true
 
--- the call that sent the request, if one stands, has another dialog than that of this 2xx, or none yet
+-- the call that sent the request, if one is live, has another dialog than that of this 2xx, or none yet
 abbrev pub IsForked : List StandingCall → Parts → Response → Type 0
 IsForked calls asked r = (place : ℕ) (c : StandingCall) → asked_place calls asked ≡ Some place → slice_get calls place ≡ Some c → is_of_known_dialog asked r c (asked_end asked c) ≡ false
 
--- ---- a response to the request of the client transaction `id`, behind what the transactions do
+-- ---- a response to the request of the client transaction `id`, after what the transactions do
 
 pub data ResponseRow (s : Office) (e : Setting) (r : Response) (begun : List Entry) (send : Option Outgoing) (id : ℕ) (asked : Transaction) (x : Effect) : Type 0 where
   silent : x ≡ of_plan s (moves begun send) → ResponseRow s e r begun send id asked x

@@ -67,7 +67,7 @@ use Rattle.message_laws.proofs.Messages.ResponseViews.{ResponseRow, ack_alone, a
 use Rattle.message_laws.proofs.Messages.MessageViews.{IsResponseTo, ReceivedRow, acknowledged, begun_by, dropped, moved, requested, responded}
 use Rattle.message_laws.proofs.Messages.Views.{DatagramRow, DueRow, WhatRow, call_fired, came, due, ended, fired_alone, idle, listed, ignored, sent_again, stopped, timed, unfit_branched, unreadable, was_received, what_view}
 
--- ---- an effect, behind what was sent before
+-- ---- an effect, after what was sent before
 
 pub record SentEffect (before : List Sent) (x : Effect) : Type 0 where
   pub entries : EntriesWereSent x.plan.sends x.plan.changes
@@ -106,7 +106,7 @@ answer_as : (xs ys : List Sent) (answer : Option Sent) → Within xs ys → Answ
 answer_as xs ys None w h = h
 answer_as xs ys (Some answer) w h = w answer.bytes h
 
--- ---- a step of a call, behind what the transactions send
+-- ---- a step of a call, after what the transactions send
 
 within_step : (before sends : List Sent) (own : List Sent) → Within (before ++ own) (before ++ (sends ++ own))
 within_step [] sends own bytes h = sent_right sends own bytes h

@@ -259,7 +259,7 @@ said_sent s passed actions =
       ack = ack_kept_sent s actions;
     }
 
--- ---- a step, behind what was sent before
+-- ---- a step, after what was sent before
 
 pub record SentStep (before : List Sent) (x : steps.Effect) : Type 0 where
   pub entries : SelfSent x.dressed

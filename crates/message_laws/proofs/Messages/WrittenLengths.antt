@@ -112,7 +112,7 @@ kept_weigh (l ∷ ls) = by (is_kept l) (kept_weigh ls)
 raw_length : (r : RawMedium) → length r.kind + length r.proto + length r.formats + 3 ≤ length (raw_medium_text r)
 raw_length r = simp length-append (omega arith)
 
--- formats are written as they stood, with a space before the first
+-- formats are written as they were, with a space before the first
 onto_length : (b : ℕ) (pieces : List (List ℕ)) → 0 < length pieces → length (formats_text (onto_first b pieces)) ≡ length (formats_text pieces) + 1
 onto_length b [] h = absurd (omega (arith, h))
 onto_length b (piece ∷ pieces) h = simp length-append (omega arith)
@@ -179,7 +179,7 @@ line_length ip port m value fits h =
     let raw = raw_length h.raw in
     omega (arith, whole, kind, proto, formats, told, count, line, raw)
 
--- what stands under m=, as it is written and as it was read
+-- what is under m=, as it is written and as it was read
 under_weighs : (ip : List ℕ) (m : Media) (under : List (List ℕ)) → AreShort ip → SaysUnder under m
     → weight (info_lines m.info ++ (connection_lines (option_map (readdressed_address ip) m.connection) ++ map line_text (kept_lines m.after))) ≤ weight under + 100
 under_weighs ip m under short h =

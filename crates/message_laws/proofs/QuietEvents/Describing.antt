@@ -22,7 +22,7 @@ use Rattle.call_messages.specs.Messages.{description_headers}
 use Rattle.trace_reading.specs.Body.{description_in, if_read, may_describe}
 use Rattle.trace_reading.specs.Message.{body_in, trace_message}
 
--- the law of bodies, that a trace has a description exactly where it stands in the body
+-- the law of bodies, that a trace has a description exactly where it is in the body
 abbrev pub BodiesDescribe : Type 0
 BodiesDescribe = (bytes : List ℕ) (m : Message) (d : Description) → (trace_message bytes m).description ≡ Some d ↔ (IsTrue (may_describe (headers_in m)) × ReadsDescription (body_in m) d)
 

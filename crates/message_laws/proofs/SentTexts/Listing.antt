@@ -33,7 +33,7 @@ use Rattle.message_laws.proofs.Messages.AnyToken.{any_decimal_passes}
 abbrev is_solid : ℕ → Bool
 is_solid b = not (is_blank b)
 
--- what stands behind the URI
+-- what comes after the URI
 abbrev life_text : ℕ → List ℕ
 life_text seconds = codes ">;expires=" ++ decimal seconds
 

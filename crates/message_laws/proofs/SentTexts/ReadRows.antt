@@ -56,7 +56,7 @@ use Rattle.message_laws.proofs.SentTexts.Registered.{answer_bound}
 abbrev pub SendsRead : Effect → Type 0
 SendsRead x = All IsReadDatagram x.plan.sends
 
--- behind what the transactions send
+-- after what the transactions send
 pub step_reads : (send : Option Outgoing) (sends : List Sent) → GoesRead send → All IsReadDatagram sends → All IsReadDatagram (goes send ++ sends)
 step_reads send sends own said = All-append IsReadDatagram (goes send) sends own said
 

@@ -57,7 +57,7 @@ use Rattle.message_laws.specs.SoundScenes.{IsSoundRequest}
 use Rattle.message_laws.proofs.StandingCalls.ClientSlots.{client_at}
 use Rattle.message_laws.proofs.SentTexts.ReadReplies.{one_read}
 
--- ---- what would go again reads back
+-- ---- what would are sent again reads back
 
 abbrev pub ReadsIf : Option (List ℕ) → Type 0
 ReadsIf None = Unit {0}
@@ -227,7 +227,7 @@ timer_goes s k timer (Some t) out there e = step_goes t (row_of t.state (machine
 pub fired_goes : (s : Office) → IsReady s → (timer : TimerId) (out : Outgoing) → fired_of (at s.table.slots timer.id) timer.kind ≡ Some (fires.Send out) → GoesRead (Some out)
 fired_goes s k timer out e = timer_goes s k timer (at s.table.slots timer.id) out refl e
 
--- ---- the ACK that goes again
+-- ---- the ACK that is sent again
 
 pub kept_goes : (id : ℕ) (acks : List KeptAck) → All AckReads acks → All IsReadDatagram (again (find (λ (a : KeptAck). a.id == id) acks))
 kept_goes id [] all = All-nil IsReadDatagram

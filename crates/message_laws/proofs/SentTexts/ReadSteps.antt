@@ -94,14 +94,14 @@ lent_again : (answer : Option Sent) → AgainReads answer → AgainReads (option
 lent_again None h = h
 lent_again (Some answer) h = h
 
--- ---- the laws below that the messages stand on
+-- ---- the laws below that the messages rest on
 
 pub record Laws : Type 0 where
   pub reading : Reading
   pub describes : BodiesDescribe
   pub sent : SentIsRead
 
--- ---- a call that stands
+-- ---- a live call
 
 module _ (laws : Laws) (s : Office) (e : Setting) (k : IsReady s) where
   own_again : (place : ℕ) (c : StandingCall) → slice_get s.calls.calls place ≡ Some c → AgainReads (option_copied (option_map lent c.answer))

@@ -1,4 +1,4 @@
--- Lists of the calls that stand: what one of them does leaves the others as they are.
+-- Lists of the live calls: what one of them does leaves the others as they are.
 use Rattle.std.proofs.Common.{◌≡◌, ◌≢◌, ◌∙◌, ◌<◌, ◌≤◌, ◌++◌, inl, inr, ℕ, zero, suc, List, [], ◌∷◌, set, Some, refl, sym, ap, subst, arith}
 use Rattle.std.specs.Prelude.{slice_get}
 use Rattle.std.specs.List.{remove}

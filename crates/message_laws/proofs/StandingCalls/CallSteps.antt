@@ -77,7 +77,7 @@ module _ (own : Owns) (once : Once) (have : HaveRows) (server : OwnRange) (c : C
     staged = record { session = known.served.session; offer = known.served.offer };
   }
 
-  -- ---- where it stands
+  -- ---- where the call has a standing
 
   module _ (s : Standing) (stands : c.standing ≡ Some s) where
     offer_staged : is_some c.media.offer ≡ awaits_answer s.stage

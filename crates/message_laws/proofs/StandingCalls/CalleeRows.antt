@@ -1,4 +1,4 @@
--- What each event comes to: from the first 2xx that a call takes on it has a dialog with its callee.
+-- What each event results in: from the first 2xx that a call takes on it has a dialog with its callee.
 use Rattle.std.proofs.Common.{◌<◌, ◌^◌, ◌≡◌, ◌∙◌, ℕ, Bool, true, false, nat_eq, List, [], ◌∷◌, codes, Option, Some, None, Ok, is_some, refl, ap, sym, subst, inl, inr}
 use Rattle.std.specs.Prelude.{slice_get}
 use Rattle.std.specs.Cmp.Lexicographic.{pointwise}

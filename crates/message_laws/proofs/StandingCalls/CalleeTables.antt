@@ -159,7 +159,7 @@ nowhere_in : (c : Call) (standing : Option Standing) (input : Input) (pool : poo
 nowhere_in c None input pool now is none = is
 nowhere_in c (Some s) input pool now is none = absurd (none-some s (sym none))
 
--- one that stands nowhere does nothing
+-- a call without a standing does nothing
 pub call_nowhere : (c : Call) (input : Input) (pool : pools.Contents) (now : ℕ) → c.standing ≡ None → (call_row c input pool now).call.standing ≡ None
 unfolding call_row
 call_nowhere c input pool now none = nowhere_in c c.standing input pool now refl none

@@ -1,5 +1,5 @@
--- What each event comes to: the requests of the server's own that begin are of values that were read, and no dialog of
--- a call counts too far.
+-- What each event results in: the requests of the server's own that begin are of values that were read, and no dialog
+-- of a call counts too far.
 use Rattle.std.proofs.Common.{◌<◌, ◌^◌, ◌≡◌, ◌∙◌, ℕ, true, false, List, [], ◌∷◌, Option, Some, None, Ok, refl, sym, subst, inl, inr}
 use Rattle.std.specs.Prelude.{slice_get}
 use Rattle.std.specs.List.{All}

@@ -57,7 +57,7 @@ use Rattle.message_laws.proofs.StandingCalls.LowCalls.{IsLowPut, beside_low, com
 use Rattle.message_laws.proofs.StandingCalls.LowNumbers.{HasNumberFor, KeepsLow, call_low, first_call_low}
 use Rattle.message_laws.proofs.StandingCalls.SoundAsks.{AllSound, lent_asks, messages_sound}
 
--- what a step comes to
+-- what a step results in
 pub record ClientStep (x : steps.Effect) : Type 0 where
   pub began : AllSound x.dressed.changes
   pub calls : All HasLowNumbers x.outcome.standing.calls
@@ -82,7 +82,7 @@ pub passed_sound : (slots : List (Option Transaction)) (tag : List ℕ) (id : Op
 passed_sound slots tag None all there = tt
 passed_sound slots tag (Some id) all there = waiting_sound slots tag id (at slots id) all refl (position-Some (is_waiting_invite tag) slots id None there).1
 
--- ---- the scene of a call that stands
+-- ---- the scene of a live call
 
 pub can_ask_in : (d : Option Dialog) → IsSoundLegIf d → CountsLowIf d → CanAskInIf d
 can_ask_in None sound low = tt
@@ -96,7 +96,7 @@ scene_asks table o w c description reached slots legs low sound_put low_put =
     (can_ask_in (dialog_in Callee w.leg c.call) (coming_sound c Callee w.leg sound_put legs) (coming_low c Callee w.leg low_put low))
     (passed_sound table.slots _ (passed_id table c) slots refl)
 
--- ---- a call that stands
+-- ---- a live call
 
 does_asks : (calls : Standing) (table : transactions.Contents) (o : Occasion) (place : ℕ) (w : ComingValue) (c : StandingCall) (step : Step) → IsReached o.server → AreKnown table calls.calls → slice_get calls.calls place ≡ Some c
     → IsSoundPut w.leg → IsLowPut w.leg → KeepsLow c.call step.call → ClientStep (does calls table o place w c step)

@@ -1,4 +1,4 @@
--- The call that holds a port is the one of the calls that stand under the number that the pool has for it.
+-- The call that holds a port is the live call with the number that the pool has for it.
 use Rattle.std.proofs.Common.{◌≡◌, ◌∙◌, ◌==◌, ◌<◌, ◌≤◌, ℕ, Bool, true, false, cond, List, [], ◌∷◌, Option, Some, None, find, refl, ap, arith, inl, inr}
 use Rattle.std.proofs.lemmas.Bool.{eq-eqb, eqb-true}
 use Rattle.std.proofs.Math.Nat.{ne_of_lt}

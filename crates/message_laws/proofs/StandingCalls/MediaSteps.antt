@@ -43,8 +43,8 @@ use Rattle.call_media.proofs.SpareLaws.{Left, left_all_held, left_bare, left_spa
 use Rattle.call_media.proofs.ServeLaws.{Owns, Sent, answer_ports, answer_ports_there, differ_named, holds_named, offer_ports, offer_ports_there, open_offer, serves_without_offer}
 use Rattle.call_media.proofs.SessionLaws.{none_kept, serves_ended, spares_ended}
 
--- the laws of a session's lines: they are of the ports of the call that holds its pairs, none stands twice, and with
--- them the session's rows stand
+-- the laws of a session's lines: they are of the ports of the call that holds its pairs, none occurs twice, and with
+-- them the session's rows hold
 abbrev pub Once : Type 0
 Once = (OX SX OY SY : Description) → list_all is_even (pairs_named OX SX OY SY) ≡ true → are_distinct (pairs_named OX SX OY SY) ≡ true → StandOnce (session_lines OX SX OY SY)
 

@@ -1,5 +1,5 @@
--- What each event comes to: each call that waits for a final response afterwards waits for that to a request that was
--- begun.
+-- What each event results in: each call that waits for a final response afterwards waits for that to a request that
+-- was begun.
 use Rattle.std.proofs.Common.{◌≡◌, ◌∙◌, ℕ, true, false, List, [], ◌∷◌, ◌++◌, Option, Some, None, refl, sym, subst}
 use Rattle.std.specs.Prelude.{slice_get}
 use Rattle.std.specs.List.{All}

@@ -1,4 +1,4 @@
--- The calls that stand are served after an event.
+-- The live calls are served after an event.
 use Rattle.std.proofs.Common.{◌≡◌, ◌≢◌, ◌∙◌, ◌+◌, ℕ, Bool, true, false, cond, List, [], ◌∷◌, map, Option, Some, None, refl, sym, ap, subst, arith}
 use Rattle.std.specs.Prelude.{find, option_and_then, slice_get}
 use Rattle.std.specs.List.{range_with_len}
@@ -157,7 +157,7 @@ module _ (own : Owns) (once : Once) (have : HaveRows) (law : Spared) where
 
   -- ---- rows
 
-  -- what stands after this
+  -- what holds after this
   abbrev LeavesServed : Office → Effect → Type 0
   LeavesServed s x = IsServing s.range x.calls.standing
 

@@ -1,5 +1,5 @@
--- What each event comes to: the dialogs of the calls afterwards are sound, and the requests of the server's own that
--- begin say dialogs.
+-- What each event results in: the dialogs of the calls afterwards are sound, and the requests of the server's own
+-- that begin say dialogs.
 use Rattle.std.proofs.Common.{◌<◌, ◌^◌, ◌≡◌, ◌∙◌, ℕ, false, List, [], ◌∷◌, Option, Some, None, Ok, refl, sym, subst, inl, inr, ◌+◌, arith}
 use Rattle.std.specs.List.{All}
 use Rattle.std.proofs.lemmas.List.Elements.{All-nil}

@@ -53,7 +53,7 @@ use Rattle.message_laws.proofs.TokenUse.TaggedSteps.{awaits_client}
 use Rattle.message_laws.proofs.StandingCalls.Texts.{leg_call_id_is, leg_call_id_value}
 use Rattle.message_laws.proofs.TokenUse.TokenRuns.{token_run}
 
--- what a step comes to
+-- what a step results in
 pub record SoundStep (x : steps.Effect) : Type 0 where
   pub began : AllSay x.dressed.changes
   pub calls : All HasSoundLegs x.outcome.standing.calls
@@ -76,7 +76,7 @@ passed_says : (slots : List (Option Transaction)) (tag : List ℕ) (id : Option 
 passed_says slots tag None said there = tt
 passed_says slots tag (Some id) said there = waiting_says slots tag id (at slots id) said refl (position-Some (is_waiting_invite tag) slots id None there).1
 
--- ---- a call that stands
+-- ---- a live call
 
 ends_if : (d : Option Dialog) → IsSoundLegIf d → SaysEndsIf d
 ends_if None h = tt

@@ -1,4 +1,4 @@
--- The calls that stand are served after a step of one of them, and after one begins.
+-- The live calls are served after a step of one of them, and after one begins.
 use Rattle.std.proofs.Common.{◌≡◌, ◌≢◌, ◌∙◌, ◌==◌, ◌+◌, ◌++◌, ℕ, zero, suc, Bool, true, false, cond, List, [], ◌∷◌, set, Option, Some, None, is_some, refl, sym, ap, subst, arith}
 use Rattle.std.specs.Prelude.{slice_get}
 use Rattle.std.specs.List.{remove}
@@ -105,7 +105,7 @@ module _ (own : Owns) (law : Spared) (server : OwnRange) where
   pub known_at : (s : Standing) (place : ℕ) (c : StandingCall) → IsServing server s → slice_get s.calls place ≡ Some c → IsAsked server c.call s.pool
   known_at s place c k there = let known = all_at (λ c. Known s.pool c.call) s.calls place c (all_known s k) there in record { served = known.0; asked = known.1 }
 
-  -- ---- a step of a call that stands
+  -- ---- a step of a live call
 
   module _ (s : Standing) (k : IsServing server s) (place now : ℕ) (put : Beside) (c : StandingCall) (there : slice_get s.calls place ≡ Some c) (x : Step) (h : GoesOn server c.call s.pool x) where
     abbrev new : StandingCall

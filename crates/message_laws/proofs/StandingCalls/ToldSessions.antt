@@ -1,5 +1,5 @@
--- What follows for the sessions of calls that are served: what each end was told, where the table leads, and who holds
--- which ports.
+-- What follows for the sessions of calls that are served: what each end was sent, where the table leads, and who
+-- holds which ports.
 use Rattle.std.proofs.Common.{◌≡◌, ◌∙◌, inl, inr, ℕ, Bool, true, false, List, [], ◌∷◌, Option, Some, None, is_some, option_map, refl, sym, ap, subst}
 use Rattle.std.specs.Prelude.{IfSome}
 use Rattle.std.specs.List.{list_all}

@@ -1,4 +1,4 @@
--- The calls that a trace lists are served, where the calls that stand are.
+-- The calls that a trace lists are served, where the live calls are.
 use Rattle.std.proofs.Common.{◌≡◌, ◌∙◌, ◌||◌, ◌==◌, ℕ, Bool, true, false, cond, List, [], ◌∷◌, Option, Some, None, find, option_map, refl, sym, ap, subst, inl, inr}
 use Rattle.std.proofs.lemmas.Bool.{eqb-true}
 use Rattle.port_pool.specs.Holdings.{even_of, is_among}
@@ -39,7 +39,7 @@ any_weaker P Q weaker [] any = absurd any
 any_weaker P Q weaker (x ∷ xs) (inl here) = inl (weaker x here)
 any_weaker P Q weaker (x ∷ xs) (inr later) = inr (any_weaker P Q weaker xs later)
 
--- what holds of each of the calls that stand, and some of them has, gives it
+-- what holds for each of the live calls, and for some of them, gives it
 of_some : {X : Type 0} (P Q : X → Type 0) (R : Type 0) → ((x : X) → P x → Q x → R) → (xs : List X) → AllOf P xs → AnyOf Q xs → R
 of_some P Q R gives xs all any = some_member (λ x. P x × Q x) R (λ x h. gives x h.0 h.1) xs (any_with P Q (λ x. P x × Q x) (λ x p q. (p, q)) xs all any)
 
@@ -57,7 +57,7 @@ held_number calls None c found = absurd cc
 held_number calls (Some n) c found = ap Some (sym (found_number n calls c found))
 
 module _ (caller : StandingCall → Dialog) (s : Office) (calls : List Call) (k : KnowsServing s) (traced : AreTraced caller s.calls.calls calls) where
-  -- what holds of each session that stands holds of each that was settled last
+  -- what holds for each live session holds for each that was settled last
   of_settled : (P : traces.Session → Type 0) → AllOf (λ c. (y : Session) → IsSessionOf y c → P (trace_session y)) s.calls.calls
       → AllOf (λ x. (z : Settled) → x.stage ≡ Answered z → P z.session) calls
   of_settled P each =

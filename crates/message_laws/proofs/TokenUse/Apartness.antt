@@ -18,7 +18,7 @@ tail_of : List ℕ → List ℕ
 tail_of [] = []
 tail_of (x ∷ xs) = xs
 
--- what stands behind so many elements
+-- what comes after this many elements
 behind : (n : ℕ) (xs ys : List ℕ) → xs ≡ ys → drop n xs ≡ drop n ys
 behind n xs ys e = ap (drop n) e
 

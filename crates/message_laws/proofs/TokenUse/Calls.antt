@@ -243,7 +243,7 @@ pub put_or_removed : (made place : ℕ) (calls : List StandingCall) (c d : Stand
 put_or_removed made place calls c d true there same h k = put made place calls c d there same h k
 put_or_removed made place calls c d false there same h k = removed made place calls k
 
--- a call with tags that are made now, and stand among those that are made then
+-- a call with tags that are made now, and are among those that are made then
 pub pushed_by : (made most : ℕ) (calls : List StandingCall) (c : StandingCall) (b : Bool) → made ≤ most → HasNewTags made c → HasMadeTags most c → KnowsCalls made calls
     → KnowsCalls most (cond b (calls ++ c ∷ []) calls)
 pushed_by made most calls c true le new h k = record {

@@ -39,7 +39,7 @@ answering status = Answering (record { status = status; reason = reason_of statu
 abbrev pub FollowsIn : ℕ → List ℕ → List Header → Type 0
 FollowsIn status method further = MayFollow (answering status) method further
 
--- no Contact has to stand there
+-- no Contact is needed there
 abbrev pub NeedsNoContact : ℕ → List ℕ → Type 0
 NeedsNoContact status method = SaysContact (contact_need (answering status) method) []
 

@@ -1,5 +1,5 @@
--- What each event comes to: the transactions that it begins are the server's own or others', and the tags of the calls
--- were made.
+-- What each event results in: the transactions that it begins are the server's own or others', and the tags of the
+-- calls were made.
 use Rattle.std.proofs.Common.{◌<◌, ◌^◌, ◌≡◌, ◌∙◌, ℕ, ◌+◌, Bool, true, false, cond, not, List, [], ◌∷◌, codes, Option, Some, None, position, refl, sym, subst, arith}
 use Rattle.std.specs.Prelude.{slice_get}
 use Rattle.std.proofs.lemmas.Bool.{false≢true, and_parts}

@@ -88,7 +88,7 @@ said_own s passed actions h =
     let later = given_up passed (find is_abandon actions) in
     entries_append (s.tokens + d.made) d.changes later (dressed_own s.tokens (lent_scene s) actions (lent_own s.tokens s h)) (given_up_own (s.tokens + d.made) passed (find is_abandon actions))
 
--- ---- what a step comes to, where so many tokens were made before it
+-- ---- what a step results in, where this many tokens were made before it
 
 pub record OwnStep (n : ℕ) (x : steps.Effect) : Type 0 where
   pub entries : OwnMade n x.dressed
@@ -138,7 +138,7 @@ coming_made : (made : ℕ) (c : StandingCall) (end : End) (leg : Option LegDialo
 coming_made made c end None fits h = dialog_made made c end h
 coming_made made c end (Some leg) fits h = dialog_made made (with_dialog_at leg.end leg.dialog c) end (put_tags made c leg.end leg.dialog fits h)
 
--- ---- a call that stands
+-- ---- a live call
 
 fits_more : (n m : ℕ) (c : StandingCall) (end : End) (d : Dialog) → n ≤ m → FitsEnd n c end d → FitsEnd m c end d
 fits_more n m c Caller d le h = h

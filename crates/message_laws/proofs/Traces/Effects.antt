@@ -1,4 +1,4 @@
--- What an event comes to: the kinds of what is sent, and what begins and is kept.
+-- What an event results in: the kinds of what is sent, and what begins and is kept.
 use Rattle.std.proofs.Common.{◌≡◌, ◌∙◌, ℕ, ◌+◌, ◌<◌, ◌≤◌, ◌^◌, ◌==◌, Bool, true, false, cond, List, [], ◌∷◌, ◌++◌, find, Option, Some, Ok, refl, sym, ap, subst, inl, inr, arith}
 use Rattle.std.specs.List.{All}
 use Rattle.std.proofs.lemmas.List.Elements.{All-head, All-tail}
@@ -82,7 +82,7 @@ ground before s k e = record {
   media = k.media.calls;
 }
 
--- the same calls, a timer of which is set no more
+-- the same calls, a timer of which is no longer set
 pub stopped_ready : (before : List Sent) (s : Office) → IsReady before s → (timer : CallTimerId) → IsReady before (without_call_timer timer s)
 stopped_ready before s k timer = record {
   tokens = record { slots = k.tokens.slots; calls = k.tokens.calls };
@@ -94,15 +94,15 @@ stopped_ready before s k timer = record {
   few = k.few;
 }
 
--- ---- what it comes to
+-- ---- what it results in
 
--- where so many tokens were made before it
+-- where this many tokens were made before it
 pub record SaysPlan (before : List Sent) (tokens : ℕ) (changes : List Entry) (sends : List Sent) (made : ℕ) : Type 0 where
   pub kinds : AllOf (IsOfKind before (tokens + made) changes) sends
   pub begun : AreBegun changes sends
   pub keeps : AllOf EntryKeeps changes
 
--- changes that tell of no final response; or a response to the request of a transaction came, and they tell of it first
+-- changes that report no final response; or a response to a transaction's request came, and they report it first
 pub data Tidings (slots : List (Option Transaction)) (what : What) (taken : Taken) (changes : List Entry) : Type 0 where
   none : AllOf EntryIsCalm changes → Tidings slots what taken changes
   response : (source : Addr) (bytes : List ℕ) (r : Response) (id : ℕ) (t : Transaction) (fresh : Option (List ℕ)) (rest : List Entry) → what ≡ whats.Datagram source bytes → message_of bytes ≡ Ok (Kinds.Response r)

@@ -1,4 +1,4 @@
--- The dialogs that stand, and those that come with an event: in each of them each request can be written.
+-- The live dialogs, and those that come with an event: in each of them each request can be written.
 use Rattle.std.proofs.Common.{◌≡◌, ℕ, true, false, List, Option, Some, None, position, refl}
 use Rattle.std.proofs.lemmas.Bool.{and_parts}
 use Rattle.std.proofs.lemmas.List.Quantifiers.{position-Some}

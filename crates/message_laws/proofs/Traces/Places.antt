@@ -1,4 +1,4 @@
--- Where the datagrams of an event stand in the trace.
+-- Where the datagrams of an event are in the trace.
 use Rattle.std.proofs.Common.{◌≡◌, ◌∙◌, ℕ, zero, suc, ◌+◌, List, [], ◌∷◌, ◌++◌, length, Option, Some, refl, subst, inl, inr}
 use Rattle.std.specs.Prelude.{slice_get}
 use Rattle.std.specs.List.{All}
@@ -85,7 +85,7 @@ sent_more t n taken ms before sends are k =
     All-append (HasBytes (t ++ passed n taken ms)) before sends (All-weaker (HasBytes t) (HasBytes (t ++ passed n taken ms)) (bytes_left t (passed n taken ms)) before k)
     (all_of (HasBytes (t ++ passed n taken ms)) sends (have_bytes t n taken ms sends sends are (all_sent sends sends (λ bytes h. h))))
 
--- where bytes that were sent stand
+-- where bytes that were sent are
 pub was_place : (t : List Datagram) (before : List Sent) (bytes : List ℕ) → All (HasBytes t) before → WasSent before bytes → (k : ℕ) × (q : Datagram) × At t k q × (q.direction ≡ directions.Sent) × (q.message.bytes ≡ bytes)
 was_place t [] bytes k h = absurd h
 was_place t (d ∷ before) bytes k (inl same) = let r = All-head (HasBytes t) d before k in (r.0, r.1, r.2, r.3, r.4 ∙ same)

@@ -1,5 +1,5 @@
 -- What the transactions do with what came, and when a timer fires: what they send, what they keep, and what they are
--- told.
+-- given.
 use Rattle.std.proofs.Common.{◌≡◌, ◌∙◌, ℕ, Bool, true, false, cond, List, [], ◌∷◌, ◌++◌, codes, Option, Some, None, option_map, position, Result, Ok, Err, refl, sym, ap, subst, inl, inr}
 use Rattle.std.proofs.lemmas.Bool.{false≢true}
 use Rattle.std.proofs.lemmas.List.Quantifiers.{position-Some}
@@ -70,7 +70,7 @@ use Rattle.std.proofs.lemmas.Bool.{cases_lt}
 use Rattle.std.proofs.Common.{length}
 use Rattle.std.proofs.lemmas.List.{get_or_past}
 
--- a transaction that stands
+-- a live transaction
 pub slot_at : (P : Option Transaction → Type 0) (slots : List (Option Transaction)) (id : ℕ) (t : Transaction) → All P slots → at slots id ≡ Some t → P (Some t)
 slot_at P slots id t each there = elim (cases_lt id (length slots)) [
   | inl lt ↦ subst P there (each id None lt)
@@ -117,7 +117,7 @@ ack_like t r (via ∷ vias) ack is e = subst (IsAckOf t) (same_Some _ ack e) (li
 
 -- ---- what goes
 
--- before it, where so many tokens were made
+-- before it, where this many tokens were made
 abbrev pub GoesWell : List Sent → ℕ → Option Outgoing → Type 0
 GoesWell before tokens send = AllOf (IsOfKind before tokens []) (goes send)
 
@@ -271,9 +271,9 @@ opens_of (Leaves ∷ changes) t h = opens_of changes t h
 pub message_begins_none : (s : Office) (e : Setting) (m : Message) (t : Transaction) → IsAmong (begun_of (begun_by s e m)) t → is_server t.state ≡ false → ⊥
 message_begins_none s e m t h client = change_none s m e.source t (opens_of (begun_by s e m) t h) client
 
--- ---- what is told
+-- ---- what is reported
 
--- changes that tell of no final response, or such ones behind a response to the request of a transaction
+-- changes that report no final response, or such ones after a response to the request of a transaction
 pub data IsTold (s : Office) (m : Message) (changes : List Entry) : Type 0 where
   calm : AllOf EntryIsCalm changes → IsTold s m changes
   answers : (r : Response) (id : ℕ) (t : Transaction) (fresh : Option (List ℕ)) (rest : List Entry) → m ≡ Kinds.Response r → at s.table.slots id ≡ Some t → is_answered r.parts (Some t) ≡ true

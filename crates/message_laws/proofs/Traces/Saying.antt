@@ -37,7 +37,7 @@ use Rattle.message_laws.specs.Kinds.{AreBegun, IsBegun, IsOfKind, acknowledges, 
 use Rattle.message_laws.specs.Datagrams.{IsRequestText}
 use Rattle.message_laws.specs.KnownTrace.{IsResponseText, KeepsOwnKind}
 
--- ---- changes of the transactions: what they keep to send again, and that they tell of no final response
+-- ---- changes of the transactions: what they keep to send again, and that they report no final response
 
 abbrev pub is_of_response : Input → Bool
 is_of_response (inputs.Response class) = true
@@ -49,7 +49,7 @@ is_final_input (inputs.Response Success) = true
 is_final_input (inputs.Response Failure) = true
 is_final_input input = false
 
--- what a client transaction is told to keep
+-- what a client transaction is given to keep
 abbrev pub KeepsFresh : Input → Option (List ℕ) → Type 0
 KeepsFresh input None = Unit {0}
 KeepsFresh input (Some bytes) = (is_of_response input ≡ true) × IsRequestText bytes
@@ -77,7 +77,7 @@ pub record Says (before : List Sent) (made : ℕ) (d : Dressed) : Type 0 where
 pub silent : {before : List Sent} {made n : ℕ} → Says before made (record { changes = []; sends = []; made = n })
 silent = record { sends = tt; begun = λ t opens client. absurd opens; keeps = tt; calm = tt }
 
--- ---- changes one behind the other
+-- ---- changes one after another
 
 pub begun_first : (xs ys : List Entry) (t : Transaction) → IsAmong (begun_of xs) t → IsAmong (begun_of (xs ++ ys)) t
 begun_first [] ys t h = absurd h

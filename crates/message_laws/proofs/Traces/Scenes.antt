@@ -192,7 +192,7 @@ coming_can : (end : End) (leg : Option LegDialog) (c : Call) → CanAskPut leg �
 coming_can end None c can own = own end
 coming_can end (Some leg) c can own = put_in end leg.end leg.dialog c can own
 
--- of a call that stands
+-- of a live call
 pub own_can : (s : Office) (place : ℕ) (c : StandingCall) → KnowsScenes s → slice_get s.calls.calls place ≡ Some c → (end : End) → CanAskInIf (dialog_of end c.call)
 own_can s place c k there end =
     can_ask_in (dialog_of end c.call) (dialog_sound c end (all_at HasSoundLegs s.calls.calls place c k.dialogs.calls there)) (dialog_low c end (all_at HasLowNumbers s.calls.calls place c k.clients.calls there))
@@ -215,7 +215,7 @@ asker_in_can : (offer : Option AskerValue) (c : StandingCall) (t : Option Transa
 asker_in_can None c t can own = own refl
 asker_in_can (Some a) c t can own = can
 
--- ---- a call that stands
+-- ---- a live call
 
 module _ (law : SentIsRead) (s : Office) (e : Setting) (place : ℕ) (c : StandingCall) (input : Input) (w : ComingValue) (k : KnowsScenes s) (there : slice_get s.calls.calls place ≡ Some c) (can : CanCome input w) where
   abbrev step : Step

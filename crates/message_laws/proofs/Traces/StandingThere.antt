@@ -1,4 +1,4 @@
--- What the trace has of what goes again, and of what a response replies to.
+-- What the trace has of what is sent again, and of what a response replies to.
 use Rattle.std.proofs.Common.{◌≡◌, ℕ, false, List, Some, refl, sym, subst}
 use Rattle.events.specs.declared.sent.Sent.{Sent}
 use Rattle.sip_message.specs.Grammar.{ReadsMessage}

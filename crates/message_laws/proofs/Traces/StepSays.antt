@@ -71,7 +71,7 @@ pub record IsGround (before : List Sent) (calls : Standing) (table : transaction
   pub address : IsServerAddress o.range.ip
   pub media : KnowsStanding o.range.ip calls
 
--- so many tokens are made when it is taken
+-- this many tokens are made when it is taken
 abbrev pub SaysStep : List Sent → Occasion → steps.Effect → Type 0
 SaysStep before o x = Says before (o.tokens + x.dressed.made) x.dressed
 
@@ -93,7 +93,7 @@ hops_by (one ∷ two ∷ more) hops h = absurd h
 pub hops_low : (text : List ℕ) (r : Request) → ReadsMessage text (Kinds.Request r) → r.max_forwards ≤ 255
 hops_low text r reads = hops_by (values_named (codes "Max-Forwards") reads.fields) r.max_forwards reads.says.says_hops
 
--- ---- a call that stands
+-- ---- a live call
 
 does_says : (before : List Sent) (calls : Standing) (table : transactions.Contents) (o : Occasion) (place : ℕ) (w : ComingValue) (c : StandingCall) (step : Step) → IsGround before calls table o → slice_get calls.calls place ≡ Some c
     → IsPut w.leg → w.hops ≤ 255 → IsShortIf step.description → SaysStep before o (does calls table o place w c step)

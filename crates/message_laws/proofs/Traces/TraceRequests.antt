@@ -1,4 +1,4 @@
--- What stands in a longer trace: the requests of the server's own that began, and the final responses to them.
+-- What is in a longer trace: the requests of the server's own that began, and the final responses to them.
 use Rattle.std.proofs.Common.{◌≡◌, ◌∙◌, ℕ, ◌+◌, Bool, true, false, cond, ◌||◌, nat_le, nat_lt, List, [], ◌∷◌, ◌++◌, length, Option, Some, None, Ok, refl, sym, ap, subst, inl, inr}
 use Rattle.std.specs.Prelude.{◌⊎◌, IsSome, IsTrue, nat_eq, unwrap_or}
 use Rattle.std.specs.Cmp.Lexicographic.{bytes_decides, pointwise}
@@ -78,7 +78,7 @@ opens_among (Tells id input fresh ∷ changes) t h = opens_among changes t h
 opens_among (Answers id class bytes ∷ changes) t h = opens_among changes t h
 opens_among (Leaves ∷ changes) t h = opens_among changes t h
 
--- ---- they stand in the trace
+-- ---- they are in the trace
 
 name_is : (method name : List ℕ) → pointwise nat_eq method name ≡ true → method ≡ name
 name_is method name h = (bytes_decides method name).0 h
@@ -113,7 +113,7 @@ asked_more law t n taken ms sends begun changes are new k u among offers = elim 
   | inr h ↦ begun_asked law t n taken ms sends u are offers (new u h offers.client)
 ]
 
--- ---- those that stand began
+-- ---- those that are live began
 
 abbrev pub HaveBegun : List (Option Transaction) → List Transaction → Type 0
 HaveBegun slots begun = (id : ℕ) (x : Transaction) → at slots id ≡ Some x → IsOffering x → HasBegun begun x
@@ -173,7 +173,7 @@ taken_some : (source : Addr) (bytes : List ℕ) (r : Response) (taken : Option T
 taken_some source bytes r None read none = absurd (none (trace_message bytes (Kinds.Response r)) (record { message = Kinds.Response r; reads = message_reads bytes (Kinds.Response r) read; seen = refl }))
 taken_some source bytes r (Some m) read h = (m, refl, read_as bytes m (Kinds.Response r) h (message_reads bytes (Kinds.Response r) read))
 
--- ---- those that wait no more had one
+-- ---- those that no longer wait had one
 
 abbrev pub AreAnswered : List (Option Transaction) → List Datagram → Type 0
 AreAnswered slots t = (id : ℕ) (x : Transaction) → at slots id ≡ Some x → IsOffering x → waits x.state ≡ false → IsFinallyAnswered t x

@@ -1,4 +1,4 @@
--- What each event comes to, row by row.
+-- What each event results in, row by row.
 use Rattle.std.proofs.Common.{◌≡◌, ℕ, false, List, [], ◌∷◌, ◌++◌, Option, Some, None, Ok, refl, sym, subst}
 use Rattle.events.specs.declared.event.Event.{Event}
 use Rattle.events.specs.declared.event.What.{What}
@@ -78,7 +78,7 @@ counts_put : (before : List Sent) (s : Office) → IsReady before s → (place :
 counts_put before s k place end number = record { sound = counts_sound s.calls.calls place end number k.dialogs.calls; low = counts_low s.calls.calls place end number k.values.calls }
 
 module _ (reading : Reading) (describes : BodiesDescribe) (before : List Sent) (s : Office) (k : IsReady before s) (e : Setting) where
-  -- a call takes an input, behind what the transactions did
+  -- a call takes an input, after what the transactions did
   takes_plan : (begun : List Entry) (send : Option Outgoing) (place : ℕ) (input : Input) (leg : Option LegDialog) (request : Option AskerValue) → GoesWell before s.tokens send → BeginsNone begun → AllOf EntryKeeps begun → IsPut leg
       → WasReadIn input → SaysPlan before s.tokens (begun ++ (takes_row s.calls s.table (occasion s e) place input leg request).dressed.changes) (goes send ++ (takes_row s.calls s.table (occasion s e) place input leg request).dressed.sends)
       (takes_row s.calls s.table (occasion s e) place input leg request).dressed.made
@@ -89,7 +89,7 @@ module _ (reading : Reading) (describes : BodiesDescribe) (before : List Sent) (
   takes_calm : (place : ℕ) (input : Input) (leg : Option LegDialog) (request : Option AskerValue) → IsPut leg → WasReadIn input → AllOf EntryIsCalm (takes_row s.calls s.table (occasion s e) place input leg request).dressed.changes
   takes_calm place input leg request put read = (takes_says before s.calls s.table (occasion s e) place input leg request (ground before s k e) put read).calm
 
-  -- where the transactions tell of no final response
+  -- where the transactions report no final response
   takes_quietly : (what : What) (begun : List Entry) (id : Option ℕ) (place : ℕ) (input : Input) (leg : Option LegDialog) → BeginsNone begun → AllOf EntryKeeps begun → AllOf EntryIsCalm begun → IsPut leg → WasReadIn input
       → SaysEffect before s what (takes s e begun None id place input leg)
   takes_quietly what begun id place input leg new keeps calm put read =
@@ -143,7 +143,7 @@ module _ (reading : Reading) (describes : BodiesDescribe) (before : List Sent) (
       let reply_is = okay_reply s e r begun id in
       subst (SaysEffect before s what) (sym is) (record { says = says_reply before s.tokens begun id _ reply_is new keeps; told = none (reply_calm begun id _ reply_is calm) })
 
-  -- ---- a response: what is told first is of it
+  -- ---- a response: what is reported first is of it
 
   takes_told : (source : Addr) (bytes : List ℕ) (m : Message) (id : Option ℕ) (place : ℕ) (input : Input) (leg : Option LegDialog) → message_of bytes ≡ Ok m → IsPut leg → WasReadIn input
       → SaysEffect before s (whats.Datagram source bytes) (takes s e (begun_by s e m) (reception_of s.table m).send id place input leg)

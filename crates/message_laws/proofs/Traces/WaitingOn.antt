@@ -141,7 +141,7 @@ later_from : (slots : List (Option Transaction)) (changes : List Entry) (j : ℕ
 later_from slots changes j t u later (stayed v there first) = stayed v there (then_waits v t u first later)
 later_from slots changes j t u later (began v opens first) = began v opens (then_waits v t u first later)
 
--- after changes that tell of no final response
+-- after changes that report no final response
 pub all_wait : (now : ℕ) (table : Contents) (changes : List Entry) (j : ℕ) (u : Transaction) → AllOf EntryIsCalm changes → at (entered_all now table changes).slots j ≡ Some u → QuietFrom table.slots changes j u
 all_wait now table [] j u calm e = stayed u e (self_waits u)
 all_wait now table (change ∷ changes) j u calm e = elim (all_wait now (entered now table change) changes j u calm.1 e) [
@@ -149,7 +149,7 @@ all_wait now table (change ∷ changes) j u calm e = elim (all_wait now (entered
   | began t opens later ↦ began t (begins_more t change changes opens) later
 ]
 
--- ---- where one is told of any response
+-- ---- where one is notified of any response
 
 pub data ToldFrom (slots : List (Option Transaction)) (id j : ℕ) (u : Transaction) : Type 0 where
   elsewhere : at slots j ≡ Some u → ToldFrom slots id j u

@@ -5,7 +5,7 @@ use Rattle.call_steps.specs.Messages.{ack_kept, answer_kept, is_answer}
 use Rattle.call_steps.specs.Values.{scene_value}
 use Rattle.call_steps.proofs.messages.with_copies.Given as goal
 
--- what the actions that are left come to, behind what was put; and what is kept of those that were dressed
+-- what the remaining actions result in, after what was put; and what is kept of those that were dressed
 abbrev pub invariant-loop-at : goal.invariant-loop-at
 invariant-loop-at l = record {
   whole : behind l.said.dressed (dressed l.scene (l.scene.tokens + l.said.dressed.made) (drop l.at l.actions)) ≡ dressed l.scene l.scene.tokens l.actions;
