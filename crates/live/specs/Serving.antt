@@ -14,8 +14,8 @@ use Rattle.live.specs.declared.streaks.End.{End}
 use Rattle.live.specs.declared.streaks.End.TheVariants.{Turns, Stopped, Socket, Memory}
 use Rattle.live.specs.declared.trouble.Trouble.{Trouble}
 
--- what an event can change, with the stream of salts, the moments that the clock gave and the news that the operator
--- handed in, in order, and the last trouble that was reported to the operator
+-- what an event can change, with the stream of salts and what passed to and from the outside, each in order: the
+-- moments of the clock and the news from the operator; and the last trouble reported to the operator
 pub record Course : Type 0 where
   pub state : State
   pub salts : ChaCha
@@ -23,8 +23,8 @@ pub record Course : Type 0 where
   pub news : List News
   pub trouble : Option Trouble
 
--- one round, at the moment that the clock gave for it and with the news that the operator handed in for it, if any,
--- and with the next salt of the stream
+-- one round: the clock gave a moment for it, the operator handed in news for it, if any, and it has the next salt of
+-- the stream
 pub record Leads (a b : Course) (round : Round) : Type 0 where
   pub now : ℕ
   pub told : b.moments ≡ a.moments ++ now ∷ []
