@@ -103,8 +103,8 @@ longest_call_hours_at ms = number_if_there (get_member (codes "longest_call_hour
 abbrev pub source_share_at : Members → Option (Option ℕ)
 source_share_at ms = number_if_there (get_member (codes "source_share") ms)
 
--- the numbers, each of whose keys has to be there except those of the greatest lifetime, of a call's limits, of a
--- source address's share, of the workers and of the first response
+-- the numbers; each key has to be there, except those of the maximum lifetime, of a call's limits, of a source
+-- address's share, of the workers and of the first response
 unfoldable pub numbers_at : Members → Option Numbers
 numbers_at ms =
     option_and_then (λ first.
