@@ -89,7 +89,7 @@ fn accept(
 }
 
 impl PageServer {
-    /// Listens at this address. Err means that the system or memory is refused.
+    /// Listens at this address. Err is the system's refusal, or a lack of memory.
     pub fn bind<R: Net>(rt: &R, alloc: Global, at: Addr) -> io::Result<PageServer>
         ensures { IfOk result (λ server. server ≡ []) }
     {
