@@ -26,7 +26,7 @@ pub(crate) fn counts_line(alloc: Global, tally: Tally) -> Result<String, AllocEr
     Ok(line)
 }
 
-/// Whether both tell the same.
+/// Whether both have the same counts.
 pub(crate) fn are_same(tally: Tally, other: Tally) -> bool {
     tally.done == other.done
         && tally.unread == other.unread

@@ -11,10 +11,10 @@ use server::{Ledger, MediaCounts, put_count, put_note};
 use sip_uri::Addr;
 use std::alloc::{AllocError, Global};
 
-/// The counts go out so often, in milliseconds, where they changed.
+/// How often the counts are written if they changed, in milliseconds.
 const BETWEEN_COUNTS: u64 = 600_000;
 
-/// Who is told of events, and how much.
+/// Which events are logged, and how much of them.
 #[derive(Drop)]
 pub(crate) struct EventLog {
     alloc: Global,
@@ -22,12 +22,12 @@ pub(crate) struct EventLog {
     ledger: Ledger,
     pub(crate) media: MediaLog,
     limit: Limit,
-    /// The counts that went out last, and when the next may.
+    /// The counts that were written last, and when the next may be.
     counted: Tally,
     next_counts: u64,
 }
 
-/// Whether a level tells of this.
+/// Whether a level logs this.
 fn tells(level: LogLevel, note: Note) -> bool {
     match (level, note) {
         (LogLevel::Nothing, _) | (_, Note::Quiet) => false,
@@ -37,12 +37,12 @@ fn tells(level: LogLevel, note: Note) -> bool {
     }
 }
 
-/// Whether a level tells of calls, and of users.
+/// Whether a level logs calls and users.
 pub(crate) fn tells_of_calls(level: LogLevel) -> bool {
     matches!(level, LogLevel::Calls | LogLevel::All)
 }
 
-/// Whether anyone can cause as many of these as he likes.
+/// Whether anyone can cause as many of these as they like.
 fn is_of_strangers(note: Note) -> bool {
     matches!(note, Note::Refused(_) | Note::Dropped(_) | Note::Shed)
 }
@@ -60,7 +60,7 @@ impl EventLog {
         }
     }
 
-    /// The counts, where it is time for them and they changed.
+    /// Writes the counts, if it is time for them and they changed.
     fn put_counts(&mut self, out: &mut Vec<u8>, tally: Tally, now: u64) -> Result<(), AllocError> {
         if now < self.next_counts || are_same(tally, self.counted) {
             return Ok(());
@@ -72,7 +72,7 @@ impl EventLog {
         Ok(())
     }
 
-    /// A line of how many were not told, if any were.
+    /// Writes a line with how many were not logged, if any were not.
     fn put_untold(&mut self, out: &mut Vec<u8>, now: u64) -> Result<(), AllocError> {
         match self.limit.take_untold(now) {
             0 => Ok(()),
@@ -80,13 +80,14 @@ impl EventLog {
         }
     }
 
-    /// What happened to a call: the media of the calls are counted by that. How many it carried, where it is over.
+    /// Follows what happened to a call, so that its media are counted. Returns how many datagrams it carried if it is
+    /// over.
     fn follow(&mut self, agent: &Agent, note: NoteOfCall, now: u64) -> Option<MediaCounts> {
         let _ = self.media.follow(agent.calls(), note, now);
         self.media.end(note)
     }
 
-    /// Writes the lines that are due behind what is there, at this moment, in milliseconds.
+    /// Appends the lines that are due at this moment, in milliseconds.
     pub(crate) fn put_due(
         &mut self,
         out: &mut Vec<u8>,
@@ -105,7 +106,7 @@ impl EventLog {
         Ok(())
     }
 
-    /// The same, and behind them the line of an event that the agent took then, which came from there, where it was a
+    /// The same, followed by the line of an event that the agent took then, which came from there if it was a
     /// datagram.
     pub(crate) fn put_lines(
         &mut self,

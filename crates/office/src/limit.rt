@@ -1,9 +1,9 @@
-//! What strangers cause is told so often a second at most.
+//! What strangers cause is logged at most this often per second.
 
-/// So often a second.
+/// How often per second.
 const MOST: u32 = 10;
 
-/// How often it was told in a second, and how often not.
+/// How often something was logged in a second, and how often not.
 #[derive(Clone, Copy)]
 pub(crate) struct Limit {
     second: u64,
@@ -20,7 +20,7 @@ impl Limit {
         }
     }
 
-    /// Whether it is to be told at this moment, in milliseconds. What isn't is counted.
+    /// Whether it is to be logged at this moment, in milliseconds. What isn't is counted.
     pub(crate) fn admits(&mut self, now: u64) -> bool {
         let second = now / 1000;
         if second != self.second {
@@ -36,7 +36,7 @@ impl Limit {
         }
     }
 
-    /// How often it was not told in the seconds before this moment.
+    /// How often it was not logged in the seconds before this moment.
     pub(crate) fn take_untold(&mut self, now: u64) -> u64 {
         if now / 1000 == self.second {
             return 0;

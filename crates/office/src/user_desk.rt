@@ -5,10 +5,10 @@ use std::alloc::{AllocError, Global};
 use std::fs::Files;
 use text::{Text, Texts};
 
-/// Between two looks at the file, in milliseconds.
+/// How long is waited between two checks of the file, in milliseconds.
 const BETWEEN_LOOKS: u64 = 2_000;
 
-/// Users that were lost for want of memory are handed in again behind so many milliseconds.
+/// Users that were lost because memory ran out are handed in again after this many milliseconds.
 const BETWEEN_TRIES: u64 = 1_000;
 
 /// What the signalling has of the file.
@@ -16,21 +16,21 @@ const BETWEEN_TRIES: u64 = 1_000;
 pub(crate) struct UserDesk {
     alloc: Global,
     file: UserFile,
-    /// When it is looked at next, in milliseconds.
+    /// When it is checked next, in milliseconds.
     next_look: u64,
-    /// The users that the agent shall have, where it has others; and how many came and went by that.
+    /// The users that the agent should have, if it has others; and how many were added and removed.
     wanted: Option<Vec<Text<'static>>>,
     added: u64,
     removed: u64,
-    /// Whether they were handed in for this round, and when they may be again, in milliseconds.
+    /// Whether they were handed in for this round, and when they may be handed in again, in milliseconds.
     are_handed: bool,
     next_try: u64,
-    /// Whether the file was refused last.
+    /// Whether the file was refused at the last check.
     is_refused: bool,
 }
 
 impl UserDesk {
-    /// The desk of the file of a path, whose users were these at the start.
+    /// The desk for the file at a path, whose users were these at the start.
     pub(crate) fn new(
         alloc: Global,
         path: String,
@@ -49,7 +49,7 @@ impl UserDesk {
         })
     }
 
-    /// The line that tells that the file is right again, where it was refused.
+    /// The line that says that the file is right again, if it was refused.
     fn end_trouble(&mut self) -> Option<String> {
         if !self.is_refused {
             return None;
@@ -58,7 +58,7 @@ impl UserDesk {
         format!(in self.alloc; "office: trouble is over: config\n").ok()
     }
 
-    /// The agent shall have these users.
+    /// The agent should have these users.
     fn want(&mut self, users: Vec<Text<'static>>, added: u64, removed: u64) {
         self.wanted = Some(users);
         self.added = self.added.saturating_add(added);
@@ -66,7 +66,7 @@ impl UserDesk {
         self.next_try = 0;
     }
 
-    /// Takes a report of the file, and gives the line that is to be told of it.
+    /// Takes a report on the file, and returns the line to be logged for it.
     fn take(&mut self, report: FileReport) -> Option<String> {
         match report {
             FileReport::Users {
@@ -85,7 +85,7 @@ impl UserDesk {
         }
     }
 
-    /// Looks at the file, where it is time, and gives the line that is to be told of it.
+    /// Checks the file, if it is time, and returns the line to be logged for it.
     pub(crate) fn look<R: Files + AllocGlobal>(&mut self, rt: &R, now: u64) -> Option<String> {
         if now < self.next_look {
             return None;
@@ -107,12 +107,12 @@ impl UserDesk {
         Some(Texts::from_vec(users))
     }
 
-    /// A round is over whose event was lost, or which had none: users that were handed in for it are handed in again.
+    /// A round is over that lost its event or had none: users that were handed in for it are handed in again.
     pub(crate) fn lose(&mut self) {
         self.are_handed = false;
     }
 
-    /// The agent took the event of a round: the line that tells of the users that were handed in for it, if any were.
+    /// The agent took the event of a round: returns the line for the users that were handed in for it, if any were.
     pub(crate) fn settle(&mut self) -> Option<String> {
         if !self.are_handed {
             return None;

@@ -8,10 +8,10 @@ use std::fs;
 use std::fs::Files;
 use text::Text;
 
-/// What is reported of the file.
+/// What is reported about the file.
 #[derive(Drop)]
 pub(crate) enum FileReport {
-    /// It is right, and its users are others than those that were reported last: so many came, and so many went.
+    /// It is right, and its users differ from those that were reported last: `added` came, and `removed` went.
     Users {
         users: Vec<Text<'static>>,
         added: u64,
@@ -19,16 +19,16 @@ pub(crate) enum FileReport {
     },
     /// It is right again, and its users are the same.
     Right,
-    /// It says no configuration, or one that breaks a rule. This is the line that tells so, with its end.
+    /// It holds no configuration, or one that breaks a rule. This is the line that says so, with its end.
     Refused(String),
 }
 
-/// The file, and what was reported of it.
+/// The file, and what was reported about it.
 #[derive(Drop)]
 pub(crate) struct UserFile {
     alloc: Global,
     watch: FileWatch,
-    /// Who was reported last.
+    /// The users that were reported last.
     users: Vec<Text<'static>>,
     is_refused: bool,
 }
@@ -56,7 +56,7 @@ pub(crate) fn kept_users(
     Ok(kept)
 }
 
-/// The line that tells why the file is refused, in the words of a start.
+/// The line that says why the file is refused, in the words used at a start.
 fn refused_line(alloc: Global, fault: &Fault) -> Result<String, AllocError> {
     match fault.reason() {
         Some(reason) => format!(in alloc; "office: trouble: config: {reason}\n"),
@@ -74,7 +74,7 @@ fn config_in(alloc: Global, text: &[u8]) -> Result<Result<Config, Fault>, AllocE
 }
 
 impl UserFile {
-    /// The file of a path, whose users were these at the start.
+    /// The file at a path, whose users were these at the start.
     pub(crate) fn new(alloc: Global, path: String, users: Vec<Text<'static>>) -> UserFile {
         UserFile {
             alloc,
@@ -109,7 +109,7 @@ impl UserFile {
         }))
     }
 
-    /// What is to be reported of what the file says now.
+    /// What is to be reported about what the file says now.
     fn read<R: Files + AllocGlobal>(&mut self, rt: &R) -> Result<Option<FileReport>, AllocError> {
         let Ok(text) = fs::read(rt, self.watch.path()) else {
             return self.refuse(&Fault::Config(None));
@@ -120,8 +120,8 @@ impl UserFile {
         }
     }
 
-    /// Looks at the file, and gives what is to be reported of it where it is another than at the last look. Where
-    /// memory is refused, the next look does so.
+    /// Checks the file, and returns what is to be reported about it if it differs from the last look. If memory is
+    /// refused, the next look does so.
     pub(crate) fn look<R: Files + AllocGlobal>(&mut self, rt: &R) -> Option<FileReport> {
         let report = match self.watch.look(rt) {
             Look::Same => return None,
