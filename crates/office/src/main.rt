@@ -1,5 +1,5 @@
 //! The office's call server. It passes the words of the command line, the files that they name and the standard
-//! streams to the library `server`, and serves telephones with the sockets, the clock and the threads of the system.
+//! streams to the library `server`. It serves telephones with the sockets, the clock and the threads of the system.
 #![tactic(auto)]
 
 mod announcement;
