@@ -180,8 +180,8 @@ IsShort text = length text ≤ max_datagram
 abbrev pub IsWithin : (text : List ℕ) (message : Message) → ReadsMessage text message → Type 0
 IsWithin text message reads = IsShort text × (header_lines text message reads ≤ max_lines)
 
--- start line and header fields are well formed, and this is the fault of the first header field, in the order of
--- `HeaderName`, that does not give its value, or otherwise of the body
+-- start line and header fields are well formed; the first header field, in the order of `HeaderName`, that does not
+-- give its value has this fault, or otherwise the body has it
 pub record RefusesContents (text : List ℕ) (fault : MessageError) : Type 0 where
   pub short : IsShort text
   pub start : Start
