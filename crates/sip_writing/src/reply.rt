@@ -247,9 +247,8 @@ fn response_port(via: &Via, source: Addr) -> u16
     }
 }
 
-/// Where a response goes: to the source address, and there to the source port if the top `rport` was empty, or
-/// otherwise to the port of sent-by, or otherwise to 5060 (RFC 3261 section 18.2.2, RFC 3581 section 4). Takes no
-/// memory.
+/// Where a response goes: to the source address. The port there is the source port if the top `rport` was empty, or
+/// otherwise the port of sent-by, or otherwise 5060 (RFC 3261 section 18.2.2, RFC 3581 section 4). Takes no memory.
 pub fn reply_address(parts: &Parts, source: Addr) -> Addr
     ensures address { result ≡ response_address parts.now.vias source }
 {
